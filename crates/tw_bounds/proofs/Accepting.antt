@@ -1,4 +1,4 @@
--- An accepted program may be bounded; and a budget is the bound of a walk where each place costs 1.
+-- An accepted program can be bounded, and a budget is the bound of a walk where each place costs 1.
 use Rattle.std.proofs.Common.{◌≡◌, ℕ, ◌<◌, Bool, true, false, List, [], ◌∷◌, length, slice_get, Some, refl, sym, ◌∙◌, subst, arith, ◌⊎◌, inl, inr}
 use Rattle.std.proofs.lemmas.Option.{slice_get_within}
 use Rattle.tw_code.specs.declared.flow.Flow.{Flow}

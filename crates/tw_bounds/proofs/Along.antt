@@ -83,7 +83,7 @@ module _ (program : List Procedure) (typings : Typings) (is : IsProgram program)
       let known = of_known bounds 0 b main in
       omega arith
 
--- each event that goes is a step at least
+-- each event that succeeds is at least one step
 one_step : (program : List Procedure) (layout : ActorCounts) (event : Event) (s t : State) → step program layout event s ≡ Went t → 1 ≤ tasks_by event + instructions_by event + rule_events_by event
 unfolding step
 one_step program layout (Take actor) s t e = omega arith
@@ -110,7 +110,7 @@ few_events program typings is are steps main inputs layout events s given e =
     let f = within program typings is are events_alone main.0 main.1 steps main.2 inputs layout events s given e in
     omega (arith, counted program layout events (opening program inputs) s e, f)
 
--- what is counted by itself
+-- one kind alone
 module _ (program : List Procedure) (typings : Typings) (is : IsProgram program) (are : AreRight program typings) (inputs : List Input) (layout : ActorCounts) (events : List Event) (s : State) (given : AreInputsOf program inputs) (e : reached program inputs layout events ≡ Went s) where
   by_main : (weights : Weights) (n : ℕ) → IsBoundOfMain program weights n → weights.task * tasks_in events + weights.instr * instructions_in events + weights.rule_event * rule_events_in events + weight_made weights s ≤ weight_made weights (opening program inputs) + n
   by_main weights n main = within program typings is are weights main.0 main.1 n main.2 inputs layout events s given e

@@ -1,4 +1,4 @@
--- Where costs are cut off over the greatest bound, the greatest cost of a walk is the same, cut off.
+-- The greatest cost of a walk with capped costs is the greatest cost, capped.
 use Rattle.std.proofs.Common.{◌≡◌, ℕ, zero, suc, ◌+◌, ◌*◌, ◌-◌, min, List, [], ◌∷◌, map, Option, Some, None, refl, sym, ap, ◌∙◌, arith}
 use Rattle.std.specs.Prelude.{slice_get}
 use Rattle.std.specs.Option.{option_flatten, option_map}
@@ -99,7 +99,7 @@ module _ (program : List Procedure) (weights : Weights) (known exact : List (Opt
       place_alike d others first rest zero = first
       place_alike d others first rest (suc place) = rest place
 
-  -- what isn't known has no exact bound either
+  -- an unknown bound is unknown among the exact ones, too
   pub none_alike : (i : Instr) → weight_of program weights known i ≡ None → weight_of program weights exact i ≡ None
   none_alike (instr.Local i) e = e
   none_alike (instr.Data i) e = e

@@ -1,4 +1,4 @@
--- Main's calls are followed until they come back, which they do within as many steps as there are procedures.
+-- Following main's calls until one leads back takes at most as many steps as there are procedures.
 use Rattle.std.proofs.Common.{◌≡◌, ◌≢◌, ℕ, Bool, true, false, zero, suc, ◌+◌, ◌<◌, ◌≤◌, List, [], ◌∷◌, ◌++◌, length, length-append, map, Option, Some, None, refl, sym, ap, ◌∙◌, subst, arith, ◌⊎◌, inl, inr, ◌||◌, if◌then◌else◌}
 use Rattle.std.specs.Prelude.{nat_le, slice_get}
 use Rattle.std.specs.Option.{option_flatten, option_map}
@@ -30,7 +30,7 @@ call_at program k place q p (instr.Local i) here at same = absurd same
 call_at program k place q p (instr.Data i) here at same = absurd same
 call_at program k place q p instr.Ret here at same = absurd same
 
--- what the code of a procedure calls, the procedure calls
+-- a procedure calls what its code calls
 pub called : (program : List Procedure) (bounds : List Bound) (k : ℕ) (p : Procedure) (code : List Instr) (place q : ℕ) → slice_get program k ≡ Some p → code ≡ p.code → CallsEndless bounds code place q → (call : Calls program k q) × (call.1 ≡ place)
 called program bounds k p code place q here is calls = call_at program k place q p calls.0 here (subst (λ (c : List Instr). slice_get c place ≡ Some calls.0) is calls.1) calls.2
 
@@ -135,7 +135,7 @@ module _ (program : List Procedure) (weights : Weights) (bounds : List Bound) (a
       let none : slice_get exact q ≡ Some None = there ∙ ap Some (sym (ap option_flatten there) ∙ e) in
       at_exact q ∙ ap (option_map reported) none
 
-  -- a procedure comes to an end if each that it calls has a bound
+  -- a procedure's calls end if each callee has a bound
   ends_by : (k : ℕ) → ((q : ℕ) → Calls program k q → IsEndless bounds q → ⊥) → ((q : ℕ) → Calls program k q → q < length program) → CallsEnd program k
   ends_by k none within = CallsEnd.end (λ q call. by q call (bound_at exact q) refl)
     where
@@ -143,7 +143,7 @@ module _ (program : List Procedure) (weights : Weights) (bounds : List Bound) (a
       by q call None e = absurd (none q call (endless q (within q call) e))
       by q call (Some b) e = are.1.only q b e
 
-  -- so one without a bound calls one
+  -- a procedure without a bound calls one without a bound
   pub some_endless : IsBoundable program → (k : ℕ) (p : Procedure) → slice_get program k ≡ Some p → IsEndless bounds k → ((place q : ℕ) → CallsEndless bounds p.code place q → ⊥) → ⊥
   some_endless may k p here e none =
       let ends = ends_by k called (λ q call. may.inside k q call) in
@@ -161,7 +161,7 @@ module _ (program : List Procedure) (weights : Weights) (bounds : List Bound) (a
           by (inl at) = none call.1 q (instr.Rule call.2, subst (λ (r : Procedure). slice_get r.code call.1 ≡ Some (instr.Rule call.2)) own at, call.5, f)
           by (inr at) = none call.1 q (instr.Put call.2, subst (λ (r : Procedure). slice_get r.code call.1 ≡ Some (instr.Put call.2)) own at, call.5, f)
 
-  -- and one with a bound comes to an end
+  -- and the calls of one with a bound end
   pub ends_unless_endless : (IsEndless bounds 0 → ⊥) → CallsEnd program 0
   ends_unless_endless bounded = by (bound_at exact 0) refl
     where

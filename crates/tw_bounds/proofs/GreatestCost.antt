@@ -1,4 +1,5 @@
--- The greatest cost of a way from a place to the END of its own loop, computed from the code's end; and what is left to a task, which pays for each move.
+-- The greatest cost of a path from a place to the END of its own loop, computed from the code's end. Also the budget that a task
+-- has left, which pays for each move.
 use Rattle.std.proofs.Common.{◌≡◌, ℕ, zero, suc, ◌+◌, ◌*◌, ◌-◌, ◌<◌, ◌≤◌, max, List, [], ◌∷◌, drop, Option, Some, refl, sym, ap, ◌∙◌, subst, arith}
 use Rattle.std.specs.Prelude.{slice_get, unwrap_or}
 use Rattle.tw_code.specs.declared.flow.Flow.{Flow}
@@ -66,7 +67,7 @@ close_at cost code place at = at_flow cost code place Close at
 pub stop_at : (cost : ℕ → ℕ) (code : List Flow) (place : ℕ) → slice_get code place ≡ Some Stop → greatest_cost cost code place ≡ cost place
 stop_at cost code place at = at_flow cost code place Stop at
 
--- ---- what is left to a task
+-- ---- the rest of a task
 
 -- turns of a loop after the one that is begun
 abbrev pub further : ℕ → ℕ → ℕ
@@ -78,7 +79,7 @@ abbrev pub left : (ℕ → ℕ) → List Flow → ℕ → List Loop → ℕ
 left cost code place [] = greatest_cost cost code place
 left cost code place (inner ∷ outer) = greatest_cost cost code place + further inner.left (greatest_cost cost code inner.first) + left cost code (unwrap_or (end_of code place) 0 + 1) outer
 
--- where a place's way goes on through another one in the same loops
+-- if a place's path continues through another one in the same loops
 through : (cost : ℕ → ℕ) (code : List Flow) (p q c : ℕ) (loops : List Loop) → end_of code p ≡ end_of code q → c + greatest_cost cost code q ≤ greatest_cost cost code p → c + left cost code q loops ≤ left cost code p loops
 through cost code p q c [] same h = h
 through cost code p q c (inner ∷ outer) same h =

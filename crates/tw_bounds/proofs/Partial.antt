@@ -1,4 +1,4 @@
--- One more bound is known; where none can be, some procedures call one another in a circle.
+-- One more bound is known; if none can be, some procedures call one another in a circle.
 use Rattle.std.proofs.Common.{◌≡◌, ◌≢◌, ℕ, Bool, true, false, not, zero, suc, ◌+◌, ◌<◌, ◌≤◌, List, [], ◌∷◌, ◌++◌, length, map, min, replicate, set, get_or, Option, Some, None, refl, sym, ap, ◌∙◌, subst, arith, ◌⊎◌, inl, inr}
 use Rattle.std.specs.Prelude.{slice_get}
 use Rattle.std.specs.Option.{is_some}
@@ -26,7 +26,7 @@ pub record IsPartial (program : List Procedure) (weights : Weights) (exact : Lis
   pub bounds : AreBounds program weights exact
   pub only : (k b : ℕ) → bound_at exact k ≡ Some b → CallsEnd program k
 
--- what is known are exact bounds, cut off
+-- the known numbers are exact bounds, capped
 abbrev pub IsSolving : List Procedure → Weights → List (Option ℕ) → Type 0
 IsSolving program weights known = (exact : List (Option ℕ)) × AreCapped known exact × IsPartial program weights exact
 
@@ -104,7 +104,7 @@ none_known (suc n) (suc q) = none_known n q
 
 -- ---- costs
 
--- what is known stays so
+-- a known bound stays known
 at_kept : (known : List (Option ℕ)) (k b q c : ℕ) → slice_get known k ≡ Some None → bound_at known q ≡ Some c → bound_at (set known k (Some b)) q ≡ Some c
 at_kept known k b q c none e = elim (cases_eq q k) [
   | inl same ↦ let no : None ≡ Some c = sym (ap option_flatten (subst (λ (n : ℕ). slice_get known n ≡ Some None) (sym same) none)) ∙ e in cc
@@ -134,11 +134,11 @@ costs_kept program weights known more (i ∷ code) (n ∷ costs) kept e =
 bound_kept : (program : List Procedure) (weights : Weights) (known more : List (Option ℕ)) (p : Procedure) (b : ℕ) → ((q c : ℕ) → bound_at known q ≡ Some c → bound_at more q ≡ Some c) → IsBoundOf program weights known p b → IsBoundOf program weights more p b
 bound_kept program weights known more p b kept o = record { costs = o.costs; are = costs_kept program weights known more p.code o.costs kept o.are; walk = o.walk; greatest_cost = o.greatest_cost; sum = o.sum }
 
--- what is computed is a bound
+-- the number that is computed is a bound
 pub bound_made : (program : List Procedure) (weights : Weights) (known : List (Option ℕ)) (p : Procedure) → IsSound (flows p.code) → (costs : List ℕ) → AreCosts program weights known p.code costs → IsBoundOf program weights known p (weights.task + greatest_cost (cost_in costs) (flows p.code) 0)
 bound_made program weights known p sound costs are = record { costs = costs; are = are; walk = greatest_cost (cost_in costs) (flows p.code) 0; greatest_cost = is_greatest_cost (cost_in costs) (flows p.code) sound; sum = refl }
 
--- what is computed of capped bounds is the exact bound, cut off
+-- the number that is computed from capped bounds is the exact bound, capped
 pub capped_bound_made : (program : List Procedure) (weights : Weights) (known exact : List (Option ℕ)) (p : Procedure) → AreCapped known exact → IsSound (flows p.code) → (costs : List ℕ) → AreCosts program weights known p.code costs
     → (b : ℕ) → b ≡ min (weights.task + min (greatest_cost (cost_in costs) (flows p.code) 0) cap) cap → IsCappedBound program weights exact p b
 capped_bound_made program weights known exact p is sound costs are b e =
@@ -146,7 +146,7 @@ capped_bound_made program weights known exact p is sound costs are b e =
     let same = greatest_alike (cost_in costs) (cost_in others.0) (flows p.code) others.2 in
     (weights.task + greatest_cost (cost_in others.0) (flows p.code) 0, bound_made program weights exact p sound others.0 others.1, omega (arith, e, same))
 
--- ---- what is known so far
+-- ---- known bounds so far
 
 module _ (program : List Procedure) (weights : Weights) where
   pub partial_begun : IsPartial program weights (replicate (length program) None)
@@ -160,7 +160,7 @@ module _ (program : List Procedure) (weights : Weights) where
       length_replicated zero = refl
       length_replicated (suc n) = ap suc (length_replicated n)
 
-  -- what is called by a procedure with a bound has one
+  -- a procedure called by one with a bound has one
   callee_known : (known : List (Option ℕ)) (p : Procedure) (b k q : ℕ) → slice_get program k ≡ Some p → IsBoundOf program weights known p b → Calls program k q → (c : ℕ) × (bound_at known q ≡ Some c)
   callee_known known p b k q here o call = by call.4
     where
@@ -207,7 +207,7 @@ module _ (program : List Procedure) (weights : Weights) where
     ];
   }
 
-  -- ---- what is known, cut off
+  -- ---- known bounds, capped
 
   unknown_exact : (known exact : List (Option ℕ)) (k : ℕ) → AreCapped known exact → slice_get known k ≡ Some None → slice_get exact k ≡ Some None
   unknown_exact known exact k is e = by (slice_get exact k) refl (sym (slice_get-map (option_map (λ b. min b cap)) exact k) ∙ sym (ap (λ (xs : List (Option ℕ)). slice_get xs k) is) ∙ e)
@@ -257,7 +257,7 @@ module _ (program : List Procedure) (weights : Weights) where
 
   -- ---- a circle
 
-  -- what calls something unknown
+  -- a procedure that calls an unknown one
   calls_unknown : (known : List (Option ℕ)) (k place : ℕ) (p : Procedure) (i : Instr) → slice_get program k ≡ Some p → slice_get p.code place ≡ Some i → weight_of program weights known i ≡ None → (q : ℕ) × Calls program k q × (bound_at known q ≡ None)
   calls_unknown known k place p (instr.Local i) here at e = cc
   calls_unknown known k place p (instr.Data i) here at e = cc
@@ -273,7 +273,7 @@ module _ (program : List Procedure) (weights : Weights) where
       no_sum (Some c) f e = cc
   calls_unknown known k place p instr.Ret here at e = cc
 
-  -- what isn't known, though it is of the program
+  -- a procedure of the program whose bound isn't known
   unbound_at : (known : List (Option ℕ)) (q : ℕ) → q < length known → bound_at known q ≡ None → slice_get known q ≡ Some None
   unbound_at known q inside e =
       let there = slice_get-get_or known q None inside in
@@ -284,7 +284,7 @@ module _ (program : List Procedure) (weights : Weights) where
   procedure_there (p ∷ ps) zero h = (p, refl)
   procedure_there (p ∷ ps) (suc k) h = procedure_there ps k (omega arith)
 
-  -- where no more can be known, all whose calls come to an end are
+  -- if no more can be known, all procedures whose calls end are known
   fixpoint_found : IsBoundable program → (known : List (Option ℕ)) → length known ≡ length program → IsFixpoint program weights known → (k : ℕ) → CallsEnd program k → k < length program → (b : ℕ) × (bound_at known k ≡ Some b)
   fixpoint_found may known long fixpoint k (CallsEnd.end calls) inside = by (λ q call within. fixpoint_found may known long fixpoint q (calls q call) within) (bound_at known k) refl
     where
@@ -304,7 +304,7 @@ module _ (program : List Procedure) (weights : Weights) where
       let way = solving.2 in
       (exact, record { each = way.bounds; long = way.long; found = λ k inside ends. fixpoint_found may exact way.long (fixpoint_exact known exact solving.1 fixpoint) k ends inside; only = way.only }, solving.1)
 
-  -- where all are known
+  -- if all are known
   pub none_unknown_left : (known : List (Option ℕ)) → unknown_in known ≡ 0 → IsFixpoint program weights known
   none_unknown_left known none k p here e = let h = unknown_found known k e in absurd (omega arith)
 

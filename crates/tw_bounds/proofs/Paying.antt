@@ -1,4 +1,4 @@
--- What a state still owes pays for each event.
+-- Each event is paid for by what a state still owes.
 use Rattle.std.proofs.Common.{◌≡◌, ℕ, zero, suc, ◌+◌, ◌*◌, ◌<◌, ◌≤◌, ◌==◌, Bool, true, false, not, ◌&&◌, is_none, List, [], ◌∷◌, length, map, slice_get, slice_set, Option, Some, None, refl, sym, ap, ◌∙◌, subst, arith}
 use Rattle.std.specs.FinMap.{get, insert, nat_cmp-IsAntisymmetric}
 use Rattle.std.specs.Cmp.{nat_cmp_total}
@@ -114,7 +114,7 @@ times_two d a b c e h =
     let r : d * (c + e) ≡ d * c + d * e = omega arith in
     sym l ∙ ap (λ (n : ℕ). d * n) h ∙ r
 
--- ---- what is owed
+-- ---- what a state owes
 
 module _ (program : List Procedure) (weights : Weights) (bounds : List (Option ℕ)) where
   -- by a task that runs: what is left to it
@@ -177,7 +177,7 @@ module _ (program : List Procedure) (p : Procedure) (sound : IsSound (flows p.co
       let st = stands_next (flows p.code) sound at.place (flow_of i) at.loops g.way (record { place = to.place; loops = to.loops }) (flow_there p.code at.place i here) fit.loops g.goes in
       record { inside = st.0; loops = st.1 }
 
-  -- so many local steps are
+  -- several local steps are paid for
   pub steps_paid : (n : ℕ) (at to : Position) → Fits at → local_steps n p.code at ≡ Went to → weights.instr * n + left_at to ≤ left_at at
   steps_paid zero at to fit e =
       let same : left_at at ≡ left_at to = ap (λ (o : Position). left_at o) (same_position at to e) in
@@ -206,7 +206,7 @@ module _ (program : List Procedure) (typings : Typings) (is : IsProgram program)
       let d = greatest_is (weight_at program weights bounds p.code) (flows p.code) (sound_at k p here) o.walk same in
       omega (arith, o.sum, d, of_known bounds k b is_bound)
 
-  -- what is called has a bound
+  -- a procedure that is called has a bound
   rule_bound : (k b place : ℕ) (p : Procedure) (action : Action) → slice_get program k ≡ Some p → bound_at bounds k ≡ Some b → slice_get p.code place ≡ Some (instr.Rule action) → HasBound program weights bounds action.procedure
   rule_bound k b place p action here is_bound at =
       let o = all.each k p b here is_bound in
@@ -368,7 +368,7 @@ module _ (program : List Procedure) (typings : Typings) (is : IsProgram program)
             let l = greatest_left (weight_at program weights bounds p.code) (flows p.code) at.place at.loops in
             omega arith
 
-    -- a rule stays as it is, but for a stage
+    -- a rule stays as it is, except for a stage
     staged : (number : ℕ) (rule : Rule) (parameter : ℕ) (old stage : Stage) → get s.rules number ≡ Some rule → slice_get rule.stages parameter ≡ Some old
         → total (rule_owes program weights bounds) (insert s.rules number (at_stage rule parameter stage)) + weights.rule_event * stage_owes old ≡ total (rule_owes program weights bounds) s.rules + weights.rule_event * stage_owes stage
     staged number rule parameter old stage pending at =

@@ -21,7 +21,7 @@ use Rattle.tw_bounds.proofs.GreatestCost.{straight_at, branch_at, jump_at, begin
 module _ (cost : ℕ → ℕ) (code : List Flow) (s : IsSound code) where
   -- ---- some walk costs so much
 
-  -- from the END on it costs so much more; where there is no END, nothing, and no loop is begun
+  -- the rest from the END on costs this much; without an END nothing, and no loop is begun
   abbrev Tail : Option ℕ → List Loop → ℕ → Type 0
   Tail None loops n = (n ≡ 0) × (loops ≡ [])
   Tail (Some end) loops n = (places : List ℕ) × Rest code end loops places × (cost_of cost places ≡ n)
@@ -124,7 +124,7 @@ module _ (cost : ℕ → ℕ) (code : List Flow) (s : IsSound code) where
       let h = pays cost code s place i.0 loops r.0 _ i.1 f e in
       omega arith
 
-  -- what is computed from the first place is the cost of the greatest_cost walk
+  -- the number computed from the first place is the cost of the most expensive walk
   pub is_greatest_cost : IsGreatestCost code cost (greatest_cost cost code 0)
   is_greatest_cost = record { some = some_walk; most = most }
     where

@@ -1,4 +1,4 @@
--- A row is made of the rows further on, one lemma a form of flow.
+-- A row is computed from the rows after it, one lemma for each form of flow.
 use Rattle.std.proofs.Common.{◌≡◌, ℕ, zero, suc, ◌+◌, ◌*◌, ◌<◌, ◌≤◌, min, max, List, length, set, Option, Some, None, sym, ap, ◌∙◌, arith, get_or}
 use Rattle.std.specs.Prelude.{slice_get}
 use Rattle.std.proofs.lemmas.Option.{slice_get-get_or}
@@ -61,7 +61,7 @@ module _ (cost : ℕ → ℕ) (code : List Flow) where
     each = set_from (IsRow cost code) rows place row (omega (arith, known.long)) known.each r;
   }
 
-  -- a loop's first place has an END ahead, and the code goes on after it
+  -- a loop's first place has a later END, and the code continues after it
   pub begun_ends : IsSound code → (place turns : ℕ) → slice_get code place ≡ Some (Begin turns) → (x : Row) → IsRow cost code (place + 1) x → (x.end ≡ None → ⊥) × ((end : ℕ) → x.end ≡ Some end → (place < end) × (end + 1 < length code))
   begun_ends s place turns at x r =
       let b = begun code s place turns at in

@@ -1,4 +1,4 @@
--- Main's bounds hold of each run.
+-- Main's bounds hold for each run.
 use Rattle.std.proofs.Common.{List}
 use Rattle.tw_code.specs.declared.procedure.Procedure.{Procedure}
 use Rattle.tw_code.specs.format.Program.{IsProgram}

@@ -1,4 +1,4 @@
--- What a task of a procedure adds in all, with the tasks that come of it.
+-- The total weight of a task of a procedure, with all tasks that descend from it.
 use Rattle.std.specs.Prelude.{◌≡◌, ℕ, ◌+◌, ◌*◌, ◌<◌, ◌⊎◌, get_or, List, length, filter, map, Option, Some, slice_get}
 use Rattle.std.specs.Option.{option_flatten, option_map}
 use Rattle.tw_types.specs.declared.param.Param.{Param}
@@ -14,20 +14,20 @@ use Rattle.tw_code.specs.machine.Arguments.{params_of}
 use Rattle.tw_bounds.specs.declared.weights.Weights.{Weights}
 use Rattle.tw_bounds.specs.Cost.{IsGreatestCost}
 
--- the bound of a procedure, if it has one
+-- returns the bound of a procedure, if it has one
 abbrev pub bound_at : List (Option ℕ) → ℕ → Option ℕ
 bound_at bounds q = option_flatten (slice_get bounds q)
 
--- what an instruction on data adds to its own weight
+-- returns what an instruction on data adds to its own weight
 abbrev pub data_weight : Weights → DataInstr → ℕ
 data_weight weights (on_data.New write read ty) = weights.datum
 data_weight weights i = 0
 
--- after a RULE come at most an Ask and a Deliver for each `closed` parameter, and a Release
+-- returns the greatest number of events after a RULE: an Ask and a Deliver for each `closed` parameter, and a Release
 abbrev pub rule_events : List Param → ℕ
 rule_events params = 1 + 2 * length (filter (λ p. is_closed_mode p.mode) params)
 
--- what an instruction adds: itself, and what the task of its RULE or PUT adds in all, if that has a bound
+-- returns the weight of an instruction: its own, and the bound of the task of its RULE or PUT, if that has one
 abbrev pub weight_of : List Procedure → Weights → List (Option ℕ) → Instr → Option ℕ
 weight_of program weights bounds (instr.Local i) = Some weights.instr
 weight_of program weights bounds (instr.Data i) = Some (weights.instr + data_weight weights i)
@@ -35,14 +35,14 @@ weight_of program weights bounds (instr.Rule action) = option_map (λ b. weights
 weight_of program weights bounds (instr.Put action) = option_map (λ b. weights.instr + b) (bound_at bounds action.procedure)
 weight_of program weights bounds instr.Ret = Some weights.instr
 
--- what each place costs
+-- holds if these are the costs of the places
 abbrev pub AreCosts : List Procedure → Weights → List (Option ℕ) → List Instr → List ℕ → Type 0
 AreCosts program weights bounds code costs = map (weight_of program weights bounds) code ≡ map Some costs
 
 abbrev pub cost_in : List ℕ → ℕ → ℕ
 cost_in costs place = get_or costs place 0
 
--- what a task of the procedure costs, and the greatest_cost walk through its code
+-- the bound of a task of the procedure: the task's own weight, and the cost of the most expensive walk
 pub record IsBoundOf (program : List Procedure) (weights : Weights) (bounds : List (Option ℕ)) (p : Procedure) (bound : ℕ) : Type 0 where
   pub costs : List ℕ
   pub are : AreCosts program weights bounds p.code costs
@@ -50,22 +50,22 @@ pub record IsBoundOf (program : List Procedure) (weights : Weights) (bounds : Li
   pub greatest_cost : IsGreatestCost (flows p.code) (cost_in costs) walk
   pub sum : bound ≡ weights.task + walk
 
--- each procedure has its bound, or none
+-- each bound in the list is that of its procedure
 pub record AreBounds (program : List Procedure) (weights : Weights) (bounds : List (Option ℕ)) : Type 0 where
   pub each : (k : ℕ) (p : Procedure) (bound : ℕ) → slice_get program k ≡ Some p → bound_at bounds k ≡ Some bound → IsBoundOf program weights bounds p bound
 
--- ---- which have one
+-- ---- procedures with a bound
 
--- a RULE or PUT of the one names the other
+-- holds if a RULE or PUT of the one names the other
 abbrev pub Calls : List Procedure → ℕ → ℕ → Type 0
 Calls program k q = (p : Procedure) × (place : ℕ) × (action : Action) × (slice_get program k ≡ Some p)
     × ((slice_get p.code place ≡ Some (instr.Rule action)) ⊎ (slice_get p.code place ≡ Some (instr.Put action))) × (action.procedure ≡ q)
 
--- its calls come to an end: no chain of them goes on for ever, so none goes in a circle
+-- holds if its calls end: no chain of them is infinite, so none forms a circle
 pub data CallsEnd (program : List Procedure) : ℕ → Type 0 where
   end : {k : ℕ} → ((q : ℕ) → Calls program k q → CallsEnd program q) → CallsEnd program k
 
--- just the procedures whose calls come to an end have a bound
+-- exactly the procedures whose calls end have a bound
 pub record AreAllBounds (program : List Procedure) (weights : Weights) (bounds : List (Option ℕ)) : Type 0 where
   pub each : AreBounds program weights bounds
   pub long : length bounds ≡ length program

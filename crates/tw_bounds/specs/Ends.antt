@@ -12,7 +12,7 @@ use Rattle.tw_code.specs.machine.Machine.{run}
 use Rattle.tw_code.specs.machine.Opening.{reached}
 use Rattle.tw_code.specs.machine.State.{State}
 
--- whatever the events so far, the run comes to an end after at most so many in all: none is longer, and one that hasn't ended can go on to its end
+-- after any events, a run ends after at most so many in all: none is longer, and one that hasn't ended can continue to its end
 pub record RunsEnd (program : List Procedure) (most : ℕ) : Type 0 where
   pub none_longer : (inputs : List Input) (layout : ActorCounts) (events : List Event) (s : State) → AreInputsOf program inputs → reached program inputs layout events ≡ Went s → length events ≤ most
   pub goes_on : (inputs : List Input) (layout : ActorCounts) (events : List Event) (s : State) → AreInputsOf program inputs → IsLayout layout → HasTargets program layout → reached program inputs layout events ≡ Went s

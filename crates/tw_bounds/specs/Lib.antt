@@ -1,12 +1,12 @@
--- What a reader must believe: what a walk costs (Cost), what a task of a procedure adds in all (Bounds), what is counted along runs (Runs), that
--- runs end (Ends), what is reported (Reports), and which calls come to no end (Circles).
+-- The definitions that a reader has to trust: costs of walks (Cost), weights of tasks (Bounds), what is counted along runs (Runs),
+-- and the ends of runs (Ends). Also reported bounds (Reports), and calls that lead back (Circles).
 pub mod Cost
 pub mod Bounds
 pub mod Runs
 pub mod Ends
 pub mod Reports
 pub mod Circles
--- What only private functions and proofs speak of.
+-- Definitions for private functions and proofs.
 pub mod GreatestCost
 pub mod Rows
 pub mod Solving

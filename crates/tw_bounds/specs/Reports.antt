@@ -1,4 +1,4 @@
--- The bounds that are reported of a program, and what they say of its runs.
+-- The bounds that are reported of a program, and what they mean for its runs.
 use Rattle.std.specs.Prelude.{◌≡◌, ℕ, ◌+◌, ◌≤◌, if◌then◌else◌, nat_le, List, length, map, Option, Some, None, slice_get}
 use Rattle.tw_types.specs.declared.event.Event.{Event}
 use Rattle.tw_types.specs.declared.input.Input.{Input}
@@ -17,12 +17,12 @@ use Rattle.tw_bounds.specs.Ends.{RunsEnd}
 use Rattle.tw_bounds.specs.Rows.{greatest_bound}
 use Rattle.tw_bounds.specs.Runs.{data_alone, events_alone, instructions_alone, instructions_in, rules_alone, tasks_alone, tasks_in}
 
--- a number past the greatest bound is only said to be past it
+-- reports a number, or only that it is over the greatest bound
 abbrev pub reported : Option ℕ → Bound
 reported None = Endless
 reported (Some n) = if nat_le n greatest_bound then AtMost n else Over
 
--- of each procedure, where these weights say what is counted
+-- holds if these bounds are reported of the procedures, for these weights
 abbrev pub AreReported : List Procedure → Weights → List Bound → Type 0
 AreReported program weights bounds = (exact : List (Option ℕ)) × AreAllBounds program weights exact × (bounds ≡ map reported exact)
 
@@ -33,12 +33,12 @@ pub record AreRunBounds (program : List Procedure) (bounds : RunBounds) : Type 0
   pub rules : AreReported program rules_alone bounds.rules.items
   pub events : AreReported program events_alone bounds.events.items
 
--- ---- what main's bounds say of a run
+-- ---- main's bounds and runs
 
 abbrev pub IsAtMost : List Bound → ℕ → Type 0
 IsAtMost bounds n = slice_get bounds 0 ≡ Some (AtMost n)
 
--- a run with these events, which led to this state
+-- a run with these events, which led to this state, is within main's bounds
 pub record IsRunWithin (program : List Procedure) (bounds : RunBounds) (inputs : List Input) (history : List Event) (s : State) : Type 0 where
   pub tasks : (n : ℕ) → IsAtMost bounds.tasks.items n → tasks_in history ≤ n
   pub instructions : (n : ℕ) → IsAtMost bounds.instructions.items n → instructions_in history ≤ n
@@ -46,7 +46,7 @@ pub record IsRunWithin (program : List Procedure) (bounds : RunBounds) (inputs :
   pub rules : (n : ℕ) → IsAtMost bounds.rules.items n → s.next_rule ≤ (opening program inputs).next_rule + n
   pub events : (n : ℕ) → IsAtMost bounds.events.items n → length history ≤ n
 
--- whatever the inputs, the layout and the events, each run stays within them; and each comes to an end if its events have a bound
+-- with any inputs, layout and events, each run is within the bounds, and each run ends if its events have a bound
 pub record BoundsRuns (program : List Procedure) (bounds : RunBounds) : Type 0 where
   pub within : (inputs : List Input) (layout : ActorCounts) (events : List Event) (s : State) → AreInputsOf program inputs → reached program inputs layout events ≡ Went s → IsRunWithin program bounds inputs events s
   pub ends : (n : ℕ) → IsAtMost bounds.events.items n → RunsEnd program n

@@ -1,4 +1,4 @@
--- What a row of the table says of its place.
+-- Rows of the table, and the places that they describe.
 use Rattle.std.specs.Prelude.{◌≡◌, ℕ, ◌+◌, ◌≤◌, min, List, length, Some, slice_get}
 use Rattle.tw_code.specs.declared.flow.Flow.{Flow}
 use Rattle.tw_code.specs.accepting.Structure.{end_of}
@@ -9,11 +9,11 @@ use Rattle.tw_bounds.specs.GreatestCost.{greatest_cost}
 abbrev pub greatest_bound : ℕ
 greatest_bound = 1000000000000
 
--- where costs are cut off
+-- costs over the greatest bound are capped at this
 abbrev pub cap : ℕ
 cap = greatest_bound + 1
 
--- the most that one instruction costs
+-- the greatest cost of one instruction
 abbrev pub most_cost : ℕ
 most_cost = 2000000000000
 
@@ -24,7 +24,7 @@ pub record IsRow (cost : ℕ → ℕ) (code : List Flow) (place : ℕ) (row : Ro
   pub ends : row.end ≡ end_of code place
   pub greatest : row.greatest_cost ≡ min (greatest_cost cost code place) cap
 
--- the rows from a place on are known
+-- the rows from a place on are computed
 pub record RowsFrom (cost : ℕ → ℕ) (code : List Flow) (rows : List Row) (from : ℕ) : Type 0 where
   pub long : length rows ≡ length code
   pub each : (place : ℕ) (row : Row) → from ≤ place → slice_get rows place ≡ Some row → IsRow cost code place row

@@ -1,4 +1,4 @@
--- What a run adds up to, and that it is at most the bound of main's task.
+-- The weighted sum of a run, which is at most the bound of main's task.
 use Rattle.std.specs.Prelude.{◌≡◌, ℕ, ◌+◌, ◌*◌, ◌≤◌, List, Option, Some}
 use Rattle.std.specs.List.{sum_by}
 use Rattle.tw_types.specs.declared.event.Event.{Event}
@@ -13,7 +13,7 @@ use Rattle.tw_code.specs.machine.State.{State}
 use Rattle.tw_bounds.specs.declared.weights.Weights.{Weights}
 use Rattle.tw_bounds.specs.Bounds.{AreBounds, bound_at}
 
--- how many tasks an event takes
+-- returns how many tasks an event takes
 abbrev pub tasks_by : Event → ℕ
 tasks_by (Take actor) = 1
 tasks_by (Local actor n) = 0
@@ -23,7 +23,7 @@ tasks_by (Ask engine rule parameter) = 0
 tasks_by (Deliver server datum rule parameter) = 0
 tasks_by (Release engine rule) = 0
 
--- how many instructions an event does; an End does the RET
+-- returns how many instructions an event executes; an End executes the RET
 abbrev pub instructions_by : Event → ℕ
 instructions_by (Take actor) = 0
 instructions_by (Local actor n) = n
@@ -33,7 +33,7 @@ instructions_by (Ask engine rule parameter) = 0
 instructions_by (Deliver server datum rule parameter) = 0
 instructions_by (Release engine rule) = 0
 
--- whether it is an event of a rule
+-- returns 1 for an event of a rule, else 0
 abbrev pub rule_events_by : Event → ℕ
 rule_events_by (Take actor) = 0
 rule_events_by (Local actor n) = 0
@@ -52,21 +52,21 @@ instructions_in events = sum_by instructions_by events
 abbrev pub rule_events_in : List Event → ℕ
 rule_events_in events = sum_by rule_events_by events
 
--- the weight of the data and rules made so far, by the next numbers: each NEW takes one, each RULE takes one
+-- returns the weight of the data and rules made so far, by the next numbers: each NEW takes one, each RULE takes one
 abbrev pub weight_made : Weights → State → ℕ
 weight_made weights s = weights.datum * s.store.next + weights.rule * s.next_rule
 
--- a bound of main's task
+-- holds for a bound of main's task
 abbrev pub IsBoundOfMain : List Procedure → Weights → ℕ → Type 0
 IsBoundOfMain program weights bound = (bounds : List (Option ℕ)) × AreBounds program weights bounds × (bound_at bounds 0 ≡ Some bound)
 
--- whatever the inputs, the layout and the events: what the run adds up to is at most main's bound
+-- holds if, with any inputs, layout and events, the weighted sum of the run is at most main's bound
 abbrev pub IsWithinBound : List Procedure → Weights → ℕ → Type 0
 IsWithinBound program weights bound =
     (inputs : List Input) (layout : ActorCounts) (events : List Event) (s : State) → AreInputsOf program inputs → reached program inputs layout events ≡ Went s
     → weights.task * tasks_in events + weights.instr * instructions_in events + weights.rule_event * rule_events_in events + weight_made weights s ≤ weight_made weights (opening program inputs) + bound
 
--- ---- each by itself
+-- ---- one kind each
 
 abbrev pub tasks_alone : Weights
 tasks_alone = record { task = 1; instr = 0; datum = 0; rule = 0; rule_event = 0 }
@@ -80,6 +80,6 @@ data_alone = record { task = 0; instr = 0; datum = 1; rule = 0; rule_event = 0 }
 abbrev pub rules_alone : Weights
 rules_alone = record { task = 0; instr = 0; datum = 0; rule = 1; rule_event = 0 }
 
--- each task that is taken, each instruction, and each event of a rule: a run has no more events than these
+-- weighs each task that is taken, each instruction, and each event of a rule: a run has no more events than these
 abbrev pub events_alone : Weights
 events_alone = record { task = 1; instr = 1; datum = 0; rule = 0; rule_event = 1 }

@@ -1,22 +1,22 @@
-//! Bounds of what a run does.
+//! Bounds of runs.
 
 ghost use Rattle.std.specs.Prelude.{◌≡◌};
 ghost use Rattle.tw_bounds.specs.Reports.{reported};
 
 use crate::row::GREATEST_BOUND;
 
-/// At most how many of one kind a task makes, with all tasks that come of it.
+/// The greatest number of things of one kind that a task makes, with all tasks that descend from it.
 #[derive(Clone, Copy, Debug)]
 pub enum Bound {
     AtMost(u64),
-    /// The number is over 1,000,000,000,000.
+    /// The number is over `GREATEST_BOUND`.
     Over,
-    /// The task's procedure calls itself, be it through others: there is no such number.
+    /// The task's procedure calls itself, directly or through others, so there is no such number.
     Endless,
 }
 
 impl Bound {
-    /// Makes one from a number that was cut off over the greatest.
+    /// Makes a bound from a number that was capped over the greatest one.
     pub(crate) fn from_capped(number: Option<u64>) -> Bound
         ensures { result ≡ reported number }
     {
@@ -28,17 +28,17 @@ impl Bound {
     }
 }
 
-/// How much a task makes at most, with all tasks that come of it: a bound for each procedure, in their order.
-/// The first is main's, and holds of each run of the program.
+/// Bounds of what a task makes, with all tasks that descend from it: one for each procedure, in their order.
+/// The first is main's, and holds for each run of the program.
 #[derive(Drop)]
 pub struct RunBounds {
-    /// Tasks that are taken, the procedure's own too.
+    /// Tasks that are taken, the task itself included.
     pub tasks: Vec<Bound>,
-    /// Instructions that are done.
+    /// Instructions that are executed.
     pub instructions: Vec<Bound>,
-    /// Data that NEW makes.
+    /// Data made by NEW.
     pub data: Vec<Bound>,
-    /// Rules that RULE makes.
+    /// Rules made by RULE.
     pub rules: Vec<Bound>,
     /// Events of the run.
     pub events: Vec<Bound>,

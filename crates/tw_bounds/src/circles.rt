@@ -1,4 +1,4 @@
-//! Finds calls that lead back to where they began.
+//! Finds calls that lead back to their own procedure.
 
 ghost use Rattle.std.specs.Prelude.{◌≡◌, ℕ, ◌↔◌, IfOk, IfSome, IsTrue, MatchOption, None};
 ghost use Rattle.tw_bounds.specs.Bounds.{CallsEnd};
@@ -12,7 +12,7 @@ use std::alloc::{AllocError, Global};
 use tw_code::{Instr, Procedure};
 use tw_verify::Verified;
 
-/// A call that leads back to its own procedure, be it through others.
+/// A call that leads back to its own procedure, directly or through others.
 #[derive(Clone, Copy, Debug)]
 pub struct Circle {
     /// The number of the procedure.
@@ -21,7 +21,7 @@ pub struct Circle {
     pub place: usize,
 }
 
-/// Returns the procedure that an instruction calls.
+/// Returns the procedure that an instruction calls, if it calls one.
 fn callee(instr: &Instr) -> Option<usize>
     ensures { MatchOption result ((q : ℕ) → IsCall instr.now q → ⊥) (IsCall instr.now) }
 {
@@ -32,14 +32,14 @@ fn callee(instr: &Instr) -> Option<usize>
     }
 }
 
-/// Returns whether a procedure has no bound, since its calls come to no end.
+/// Returns whether a procedure has no bound, because its calls don't end.
 fn is_endless(bounds: &[Bound], number: usize) -> bool
     ensures { IsTrue result ↔ IsEndless bounds.now number }
 {
     matches!(bounds.get(number), Some(Bound::Endless))
 }
 
-/// Returns the procedure without a bound that an instruction calls.
+/// Returns the procedure that an instruction calls, if it has no bound.
 fn endless_callee(bounds: &[Bound], instr: &Instr) -> Option<usize>
     ensures { MatchOption result ((q : ℕ) → IsCall instr.now q → IsEndless bounds.now q → ⊥) (λ q. IsCall instr.now q × IsEndless bounds.now q) }
 {
@@ -58,7 +58,7 @@ fn endless_call(bounds: &[Bound], code: &[Instr]) -> Option<(usize, usize)>
     None
 }
 
-/// Follows main's calls without an end until they come back.
+/// Follows calls of procedures without a bound from main on, until one leads back.
 fn circle_from_main(
     alloc: Global,
     program: &[Procedure],
@@ -84,7 +84,7 @@ fn circle_from_main(
     unreachable!()
 }
 
-/// Returns a circle of calls to which main's lead, or `None` if main's calls come to an end.
+/// Returns a circle of calls to which main's calls lead, or `None` if main's calls end.
 pub fn circle_of_calls(
     alloc: Global,
     verified: &Verified,

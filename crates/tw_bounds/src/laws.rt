@@ -1,4 +1,4 @@
-//! Theorems on bounds of runs. Nothing is run here: each contract is a theorem.
+//! Theorems on bounds of runs. Nothing is computed here: each contract is a theorem.
 
 ghost use Rattle.std.specs.Prelude.{ℕ, List};
 ghost use Rattle.tw_code.specs.accepting.Walk.{IsBudget};
@@ -11,12 +11,12 @@ ghost use Rattle.tw_bounds.specs.declared.weights.Weights.{Weights};
 ghost use Rattle.tw_bounds.specs.Cost.{IsGreatestCost};
 ghost use Rattle.tw_bounds.specs.Runs.{IsBoundOfMain, IsWithinBound};
 
-/// Shows that whatever the inputs, the layout and the events, the weighted sum of what a run does is at most main's bound.
+/// Proves that the weighted sum of a run's parts is at most main's bound, with any inputs, layout and events.
 pub fn within_bound()
     ensures { (program : List Procedure) (typings : Typings) (weights : Weights) (bound : ℕ) → IsProgram program → AreRight program typings → IsBoundOfMain program weights bound → IsWithinBound program weights bound }
 {}
 
-/// Shows that a budget is the greatest cost of a walk where each place costs 1, and the other way round.
+/// Proves that a budget is the greatest cost of a walk when each place costs 1, and conversely.
 pub fn budgets_are_costs()
     ensures costs { (code : List Flow) (n : ℕ) → IsBudget code n → IsGreatestCost code (λ _. 1) n }
     ensures budgets { (code : List Flow) (n : ℕ) → IsGreatestCost code (λ _. 1) n → IsBudget code n }

@@ -1,4 +1,4 @@
-//! Bounds of whole runs: how many tasks, instructions, data, rules and events a run of a program takes at most.
+//! Bounds of whole runs: the greatest numbers of tasks, instructions, data, rules and events that a run of a program has.
 #![tactic(auto)]
 
 mod bound;

@@ -1,4 +1,4 @@
-//! The table of places.
+//! The table of places, filled from the last place to the first.
 
 ghost use Rattle.std.specs.Prelude.{◌≡◌, ℕ, ◌+◌, ◌<◌, ◌≤◌, get_or, length, min, slice_get};
 ghost use Rattle.tw_code.specs.accepting.Flow.{flows};
@@ -11,15 +11,15 @@ use tw_code::{Flow, Instr, flow_at};
 /// The greatest bound that is reported.
 pub(crate) const GREATEST_BOUND: u64 = 1_000_000_000_000;
 
-/// A place of the code: the greatest cost of a way from it up to the END of the loop that the place is in,
-/// cut off over the greatest bound, and that END.
+/// The row of a place: the greatest cost of a path from it up to the END of the loop that the place is in, and that END. Costs
+/// over the greatest bound are capped.
 #[derive(Clone, Copy)]
 pub struct Row {
     pub greatest_cost: u64,
     pub end: Option<usize>,
 }
 
-/// Cuts a number off over the greatest bound.
+/// Caps a number at one more than the greatest bound.
 pub(crate) fn capped(cost: u64) -> u64
     ensures { result ≡ min cost cap }
 {
@@ -45,7 +45,7 @@ pub fn row_of(code: &[Instr], costs: &[u64], rows: &[Row], from: usize, place: u
     rows[place]
 }
 
-/// Makes the row of a place from the rows further on.
+/// Returns the row of a place, computed from the rows after it.
 pub fn row_at(code: &[Instr], costs: &[u64], rows: &[Row], place: usize) -> Row
     requires within { place < length code.now }
     requires weighted { length costs.now ≡ length code.now }
@@ -91,7 +91,7 @@ pub fn row_at(code: &[Instr], costs: &[u64], rows: &[Row], place: usize) -> Row
     }
 }
 
-/// Makes the row of a REPEAT: its turns, and what comes after the loop.
+/// Returns the row of a REPEAT: its iterations, and the rest after the loop.
 fn loop_row(code: &[Instr], costs: &[u64], rows: &[Row], place: usize, turns: u16) -> Row
     requires within { place < length code.now }
     requires weighted { length costs.now ≡ length code.now }

@@ -1,4 +1,4 @@
-//! Solves for the bounds of all procedures.
+//! Computes the bounds of all procedures.
 
 ghost use Rattle.std.specs.Prelude.{◌≡◌, ◌≤◌, ℕ, IfOk, IfSome, List, None, Option, length, replicate};
 ghost use Rattle.tw_code.specs.accepting.Structure.{IsStructured};
@@ -13,7 +13,7 @@ use crate::weights::Weights;
 use std::alloc::{AllocError, Global};
 use tw_code::Procedure;
 
-/// Returns the bound of a procedure, cut off over the greatest, unless it calls one whose bound isn't known.
+/// Returns the bound of a procedure, capped over the greatest one, or `None` if it calls one whose bound isn't known.
 fn bound_of(
     alloc: Global,
     program: &[Procedure],
@@ -37,7 +37,7 @@ fn bound_of(
     Ok(Some(capped(u64::from(weights.task) + walk)))
 }
 
-/// Returns the first procedure whose bound isn't known while that of each which it calls is, and its bound.
+/// Returns the first procedure whose bound isn't known although its callees' bounds are, and its bound.
 fn next_bound(
     alloc: Global,
     weights: &Weights,
@@ -62,7 +62,7 @@ fn next_bound(
     Ok(None)
 }
 
-/// Makes a list in which no bound is known.
+/// Makes a list without known bounds.
 fn none_known(alloc: Global, count: usize) -> Result<Vec<Option<u64>>, AllocError>
     ensures { IfOk result (λ known. known.items ≡ replicate count None) }
 {
@@ -73,7 +73,7 @@ fn none_known(alloc: Global, count: usize) -> Result<Vec<Option<u64>>, AllocErro
     Ok(known)
 }
 
-/// Returns for each procedure the bound of its tasks, cut off over the greatest, or none if its calls come to no end.
+/// Returns for each procedure the bound of its tasks, capped over the greatest one, or `None` if its calls don't end.
 pub(crate) fn bounds(
     alloc: Global,
     program: &[Procedure],

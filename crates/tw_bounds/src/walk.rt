@@ -1,4 +1,4 @@
-//! The greatest_cost walk through a procedure's code.
+//! The most expensive walk through a procedure's code.
 
 ghost use Rattle.std.specs.Prelude.{◌≡◌, ◌≤◌, IfOk, length, min};
 ghost use Rattle.tw_code.specs.accepting.Flow.{flows};
@@ -11,7 +11,7 @@ use crate::row::{Row, row_at, row_of};
 use std::alloc::{AllocError, Global};
 use tw_code::Instr;
 
-/// What the greatest_cost walk costs where each place has a cost, cut off over the greatest bound. The time is linear in the code.
+/// Returns the cost of the most expensive walk, given the cost of each place, capped over the greatest bound. Takes linear time.
 pub fn greatest_walk_cost(alloc: Global, code: &[Instr], costs: &[u64]) -> Result<u64, AllocError>
     requires sound { IsSound (flows code.now) }
     requires weighted { length costs.now ≡ length code.now }

@@ -1,4 +1,4 @@
-//! Costs by the bounds that are known.
+//! Costs of instructions, computed from the known bounds.
 
 ghost use Rattle.std.specs.Prelude.{◌≡◌, ◌≤◌, IfOk, IfSome, None, filter, length};
 ghost use Rattle.tw_types.specs.Mode.{is_closed_mode};
@@ -13,14 +13,14 @@ use std::alloc::{AllocError, Global};
 use tw_code::{DataInstr, Instr, Procedure};
 use tw_types::{Mode, Param};
 
-/// The bound of a procedure, if it is known.
+/// Returns the bound of a procedure, if it is known.
 fn bound_of(known: &[Option<u64>], number: u8) -> Option<u64>
     ensures { result ≡ bound_at known.now number }
 {
     known.get(usize::from(number)).copied().flatten()
 }
 
-/// How many parameters are `closed`.
+/// Counts the `closed` parameters.
 fn closed_in(params: &[Param]) -> usize
     ensures is { result ≡ length (filter (λ p. is_closed_mode p.mode) params.now) }
     ensures few { result ≤ length params.now }
@@ -31,7 +31,7 @@ fn closed_in(params: &[Param]) -> usize
         .count()
 }
 
-/// What an instruction on data adds besides.
+/// Returns what an instruction on data adds to its own weight.
 fn data_weight(weights: &Weights, instr: DataInstr) -> u32
     ensures { result ≡ data_weight weights.now instr }
 {
@@ -41,7 +41,8 @@ fn data_weight(weights: &Weights, instr: DataInstr) -> u32
     }
 }
 
-/// How many events come behind a RULE of the procedure.
+/// Returns the greatest number of events after a RULE of the procedure: an Ask and a Deliver for each `closed` parameter, and a
+/// Release.
 fn rule_events(program: &[Procedure], number: u8) -> u64
     requires { IsProgram program.now }
     ensures is { result ≡ rule_events (params_of program.now number) }
@@ -53,7 +54,7 @@ fn rule_events(program: &[Procedure], number: u8) -> u64
     }
 }
 
-/// What an instruction adds, if it calls nothing whose bound isn't known.
+/// Returns the weight of an instruction, or `None` if it calls a procedure whose bound isn't known.
 pub fn instr_weight(
     program: &[Procedure],
     weights: &Weights,
@@ -84,7 +85,7 @@ pub fn instr_weight(
     }
 }
 
-/// What each place costs, unless one calls what isn't known.
+/// Returns the cost of each place, or `None` if one calls a procedure whose bound isn't known.
 pub fn place_costs(
     alloc: Global,
     program: &[Procedure],

@@ -20,11 +20,11 @@ const DATA: Weights = Weights { task: 0, instr: 0, datum: 1, rule: 0, rule_event
 
 #[rattlefmt::skip]
 const RULES: Weights = Weights { task: 0, instr: 0, datum: 0, rule: 1, rule_event: 0 };
-/// Each event but a Local takes a task, does an instruction or is a rule's; a Local does one instruction at least.
+/// Each event except a Local takes a task, executes one instruction or is a rule's. A Local executes at least one instruction.
 #[rattlefmt::skip]
 const EVENTS: Weights = Weights { task: 1, instr: 1, datum: 0, rule: 0, rule_event: 1 };
 
-/// Makes the bounds that are reported of numbers that were cut off.
+/// Makes the reported bounds from capped numbers.
 fn reports(alloc: Global, numbers: &[Option<u64>]) -> Result<Vec<Bound>, AllocError>
     ensures { IfOk result (λ bounds. bounds.items ≡ map reported numbers.now) }
 {
@@ -35,7 +35,7 @@ fn reports(alloc: Global, numbers: &[Option<u64>]) -> Result<Vec<Bound>, AllocEr
     Ok(bounds)
 }
 
-/// Returns the bounds of one kind, each procedure's.
+/// Returns the bounds of one kind, one for each procedure.
 fn bounds_by(
     alloc: Global,
     verified: &Verified,
@@ -48,13 +48,13 @@ fn bounds_by(
     reports(alloc, &numbers)
 }
 
-/// Returns how much each procedure's task makes at most. It takes time by the number of procedures times the
-/// program's length: call it once for a program.
+/// Returns the bounds of each procedure's tasks. Takes time proportional to the number of procedures times the program's
+/// length: call it once for a program.
 pub fn run_bounds(alloc: Global, verified: &Verified) -> Result<RunBounds, AllocError>
     ensures are { IfOk result (AreRunBounds verified.now.program) }
     ensures runs { IfOk result (BoundsRuns verified.now.program) }
 {
-    // Their clauses say that the program is within the limits and rightly typed, on which the theorem rests.
+    // Their clauses say that the program is within the limits and rightly typed, which the theorem requires.
     let program = verified.program();
     let _within = program.procedures();
     Ok(RunBounds {

@@ -1,4 +1,4 @@
--- What the limits and the structural pass give of a procedure's code, by its flows alone.
+-- Properties of a procedure's flows that follow from its limits and its structure.
 use Rattle.std.specs.Prelude.{◌≡◌, ℕ, ◌<◌, List, length, Some, None, slice_get}
 use Rattle.tw_code.specs.declared.flow.Flow.{Flow}
 use Rattle.tw_code.specs.declared.flow.Flow.TheVariants.{Begin}

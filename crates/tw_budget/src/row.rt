@@ -1,4 +1,4 @@
-//! The table of places.
+//! The table of places, filled from the last place to the first.
 
 ghost use Rattle.std.specs.Prelude.{◌≡◌, ◌+◌, ◌<◌, ◌≤◌, length, min, slice_get};
 ghost use Rattle.tw_code.specs.accepting.Flow.{flows};
@@ -7,15 +7,15 @@ ghost use Rattle.tw_budget.specs.Sound.{IsSound};
 
 use tw_code::{Flow, Instr, Procedure, flow_at};
 
-/// What is known of a place: the length of the longest rest of a walk up to the END of the loop that the place is in,
-/// cut off over the greatest budget, and that END.
+/// The row of a place: the longest rest of a walk up to the END of the loop that the place is in, and that END. Lengths over the
+/// greatest budget are capped.
 #[derive(Clone, Copy)]
 pub struct Row {
     pub longest: u64,
     pub end: Option<usize>,
 }
 
-/// Lengths over the greatest budget aren't told apart.
+/// Caps a length at one more than the greatest budget.
 fn told(length: u64) -> u64
     ensures { result ≡ min length most_told }
 {
@@ -32,7 +32,7 @@ pub fn row_of(code: &[Instr], rows: &[Row], from: usize, place: usize) -> Row
     rows[place]
 }
 
-/// The row of a place, from the rows further on.
+/// Returns the row of a place, computed from the rows after it.
 pub fn row_at(code: &[Instr], rows: &[Row], place: usize) -> Row
     requires within { place < length code.now }
     requires sound { IsSound (flows code.now) }
@@ -75,7 +75,7 @@ pub fn row_at(code: &[Instr], rows: &[Row], place: usize) -> Row
     }
 }
 
-/// The row of a REPEAT: its turns, and what comes after the loop.
+/// Returns the row of a REPEAT: its iterations, and the rest after the loop.
 fn loop_row(code: &[Instr], rows: &[Row], place: usize, turns: u16) -> Row
     requires within { place < length code.now }
     requires begins { slice_get (flows code.now) place ≡ Some (Flow.Begin turns) }

@@ -1,4 +1,4 @@
--- Where a reading fails: what stands before the item is whole items of a spelling, and the item is wrong or cut off. Laws for readings that are joined.
+-- Where a parser fails: whole items of an encoding are before the item, and the item is wrong or cut off. Theorems for joined parsers.
 use Rattle.std.proofs.Common.{◌≡◌, ℕ, zero, suc, ◌<◌, ◌⊎◌, Bool, true, false, cond, List, [], ◌∷◌, ◌++◌, length, Result, Ok, Err, refl, sym, ap, subst, ◌∙◌, append_assoc, inl, inr}
 use Rattle.std.specs.List.{concat, flat_map, AllByRecursion}
 use Rattle.tw_bytes.specs.declared.fault.Broken.{Broken}
@@ -11,12 +11,12 @@ use Rattle.tw_bytes.specs.Reading.{Reading, both, then_at, as_is, many, counted}
 use Rattle.tw_bytes.proofs.Formats.{IsBytes, IsFormat, then_format, counted_format, IsMade, as_is_format}
 use Rattle.tw_bytes.proofs.Joined.{joined}
 
--- ---- the law
+-- ---- the theorem
 
 abbrev pub ended : Broken
 ended = record { no = Missing; left = 0 }
 
--- the faults of an item that is whole
+-- the faults of a whole item
 abbrev pub IsOfItem : FaultNo → Type 0
 IsOfItem Magic = Unit {0}
 IsOfItem Version = Unit {0}
@@ -28,7 +28,7 @@ IsOfItem Utf8 = Unit {0}
 IsOfItem Trailing = ⊥
 IsOfItem NoMemory = ⊥
 
--- after these bytes, which are whole items of some value, an item of so many bytes is due
+-- after these bytes, which are whole items of some value, an item of this many bytes is due
 pub record IsDueIn {A : Type 0} (F : A → Type 0) (w : A → List Item) (before : List ℕ) (size : ℕ) : Type 0 where
   pub value : A
   pub fits : F value
@@ -39,7 +39,7 @@ pub record IsDueIn {A : Type 0} (F : A → Type 0) (w : A → List Item) (before
   pub joined : concat done ≡ before
   pub size_is : length next ≡ size
 
--- the input ends before the item that is due is whole
+-- the input ends before the item that is due is complete
 pub record Lacks {A : Type 0} (F : A → Type 0) (w : A → List Item) (bytes : List ℕ) (f : Broken) : Type 0 where
   pub before : List ℕ
   pub part : List ℕ
@@ -49,7 +49,7 @@ pub record Lacks {A : Type 0} (F : A → Type 0) (w : A → List Item) (bytes : 
   pub due : IsDueIn F w before size
   pub short : length part < size
 
--- the item that is due is wrong, whatever follows it
+-- the item that is due is wrong, with any bytes after it
 pub record Breaks {A : Type 0} (F : A → Type 0) (w : A → List Item) (r : Reading A) (bytes : List ℕ) (f : Broken) : Type 0 where
   pub before : List ℕ
   pub item : List ℕ
@@ -63,7 +63,7 @@ pub record Breaks {A : Type 0} (F : A → Type 0) (w : A → List Item) (r : Rea
 abbrev pub FailsAt : {A : Type 0} → (A → Type 0) → (A → List Item) → Reading A → List ℕ → Broken → Type 0
 FailsAt F w r bytes f = Lacks F w bytes f ⊎ Breaks F w r bytes f
 
--- A reading is a format, and says where it fails.
+-- a parser of a format, which determines where it fails
 pub record IsStrict {A : Type 0} (F : A → Type 0) (w : A → List Item) (r : Reading A) : Type 0 where
   pub format : IsFormat F w r
   pub some : A
@@ -86,14 +86,14 @@ err d = Err d
 pub err_is : {Z : Type 0} (d f : Broken) → err {Z = Z} d ≡ err f → d ≡ f
 err_is d f e = cc
 
--- a test that was refused
+-- a test that failed
 pub refused : {Z : Type 0} (b : Bool) (x : Z) (d f : Broken) → cond b (Ok x) (Err d) ≡ Err f → (b ≡ false) × (d ≡ f)
 refused true x d f e = absurd cc
 refused false x d f e = (refl, cc)
 
--- ---- a reading that goes on in another one
+-- ---- a parser that continues in another one
 
--- behind this text, where the one fails, the other fails
+-- if the one fails, the other fails after this text
 pub record GoesOn {A B : Type 0} (F : A → Type 0) (w : A → List Item) (r : Reading A) (G : B → Type 0) (v : B → List Item) (s : Reading B) (text : List ℕ) : Type 0 where
   pub due : (before : List ℕ) (size : ℕ) → IsDueIn F w before size → IsDueIn G v (text ++ before) size
   pub fails : (rest : List ℕ) (d : Broken) → r rest ≡ Err d → s (text ++ rest) ≡ Err d
@@ -121,7 +121,7 @@ module _ {A B : Type 0} {F : A → Type 0} {w : A → List Item} {r : Reading A}
   })
 
 module _ {A B : Type 0} {F : A → Type 0} {w : A → List Item} {G : B → Type 0} {v : B → List Item} (make : A → B) (fit : (x : A) → F x → G (make x)) where
-  -- what is due in the first part is due in the whole
+  -- an item that is due in the first part is due in the whole
   pub due_first : (more : A → List Item) → ((x : A) → F x → v (make x) ≡ w x ++ more x) → (before : List ℕ) (size : ℕ) → IsDueIn F w before size → IsDueIn G v before size
   due_first more spelled before size d = record {
     value = make d.value;
@@ -134,7 +134,7 @@ module _ {A B : Type 0} {F : A → Type 0} {w : A → List Item} {G : B → Type
     size_is = d.size_is;
   }
 
-  -- what is due in the last part is due in the whole, behind the parts before it
+  -- an item that is due in the last part is due in the whole, after the parts before it
   pub due_after : (front : List Item) → ((x : A) → F x → v (make x) ≡ front ++ w x) → (before : List ℕ) (size : ℕ) → IsDueIn F w before size → IsDueIn G v (concat front ++ before) size
   due_after front spelled before size d = record {
     value = make d.value;
@@ -147,7 +147,7 @@ module _ {A B : Type 0} {F : A → Type 0} {w : A → List Item} {G : B → Type
     size_is = d.size_is;
   }
 
--- ---- one, and another that goes by it
+-- ---- a value, and another with the parser that depends on it
 
 module _ {A B : Type 0} {F : A → Type 0} {G : A → B → Type 0} {w : A → List Item} {v : A → B → List Item} {r : Reading A} {s : A → Reading B} (first : IsStrict F w r) (second : (x : A) → IsStrict (G x) (v x) (s x)) where
   abbrev BothFit : A × B → Type 0
@@ -182,12 +182,12 @@ module _ {A B : Type 0} {F : A → Type 0} {G : A → B → Type 0} {w : A → L
               ]
         ]
 
--- two after one another
+-- two values in sequence
 pub both_strict : {A B : Type 0} {F : A → Type 0} {G : B → Type 0} {w : A → List Item} {v : B → List Item} {r : Reading A} {s : Reading B} → IsStrict F w r → IsStrict G v s
     → IsStrict (λ (x : A × B). F x.0 × G x.1) (λ (x : A × B). w x.0 ++ v x.1) (both r s)
 both_strict first second = then_strict first (λ _. second)
 
--- ---- so many after one another
+-- ---- several values in sequence
 
 module _ {A : Type 0} {F : A → Type 0} {w : A → List Item} {r : Reading A} (each : IsStrict F w r) where
   pub copies : ℕ → List A
@@ -248,7 +248,7 @@ module _ {A : Type 0} {F : A → Type 0} {w : A → List Item} {r : Reading A} (
       fails = λ rest d h. rw (count.format.again n rest fits) h;
     }
 
-    -- a count, and so many after it
+    -- a count, and this many values
     pub counted_strict : IsStrict (IsList low high F) (λ (xs : List A). c (length xs) ++ flat_map w xs) (counted q r)
     counted_strict = record {
       format = counted_format each.format count.format;
@@ -265,7 +265,7 @@ module _ {A : Type 0} {F : A → Type 0} {w : A → List Item} {r : Reading A} (
                 carried (in_items h.0.0 t.1) h.0.1 bytes f t.0.parts (many_fails h.0.0 h.0.1 f t.0.rest_fits h.2)
           ]
 
--- ---- what is read, as another value
+-- ---- a parsed value, converted
 
 pub as_is_goes_on : {A B : Type 0} {F : A → Type 0} {w : A → List Item} {r : Reading A} {G : B → Type 0} {v : B → List Item} (make : A → B) → ((x : A) → F x → G (make x)) → ((x : A) → F x → v (make x) ≡ w x)
     → GoesOn F w r G v (as_is make r) []

@@ -1,4 +1,4 @@
--- Items of one byte: each is read as it was written, and where it is wrong the reading says so.
+-- Items of one byte: each is parsed as it was written, and a wrong one is reported.
 use Rattle.std.proofs.Common.{◌≡◌, ℕ, suc, ◌≤◌, Bool, true, false, cond, eqb, List, [], ◌∷◌, ◌++◌, length, Result, Ok, Err, refl, sym, ap, subst, ◌∙◌, arith, inl, inr}
 use Rattle.std.specs.List.{concat}
 use Rattle.std.proofs.lemmas.Bool.{le-ltb, eqb-true}
@@ -28,11 +28,11 @@ a_byte b = byte b ∷ []
 abbrev pub AnyOf : {A : Type 0} → A → Type 0
 AnyOf x = Unit {0}
 
--- a byte at the front is taken
+-- a byte at the start is taken
 pub front : (b : ℕ) (rest : List ℕ) → IsBytes (b ∷ rest) → Takes (b ∷ rest) (concat (a_byte b)) rest
 front b rest fits = record { parts = refl; rest_fits = IsBytes-rest b rest fits }
 
--- nothing is left where a byte is due
+-- the input ends where a byte is due
 pub nothing_left : {A : Type 0} {F : A → Type 0} {w : A → List Item} (f : Broken) (some : A) → F some → (b : ℕ) (later : List Item) → w some ≡ byte b ∷ later → ended ≡ f → Lacks F w [] f
 nothing_left f some fits b later spelled is = record {
   before = [];
@@ -44,7 +44,7 @@ nothing_left f some fits b later spelled is = record {
   short = omega arith;
 }
 
--- the byte at the front is the wrong item
+-- the first byte is the wrong item
 pub wrong_byte : {A : Type 0} {F : A → Type 0} {w : A → List Item} {r : Reading A} (b : ℕ) (bs : List ℕ) (which : FaultNo) (f : Broken) (some : A) → F some → (k : ℕ) (later : List Item) → w some ≡ byte k ∷ later
     → IsOfItem which → record { no = which; left = suc (length bs) } ≡ f → ((rest : List ℕ) → r (b ∷ rest) ≡ Err (record { no = which; left = suc (length rest) })) → Breaks F w r (b ∷ bs) f
 wrong_byte b bs which f some fits k later spelled of_item is stop = record {
@@ -58,7 +58,7 @@ wrong_byte b bs which f some fits k later spelled of_item is stop = record {
   stops = λ rest. stop rest ∙ ap (λ (n : FaultNo). Err (record { no = n; left = suc (length rest) })) (ap (λ (d : Broken). d.no) is);
 }
 
--- ---- a number in its limits
+-- ---- a number within its limits
 
 pub within-true : (low high n : ℕ) → is_within low high n ≡ true → IsWithin low high n
 within-true low high n e = (grind (arith, nat_tests), grind (arith, nat_tests))
@@ -84,7 +84,7 @@ byte_strict low high le = record { format = record { takes = takes; again = λ n
 pub register_strict : IsStrict IsRegister a_byte register_at
 register_strict = byte_strict 0 15 (omega arith)
 
--- ---- just one byte
+-- ---- exactly one byte
 
 pub exactly_strict : (wanted : ℕ) (which : FaultNo) → IsOfItem which → IsStrict (λ n. n ≡ wanted) a_byte (exactly_at wanted which)
 unfolding exactly_at
@@ -106,7 +106,7 @@ exactly_strict wanted which of_item = record { format = record { takes = takes; 
 
 -- ---- a byte for each value
 
--- this byte stands for this value, and others for others
+-- this byte encodes this value, and others encode others
 by_code : {A : Type 0} (w : A → List Item) (k : ℕ) (v : A) (others : Result (A × List ℕ) Broken) (b : ℕ) (bs : List ℕ) (x : A) (rest : List ℕ) → IsBytes (b ∷ bs) → w v ≡ a_byte k
     → (others ≡ Ok (x, rest) → Takes (b ∷ bs) (concat (w x)) rest) → cond (eqb b k) (Ok (v, bs)) others ≡ Ok (x, rest) → Takes (b ∷ bs) (concat (w x)) rest
 by_code w k v others b bs x rest fits spelled on e =
@@ -115,7 +115,7 @@ by_code w k v others b bs x rest fits spelled on e =
       | inr h ↦ on h.1
     ]
 
--- a byte that was not this one, or the next one
+-- a byte that wasn't this one, or the next one
 pub not_this : {Z : Type 0} (b : Bool) (x : Z) (z : Result Z Broken) (f : Broken) → cond b (Ok x) z ≡ Err f → (b ≡ false) × (z ≡ Err f)
 not_this true x z f e = absurd (no_err x f e)
 not_this false x z f e = (refl, e)

@@ -1,4 +1,4 @@
--- The first fault of the whole, as the spellings of programs tell it.
+-- The first fault of the input, in terms of the encodings of programs.
 use Rattle.std.proofs.Common.{◌≡◌, ℕ, suc, ◌-◌, cond, eqb, List, [], ◌∷◌, ◌++◌, length, Ok, Err, sym, ap, subst, ◌∙◌, arith, inl, inr}
 use Rattle.std.proofs.lemmas.List.{length-append}
 use Rattle.tw_bytes.specs.declared.fault.Broken.{Broken}
@@ -24,11 +24,11 @@ due_of before size d = record {
   size_is = d.size_is;
 }
 
--- no program's spelling is bytes that aren't read
+-- bytes that can't be parsed are no program's encoding
 not_spelled : (bytes : List ℕ) (f : Broken) (other : Versioned) → front_at bytes ≡ Err f → IsVersioned other → spelling other ≡ bytes → ⊥
 not_spelled bytes f other e fits spelled = no_err _ f (sym (front_again other fits) ∙ ap front_at spelled ∙ e)
 
--- a fault of an item, by its number
+-- a fault of an item, by its code
 of_item : (no : FaultNo) (bytes : List ℕ) (offset : ℕ) → IsOfItem no → IsWrongItem bytes offset → IsFirstFault no bytes offset
 of_item Magic bytes offset h wrong = wrong
 of_item Version bytes offset h wrong = wrong

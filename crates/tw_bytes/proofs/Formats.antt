@@ -1,4 +1,4 @@
--- What is read is what was written, and what was written is read again: laws for readings that are joined.
+-- A parsed value was written so, and a written value is parsed again: theorems for joined parsers.
 use Rattle.std.proofs.Common.{◌≡◌, ℕ, zero, suc, ◌+◌, ◌<◌, ◌⊎◌, Bool, true, false, cond, List, [], ◌∷◌, ◌++◌, length, get_or, take, drop, Result, Ok, Err, refl, sym, ap, subst, ◌∙◌, append_assoc, arith, inl, inr}
 use Rattle.std.specs.List.{concat, flat_map, AllByRecursion}
 use Rattle.std.proofs.lemmas.Bool.{cases_lt}
@@ -28,19 +28,19 @@ IsBytes-take n bytes h i =
 pub IsBytes-rest : (b : ℕ) (bytes : List ℕ) → IsBytes (b ∷ bytes) → IsBytes bytes
 IsBytes-rest b bytes h i = h (suc i)
 
--- ---- steps of a reading
+-- ---- steps of a parser
 
--- a step that did not fail, and the next one
+-- a step that didn't fail, and the next one
 pub bind_ok : {A B : Type 0} (r : Result A Broken) (f : A → Result B Broken) (y : B) → (r >>= f) ≡ Ok y → (x : A) × (r ≡ Ok x) × (f x ≡ Ok y)
 bind_ok (Ok x) f y e = (x, refl, e)
 bind_ok (Err d) f y e = absurd cc
 
--- which way a test went
+-- the branch that a test took
 pub chosen : {Z : Type 0} (b : Bool) (x y z : Z) → cond b x y ≡ z → ((b ≡ true) × (x ≡ z)) ⊎ ((b ≡ false) × (y ≡ z))
 chosen true x y z e = inl (refl, e)
 chosen false x y z e = inr (refl, e)
 
--- a test that did not fail
+-- a test that didn't fail
 pub passed : {A : Type 0} (b : Bool) (d : Broken) (x y : A) → cond b (Ok x) (Err d) ≡ Ok y → (b ≡ true) × (x ≡ y)
 passed true d x y e = (refl, cc)
 passed false d x y e = absurd cc
@@ -51,14 +51,14 @@ taken x = Ok x
 pub ok_is : {A : Type 0} (x y : A) → taken x ≡ taken y → x ≡ y
 ok_is x y e = cc
 
--- ---- the law
+-- ---- the theorem
 
--- what a reading took from the front
+-- the text that a parser took from the start
 pub record Takes (bytes text rest : List ℕ) : Type 0 where
   pub parts : bytes ≡ text ++ rest
   pub rest_fits : IsBytes rest
 
--- Read is what was written, and what was written is read again, for the values that fit.
+-- A parsed value was written so, and a written value is parsed again, for the values that fit.
 pub record IsFormat {A : Type 0} (Fits : A → Type 0) (write : A → List Item) (read : Reading A) : Type 0 where
   pub takes : (bytes : List ℕ) (x : A) (rest : List ℕ) → IsBytes bytes → read bytes ≡ Ok (x, rest) → Takes bytes (concat (write x)) rest × Fits x
   pub again : (x : A) (rest : List ℕ) → Fits x → read (concat (write x) ++ rest) ≡ Ok (x, rest)
@@ -69,7 +69,7 @@ behind xs ys rest = ap (λ (t : List ℕ). t ++ rest) (joined xs ys) ∙ append_
 pub Takes-then : (a : List ℕ) (xs : List Item) (b : List ℕ) (ys : List Item) (c : List ℕ) → Takes a (concat xs) b → Takes b (concat ys) c → Takes a (concat (xs ++ ys)) c
 Takes-then a xs b ys c p q = record { parts = p.parts ∙ ap (λ (t : List ℕ). concat xs ++ t) q.parts ∙ sym (behind xs ys c); rest_fits = q.rest_fits }
 
--- ---- one, and another that goes by it
+-- ---- a value, and another with the parser that depends on it
 
 module _ {A B : Type 0} {F : A → Type 0} {G : A → B → Type 0} {w : A → List Item} {v : A → B → List Item} {r : Reading A} {s : A → Reading B} (first : IsFormat F w r) (second : (x : A) → IsFormat (G x) (v x) (s x)) where
   pub then_format : IsFormat (λ (x : A × B). F x.0 × G x.0 x.1) (λ (x : A × B). w x.0 ++ v x.0 x.1) (then_at r s)
@@ -85,7 +85,7 @@ module _ {A B : Type 0} {F : A → Type 0} {G : A → B → Type 0} {w : A → L
         ap (then_at r s) (behind (w x.0) (v x.0 x.1) rest) ∙ rw (first.again x.0 (concat (v x.0 x.1) ++ rest) fits.0, (second x.0).again x.1 rest fits.1) refl;
   }
 
--- ---- so many after one another
+-- ---- several values in sequence
 
 module _ {A : Type 0} {F : A → Type 0} {w : A → List Item} {r : Reading A} (each : IsFormat F w r) where
   pub many_takes : (n : ℕ) (bytes : List ℕ) (xs : List A) (rest : List ℕ) → IsBytes bytes → many r n bytes ≡ Ok (xs, rest) → Takes bytes (concat (flat_map w xs)) rest × (length xs ≡ n) × AllByRecursion F xs
@@ -104,7 +104,7 @@ module _ {A : Type 0} {F : A → Type 0} {w : A → List Item} {r : Reading A} (
   many_again (x ∷ xs) rest fits =
       ap (many r (suc (length xs))) (behind (w x) (flat_map w xs) rest) ∙ rw (each.again x (concat (flat_map w xs) ++ rest) fits.0, many_again xs rest fits.1) refl
 
-  -- a count, and so many after it
+  -- a count, and this many values
   pub counted_format : {low high : ℕ} {c : ℕ → List Item} {q : Reading ℕ} → IsFormat (IsWithin low high) c q → IsFormat (IsList low high F) (λ (xs : List A). c (length xs) ++ flat_map w xs) (counted q r)
   counted_format {low} {high} {c} {q} count = record {
     takes = λ bytes xs rest fits e.
@@ -117,7 +117,7 @@ module _ {A : Type 0} {F : A → Type 0} {w : A → List Item} {r : Reading A} (
         ap (counted q r) (behind (c (length xs)) (flat_map w xs) rest) ∙ rw (count.again (length xs) (concat (flat_map w xs) ++ rest) fits.0, many_again xs rest fits.1) refl;
   }
 
--- ---- what is read, as another value
+-- ---- a parsed value, converted
 
 pub as_is_takes : {A B : Type 0} {F : A → Type 0} {w : A → List Item} {r : Reading A} (format : IsFormat F w r) (make : A → B) (bytes : List ℕ) (y : B) (rest : List ℕ) → IsBytes bytes
     → as_is make r bytes ≡ Ok (y, rest) → (x : A) × Takes bytes (concat (w x)) rest × F x × (make x ≡ y)

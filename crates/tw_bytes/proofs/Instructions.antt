@@ -1,4 +1,4 @@
--- Instructions: each is read as it was written, and where it is wrong or cut off the reading says so.
+-- Instructions: each is parsed as it was written, and one that is wrong or cut off is reported.
 use Rattle.std.proofs.Common.{◌≡◌, ◌==◌, ℕ, ℤ, pos, zero, suc, Bool, Option, Some, None, true, false, cond, List, [], ◌∷◌, ◌++◌, length, Ok, Err, refl, sym, ap, subst, ◌∙◌, arith, inl, inr}
 use Rattle.std.specs.List.{AllByRecursion, concat, find, flat_map}
 use Rattle.std.proofs.lemmas.Bool.{eqb-true}
@@ -50,7 +50,7 @@ target_strict = as_is_strict target_made (byte_strict 0 16 (omega arith))
 args_strict : IsStrict (IsList 0 8 IsRegister) (counted_items byte register_items) args_at
 args_strict = counted_strict register_strict (byte_strict 0 8 (omega arith))
 
--- a line a form
+-- one line for each form
 content_strict : (version : Version) (form : Form) → IsStrict (λ (x : Content form). IsOperandOf version (holds form x)) (λ (x : Content form). operand_items (holds form x)) (content_at version form)
 content_strict version Value = register_strict
 content_strict version Right = register_strict
@@ -114,9 +114,9 @@ module _ (version : Version) (o : Opcode) (had : has_opcode version o ≡ true) 
       ∙ by_row version (row_of o) (concat (contents_items (forms_of o) x) ++ rest)
       ∙ as_is_again (contents_strict version (forms_of o)).format (instr_of o) x rest h
 
--- ---- the law
+-- ---- the theorem
 
--- what was found for a code
+-- the result of looking up a code
 none_found : {Z : Type 0} (p : Opcode) → None ≡ Some p → Z
 none_found p h = absurd cc
 

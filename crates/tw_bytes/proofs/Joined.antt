@@ -20,7 +20,7 @@ module _ {X : Type 0} (each : X → List Item) (xs : List X) (i : ℕ) where
       let x = get_or xs i d in
       ap (λ ys. concat (flat_map each ys)) (take_more xs i d lt) ∙ ap concat (flat_map-append each front (x ∷ []) ∙ ap (λ ys. flat_map each front ++ ys) (append-nil (each x))) ∙ joined (flat_map each front) (each x)
 
-  -- behind what stands there already, one more is written
+  -- one more item is appended
   pub wrote : (d : X) (there out new : List ℕ) → i < length xs → out ≡ there ++ concat (flat_map each (take i xs)) → new ≡ out ++ concat (each (get_or xs i d))
       → new ≡ there ++ concat (flat_map each (take (i + 1) xs))
   wrote d there out new lt before after =
@@ -30,7 +30,7 @@ module _ {X : Type 0} (each : X → List Item) (xs : List X) (i : ℕ) where
       → new ≡ there ++ concat (flat_map each (take (i + 1) xs))
   wrote_item x there out new lt is before after = wrote x there out new lt before (after ∙ ap (λ y. out ++ concat (each y)) is)
 
--- registers, an item each
+-- registers, one item each
 registers_joined : (registers : List ℕ) → concat (flat_map register_items registers) ≡ registers
 registers_joined [] = refl
 registers_joined (r ∷ registers) = ap (λ rs. r ∷ rs) (registers_joined registers)

@@ -1,4 +1,4 @@
--- Reading one after the other, as a loop does, whatever is read.
+-- Parsing values in sequence, as a loop does, for any parser.
 use Rattle.std.proofs.Common.{◌≡◌, ℕ, suc, ◌-◌, ◌+◌, ◌<◌, ◌≤◌, List, [], ◌∷◌, ◌++◌, Result, Ok, Err, refl, sym, ap, ◌∙◌, append_assoc, append-nil, arith}
 use Rattle.tw_bytes.specs.declared.fault.Broken.{Broken}
 use Rattle.tw_bytes.specs.declared.fault.Stop.{Stop}
@@ -6,11 +6,11 @@ use Rattle.tw_bytes.specs.declared.fault.Stop.TheVariants as stops
 use Rattle.tw_types.specs.Result.{◌>>=◌}
 use Rattle.tw_bytes.specs.Reading.{Reading, Fails, many}
 
--- what was read before, and what is still read
+-- the values parsed so far, and those still parsed
 abbrev pub with_front : {A : Type 0} → List A → Result (List A × List ℕ) Broken → Result (List A × List ℕ) Broken
 with_front front read = read >>= λ x. Ok (front ++ x.0, x.1)
 
--- so far a loop has read this front, and what is left gives the rest of the whole
+-- so far a loop has parsed these values, and the remaining bytes give the rest of the whole
 pub record HasRead {A : Type 0} (read : Reading A) (count i : ℕ) (front : List A) (rest bytes : List ℕ) : Type 0 where
   pub is : with_front front (many read (count - i) rest) ≡ many read count bytes
 

@@ -1,4 +1,4 @@
--- Items of two and of eight bytes: each is read as it was written, and where it is wrong or cut off the reading says so.
+-- Items of two and of eight bytes: each is parsed as it was written, and one that is wrong or cut off is reported.
 use Rattle.std.proofs.Common.{◌≡◌, ℕ, ℤ, ◌<◌, ◌≤◌, ◌^◌, ◌⊎◌, Bool, true, false, cond, ltb, List, [], ◌∷◌, ◌++◌, length, take, drop, Result, Ok, Err, refl, sym, ap, subst, ◌∙◌, arith, inl, inr, lit<}
 use Rattle.std.specs.Prelude.{FitsSigned}
 use Rattle.std.specs.Int.{w16, w64, from_be_bytes, to_be_bytes, cast_signed, cast_unsigned}
@@ -26,7 +26,7 @@ a_wide n = wide n ∷ []
 abbrev pub a_number : ℤ → List Item
 a_number n = number n ∷ []
 
--- a step that a test let through
+-- a step after a test that didn't fail
 pub unless : {Z : Type 0} (b : Bool) (d : Broken) (z : Result Z Broken) (y : Z) → cond b (Err d) z ≡ Ok y → (b ≡ false) × (z ≡ Ok y)
 unless true d z y e = absurd cc
 unless false d z y e = (refl, e)
@@ -36,7 +36,7 @@ pub until : {Z : Type 0} (b : Bool) (d : Broken) (z : Result Z Broken) (f : Brok
 until true d z f e = inl (refl, cc)
 until false d z f e = inr (refl, e)
 
--- so many bytes at the front are taken
+-- this many bytes at the start are taken
 pub front_of : (k : ℕ) (bytes : List ℕ) (text : Item) → IsBytes bytes → text ≡ take k bytes → Takes bytes (concat (text ∷ [])) (drop k bytes)
 front_of k bytes text fits e = record {
   parts = sym (take-append-drop k bytes) ∙ ap (λ (t : List ℕ). t ++ drop k bytes) (sym e ∙ sym (append-nil text));

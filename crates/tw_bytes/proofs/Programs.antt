@@ -1,4 +1,4 @@
--- Procedures and whole programs: what is read is spelled so, and what is spelled so is read.
+-- Procedures and whole programs: a parsed value has this encoding, and an encoded value is parsed.
 use Rattle.std.proofs.Common.{◌≡◌, ℕ, cond, eqb, List, [], ◌∷◌, ◌++◌, length, Ok, Err, refl, sym, ap, subst, ◌∙◌, arith}
 use Rattle.std.specs.List.{AllByRecursion}
 use Rattle.std.proofs.lemmas.Bool.{eqb-true}
@@ -75,11 +75,11 @@ front_items x = (magic ++ version_items x.0) ++ counted_items byte procedure_ite
 pub front_strict : IsStrict FrontFits front_items front_at
 front_strict = then_strict header_strict (λ v. counted_strict (procedure_strict v) (byte_strict 1 64 (omega arith)))
 
--- a program's spelling is read to its end
+-- a program's encoding is parsed to its end
 pub front_again : (p : Versioned) → IsVersioned p → front_at (spelling p) ≡ Ok ((p.version, p.procedures), [])
 front_again p fits = ap front_at (sym (append-nil (spelling p))) ∙ front_strict.format.again (p.version, p.procedures) [] (tt, fits)
 
--- ---- the two laws
+-- ---- the two theorems
 
 abbrev pub versioned : Version × List Procedure → Versioned
 versioned x = record { version = x.0; procedures = x.1 }

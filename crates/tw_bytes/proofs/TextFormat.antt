@@ -1,4 +1,4 @@
--- Texts: each is read as it was written, and where it is wrong or cut off the reading says so.
+-- Texts: each is parsed as it was written, and one that is wrong or cut off is reported.
 use Rattle.std.proofs.Common.{◌≡◌, ℕ, zero, suc, ◌≤◌, Bool, true, false, cond, ltb, List, [], ◌∷◌, ◌++◌, length, take, drop, Ok, Err, refl, sym, ap, subst, ◌∙◌, arith, inl, inr}
 use Rattle.std.specs.List.{concat}
 use Rattle.std.specs.Str.{IsAscii, IsUtf8, is_utf8}
@@ -26,7 +26,7 @@ not_utf8 bytes h = by_value (is_utf8 bytes) refl where
 
 pub ruleset utf8_tests = (is_utf8-from_IsUtf8, not_utf8)
 
--- ---- so many bytes of UTF-8
+-- ---- a number of bytes of UTF-8
 
 abbrev IsOfSize : ℕ → List ℕ → Type 0
 IsOfSize size text = (length text ≡ size) × IsUtf8 text
@@ -35,7 +35,7 @@ IsOfSize size text = (length text ≡ size) × IsUtf8 text
 abbrev a_text : List ℕ → List Item
 a_text text = text ∷ []
 
--- a text of so many bytes
+-- a text of this many bytes
 spaces : ℕ → List ℕ
 spaces zero = []
 spaces (suc n) = 0x20 ∷ spaces n
@@ -110,7 +110,7 @@ utf8_strict size = record { format = record { takes = takes; again = again }; so
             })
       ]
 
--- ---- a length, and so many bytes
+-- ---- a length, and this many bytes
 
 length_strict : IsStrict (IsWithin 0 4096) a_wide (wide_at 0 4096)
 length_strict = wide_strict 0 4096 (omega arith) (omega arith)

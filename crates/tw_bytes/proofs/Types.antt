@@ -1,4 +1,4 @@
--- Types and parameters: each is read as it was written, and where it is wrong or cut off the reading says so.
+-- Types and parameters: each is parsed as it was written, and one that is wrong or cut off is reported.
 use Rattle.std.proofs.Common.{◌≡◌, ℕ, zero, suc, ◌-◌, ◌<◌, ◌≤◌, ◌⊎◌, Bool, true, false, cond, if◌then◌else◌, eqb, Option, Some, None, List, [], ◌∷◌, ◌++◌, length, Result, Ok, Err, refl, sym, ap, subst, arith, inl, inr}
 use Rattle.std.specs.List.{concat, AllByRecursion}
 use Rattle.std.specs.Option.{option_map_or}
@@ -29,7 +29,7 @@ IsUnder version room t = (depth_of t ≤ room) × AllByRecursion (IsSubscriptOf 
 
 -- ---- the byte of a container
 
--- what begins a container is its byte, and the version has its subscripts
+-- the first byte of a container is its code, and the version has its subscripts
 container_is : (version : Version) (b : ℕ) (by : Scalar) → container_in version b ≡ Some by → (b ≡ container_code by) × IsSubscriptOf version by
 container_is version b by e =
     elim (chosen (eqb b 3) (Some Int) (cond (eqb b 4) (cond (is_two version) (Some Text) None) None) (Some by) e) [
@@ -52,12 +52,12 @@ container_known version Int h = refl
 container_known One Text h = absurd h
 container_known Two Text h = refl
 
--- what is read goes by whether a container begins
+-- parsing depends on whether a container begins
 begun : {Z : Type 0} (o : Option Scalar) (f : Scalar → Z) (y z : Z) → option_map_or f o y ≡ z → ((by : Scalar) × (o ≡ Some by) × (f by ≡ z)) ⊎ ((o ≡ None) × (y ≡ z))
 begun (Some by) f y z e = inl (by, refl, e)
 begun None f y z e = inr (refl, e)
 
--- ---- what is read was written
+-- ---- a parsed type was written so
 
 scalar_type_takes : (version : Version) (room : ℕ) (bytes : List ℕ) (t : NestedScalar) (rest : List ℕ) → IsBytes bytes → as_is scalar_type scalar_at bytes ≡ Ok (t, rest) → Takes bytes (concat (type_items t)) rest × IsUnder version room t
 scalar_type_takes version room bytes t rest fits e =
@@ -85,7 +85,7 @@ type_takes version (suc room) (b ∷ bs) t rest fits e =
       | inr h ↦ scalar_type_takes version (suc room) (b ∷ bs) t rest fits h.1
     ]
 
--- ---- what the first byte says
+-- ---- the first byte
 
 pub none_left : (version : Version) (room : ℕ) (bytes : List ℕ) → length bytes ≡ 0 → type_at version room bytes ≡ missing
 unfolding type_at
@@ -109,7 +109,7 @@ unfolding type_at
 begins_scalar version zero b bs bytes is none = subst (λ (all : List ℕ). type_at version 0 all ≡ as_is scalar_type scalar_at all) (sym is) (rw none refl)
 begins_scalar version (suc room) b bs bytes is none = subst (λ (all : List ℕ). type_at version (suc room) all ≡ as_is scalar_type scalar_at all) (sym is) (rw none refl)
 
--- what a function gives where its test is met
+-- the result of a function whose test holds
 pub made : {A : Type 0} (b : Bool) (x y : A) → (if b then Some x else None) ≡ Some y → x ≡ y
 made true x y h = cc
 made false x y h = cc
@@ -117,12 +117,12 @@ made false x y h = cc
 pub inside : (by : Scalar) (t u : NestedScalar) (xs ys : List ℕ) → t ≡ u → xs ≡ ys → ◌≡◌ {A = Result (NestedScalar × List ℕ) Broken} (Ok (container_of by t, xs)) (Ok (container_of by u, ys))
 inside by t u xs ys h g = cc
 
--- where a type's members fail, it does
+-- if the type of the members fails, the type does
 pub fails_within : {A B : Type 0} (stop : Stop) (make : A → B) (read : Reading A) (bytes : List ℕ) → Fails stop (read bytes) → Fails stop (as_is make read bytes)
 fails_within stop.NoMemory make read bytes h = tt
 fails_within (stop.At f) make read bytes h = rw h refl
 
--- ---- what was written is read
+-- ---- a written type is parsed
 
 type_again : (version : Version) (room : ℕ) (cs : List Scalar) (s : Scalar) (rest : List ℕ) → length cs ≤ room → AllByRecursion (IsSubscriptOf version) cs
     → type_at version room (concat (nested_items cs s) ++ rest) ≡ Ok (record { containers = cs; scalar = s }, rest)
@@ -134,7 +134,7 @@ type_again version (suc room) [] Text rest h all = refl
 type_again version zero (by ∷ cs) s rest h all = absurd (omega arith)
 type_again version (suc room) (by ∷ cs) s rest h all = rw (container_known version by all.0, type_again version room cs s rest (omega arith) all.1) refl
 
--- ---- where it fails
+-- ---- types that fail
 
 int_type : NestedScalar
 int_type = record { containers = []; scalar = Int }
@@ -171,7 +171,7 @@ type_fails version (suc room) (b ∷ bs) f e =
       | inr h ↦ let g = scalar_wrong b bs f h.1 in inr (wrong_byte b bs Unknown f int_type (omega arith, tt) 1 [] refl tt g.2 (λ rest. rw (h.0, g.0, g.1) refl))
     ]
 
--- ---- the laws
+-- ---- the theorems
 
 pub type_strict : (version : Version) (room : ℕ) → IsStrict (IsUnder version room) type_items (type_at version room)
 unfolding int_type
@@ -182,7 +182,7 @@ type_strict version room = record {
   fails = λ bytes f fits e. type_fails version room bytes f e;
 }
 
--- in no container
+-- a type without containers
 abbrev IsScalar : NestedScalar → Type 0
 IsScalar t = is_scalar t ≡ true
 

@@ -1,4 +1,4 @@
--- Version 1 is spelled as it was.
+-- Version 1 is encoded as it was.
 use Rattle.std.proofs.Common.{◌≡◌, ℕ, List, [], ◌∷◌, ◌++◌, length, Option, Some, true, false, refl, sym, ap, subst, ◌∙◌}
 use Rattle.std.specs.Prelude.{slice_get}
 use Rattle.std.specs.List.{concat, flat_map, AllByRecursion}
@@ -64,7 +64,7 @@ same_items i h is =
     ap (λ (items : List Item). byte (code_of (row i).0) ∷ items) (alike (IsOperandOf One) operand_items one.operand_items same_operand (row i).1 h.1)
     ∙ ap (λ (r : Opcode × List Operand). byte (code_of r.0) ∷ flat_map one.operand_items r.1) is
 
--- what has several opcodes has one in version 1
+-- an instruction with several opcodes has one in version 1
 by_integers : (own other : Opcode) (by : Scalar) → has_opcode One other ≡ false → has_opcode One (opcode_by own other by) ≡ true → opcode_by own other by ≡ own
 by_integers own other Int new h = refl
 by_integers own other Text new h = absurd cc

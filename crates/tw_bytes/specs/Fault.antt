@@ -1,4 +1,4 @@
--- Which fault is the first one, by the spellings of programs alone.
+-- The first fault of an input, defined by the encodings of programs alone.
 use Rattle.std.specs.Prelude.{◌≡◌, ◌<◌, ℕ, List, ◌∷◌, ◌++◌, length}
 use Rattle.std.specs.List.{concat}
 use Rattle.tw_bytes.specs.declared.fault.FaultNo.{FaultNo}
@@ -6,7 +6,7 @@ use Rattle.tw_bytes.specs.declared.fault.FaultNo.TheVariants.{Magic, Version, Mi
 use Rattle.tw_code.specs.format.Program.{IsVersioned, Versioned}
 use Rattle.tw_bytes.specs.Spelling.{Item, items_of, spelling}
 
--- F01 to F09
+-- returns the code, F01 to F09
 abbrev pub fault_number : FaultNo → ℕ
 fault_number Magic = 1
 fault_number Version = 2
@@ -18,7 +18,7 @@ fault_number Utf8 = 7
 fault_number Trailing = 8
 fault_number NoMemory = 9
 
--- After `before`, which is whole items of some program's spelling, an item of so many bytes is due.
+-- After `before`, which is whole items of some program's encoding, an item of this many bytes is due.
 pub record IsDue (before : List ℕ) (size : ℕ) : Type 0 where
   pub program : Versioned
   pub is_program : IsVersioned program
@@ -29,7 +29,7 @@ pub record IsDue (before : List ℕ) (size : ℕ) : Type 0 where
   pub joined : concat done ≡ before
   pub size_is : length next ≡ size
 
--- A whole item stands where one is due, and with it no program's spelling goes on.
+-- A whole item is where one is due, and no program's encoding continues with it.
 pub record IsWrongItem (bytes : List ℕ) (offset : ℕ) : Type 0 where
   pub before : List ℕ
   pub item : List ℕ
@@ -39,7 +39,7 @@ pub record IsWrongItem (bytes : List ℕ) (offset : ℕ) : Type 0 where
   pub due : IsDue before (length item)
   pub stops : (other : Versioned) (rest : List ℕ) → IsVersioned other → spelling other ≡ before ++ (item ++ rest) → ⊥
 
--- The input ends before the item that is due is whole.
+-- The input ends before the item that is due is complete.
 pub record IsCutOff (bytes : List ℕ) (offset : ℕ) : Type 0 where
   pub before : List ℕ
   pub part : List ℕ
@@ -49,7 +49,7 @@ pub record IsCutOff (bytes : List ℕ) (offset : ℕ) : Type 0 where
   pub due : IsDue before size
   pub short : length part < size
 
--- Bytes stand after the spelling of a program.
+-- Bytes follow the encoding of a program.
 pub record HasMore (bytes : List ℕ) (offset : ℕ) : Type 0 where
   pub program : Versioned
   pub is_program : IsVersioned program
@@ -58,7 +58,7 @@ pub record HasMore (bytes : List ℕ) (offset : ℕ) : Type 0 where
   pub some : 0 < length after
   pub offset_is : offset ≡ length (spelling program)
 
--- what a fault of this number at this offset says of the bytes
+-- holds if the bytes have such a fault at this offset
 abbrev pub IsFirstFault : FaultNo → List ℕ → ℕ → Type 0
 IsFirstFault Magic bytes offset = IsWrongItem bytes offset
 IsFirstFault Version bytes offset = IsWrongItem bytes offset

@@ -1,4 +1,4 @@
--- Reading from left to right, with the first fault that is met.
+-- Parsing from left to right, which stops at the first fault.
 use Rattle.std.specs.Prelude.{◌≡◌, ◌⊎◌, ℕ, zero, suc, ◌-◌, ℤ, Bool, true, false, List, [], ◌∷◌, length, take, drop, Result, Ok, Err, nat_lt, ◌==◌, if◌then◌else◌, Option, Some, None}
 use Rattle.std.specs.Borrow.{Bor}
 use Rattle.std.specs.Int.{w16, w64, from_be_bytes, cast_signed}
@@ -31,36 +31,36 @@ use Rattle.tw_code.specs.declared.version.Version.TheVariants.{One, Two}
 use Rattle.tw_code.specs.format.Program.{Versioned}
 use Rattle.tw_code.specs.format.Table.{Content, Contents, Row, a_row, opcode_at, row_of}
 
--- A reading gives a value and the bytes after it, or the fault: its number, and how many bytes stand from its item on.
+-- A parser returns a value and the bytes after it, or a fault: its code, and how many bytes there are from its item on.
 abbrev pub Reading : Type 0 → Type 0
 Reading A = List ℕ → Result (A × List ℕ) Broken
 
--- the input ends before the item is whole
+-- returns the fault of an input that ends before the item is complete
 abbrev pub missing : {A : Type 0} → Result A Broken
 missing = Err (record { no = Missing; left = 0 })
 
--- the item at the front of these bytes is wrong
+-- returns the fault of a wrong item at the start of these bytes
 abbrev pub wrong : {A : Type 0} → FaultNo → List ℕ → Result A Broken
 wrong which bytes = Err (record { no = which; left = length bytes })
 
--- one, and another that goes by it
+-- parses one value, and then another with the parser that depends on it
 abbrev pub then_at : {A B : Type 0} → Reading A → (A → Reading B) → Reading (A × B)
 then_at first second bytes = first bytes >>= λ a. second a.0 a.1 >>= λ b. Ok ((a.0, b.0), b.1)
 
--- two after one another
+-- parses two values in sequence
 abbrev pub both : {A B : Type 0} → Reading A → Reading B → Reading (A × B)
 both first second bytes = first bytes >>= λ a. second a.1 >>= λ b. Ok ((a.0, b.0), b.1)
 
--- what is read, as another value
+-- parses a value and converts it
 abbrev pub as_is : {A B : Type 0} → (A → B) → Reading A → Reading B
 as_is make read bytes = read bytes >>= λ a. Ok (make a.0, a.1)
 
--- so many after one another
+-- parses this many values in sequence
 abbrev pub many : {A : Type 0} → Reading A → ℕ → Reading (List A)
 many read zero bytes = Ok ([], bytes)
 many read (suc n) bytes = read bytes >>= λ first. many read n first.1 >>= λ others. Ok (first.0 ∷ others.0, others.1)
 
--- a count, and so many after it
+-- parses a count, and this many values after it
 abbrev pub counted : {A : Type 0} → Reading ℕ → Reading A → Reading (List A)
 counted count read bytes = count bytes >>= λ n. many read n.0 n.1
 
@@ -69,24 +69,24 @@ is_within low high n = if nat_lt n low then false else if nat_lt high n then fal
 
 -- ---- items
 
--- one byte of these limits
+-- parses one byte within these limits
 unfoldable pub byte_at : ℕ → ℕ → Reading ℕ
 byte_at low high [] = missing
 byte_at low high (b ∷ rest) = if is_within low high b then Ok (b, rest) else wrong Limit (b ∷ rest)
 
--- two bytes of these limits
+-- parses two bytes as a number within these limits
 unfoldable pub wide_at : ℕ → ℕ → Reading ℕ
 wide_at low high bytes = if nat_lt (length bytes) 2 then missing else if is_within low high (from_be_bytes w16 (take 2 bytes)) then Ok (from_be_bytes w16 (take 2 bytes), drop 2 bytes) else wrong Limit bytes
 
--- eight bytes
+-- parses eight bytes as a signed number
 unfoldable pub number_at : Reading ℤ
 number_at bytes = if nat_lt (length bytes) 8 then missing else Ok (cast_signed w64 (from_be_bytes w64 (take 8 bytes)), drop 8 bytes)
 
--- so many bytes, which are UTF-8
+-- parses this many bytes, which must be UTF-8
 unfoldable pub utf8_at : ℕ → Reading (List ℕ)
 utf8_at size bytes = if nat_lt (length bytes) size then missing else if is_utf8 (take size bytes) then Ok (take size bytes, drop size bytes) else wrong Utf8 bytes
 
--- just this byte
+-- parses exactly this byte
 unfoldable pub exactly_at : ℕ → FaultNo → Reading ℕ
 exactly_at wanted which [] = missing
 exactly_at wanted which (b ∷ rest) = if b == wanted then Ok (b, rest) else wrong which (b ∷ rest)
@@ -107,11 +107,11 @@ abbrev pub is_two : Version → Bool
 is_two One = false
 is_two Two = true
 
--- the type of the subscripts, where this byte begins a container
+-- returns the type of the subscripts, if this byte begins a container
 abbrev pub container_in : Version → ℕ → Option Scalar
 container_in version b = if b == 3 then Some Int else if b == 4 then if is_two version then Some Text else None else None
 
--- a type with room for so many containers
+-- parses a type with at most so many containers
 unfoldable pub type_at : Version → ℕ → Reading NestedScalar
 type_at version room [] = missing
 type_at version zero (b ∷ rest) = option_map_or (λ by. wrong Nesting (b ∷ rest)) (container_in version b) (as_is scalar_type scalar_at (b ∷ rest))
@@ -119,7 +119,7 @@ type_at version (suc room) (b ∷ rest) = option_map_or (λ by. as_is (container
 
 -- ---- parameters
 
--- a parameter's type: no container under val
+-- parses a parameter's type: under val it has no container
 abbrev pub type_under : Version → Mode → Reading NestedScalar
 type_under version Val = as_is scalar_type scalar_at
 type_under version Closed = type_at version 3
@@ -131,19 +131,19 @@ param_at version = as_is (λ x. record { mode = x.0; ty = x.1 }) (then_at mode_a
 
 -- ---- instructions
 
--- a value register or a right register
+-- parses the number of a value register or a right register
 abbrev pub register_at : Reading ℕ
 register_at = byte_at 0 15
 
--- how many instructions to skip
+-- parses the number of instructions to skip
 abbrev pub skip_at : Reading ℕ
 skip_at = wide_at 0 65535
 
--- how many bytes, and all of them
+-- parses a length, and this many bytes
 abbrev pub text_at : Reading (List ℕ)
 text_at bytes = wide_at 0 4096 bytes >>= λ size. utf8_at size.0 size.1
 
--- 0 for any actor, else one more than its number
+-- returns no target for 0, else the actor that is one less
 abbrev pub target_in : ℕ → Option ℕ
 target_in zero = None
 target_in (suc number) = Some number
@@ -166,16 +166,16 @@ content_at version Callee = byte_at 0 255
 content_at version Target = target_at
 content_at version Args = args_at
 
--- what operands of these forms hold, one after the other
+-- parses the contents of operands of these forms, in sequence
 abbrev pub contents_at : Version → (forms : List Form) → Reading (Contents forms)
 contents_at version [] bytes = Ok (tt, bytes)
 contents_at version (form ∷ forms) bytes = both (content_at version form) (contents_at version forms) bytes
 
--- the instruction of a row, by its operands
+-- parses the operands of a row, and returns its instruction
 abbrev pub made_at : Version → Row → Reading Instr
 made_at version (a_row code forms make) bytes = as_is make (contents_at version forms) bytes
 
--- behind a code its operands, if it is that of an opcode; else it is at fault, and stands before these bytes
+-- parses the operands after a code, if an opcode has it; else the code, which is before these bytes, is the fault
 abbrev pub behind_code : Version → ℕ → Option Opcode → Reading Instr
 behind_code version code (Some o) bytes = made_at version (row_of o) bytes
 behind_code version code None bytes = wrong Unknown (code ∷ bytes)
@@ -197,43 +197,43 @@ version_at (b ∷ rest) = if b == 1 then Ok (One, rest) else if b == 2 then Ok (
 unfoldable pub header_at : Reading Version
 header_at = as_is (λ x. x.1.1.1) (both (exactly_at 0x54 Magic) (both (exactly_at 0x57 Magic) (both (exactly_at 0x42 Magic) version_at)))
 
--- all but the end of the input
+-- parses all of a program, but doesn't check that the input ends
 abbrev pub front_at : Reading (Version × List Procedure)
 front_at = then_at header_at (λ version. counted (byte_at 1 64) (procedure_at version))
 
--- all of the bytes
+-- parses all of the bytes
 unfoldable pub whole : List ℕ → Result Versioned Broken
 whole bytes = front_at bytes >>= λ x. if length x.1 == 0 then Ok (record { version = x.0.0; procedures = x.0.1 }) else wrong Trailing x.1
 
--- the fault by its offset
+-- converts a fault's remaining length to its offset
 abbrev pub placed : {A : Type 0} → ℕ → Result A Broken → Result A Fault
 placed total (Ok x) = Ok x
 placed total (Err f) = Err (record { no = f.no; offset = total - f.left })
 
--- the program that the bytes spell, or the first fault in them
+-- returns the program that the bytes encode, or the first fault in them
 abbrev pub program_of : List ℕ → Result Versioned Fault
 program_of bytes = placed (length bytes) (whole bytes)
 
--- ---- what functions answer
+-- ---- the results of functions
 
--- The reading fails as the function did.
+-- The parser fails as the function did.
 abbrev pub Fails : {Y : Type 0} → Stop → Result Y Broken → Type 0
 Fails stop.NoMemory read = Unit {0}
 Fails (stop.At f) read = read ≡ Err f
 
--- What a function returned, seen by view, is what reading gives, unless memory ran out.
+-- The function's result, seen by `view`, is the parser's, unless an allocation failed.
 abbrev pub Gives : {X Y : Type 0} → (X → Y) → Result X Stop → Result Y Broken → Type 0
 Gives view (Ok x) read = read ≡ Ok (view x)
 Gives view (Err e) read = Fails e read
 
--- Whatever a reader answers, of any bytes, is what reading gives.
+-- Whatever a function returns for any bytes is the parser's result.
 abbrev pub AreRead : {X : Type 0} → (Bor (List ℕ) → Result (X × Bor (List ℕ)) Stop → Type 0) → Reading X → Type 0
 AreRead {X = X} answers read = (bytes : Bor (List ℕ)) (answer : Result (X × Bor (List ℕ)) Stop) → answers bytes answer → Gives (λ x. (x.0, x.1.now)) answer (read bytes.now)
 
 abbrev pub out_of_memory : Fault
 out_of_memory = record { no = NoMemory; offset = 0 }
 
--- What decoding answers is what reading gives, unless memory ran out.
+-- The result of decoding is the parser's, unless an allocation failed.
 abbrev pub Answers : Result Versioned Fault → Result Versioned Fault → Type 0
 Answers (Ok p) read = read ≡ Ok p
 Answers (Err f) read = (f ≡ out_of_memory) ⊎ (read ≡ Err f)

@@ -1,5 +1,5 @@
--- The bytes of version 1, as they were when there was no other. Types, the rows of instructions and what is made of these have
--- further bytes since, and stand here without them; items and codes are those of Spelling and of Table.
+-- The encoding of version 1 before version 2 existed. Types, rows of instructions and all that is made of these have got more
+-- bytes since, and are defined here without them. Items and codes are those of `Spelling` and of Table.
 use Rattle.std.specs.Prelude.{◌≡◌, ◌↔◌, ℕ, List, [], ◌∷◌, ◌++◌, Some, slice_get}
 use Rattle.std.specs.List.{concat, flat_map}
 use Rattle.tw_code.specs.declared.form.Form.TheVariants.{Value, Right, Number, Turns, Literal, TypeOf, Skip, Callee, Target, Args}
@@ -18,7 +18,7 @@ use Rattle.tw_types.specs.Nesting.{NestedScalar}
 use Rattle.tw_types.specs.declared.data_type.Scalar.{Scalar}
 use Rattle.tw_types.specs.declared.param.Param.{Param}
 
--- a 3 for each container, and the scalar
+-- encodes each container as a 3, and then the scalar
 abbrev pub nested_items : List Scalar → Scalar → List Item
 nested_items [] scalar = scalar_items scalar
 nested_items (by ∷ inner) scalar = byte 3 ∷ nested_items inner scalar
@@ -67,15 +67,15 @@ instr_items i = byte (code_of (row i).0) ∷ flat_map operand_items (row i).1
 abbrev pub procedure_items : Procedure → List Item
 procedure_items p = byte (kind_code p.kind) ∷ (counted_items byte param_items p.params ++ (counted_items byte scalar_items p.registers ++ counted_items wide instr_items p.code))
 
--- "TWB", and a 1
+-- encodes "TWB", a 1, and the procedures
 abbrev pub spelling_of : List Procedure → List ℕ
 spelling_of procedures = concat (magic ++ (byte 1 ∷ [] ++ counted_items byte procedure_items procedures))
 
--- what version 1 says of bytes
+-- holds if the bytes encode this program in version 1
 pub record SpellProgram (bytes : List ℕ) (procedures : List Procedure) : Type 0 where
   pub is_program : IsProgramOf One procedures
   pub spelled : bytes ≡ spelling_of procedures
 
--- Bytes whose version is 1 spell a program exactly where they did so when there was no other.
+-- Bytes whose version is 1 encode a program if and only if they did so before version 2 existed.
 abbrev pub KeepsVersionOne : Type 0
 KeepsVersionOne = (bytes : List ℕ) (p : Versioned) → slice_get bytes 3 ≡ Some 1 → (IsVersioned p × (bytes ≡ spelling p)) ↔ ((p.version ≡ One) × SpellProgram bytes p.procedures)

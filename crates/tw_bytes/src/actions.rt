@@ -1,4 +1,4 @@
-//! Targets and arguments of tasks, from bytes.
+//! Decodes targets and arguments of tasks.
 
 ghost use Rattle.tw_bytes.specs.Reading.{Gives, args_at, target_at};
 
@@ -9,7 +9,7 @@ use std::alloc::Global;
 use tw_code::Procedure;
 use tw_types::{Items, Layout};
 
-/// 0 for any actor, else one more than its number.
+/// Decodes a target: 0 for any actor, else one more than its number.
 pub fn target_of(bytes: &[u8]) -> Result<(Option<u8>, &[u8]), Stop>
     ensures { Gives (λ x. (x.0, x.1.now)) result (target_at bytes.now) }
 {
@@ -20,7 +20,7 @@ pub fn target_of(bytes: &[u8]) -> Result<(Option<u8>, &[u8]), Stop>
     }
 }
 
-/// Up to 8 registers, behind their number.
+/// Decodes a count of at most 8, and this many registers.
 pub fn args_of(alloc: Global, bytes: &[u8]) -> Result<(Items<u8>, &[u8]), Stop>
     ensures { Gives (λ x. (x.0, x.1.now)) result (args_at bytes.now) }
 {

@@ -1,4 +1,4 @@
-//! Why bytes are no program.
+//! Faults: the errors of `decode`.
 
 ghost use Rattle.std.specs.Prelude.{◌≡◌, length};
 ghost use Rattle.tw_bytes.specs.Fault.{fault_number};
@@ -9,7 +9,7 @@ ghost use Rattle.tw_bytes.specs.declared.fault.Stop.TheVariants as stop;
 use std::alloc::{AllocError, AllocFailed};
 use thiserror::Error;
 
-/// What is wrong, F01 to F09 in this order.
+/// The kind of a fault, F01 to F09 in this order.
 #[derive(Clone, Copy, Debug)]
 pub enum FaultNo {
     /// A magic byte differs.
@@ -18,22 +18,22 @@ pub enum FaultNo {
     Version,
     /// The input ends too early.
     Missing,
-    /// A count, a register, a target, a number of turns or a text's length is out of its limits.
+    /// A count, a register, a target, a number of iterations or a text's length is out of its limits.
     Limit,
-    /// A kind, mode, type or opcode isn't known in the version, or the type can't stand there.
+    /// A kind, mode, type or opcode isn't known in the version, or the type isn't allowed there.
     Unknown,
-    /// A container in three containers.
+    /// More than three containers are nested.
     Nesting,
     /// A text isn't UTF-8.
     Utf8,
-    /// Bytes stand after the end of the program.
+    /// Bytes follow the end of the program.
     Trailing,
-    /// Memory ran out, so nothing is known of the bytes.
+    /// An allocation failed, so nothing is known of the bytes.
     NoMemory,
 }
 
 impl FaultNo {
-    /// The number behind the letter F, from 1.
+    /// Returns its code without the letter F, from 1.
     pub fn number(self) -> u8
         ensures { result ≡ fault_number self }
     {
@@ -41,9 +41,9 @@ impl FaultNo {
     }
 }
 
-/// The first fault from the left, and where its item begins.
+/// The first fault from the left, with the offset where its item begins.
 ///
-/// Where bytes are missing the offset is the input's length, and where memory ran out it is 0.
+/// If bytes are missing the offset is the input's length. If an allocation failed it is 0.
 #[derive(Clone, Copy, Debug, Error)]
 #[error("F{:02} at byte {offset}", .no.number())]
 pub struct Fault {
@@ -51,14 +51,14 @@ pub struct Fault {
     pub offset: usize,
 }
 
-/// A fault, by how many bytes of the input are left where its item begins.
+/// A fault, with the number of bytes of the input that are left where its item begins.
 #[derive(Clone, Copy)]
 pub struct Broken {
     pub no: FaultNo,
     pub left: usize,
 }
 
-/// Why reading stopped.
+/// The reason why decoding stopped.
 #[derive(Drop)]
 pub enum Stop {
     NoMemory,
@@ -66,7 +66,7 @@ pub enum Stop {
 }
 
 impl Stop {
-    /// The input ends before the item is whole.
+    /// Returns the fault of an input that ends before the item is complete.
     pub fn missing() -> Stop
         ensures { result ≡ At (record { no = Missing; left = 0 }) }
     {
@@ -76,7 +76,7 @@ impl Stop {
         })
     }
 
-    /// The item at the front of these bytes is wrong.
+    /// Returns the fault of a wrong item at the start of these bytes.
     pub fn wrong(no: FaultNo, bytes: &[u8]) -> Stop
         ensures { result ≡ At (record { no = no; left = length bytes.now }) }
     {

@@ -1,4 +1,4 @@
-//! The items of a program's bytes, and types, from the front of what is left.
+//! Decodes items and types. Each function returns a value and the bytes after it.
 
 ghost use Rattle.std.specs.Prelude.{◌≡◌, ◌≤◌, IfOk};
 ghost use Rattle.tw_bytes.specs.Reading.{Gives, byte_at, register_at, wide_at, number_at, exactly_at, kind_at, mode_at, scalar_at, version_at, container_in, type_at, as_is};
@@ -8,7 +8,7 @@ use crate::fault::{FaultNo, Stop};
 use tw_code::{Procedure, Version};
 use tw_types::{DataType, Kind, Mode, Scalar};
 
-/// One byte from `low` to `high`.
+/// Decodes one byte from `low` to `high`.
 #[tactic(auto, unfolding(crate::specs::Reading::byte_at))]
 pub fn byte_of(low: u8, high: u8, bytes: &[u8]) -> Result<(u8, &[u8]), Stop>
     ensures { Gives (λ x. (x.0, x.1.now)) result (byte_at low high bytes.now) }
@@ -20,14 +20,14 @@ pub fn byte_of(low: u8, high: u8, bytes: &[u8]) -> Result<(u8, &[u8]), Stop>
     }
 }
 
-/// A register of either bank.
+/// Decodes a register of either bank.
 pub fn register_of(bytes: &[u8]) -> Result<(u8, &[u8]), Stop>
     ensures { Gives (λ x. (x.0, x.1.now)) result (register_at bytes.now) }
 {
     byte_of(0, Procedure::LAST_REGISTER, bytes)
 }
 
-/// Two bytes that make a number from `low` to `high`.
+/// Decodes a big-endian number of two bytes from `low` to `high`.
 #[tactic(auto, unfolding(crate::specs::Reading::wide_at))]
 pub fn wide_of(low: u16, high: u16, bytes: &[u8]) -> Result<(u16, &[u8]), Stop>
     ensures reads { Gives (λ x. (x.0, x.1.now)) result (wide_at low high bytes.now) }
@@ -45,7 +45,7 @@ pub fn wide_of(low: u16, high: u16, bytes: &[u8]) -> Result<(u16, &[u8]), Stop>
     }
 }
 
-/// Eight bytes: a signed number.
+/// Decodes a signed big-endian number of eight bytes.
 #[tactic(auto, unfolding(crate::specs::Reading::number_at))]
 pub fn number_of(bytes: &[u8]) -> Result<(i64, &[u8]), Stop>
     ensures { Gives (λ x. (x.0, x.1.now)) result (number_at bytes.now) }
@@ -60,7 +60,7 @@ pub fn number_of(bytes: &[u8]) -> Result<(i64, &[u8]), Stop>
     Ok((number, rest))
 }
 
-/// Just this byte; another one is this fault.
+/// Takes the byte if it is this one. Any other byte is this fault.
 #[tactic(auto, unfolding(crate::specs::Reading::exactly_at))]
 pub fn exactly(wanted: u8, no: FaultNo, bytes: &[u8]) -> Result<(u8, &[u8]), Stop>
     ensures { Gives (λ x. (x.0, x.1.now)) result (exactly_at wanted no bytes.now) }
@@ -122,7 +122,7 @@ pub fn scalar_of(bytes: &[u8]) -> Result<(Scalar, &[u8]), Stop>
     }
 }
 
-/// A type with no container.
+/// Decodes a type without containers.
 pub fn scalar_type_of(bytes: &[u8]) -> Result<(DataType, &[u8]), Stop>
     ensures { Gives (λ x. (x.0, x.1.now)) result (as_is scalar_type scalar_at bytes.now) }
 {
@@ -130,7 +130,7 @@ pub fn scalar_type_of(bytes: &[u8]) -> Result<(DataType, &[u8]), Stop>
     Ok((DataType::from(scalar), rest))
 }
 
-/// The type of the subscripts, where this byte begins a container.
+/// Returns the type of the subscripts if this byte begins a container of the version.
 fn container_of(version: Version, code: u8) -> Option<Scalar>
     ensures { result ≡ container_in version code }
 {
@@ -144,7 +144,7 @@ fn container_of(version: Version, code: u8) -> Option<Scalar>
     }
 }
 
-/// A type with room for so many containers.
+/// Decodes a type with at most `room` containers.
 #[tactic(auto, using(crate::proofs::Types::none_left))]
 pub fn type_of(version: Version, room: u8, bytes: &[u8]) -> Result<(DataType, &[u8]), Stop>
     requires { room ≤ 3 }

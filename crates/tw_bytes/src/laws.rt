@@ -1,8 +1,8 @@
-//! What the definitions say of one another.
+//! Theorems on the definitions of this crate.
 
 ghost use Rattle.tw_bytes.specs.VersionOne.{KeepsVersionOne};
 
-/// Bytes whose version is 1 spell the programs that they spelled when there was no other version.
+/// Proves that bytes of version 1 encode the same programs as before version 2 existed.
 pub fn keeps_version_one()
     ensures { KeepsVersionOne }
 {}

@@ -1,6 +1,6 @@
-//! Programs from bytes, and the bytes of programs.
+//! Decodes and encodes programs.
 //!
-//! Each program has one spelling. `decode` reads it, or says which fault stands first; `encode` writes it.
+//! Each program has exactly one encoding. `decode` reads it, or returns the first fault from the left; `encode` writes it.
 #![tactic(auto)]
 
 mod actions;

@@ -1,11 +1,11 @@
-//! Many items of one kind from bytes, one after the other.
+//! Decodes several items of one kind.
 
 ghost use Rattle.tw_bytes.specs.Reading.{AreRead, Gives, Reading, many};
 
 use crate::fault::Stop;
 use std::alloc::Global;
 
-/// So many items, each by this reader.
+/// Decodes `count` items one after the other, each with `read`.
 pub fn many<'a, T: Drop, F: Fn(&'a [u8]) -> Result<(T, &'a [u8]), Stop>>(
     alloc: Global,
     count: u16,
@@ -13,7 +13,7 @@ pub fn many<'a, T: Drop, F: Fn(&'a [u8]) -> Result<(T, &'a [u8]), Stop>>(
     read: F,
 ) -> Result<(Vec<T>, &'a [u8]), Stop>
     requires { F.IsAlwaysCallable read }
-    // Whatever reading the reader's answers give.
+    // It returns what `many` returns for any parser that `read` implements.
     ensures { (reading : Reading T)
         → AreRead (F.post read) reading
         → Gives (λ x. (x.0.items, x.1.now)) result (many reading count bytes.entry.now) }

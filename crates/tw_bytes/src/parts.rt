@@ -1,4 +1,4 @@
-//! The parts of a procedure from bytes.
+//! Decodes the parts of a procedure.
 
 ghost use Rattle.tw_bytes.specs.Reading.{Gives, param_at, instr_at, scalar_at, type_under, counted, byte_at, wide_at};
 
@@ -30,7 +30,7 @@ fn param_of(version: Version, bytes: &[u8]) -> Result<(Param, &[u8]), Stop>
     }
 }
 
-/// Up to 8 parameters, behind their number.
+/// Decodes a count of at most 8, and this many parameters.
 pub fn params_of(
     alloc: Global,
     version: Version,
@@ -50,7 +50,7 @@ pub fn params_of(
     }
 }
 
-/// The types of up to 16 value registers, behind their number.
+/// Decodes a count of at most 16, and the types of this many value registers.
 pub fn registers_of(alloc: Global, bytes: &[u8]) -> Result<(Items<Scalar>, &[u8]), Stop>
     ensures { Gives (λ x. (x.0, x.1.now)) result (counted (byte_at 0 16) scalar_at bytes.now) }
 {
@@ -61,7 +61,7 @@ pub fn registers_of(alloc: Global, bytes: &[u8]) -> Result<(Items<Scalar>, &[u8]
     }
 }
 
-/// 1 to 4,096 instructions, behind their number.
+/// Decodes a count from 1 to 4,096, and this many instructions.
 pub fn code_of(alloc: Global, version: Version, bytes: &[u8]) -> Result<(Items<Instr>, &[u8]), Stop>
     ensures { Gives (λ x. (x.0, x.1.now)) result (counted (wide_at 1 4096) (instr_at version) bytes.now) }
 {

@@ -1,4 +1,4 @@
-//! Programs from bytes.
+//! Decodes procedures and whole programs.
 
 ghost use Rattle.std.specs.Prelude.{◌≡◌, IfOk, IfErr, Ok};
 ghost use Rattle.tw_bytes.specs.Fault.{IsFirstFault};
@@ -35,7 +35,7 @@ fn procedure_of(alloc: Global, version: Version, bytes: &[u8]) -> Result<(Proced
     ))
 }
 
-/// 1 to 64 procedures, behind their number.
+/// Decodes a count from 1 to 64, and this many procedures.
 fn procedures_of(
     alloc: Global,
     version: Version,
@@ -52,7 +52,7 @@ fn procedures_of(
     )
 }
 
-/// The magic bytes and the version.
+/// Decodes the magic bytes and the version.
 #[tactic(auto, unfolding(crate::specs::Reading::header_at))]
 fn header_of(bytes: &[u8]) -> Result<(Version, &[u8]), Stop>
     ensures { Gives (λ x. (x.0, x.1.now)) result (header_at bytes.now) }
@@ -80,17 +80,17 @@ fn whole_of(alloc: Global, bytes: &[u8]) -> Result<(Version, Vec<Procedure>), St
     }
 }
 
-/// The program that the bytes spell, all of them; or the first fault from the left.
+/// Decodes a program from all of the bytes. Returns the first fault from the left if they encode none, or if an allocation fails.
 pub fn decode(alloc: Global, bytes: &[u8]) -> Result<Program, Fault>
-    // What is read is spelled so.
+    // A program that is returned has these bytes as its encoding.
     ensures found { IfOk result (λ p. IsVersioned p × (bytes.now ≡ spelling p)) }
-    // What is spelled so is read, unless memory runs out.
+    // A program with this encoding is returned, unless an allocation fails.
     ensures only { (p : Versioned)
         → IsVersioned p → bytes.now ≡ spelling p → Answers result (Ok p) }
-    // A refusal is the first fault, by the spellings of programs alone: the item that is due
+    // An error is the first fault, defined by the encodings of programs alone: the item that is due
     // is wrong or cut off, or bytes follow a whole program.
     ensures first { IfErr result (λ f. IsFirstFault f.no bytes.now f.offset) }
-    // Which program, or which fault, it is: what reading from left to right gives.
+    // It is the program or the fault that parsing from left to right returns.
     ensures exact { Answers result (program_of bytes.now) }
 {
     match whole_of(alloc, bytes) {

@@ -1,4 +1,4 @@
-//! Instructions from bytes, a row each.
+//! Decodes instructions, in one row each.
 
 ghost use Rattle.std.specs.Prelude.{[], ◌∷◌};
 ghost use Rattle.tw_code.specs.declared.form.Form.TheVariants.{Args, Callee, Number, Skip, Target, Value};
@@ -100,21 +100,21 @@ fn args<'a>(alloc: Global, bytes: &mut &'a [u8]) -> Result<Items<u8>, Stop>
 
 // ---- operands of several registers
 
-/// Two registers.
+/// Decodes two registers.
 fn two<'a>(bytes: &mut &'a [u8]) -> Result<(u8, u8), Stop>
     ensures { Gives (λ x. ((x.0, (x.1, tt)), bytes.new.now)) result (contents_at One (Value ∷ Value ∷ []) bytes.old.now) }
 {
     Ok((register(bytes)?, register(bytes)?))
 }
 
-/// Two registers and a skip.
+/// Decodes two registers and a skip.
 fn two_and_skip<'a>(bytes: &mut &'a [u8]) -> Result<(u8, u8, u16), Stop>
     ensures { Gives (λ x. ((x.0, (x.1, (x.2, tt))), bytes.new.now)) result (contents_at One (Value ∷ Value ∷ Skip ∷ []) bytes.old.now) }
 {
     Ok((register(bytes)?, register(bytes)?, skip(bytes)?))
 }
 
-/// Three registers and a skip.
+/// Decodes three registers and a skip.
 fn three_and_skip<'a>(bytes: &mut &'a [u8]) -> Result<(u8, u8, u8, u16), Stop>
     ensures { Gives (λ x. ((x.0, (x.1, (x.2, (x.3, tt)))), bytes.new.now)) result (contents_at One (Value ∷ Value ∷ Value ∷ Skip ∷ []) bytes.old.now) }
 {
@@ -126,7 +126,7 @@ fn three_and_skip<'a>(bytes: &mut &'a [u8]) -> Result<(u8, u8, u8, u16), Stop>
     ))
 }
 
-/// The operands of ADD to REM.
+/// Decodes the operands of ADD to REM.
 fn compute<'a>(operation: Arithmetic, bytes: &mut &'a [u8]) -> Result<LocalInstr, Stop>
     ensures { Gives (λ x. (x, bytes.new.now)) result
         (as_is (λ x. Compute operation x.0 x.1.0 x.1.1.0 x.1.1.1.0) (contents_at One (Value ∷ Value ∷ Value ∷ Skip ∷ [])) bytes.old.now) }
@@ -141,7 +141,7 @@ fn compute<'a>(operation: Arithmetic, bytes: &mut &'a [u8]) -> Result<LocalInstr
     })
 }
 
-/// The operands of RULE, and of PUT.
+/// Decodes the operands of RULE or PUT.
 fn constant_action<'a>(alloc: Global, bytes: &mut &'a [u8]) -> Result<Action, Stop>
     ensures { Gives (λ x. (x, bytes.new.now)) result (as_is (action_of Constant) (contents_at One (Callee ∷ Number ∷ Target ∷ Args ∷ [])) bytes.old.now) }
 {
@@ -153,7 +153,7 @@ fn constant_action<'a>(alloc: Global, bytes: &mut &'a [u8]) -> Result<Action, St
     })
 }
 
-/// The operands of RULEV, and of PUTV, whose priority is in a value register.
+/// Decodes the operands of RULEV or PUTV, whose priority is in a value register.
 fn computed_action<'a>(alloc: Global, bytes: &mut &'a [u8]) -> Result<Action, Stop>
     ensures { Gives (λ x. (x, bytes.new.now)) result (as_is (action_of Computed) (contents_at One (Callee ∷ Value ∷ Target ∷ Args ∷ [])) bytes.old.now) }
 {
@@ -165,7 +165,7 @@ fn computed_action<'a>(alloc: Global, bytes: &mut &'a [u8]) -> Result<Action, St
     })
 }
 
-/// The operands of an instruction, a row each.
+/// Decodes the operands of an instruction, in one row each.
 #[rattlefmt::skip]
 fn operands_of<'a>(alloc: Global, version: Version, opcode: Opcode, bytes: &mut &'a [u8]) -> Result<Instr, Stop>
     ensures { Gives (λ x. (x, bytes.new.now)) result (made_at version (row_of opcode) bytes.old.now) }
@@ -210,7 +210,7 @@ fn operands_of<'a>(alloc: Global, version: Version, opcode: Opcode, bytes: &mut 
     }
 }
 
-/// An instruction: its code, and behind it its operands. Only a text and a list of arguments take memory.
+/// Decodes an instruction: its code, and its operands after it. Allocates only for a text and for a list of arguments.
 #[tactic(auto, unfolding(crate::specs::Reading::instr_at))]
 pub fn instr_of(alloc: Global, version: Version, bytes: &[u8]) -> Result<(Instr, &[u8]), Stop>
     ensures { Gives (λ x. (x.0, x.1.now)) result (instr_at version bytes.now) }

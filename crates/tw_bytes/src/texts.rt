@@ -1,4 +1,4 @@
-//! Texts from bytes.
+//! Decodes texts.
 
 ghost use Rattle.std.specs.Prelude.{◌≡◌, ◌≤◌};
 ghost use Rattle.tw_bytes.specs.Reading.{Gives, utf8_at, text_at};
@@ -8,7 +8,7 @@ use crate::items::wide_of;
 use std::alloc::Global;
 use tw_types::Text;
 
-/// So many bytes that are UTF-8, as a text.
+/// Decodes `size` bytes of UTF-8 as a text.
 #[tactic(auto, using(crate::proofs::TextFormat::utf8_tests), unfolding(crate::specs::Reading::utf8_at))]
 fn utf8_of(alloc: Global, size: u16, bytes: &[u8]) -> Result<(Text, &[u8]), Stop>
     requires { size ≤ 4096 }
@@ -28,7 +28,7 @@ fn utf8_of(alloc: Global, size: u16, bytes: &[u8]) -> Result<(Text, &[u8]), Stop
     }
 }
 
-/// A text of at most 4,096 bytes, behind their number.
+/// Decodes a length of at most 4,096, and a text of this many bytes.
 pub fn text_of(alloc: Global, bytes: &[u8]) -> Result<(Text, &[u8]), Stop>
     ensures { Gives (λ x. (x.0, x.1.now)) result (text_at bytes.now) }
 {

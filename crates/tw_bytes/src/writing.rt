@@ -1,4 +1,4 @@
-//! Programs as bytes.
+//! Encodes programs.
 
 ghost use Rattle.std.specs.Prelude.{◌≡◌, ◌++◌, ◌∷◌, ◌≤◌, if◌then◌else◌, length, map, OnOk, IfOk};
 ghost use Rattle.std.specs.List.{concat, flat_map};
@@ -42,7 +42,7 @@ fn code_of_scalar(scalar: Scalar) -> u8
     }
 }
 
-/// The byte with which a container begins.
+/// Returns the byte with which a container's encoding begins.
 fn code_of_container(ty: DataType) -> u8
     ensures { result ≡ (if is_container_by Text ty then container_code Text else container_code Int) }
 {
@@ -62,7 +62,7 @@ fn code_of_version(version: Version) -> u8
     }
 }
 
-/// 0 for any actor, else one more than its number.
+/// Encodes a target: 0 for any actor, else one more than its number.
 fn code_of_target(target: Option<u8>) -> u8
     requires { IsTarget target }
     ensures { result ≡ target_code target }
@@ -134,7 +134,7 @@ fn put_operand(out: &mut Vec<u8>, operand: &Operand<'_>) -> Result<(), AllocErro
     }
 }
 
-/// The opcode's code, and the operands behind it.
+/// Appends the opcode's code and the operands.
 fn put_row(out: &mut Vec<u8>, opcode: Opcode, operands: &[Operand<'_>]) -> Result<(), AllocError>
     requires { AreOperands operands.now }
     ensures { OnOk result (out.new.items
@@ -147,7 +147,7 @@ fn put_row(out: &mut Vec<u8>, opcode: Opcode, operands: &[Operand<'_>]) -> Resul
     Ok(())
 }
 
-/// The bytes as they grow.
+/// The encoding as it grows.
 #[derive(Drop)]
 struct Bytes {
     out: Vec<u8>,
@@ -216,7 +216,7 @@ fn put_procedure(bytes: &mut Bytes, procedure: &Procedure) -> Result<(), AllocEr
     Ok(())
 }
 
-/// The one spelling of a program.
+/// Returns the encoding of a program. Fails only if an allocation fails.
 pub fn encode(alloc: Global, program: &Program) -> Result<Vec<u8>, NoMemory>
     ensures { IfOk result (λ bytes. bytes.items ≡ spelling program.now) }
 {

@@ -1,4 +1,4 @@
--- Where a task runs, the event of its next instruction is enabled: it goes or traps.
+-- The next instruction of a running task makes an enabled event: it succeeds or traps.
 use Rattle.std.proofs.Common.{◌≡◌, ◌≢◌, List, Option, Some, None, slice_get, is_none, refl}
 use Rattle.std.specs.Prelude.{Result, Ok, Err}
 use Rattle.std.specs.FinMap.{get}
@@ -35,7 +35,7 @@ pub went_after : {A B : Type 0} (r : Result A Cause) (f : A → B) → GoesOrTra
 went_after (Ok x) f = tt
 went_after (Err cause) f = tt
 
--- one step of a stretch of local instructions
+-- one step of several local instructions
 went_one : {A B : Type 0} (r : Result A Cause) (f : A → B) → GoesOrTraps ((outcome_of r >>= λ x. Went x) >>= λ x. Went (f x))
 went_one (Ok x) f = tt
 went_one (Err cause) f = tt
@@ -62,6 +62,6 @@ module _ (program : List Procedure) (layout : ActorCounts) (actor : Actor) (s : 
   by_procedure None is = rw (here, is) tt
   by_procedure (Some p) is = by_instr p is (slice_get p.code frame.position.place) refl
 
-  -- whatever the program: a task that isn't at an instruction traps
+  -- for any program: a task that isn't at an instruction traps
   pub frame_moves : Moves (instr_here program frame)
   frame_moves = by_procedure (slice_get program frame.procedure) refl

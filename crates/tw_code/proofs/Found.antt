@@ -1,4 +1,4 @@
--- Of the waiting tasks and the rules: what an actor takes, asks for or releases next, and that there is something.
+-- The tasks and rules that an actor takes, asks for or releases next, and when there is one.
 use Rattle.std.proofs.Common.{◌≡◌, ℕ, suc, ◌+◌, ◌==◌, ◌⊎◌, inl, inr, Bool, true, false, ◌&&◌, ◌||◌, if◌then◌else◌, List, [], ◌∷◌, map, slice_get, Option, Some, None, is_some, refl, sym, ap, subst, ◌∙◌, arith, nat_cmp}
 use Rattle.std.proofs.lemmas.Bool.{and_parts}
 use Rattle.std.proofs.lemmas.Option.{same_Some}
@@ -23,7 +23,7 @@ any_entry test (e ∷ es) h = by (test e.1) refl (any_entry test es) h
     by true is others h = (e, inl refl, is)
     by false is others h = let f = others h in (f.0, inr f.1, f.2)
 
--- one of two that are there
+-- one of two Somes
 some_if : {A : Type 0} (b : Bool) (x y : Option A) → is_some x ≡ true → is_some y ≡ true → is_some (if b then x else y) ≡ true
 some_if true x y h k = h
 some_if false x y h k = k
@@ -35,7 +35,7 @@ some_best actor [] e i may = absurd i
 some_best actor (f ∷ es) e (inl is) may = let here : is_eligible actor f.1 ≡ true = ap (λ (g : ℕ × Task). is_eligible actor g.1) (sym is) ∙ may in rw here refl
 some_best actor (f ∷ es) e (inr i) may = some_if (is_eligible actor f.1) (Some (better f (best_of actor es))) (best_of actor es) refl (some_best actor es e i may)
 
--- where one that it may take waits, it takes one
+-- if a task waits that the actor may take, it takes one
 pub best_there : (actor : Actor) (tasks : Tasks) (e : ℕ × Task) → IsEntry e (entries tasks) → is_eligible actor e.1 ≡ true → is_some (best actor tasks) ≡ true
 unfolding best
 best_there actor tasks e i may = some_best actor (entries tasks) e i may
@@ -128,7 +128,7 @@ some_ask engine (f ∷ es) e (inr i) own h =
     let later = some_ask engine es e i own h in
     some_if (f.1.engine == engine) (ask_or f.0 (first_unasked 0 f.1.stages) (next_ask_of engine es)) (next_ask_of engine es) (ask_some f.0 (first_unasked 0 f.1.stages) (next_ask_of engine es) (inr later)) later
 
--- where a rule of its own has something unasked, an engine asks
+-- if one of its rules has an unasked parameter, an engine asks
 pub ask_there : (engine : ℕ) (rules : Rules) (e : ℕ × Rule) → IsEntry e (entries rules) → (e.1.engine == engine) ≡ true → has_unasked e.1 ≡ true → is_some (next_ask engine rules) ≡ true
 unfolding next_ask
 ask_there engine rules e i own h = some_ask engine (entries rules) e i own h
@@ -141,7 +141,7 @@ some_release engine (f ∷ es) e (inl is) own h =
     rw (here, may) refl
 some_release engine (f ∷ es) e (inr i) own h = some_if ((f.1.engine == engine) && is_releasable f.1) (Some f.0) (next_release_of engine es) refl (some_release engine es e i own h)
 
--- where a rule of its own can be released, an engine releases one
+-- if one of its rules can be released, an engine releases one
 pub release_there : (engine : ℕ) (rules : Rules) (e : ℕ × Rule) → IsEntry e (entries rules) → (e.1.engine == engine) ≡ true → is_releasable e.1 ≡ true → is_some (next_release engine rules) ≡ true
 unfolding next_release
 release_there engine rules e i own h = some_release engine (entries rules) e i own h

@@ -1,4 +1,4 @@
--- What main is given: containers within their limits, how many data an input makes, and parameters that take inputs in turn.
+-- Inputs of main: containers within their limits, how many data an input makes, and parameters that take inputs in turn.
 use Rattle.std.proofs.Common.{◌≡◌, ◌≤◌, ◌<◌, ◌+◌, ℕ, suc, true, false, ◌&&◌, List, [], ◌∷◌, drop, get_or, length, nat_le, refl, sym, ap, ◌∙◌, drop-cons, arith}
 use Rattle.std.proofs.lemmas.Bool.{and_parts}
 use Rattle.std.proofs.lemmas.Bool.Decides.{nat_tests}
@@ -16,7 +16,7 @@ use Rattle.tw_code.specs.machine.Inputs.{are_inputs_of, are_members, input_param
 use Rattle.tw_code.specs.machine.Members.{are_short, closed_container, with_members}
 use Rattle.tw_code.specs.machine.Opening.{added_given, closed_scalar, numbered}
 
--- ---- what is asked of a container
+-- ---- the checks of a container
 
 module _ (ty : NestedScalar) (by inside : Scalar) (es : List (Subscript × Value)) (fits : is_given_for ty (Container by inside es) ≡ true) where
   parts : (same_type ty (container_of by (scalar_type inside)) ≡ true) × (are_members es ≡ true)

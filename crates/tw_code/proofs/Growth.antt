@@ -1,4 +1,4 @@
--- Numbers and counts start small, and each event makes them larger by at most its size.
+-- Numbers and counts start small, and each event raises them by at most its size.
 use Rattle.std.proofs.Common.{◌≡◌, ◌<◌, ◌≤◌, ◌+◌, ◌-◌, ◌*◌, ◌==◌, ℕ, zero, suc, Bool, true, false, cond, if◌then◌else◌, not, List, [], ◌∷◌, length, fold, drop, slice_get, nat_le, Option, Some, None, refl, arith, subst, sym}
 use Rattle.std.specs.Prelude.{Ok}
 use Rattle.std.specs.Option.{ok_or}
@@ -70,7 +70,7 @@ no_members : (b : Bool) → len (members_in (if b then Unset else Contains fin.e
 no_members true = len-empty value_cmp ℕ
 no_members false = len-empty value_cmp ℕ
 
--- a store comes of one call
+-- a store that one call makes of another
 record StoreGrown (s t : Store) : Type 0 where
   next : t.next ≤ s.next + 1
   counts : (bound : ℕ) → 0 < bound → Each (HasCounts bound) s.live → Each (HasCounts (bound + 1)) t.live
@@ -136,7 +136,7 @@ changed_grown s id f adds = by (get s.live id) refl
     by None at = rw at (same_store s)
     by (Some x) at = rw at (record { next = omega arith; counts = λ bound some all. each_insert nat_cmp_total (HasCounts (bound + 1)) s.live (more_counts bound s.live all) id (f x) (adds bound x (all id x at)) })
 
--- the same, where the datum may close by that, or be freed
+-- like `changed`, when the datum may be closed or freed by the change
 after_grown : (s : Store) (id : ℕ) (f : Datum → Datum) → Adds f → StoreGrown s (store_after s id f)
 after_grown s id f adds = by (get s.live id) refl
   where
@@ -183,7 +183,7 @@ look_grown : (c : Context) (register skip : ℕ) (found : Option ℕ) → StoreG
 look_grown c register skip None = same_store c.store
 look_grown c register skip (Some member) = read_copied_grown c.store member
 
--- a line an instruction
+-- one line for each instruction
 data_grown : (i : DataInstr) (c : Context) → WhereOk (data_instr i c) (λ e. StoreGrown c.store e.store)
 data_grown (on_data.New write read ty) c =
     ok_then (must_be_empty c.rights write) (λ _. ok_then (must_be_empty c.rights read) (λ _. ok_then (must (not (write == read)) WrongRegister) (λ _. record { is = created_grown c.store ty })))
@@ -213,7 +213,7 @@ data_grown (on_data.DropWrite right) c =
 abbrev HasSpent : ℕ → Frame → Type 0
 HasSpent bound frame = frame.spent < bound
 
--- a state comes of one event of this size
+-- a state that one event of this size makes of another
 record Grown (size : ℕ) (s t : State) : Type 0 where
   some : 0 < size
   store : StoreGrown s.store t.store
@@ -224,7 +224,7 @@ record Grown (size : ℕ) (s t : State) : Type 0 where
 more_spent : (bound size : ℕ) (s : State) → Each (HasSpent bound) s.frames → Each (HasSpent (bound + size)) s.frames
 more_spent bound size s all actor frame at = omega (arith, all actor frame at)
 
--- where no frame changes
+-- if no frame changes
 same_frames : (s t : State) → StoreGrown s.store t.store → t.next_task ≤ s.next_task + 1 → t.next_rule ≤ s.next_rule + 1 → t.frames ≡ s.frames → Grown 1 s t
 same_frames s t store task rule same = record {
   some = omega arith;
@@ -239,11 +239,11 @@ begun_spent program number task frame = ok_of (frame_of program number task) (λ
     (ok_both (procedure_of program task.procedure) (λ p _. ok_both (filled (values_in task.args) p.registers) (λ values _. record { is = refl })))
 
 module _ (actor : Actor) (s : State) where
-  -- a frame takes the place of another, which it outdoes by the size, or is new
+  -- a frame replaces another, whose count it exceeds by the size, or is new
   framed : (bound size : ℕ) (frame : Frame) → frame.spent < bound + size → Each (HasSpent bound) s.frames → Each (HasSpent (bound + size)) (insert s.frames actor frame)
   framed bound size frame few all = each_insert actor_cmp_total (HasSpent (bound + size)) s.frames (more_spent bound size s all) actor frame few
 
-  -- the frame stands behind a RULE or PUT
+  -- the frame is after a RULE or PUT
   behind : (at : Standing) → get s.frames actor ≡ Some at.frame → (rights : Rights) (t : State) → Grown 1 s t → t.frames ≡ s.frames → Grown 1 s (with_frame t actor (gone_behind at.frame rights))
   behind at here rights t grown same = record {
     some = omega arith;
@@ -297,12 +297,12 @@ event_grown program layout (Deliver server datum rule parameter) s = deliver_lea
     (λ rule _ _. same_frames s _ (same_store s.store) (omega arith) (omega arith) refl)
 event_grown program layout (Release engine number) s = release_leaves s program engine number (λ rule p _ _. same_frames s _ (same_store s.store) (omega arith) (omega arith) refl)
 
--- ---- the law of events
+-- ---- the theorem on events
 
 numbers_more : (bound : ℕ) (s t : State) (size : ℕ) → Grown size s t → AreNumbersBelow bound s → AreNumbersBelow (bound + 1) t
 numbers_more bound s t size grown below = record { datum = omega (arith, grown.store.next, below.datum); task = omega (arith, grown.task, below.task); rule = omega (arith, grown.rule, below.rule) }
 
--- what is below a bound is below a greater one
+-- a number below a bound is below a greater one
 pub numbers_wider : (bound more : ℕ) (s : State) → bound ≤ more → AreNumbersBelow bound s → AreNumbersBelow more s
 numbers_wider bound more s h below = record { datum = omega (arith, below.datum); task = omega (arith, below.task); rule = omega (arith, below.rule) }
 
@@ -341,7 +341,7 @@ step_grows program layout event = record {
 abbrev IsFew : Datum → Type 0
 IsFew x = (x.reads ≤ 1) × (x.writes ≤ 1) × (len (members_in x.content) ≤ 1000)
 
--- a store where so many data at most have been made
+-- a store in which at most so many data have been made
 record IsFresh (made : ℕ) (s : Store) : Type 0 where
   next : s.next ≤ made + 1
   few : Each IsFew s.live
@@ -376,12 +376,12 @@ fresh_given made s ty (Container by scalar es) h fresh =
 fresh_output : (made : ℕ) (o : Opened) (ty : NestedScalar) → IsFresh made o.store → IsFresh (made + 1001) (with_output o ty).store
 fresh_output made o ty fresh = fresh_wider (made + 1) (made + 1001) _ (omega arith) (fresh_added made o.store (new_datum ty) (omega arith, omega arith, omega (arith, no_members (is_scalar ty))) fresh)
 
--- so many data at most as the parameters make
+-- the greatest number of data that the parameters make
 abbrev room_of : List Param → ℕ
 room_of [] = 0
 room_of (p ∷ params) = 1001 + room_of params
 
--- what the parameters from here on make
+-- the data that the parameters from here on make
 abbrev AreFresh : List Param → Type 0
 AreFresh params = (inputs : List Input) (made : ℕ) (o : Opened) → are_inputs_of (input_params params) inputs ≡ true → IsFresh made o.store → IsFresh (made + room_of params) (opened o params inputs).store
 

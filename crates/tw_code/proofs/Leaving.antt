@@ -1,4 +1,4 @@
--- What an event leaves, where it went, and what stood there before.
+-- The state after an event that succeeded, and what was there before.
 use Rattle.std.proofs.Common.{◌≡◌, ℕ, ◌+◌, ◌==◌, Bool, true, false, not, ◌&&◌, nat_lt, if◌then◌else◌, slice_get, is_none, List, Option, Some, None, refl, ap, ◌∙◌}
 use Rattle.std.specs.FinMap.{get, remove}
 use Rattle.std.specs.FinSet as set
@@ -30,7 +30,7 @@ use Rattle.tw_code.specs.machine.Machine.{Standing, ask_event, call_by, call_eve
 use Rattle.tw_code.specs.machine.Position.{Position}
 use Rattle.tw_code.specs.machine.State.{Frame, State, after_context, context_of, frame_of, gone_behind, new_rule, with_frame, with_rule, with_stage, with_task}
 
--- ---- what stood there
+-- ---- before the event
 
 -- an actor's frame, its procedure, and the instruction at its place
 pub record Stood (program : List Procedure) (actor : Actor) (s : State) (at : Standing) : Type 0 where
@@ -42,7 +42,7 @@ pub stood : (program : List Procedure) (actor : Actor) (s : State) (at : Standin
 stood program actor s at = went_of (standing_of program actor s) (Stood program actor s) at
     (if_enabled (get s.frames actor) (λ f a. if_there (slice_get program f.procedure) WrongCall (λ p b. if_there (slice_get p.code f.position.place) OutsideCode (λ i c. record { is = record { frame = a; procedure = b; instr = c } }))))
 
--- a rule with an unasked parameter, and the datum that stands for it
+-- a rule with an unasked parameter, and the datum that is its argument
 pub record IsUnasked (s : State) (number parameter : ℕ) (rule : Rule) (id : ℕ) (x : Datum) : Type 0 where
   pub pending : get s.rules number ≡ Some rule
   pub stage : slice_get rule.stages parameter ≡ Some Unasked

@@ -1,4 +1,4 @@
--- What a store loses: each datum that is left has its subscribers, and is as closed as it was.
+-- Losing reads: each datum that is left keeps its subscribers, and is closed if it was.
 use Rattle.std.proofs.Common.{◌≡◌, ℕ, zero, suc, ◌-◌, ◌==◌, if◌then◌else◌, List, [], ◌∷◌, fold, Option, Some, None, refl, sym, ap, subst, ◌∙◌, inl, inr}
 use Rattle.std.proofs.lemmas.Bool.{cases_eq, cases_Bool}
 use Rattle.std.proofs.lemmas.Option.{same_Some}
@@ -27,7 +27,7 @@ each_kept : (f : Data → ℕ → Data) → KeepsEach f → (ids : List ℕ) (m 
 each_kept f k [] m d y e = kept_itself (get m d) y e
 each_kept f k (id ∷ ids) m d y e = kept_step (get m d) (get (f m id) d) y (each_kept f k ids (f m id) d y e) (λ x g. k m id d x g)
 
--- what was put, with all that is freed by it, against what was put
+-- a datum that was put, with all that is freed by it, against the datum before
 settled_by_kept : (f : Data → ℕ → Data) → KeepsEach f → (m : Data) (id : ℕ) (z : Datum) (d : ℕ) (y : Datum) → get (settled_by f m id z) d ≡ Some y → IsKept (get (insert m id z) d) y
 settled_by_kept f k m id z d y e = elim (cases_Bool (is_unheld z)) [
   | inl go ↦
@@ -44,7 +44,7 @@ settled_by_kept f k m id z d y e = elim (cases_Bool (is_unheld z)) [
       | inr other ↦ kept_itself (get (insert m id z) d) x (data_insert_other m id z d other ∙ sym (data_remove_other m id d other) ∙ g)
     ]
 
--- a datum that is put in the place of one like it
+-- a datum that replaces one like it
 pub put_kept : (m : Data) (id : ℕ) (x z : Datum) (d : ℕ) (y : Datum) → get m id ≡ Some x → (z.subscribers ≡ x.subscribers) × (is_closed z ≡ is_closed x) → get (insert m id z) d ≡ Some y → IsKept (get m d) y
 put_kept m id x z d y is alike e = elim (cases_eq d id) [
   | inl same ↦

@@ -1,4 +1,4 @@
--- What is due is enabled; and something is due for an actor of the layout, as long as a run isn't quiet.
+-- A due event is enabled, and some event is due for an actor of the layout while a run isn't quiet.
 use Rattle.std.proofs.Common.{[], ◌≡◌, ◌≢◌, ◌⊎◌, inl, inr, ℕ, ◌<◌, ◌≤◌, ◌==◌, true, false, ◌&&◌, ◌||◌, nat_lt, List, ◌∷◌, length, is_some, Option, Some, None, refl, sym, ap, subst, ◌∙◌, arith, nat_cmp}
 use Rattle.std.proofs.lemmas.Bool.{cases_Bool, eq-eqb, eqb-true}
 use Rattle.std.proofs.lemmas.Bool.Decides.{nat_tests}
@@ -43,7 +43,7 @@ use Rattle.tw_code.proofs.Ever.{GoesOrTraps, is_enabled, went_after, frame_moves
 use Rattle.tw_code.proofs.Found.{IsUnaskedAt, MayBeReleased, any_entry, ask_found, ask_there, best_there, own_rule_there, release_found, release_there}
 use Rattle.tw_code.proofs.Placed.{count_of, IsPlaced, reached_placed}
 
--- ---- what is due is enabled
+-- ---- due events are enabled
 
 module _ (program : List Procedure) (layout : ActorCounts) (s : State) where
   abbrev Moves : Event → Type 0
@@ -95,7 +95,7 @@ module _ (program : List Procedure) (layout : ActorCounts) (s : State) where
     due_moves : (actor : Actor) (event : Event) → is_in layout actor ≡ true → IsDue program layout actor s event → step program layout event s ≢ NotEnabled
     due_moves actor event there due = is_enabled (step program layout event s) (by_frame actor event there (get s.frames actor) refl due)
 
--- ---- as long as a run isn't quiet, something is due
+-- ---- while a run isn't quiet, something is due
 
 pub record SomeDue (program : List Procedure) (layout : ActorCounts) (s : State) : Type 0 where
   pub actor : Actor
@@ -137,7 +137,7 @@ unfolding number_for
 number_below None count some h = grind (arith, nat_tests, some)
 number_below (Some number) count some h = grind (arith, nat_tests, h)
 
--- ---- what an engine or a worker without a frame does
+-- ---- an engine or a worker without a frame
 
 engine_finds : (engine : ℕ) (ask : Option (ℕ × ℕ)) (release : Option ℕ) (task : Option (ℕ × Task)) → is_some ask ≡ true ⊎ (is_some release ≡ true ⊎ is_some task ≡ true) → (event : Event) × (first_of engine ask release task ≡ Some event)
 engine_finds engine (Some q) release task h = (Ask engine q.0 q.1, refl)
@@ -215,16 +215,16 @@ module _ (program : List Procedure) (layout : ActorCounts) (counts : IsLayout la
     ]
   ]
 
--- ---- where nothing is due for an actor
+-- ---- if nothing is due for an actor
 
 -- ---- in each state that a run reaches, of any program
 
 module _ (program : List Procedure) (inputs : List Input) (layout : ActorCounts) (events : List Event) (targets : HasTargets program layout) (s : State) (e : reached program inputs layout events ≡ Went s) where
-  -- what is due for an actor of the layout is enabled
+  -- an event that is due for an actor of the layout is enabled
   pub due_enabled : (actor : Actor) (event : Event) → is_in layout actor ≡ true → IsDue program layout actor s event → step program layout event s ≢ NotEnabled
   due_enabled = due_moves program layout s (reached_placed program inputs layout events targets s e)
 
-  -- as long as the state isn't quiet, something is due for one
+  -- while the state isn't quiet, some event is due for one
   pub some_due : IsLayout layout → is_quiet s ≡ false → SomeDue program layout s
   some_due counts busy = something_due program layout counts s (reached_placed program inputs layout events targets s e) busy
 

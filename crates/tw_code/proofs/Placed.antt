@@ -51,9 +51,9 @@ use Rattle.tw_code.specs.machine.State.{Frame, Frames, State, values_in, filled,
 use Rattle.tw_types.proofs.Best.{best_found}
 use Rattle.tw_code.proofs.Leaving.{Stood, stood, owned}
 
--- ---- what an action makes
+-- ---- the results of an action
 
--- what is unasked is a right
+-- an unasked parameter is a right
 abbrev pub AsksRights : List Stage → List Arg → Type 0
 AsksRights stages args = (k : ℕ) → slice_get stages k ≡ Some Unasked → (id : ℕ) × (slice_get args k ≡ Some (RightArg id))
 
@@ -160,7 +160,7 @@ placed program layout h number place p i is at action needs q there =
 as_named : (layout : ActorCounts) (kind named : Kind) (target by : Option ℕ) → kind ≡ named → target ≡ by → up_to by ≤ count_of layout named → up_to target ≤ count_of layout kind
 as_named layout kind named target by is goes h = rw (is, goes) h
 
--- ---- what every event of any program keeps
+-- ---- properties that every event of any program keeps
 
 module _ (program : List Procedure) (layout : ActorCounts) where
   -- a task of a control procedure is taken by an engine

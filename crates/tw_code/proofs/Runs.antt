@@ -1,4 +1,4 @@
--- A run, and one event more at its end.
+-- A run, extended by one event.
 use Rattle.std.proofs.Common.{◌≡◌, List, [], ◌∷◌, ◌++◌, ap, ◌∙◌}
 use Rattle.tw_types.specs.declared.event.Event.{Event}
 use Rattle.tw_types.specs.Layout.{ActorCounts}

@@ -42,7 +42,7 @@ gone_only s n q h = (other, sym (gone_other s n q other) ∙ h)
 
 -- ---- subscribers that have become notices
 
--- 1 where it is that parameter
+-- 1 if it is that parameter
 abbrev pub is_that : ℕ → ℕ → Subscriber → ℕ
 is_that rule parameter x = if (x.rule == rule) && (x.parameter == parameter) then 1 else 0
 
@@ -69,7 +69,7 @@ with_keeps : (s : Notices) (more : List Notice) (q : Notice) → set.contains s 
 with_keeps s [] q h = h
 with_keeps s (n ∷ more) q h = with_keeps (set.insert s n) more q (put_keeps s n q h)
 
--- one that was there is there
+-- a notice that was there is still there
 pub told_keeps : (s : Notices) (id : ℕ) (xs : List Subscriber) (q : Notice) → set.contains s q ≡ true → set.contains (with_notices s (map (notice_to id) xs)) q ≡ true
 told_keeps s id xs q h = with_keeps s (map (notice_to id) xs) q h
 
@@ -85,7 +85,7 @@ told_has s id rule parameter (x ∷ xs) h = elim (cases_eq 0 (is_that rule param
       with_keeps (set.insert s (notice_to id x)) (map (notice_to id) xs) _ (subst (λ n. set.contains (set.insert s (notice_to id x)) n ≡ true) same (put_has s (notice_to id x)))
 ]
 
--- and no other
+-- and there is no other
 pub told_only : (s : Notices) (id : ℕ) (xs : List Subscriber) (q : Notice) → set.contains (with_notices s (map (notice_to id) xs)) q ≡ true
     → (set.contains s q ≡ true) ⊎ ((q.datum ≡ id) × (0 ≢ times_among q.rule q.parameter xs))
 told_only s id [] q h = inl h

@@ -26,7 +26,7 @@ pub written : (n : ℤ) → FitsSigned w64 n → signed_digits_value 10 (signed_
 written (pos n) h = let k = decimal_is_IsNumeral n (omega (arith, h.sfits)) in unsigned (decimal n) k.0.1 ∙ ap pos k.1
 written (negsuc n) h = let k = decimal_is_IsNumeral (suc n) (omega (arith, h.sfits)) in ap (λ m. neg_ℤ (pos m)) k.1
 
--- READI gives an integer in 64 bits exactly where the text is that integer's
+-- READI gives an integer in 64 bits exactly if the text is that integer's
 pub shown_is : (text : List ℕ) (n : ℤ) → int_shown_as text ≡ Some n → FitsSigned w64 n × (text ≡ signed_decimal n)
 shown_is text n e =
     by (bytes_eq (signed_decimal (signed_digits_value 10 text)) text) (fits_64 (signed_digits_value 10 text))

@@ -1,4 +1,4 @@
--- Who is named: sums over the subscribers of data, and notices of a parameter.
+-- Sums over the subscribers of data, and notices of a parameter.
 use Rattle.std.proofs.Common.{◌≡◌, ℕ, ◌+◌, ◌≤◌, true, if◌then◌else◌, [], map, Option, Some, None, refl, ap, subst, ◌∙◌, arith, nat_cmp}
 use Rattle.std.specs.Cmp.{nat_cmp_total}
 use Rattle.std.specs.FinMap.{get, insert, empty, nat_cmp-IsAntisymmetric}
@@ -23,7 +23,7 @@ subscribed_put rule parameter m id x y is = subst (λ o. total (times_subscribed
 pub subscribed-le : (rule parameter : ℕ) (m : Data) (id : ℕ) (x : Datum) → get m id ≡ Some x → times_subscribed rule parameter x ≤ total (times_subscribed rule parameter) m
 subscribed-le rule parameter m id x is = subst (λ o. part (times_subscribed rule parameter) o ≤ total (times_subscribed rule parameter) m) is (part-le-total nat_cmp nat_cmp_total nat_cmp-IsAntisymmetric (times_subscribed rule parameter) m id)
 
--- where no datum has subscribers
+-- if no datum has subscribers
 pub unsubscribed : (m : Data) → ((id : ℕ) (x : Datum) → get m id ≡ Some x → x.subscribers ≡ []) → (r p : ℕ) → total (times_subscribed r p) m ≡ 0
 unsubscribed m silent r p =
     let none = total-empty nat_cmp (times_subscribed r p) in
@@ -34,7 +34,7 @@ unsubscribed m silent r p =
     each d None e = let zero : part (times_subscribed r p) (get m d) ≡ 0 = ap (part (times_subscribed r p)) e in omega arith
     each d (Some x) e = let zero : part (times_subscribed r p) (get m d) ≡ 0 = ap (part (times_subscribed r p)) e ∙ ap (times_among r p) (silent d x e) in omega arith
 
--- ---- what is 0 or 1
+-- ---- counts that are 0 or 1
 
 pub waits-le : (o : Option Stage) → times_at o ≤ 1
 waits-le None = omega arith
@@ -43,7 +43,7 @@ waits-le (Some Unasked) = omega arith
 waits-le (Some Waiting) = omega arith
 waits-le (Some Ready) = omega arith
 
--- a notice of the datum that stands for the parameter counts
+-- a notice counts if its datum is the parameter's argument
 pub noticed_at : (s : Notices) (rules : Rules) (rule parameter id : ℕ) → arg_at (get rules rule) parameter ≡ Some (RightArg id)
     → times_noticed s rules rule parameter ≡ (if set.contains s (record { datum = id; rule = rule; parameter = parameter }) then 1 else 0)
 noticed_at s rules rule parameter id e = ap (times_noticed_by s rule parameter) e

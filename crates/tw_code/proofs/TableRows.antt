@@ -1,5 +1,5 @@
--- The table of instructions: what an opcode makes of operands has that opcode and those operands, and each instruction is made of
--- its own. A line where an instruction has several opcodes; all others go by computing.
+-- The instruction table: an opcode and operands make an instruction with that opcode and those operands, and each instruction is
+-- made of its own. An instruction with several opcodes has a line of its own; the others follow by computing.
 use Rattle.std.proofs.Common.{◌≡◌, ◌==◌, ℕ, pos, List, [], ◌∷◌, Option, Some, None, refl}
 use Rattle.std.specs.List.{find}
 use Rattle.tw_code.specs.declared.form.Form.{Form}
@@ -40,9 +40,9 @@ pub is_made : (o : Opcode) (x : Contents (forms_of o)) → row (instr_of o x) �
 is_made opcode.Int x = refl
 is_made o x = refl
 
--- ---- what operands hold, by the forms that they should have
+-- ---- the contents of operands, by the forms that they should have
 
--- an operand of this form, with what another holds if it has that form
+-- an operand of this form, with another's content if that has the form
 abbrev content_in : (form : Form) → Operand → Content form
 content_in Value (holds Value register) = register
 content_in Value o = 0

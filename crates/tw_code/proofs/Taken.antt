@@ -1,4 +1,4 @@
--- The numbers that a run takes are distinct, and each is main's or was given by a PUT or a Release.
+-- The numbers that a run takes are distinct, and each is main's or was made by a PUT or a Release.
 use Rattle.std.proofs.Common.{◌≡◌, ℕ, ◌+◌, ◌<◌, ◌≤◌, ◌==◌, ◌⊎◌, inl, inr, Bool, true, false, if◌then◌else◌, List, [], ◌∷◌, ◌++◌, Some, None, refl, sym, ap, subst, ◌∙◌, arith}
 use Rattle.std.proofs.lemmas.Bool.{cases_Bool, eq-eqb, eqb-true, eqb-false, ne_eqb, or_cases, or_left, or_right}
 use Rattle.std.proofs.lemmas.List.Folds.{list_any-append}
@@ -60,14 +60,14 @@ Waits s n = (task : Task) × (get s.tasks n ≡ Some task)
 abbrev HasEarlier : State → Type 0
 HasEarlier s = (n : ℕ) (task : Task) → get s.tasks n ≡ Some task → n < s.next_task
 
--- an event takes these: they waited, and no longer do; and what waits then waited before, or the event put it
+-- an event takes these: they waited, and no longer do. Each task that waits then waited before, or the event put it.
 record Turns (taken : List ℕ) (s t : State) : Type 0 where
   numbers : s.next_task ≤ t.next_task
   waits : (n : ℕ) → Waits t n → Waits s n ⊎ (is_among n (put_between s t) ≡ true)
   gone : (n : ℕ) → is_among n taken ≡ true → Waits s n × (Waits t n → ⊥)
   distinct : AreDistinct taken
 
--- what an event puts has the next number
+-- a task that an event puts has the next number
 put_next : (s t : State) (n : ℕ) → s.next_task ≤ t.next_task → is_among n (put_between s t) ≡ true → (s.next_task ≡ n) × (n < t.next_task)
 put_next s t n grown = by (s.next_task == t.next_task) refl
   where
@@ -85,7 +85,7 @@ earlier_still taken s t turn h n task at = elim (turn.waits n (task, at)) [
 ]
 
 module _ (s : State) where
-  -- no task comes or goes
+  -- no task is added or removed
   same_tasks : (t : State) → t.tasks ≡ s.tasks → t.next_task ≡ s.next_task → Turns [] s t
   same_tasks t same next = record {
     numbers = omega arith;
@@ -94,7 +94,7 @@ module _ (s : State) where
     distinct = tt;
   }
 
-  -- one comes
+  -- one is added
   one_put : (t : State) (task : Task) → t.tasks ≡ insert s.tasks s.next_task task → t.next_task ≡ s.next_task + 1 → Turns [] s t
   one_put t task more next = record {
     numbers = omega arith;
@@ -109,7 +109,7 @@ module _ (s : State) where
       put_here : (n : ℕ) → n ≡ s.next_task → is_among n (put_between s t) ≡ true
       put_here n is = rw (ne_eqb s.next_task t.next_task (λ e. omega arith), eq-eqb s.next_task n (sym is)) refl
 
-  -- one goes
+  -- one is removed
   one_taken : (t : State) (e : ℕ × Task) → get s.tasks e.0 ≡ Some e.1 → t.tasks ≡ remove s.tasks e.0 → t.next_task ≡ s.next_task → Turns (e.0 ∷ []) s t
   one_taken t e waited less next = record {
     numbers = omega arith;
@@ -133,7 +133,7 @@ module _ (s : State) where
 
 -- ---- runs
 
--- what a run from here takes, where it puts these
+-- the tasks that a run from here takes, if it puts these
 record Follows (taken put : List ℕ) (s : State) : Type 0 where
   waited : (n : ℕ) → is_among n taken ≡ true → Waits s n ⊎ (is_among n put ≡ true)
   later : (n : ℕ) → is_among n put ≡ true → s.next_task ≤ n
@@ -142,7 +142,7 @@ record Follows (taken put : List ℕ) (s : State) : Type 0 where
 nothing_follows : (s : State) → Follows [] [] s
 nothing_follows s = record { waited = λ n h. cc; later = λ n h. cc; distinct = tt }
 
--- an event, and what follows it
+-- an event, and the events after it
 joined : (now taken put : List ℕ) (s t : State) → HasEarlier s → Turns now s t → Follows taken put t → Follows (now ++ taken) (put_between s t ++ put) s
 joined now taken put s t h turn rest = record {
   waited = λ n among. elim (among_either now taken n among) [
@@ -178,7 +178,7 @@ module _ (program : List Procedure) (layout : ActorCounts) where
       by NotEnabled turn rest = nothing_follows s
       by (Trap cause) turn rest = nothing_follows s
 
--- main alone waits
+-- only main waits
 main_waits : (program : List Procedure) (inputs : List Input) (n : ℕ) (task : Task) → get (opening program inputs).tasks n ≡ Some task → n ≡ 1
 unfolding opening
 main_waits program inputs n task at = elim (put_or_before nat_cmp_total nat_cmp-IsAntisymmetric empty 1 _ n task at) [
@@ -190,7 +190,7 @@ opening_next : (program : List Procedure) (inputs : List Input) → (opening pro
 unfolding opening
 opening_next program inputs = refl
 
--- of any program
+-- for any program
 pub takes_once : (program : List Procedure) (inputs : List Input) (layout : ActorCounts) (events : List Event) → TakesOnce program inputs layout events
 takes_once program inputs layout events =
     let follows = run_follows program layout events (opening program inputs) (λ n task at. let one = main_waits program inputs n task at in let next = opening_next program inputs in omega arith) in

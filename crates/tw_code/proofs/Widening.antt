@@ -1,4 +1,4 @@
--- What is of some version is of version 2.
+-- A program of any version is a program of version 2.
 use Rattle.std.proofs.Common.{List, [], ◌∷◌, refl}
 use Rattle.std.specs.List.{AllByRecursion}
 use Rattle.tw_types.specs.declared.data_type.Scalar.{Scalar}

@@ -1,4 +1,4 @@
-//! What the local instructions compute.
+//! Results of the local instructions.
 
 ghost use Rattle.std.specs.Prelude.{◌≡◌, IfOk};
 ghost use Rattle.std.specs.Fmt.{signed_decimal};
@@ -8,7 +8,7 @@ use crate::instr::Arithmetic;
 use std::alloc::{AllocError, Global};
 use tw_types::Text;
 
-/// The result, or `None` where it isn't in 64 bits or nothing can be divided by `right`.
+/// Returns the result, or `None` if it doesn't fit 64 bits or there is no division by `right`.
 #[tactic(auto, using(crate::proofs::Computing::is_in_64, crate::proofs::Computing::is_quotient, crate::proofs::Computing::is_remainder))]
 pub fn result_of(operation: Arithmetic, left: i64, right: i64) -> Option<i64>
     ensures { result ≡ result_of operation left right }
@@ -22,7 +22,7 @@ pub fn result_of(operation: Arithmetic, left: i64, right: i64) -> Option<i64>
     }
 }
 
-/// One text and then the other, or `None` where that is too long.
+/// Returns one text followed by the other, or `None` if that is longer than `Text::MAX_LEN`.
 pub fn joined(alloc: Global, left: &Text, right: &Text) -> Result<Option<Text>, AllocError>
     ensures { IfOk result (λ text. text ≡ joined left.now right.now) }
 {
@@ -34,7 +34,7 @@ pub fn joined(alloc: Global, left: &Text, right: &Text) -> Result<Option<Text>, 
     Ok(Text::new(string).ok())
 }
 
-/// The integer in decimal.
+/// Returns the integer in decimal.
 pub fn shown(alloc: Global, number: i64) -> Result<Text, AllocError>
     ensures { IfOk result (λ text. text ≡ signed_decimal number) }
 {
@@ -44,7 +44,7 @@ pub fn shown(alloc: Global, number: i64) -> Result<Text, AllocError>
     Ok(text)
 }
 
-/// The integer whose decimal text this is, if there is one in 64 bits.
+/// Returns the integer in 64 bits whose `shown` is this text, or `None` if there is none.
 pub fn int_shown_as(alloc: Global, text: &Text) -> Result<Option<i64>, AllocError>
     ensures { IfOk result (λ number. number ≡ int_shown_as text.now) }
 {

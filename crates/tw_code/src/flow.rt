@@ -1,4 +1,4 @@
-//! What follows an instruction.
+//! Control flow: where a task continues after an instruction.
 
 ghost use Rattle.std.specs.Prelude.{◌≡◌, ◌<◌, Some, is_some, length, slice_get};
 ghost use Rattle.tw_code.specs.accepting.Flow.{data_flow, flow_of, flows, local_flow};
@@ -6,16 +6,16 @@ ghost use Rattle.tw_code.specs.machine.Machine.{local_of};
 
 use crate::instr::{DataInstr, Instr, LocalInstr};
 
-/// Where a task goes on after an instruction.
+/// The places at which a task may continue after an instruction.
 #[derive(Clone, Copy, PartialEq, Eq)]
 pub enum Flow {
     /// At the next place.
     Straight,
-    /// At the next place, or behind so many more instructions.
+    /// At the next place, or this many instructions after it.
     Branch(u16),
-    /// Behind so many instructions after the next place.
+    /// This many instructions after the next place.
     Jump(u16),
-    /// At the next place, in a loop of so many turns.
+    /// At the next place, in a loop with this many iterations.
     Begin(u16),
     /// At the first place of the innermost loop, or at the next place.
     Close,
@@ -23,17 +23,17 @@ pub enum Flow {
     Stop,
 }
 
-/// By which outcome an instruction goes on.
+/// The outcome of an instruction, which decides where the task continues.
 #[derive(Clone, Copy)]
 pub enum Way {
-    /// It has done what it says.
+    /// It did what it says.
     Completed,
-    /// It could not, or its test held: it skips.
+    /// It was refused, or its test held: it skips.
     Skipped,
 }
 
 impl LocalInstr {
-    /// Where a task goes on after it.
+    /// Returns where a task may continue after it.
     fn flow(&self) -> Flow
         ensures { result ≡ local_flow self.now }
     {
@@ -52,7 +52,7 @@ impl LocalInstr {
 }
 
 impl DataInstr {
-    /// Where a task goes on after it.
+    /// Returns where a task may continue after it.
     fn flow(self) -> Flow
         ensures { result ≡ data_flow self }
     {
@@ -66,7 +66,7 @@ impl DataInstr {
 }
 
 impl Instr {
-    /// Where a task goes on after it.
+    /// Returns where a task may continue after it.
     pub fn flow(&self) -> Flow
         ensures { result ≡ flow_of self.now }
     {
@@ -78,7 +78,7 @@ impl Instr {
         }
     }
 
-    /// Whether it changes nothing but its task's place, values and loops.
+    /// Returns whether it changes only its task's place, values and loops.
     pub fn is_local(&self) -> bool
         ensures { result ≡ is_some (local_of self.now) }
     {
@@ -86,7 +86,7 @@ impl Instr {
     }
 }
 
-/// What follows the instruction at a place of the code.
+/// Returns where a task may continue after the instruction at a place of the code.
 pub fn flow_at(code: &[Instr], place: usize) -> Flow
     requires { place < length code.now }
     ensures { slice_get (flows code.now) place ≡ Some result }

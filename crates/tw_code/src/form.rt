@@ -1,6 +1,6 @@
 //! The forms of operands.
 
-/// What stands at a place behind an instruction's code or name.
+/// The form of one operand of an instruction.
 #[derive(Clone, Copy, Debug, PartialEq, Eq)]
 pub enum Form {
     /// A value register.
@@ -9,18 +9,18 @@ pub enum Form {
     Right,
     /// An integer.
     Number,
-    /// How many turns a loop has.
+    /// The number of iterations of a loop.
     Turns,
     /// A text.
     Literal,
     /// The type of a datum.
     TypeOf,
-    /// How many instructions to skip.
+    /// The number of instructions to skip.
     Skip,
     /// The number of a procedure.
     Callee,
     /// The number of an actor, or any.
     Target,
-    /// Registers; the parameter's mode says of which bank.
+    /// Register numbers; the mode of each parameter says in which bank.
     Args,
 }

@@ -1,4 +1,4 @@
-//! Which inputs a program may be given.
+//! Checks of a program's inputs.
 
 ghost use Rattle.std.specs.Prelude.{◌≡◌, ◌&&◌, length};
 ghost use Rattle.tw_code.specs.machine.Inputs.{are_inputs_of, are_members, has_fitting_inputs, has_input_count, input_params, is_input_of, rises, rises_from};
@@ -12,31 +12,31 @@ use crate::main_shape::main_params;
 use crate::procedure::Procedure;
 use tw_types::{AsValue, DataType, Input, Param, Scalar, Text, ValueRef};
 
-/// The greatest number of members that an input may have.
+/// The greatest number of members of an input.
 pub const MAX_MEMBERS: usize = 1000;
 
-/// Whether there are as many inputs as main takes.
+/// Returns whether there are as many inputs as main takes.
 pub fn has_input_count(program: &[Procedure], inputs: &[Input]) -> bool
     ensures { result ≡ has_input_count program.now inputs.now }
 {
     inputs.len() == input_count(main_params(program))
 }
 
-/// Whether each input can be given to its parameter.
+/// Returns whether each input fits its parameter.
 pub fn has_fitting_inputs(program: &[Procedure], inputs: &[Input]) -> bool
     ensures { result ≡ has_fitting_inputs program.now inputs.now }
 {
     are_inputs_of(main_params(program), inputs)
 }
 
-/// How many parameters an input stands for.
+/// Returns how many of the parameters take an input: those that aren't `write`.
 pub fn input_count(params: &[Param]) -> usize
     ensures { result ≡ length (input_params params.now) }
 {
     params.iter().filter(|param| !param.mode.is_write()).count()
 }
 
-/// Whether the inputs can be given to the parameters that take one, as many as there are of both.
+/// Returns whether each input fits its parameter, as far as there are both.
 fn are_inputs_of(params: &[Param], inputs: &[Input]) -> bool
     ensures { result ≡ are_inputs_of (input_params params.now) inputs.now }
 {
@@ -55,7 +55,7 @@ fn are_inputs_of(params: &[Param], inputs: &[Input]) -> bool
     true
 }
 
-/// Whether an input is of a type, with texts that aren't too long, and members that aren't too many and rise.
+/// Returns whether an input is of a type, its texts are short enough, and its members are few enough and rise.
 fn is_input_of(ty: DataType, input: &Input) -> bool
     ensures { result ≡ is_input_of ty input.now }
 {
@@ -83,21 +83,21 @@ fn is_scalar_of(ty: DataType, scalar: Scalar) -> bool
     ty.is_scalar() && ty.scalar() == scalar
 }
 
-/// Whether a type is a container of such scalars, with such subscripts.
+/// Returns whether a type is a container of such scalars, with such subscripts.
 fn is_container_of(ty: DataType, by: Scalar, scalar: Scalar) -> bool
     ensures { result ≡ same_type ty (container_of by (scalar_type scalar)) }
 {
     ty.is_flat() && ty.is_container_by(by) && ty.scalar() == scalar
 }
 
-/// Whether members are not too many and rise, and no text of them is too long.
+/// Returns whether there are at most `MAX_MEMBERS` members, their subscripts rise, and no text is too long.
 fn are_members<K: AsValue, V: AsValue>(members: &[(K, V)]) -> bool
     ensures { result ≡ are_members (members_by K.value V.value members.now) }
 {
     members.len() <= MAX_MEMBERS && rises(members) && are_short(members)
 }
 
-/// Whether each subscript is greater than the one before.
+/// Returns whether each subscript is greater than the one before.
 pub fn rises<K: AsValue, V: AsValue>(members: &[(K, V)]) -> bool
     ensures { result ≡ rises (members_by K.value V.value members.now) }
 {
@@ -131,7 +131,7 @@ fn are_short<K: AsValue, V: AsValue>(members: &[(K, V)]) -> bool
     true
 }
 
-/// Whether its text, if it is one, is one that a datum may have.
+/// Returns whether its text, if it has one, is short enough for a datum.
 fn is_short(value: ValueRef<'_>) -> bool
     ensures { result ≡ is_short (named value.entry) }
 {

@@ -2,7 +2,7 @@
 
 use tw_types::{DataType, Items, Scalar, Text};
 
-/// What an instruction computes of two integers. The order is that of the opcodes.
+/// The operation on two integers, in the order of the opcodes.
 #[derive(Clone, Copy)]
 pub enum Arithmetic {
     /// ADD.
@@ -11,53 +11,53 @@ pub enum Arithmetic {
     Subtract,
     /// MUL.
     Multiply,
-    /// DIV: the quotient, towards zero.
+    /// DIV: the quotient, rounded towards zero.
     Divide,
-    /// REM: what that division leaves.
+    /// REM: the remainder of that division.
     Remainder,
 }
 
-/// Where a task's priority comes from.
+/// The source of a task's priority.
 #[derive(Clone, Copy)]
 pub enum Priority {
     Constant(i64),
-    /// The integer of a value register.
+    /// The integer in a value register.
     Computed(u8),
 }
 
-/// The task that RULE and PUT name.
+/// The task that RULE or PUT names.
 #[derive(Drop)]
 pub struct Action {
     /// The number of its procedure in the program.
     pub procedure: u8,
     pub priority: Priority,
-    /// The number of the one actor that may take it, if not any.
+    /// The number of the one actor that may take it, or `None` for any.
     pub target: Option<u8>,
-    /// A register for each parameter; the parameter's mode says of which bank.
+    /// A register for each parameter; the mode of the parameter says in which bank.
     pub args: Items<u8>,
 }
 
-/// A local instruction: it changes nothing but its task's place, values and loops. Registers are named by their numbers, 0
-/// to 15 in each of the two banks. An instruction that skips goes on behind so many instructions after the next place.
+/// A local instruction, which changes only its task's place, values and loops. Registers are numbered from 0 to 15 in each of the
+/// two banks. An instruction that skips continues `skip` instructions after the next place.
 #[derive(Drop)]
 pub enum LocalInstr {
-    /// INT: the value register `to` gets the number.
+    /// INT: sets the value register `to` to the number.
     Int {
         to: u8,
         value: i64,
     },
-    /// TEXT: the value register `to` gets the text.
+    /// TEXT: sets the value register `to` to the text.
     Text {
         to: u8,
         text: Text,
     },
-    /// COPY: `to` gets the value of `from`.
+    /// COPY: sets `to` to the value of `from`.
     Copy {
         to: u8,
         from: u8,
     },
-    /// ADD, SUB, MUL, DIV and REM: `to` gets the result. Where it isn't in 64 bits, or where nothing can be divided by
-    /// `right`, the instruction is refused, and skips.
+    /// ADD, SUB, MUL, DIV and REM: sets `to` to the result. If that doesn't fit 64 bits, or there is no division by `right`, the
+    /// instruction is refused, and skips.
     Compute {
         operation: Arithmetic,
         to: u8,
@@ -65,24 +65,24 @@ pub enum LocalInstr {
         right: u8,
         skip: u16,
     },
-    /// CAT: `to` gets the text of `left` and then that of `right`. Refused where it would be over 4,096 bytes.
+    /// CAT: sets `to` to the text of `left` followed by that of `right`. Refused if that would have over 4,096 bytes.
     Concatenate {
         to: u8,
         left: u8,
         right: u8,
         skip: u16,
     },
-    /// LEN: `to` gets the number of bytes of the text of `from`.
+    /// LEN: sets `to` to the number of bytes of the text in `from`.
     Length {
         to: u8,
         from: u8,
     },
-    /// SHOW: `to` gets the decimal text of the integer of `from`.
+    /// SHOW: sets `to` to the integer in `from`, in decimal.
     Show {
         to: u8,
         from: u8,
     },
-    /// READI: `to` gets the integer whose decimal text `from` has. Refused where there is none.
+    /// READI: sets `to` to the integer that SHOW writes as the text in `from`. Refused if there is none.
     ReadInt {
         to: u8,
         from: u8,
@@ -92,53 +92,53 @@ pub enum LocalInstr {
     Jump {
         skip: u16,
     },
-    /// JEQ: skips where the values are equal.
+    /// JEQ: skips if the values are equal.
     JumpEqual {
         left: u8,
         right: u8,
         skip: u16,
     },
-    /// JLT: skips where the integer of `left` is less than that of `right`.
+    /// JLT: skips if the integer in `left` is less than that in `right`.
     JumpLess {
         left: u8,
         right: u8,
         skip: u16,
     },
-    /// REPEAT: a loop begins at the next place, with so many turns.
+    /// REPEAT: begins a loop at the next place, with this many iterations.
     Repeat {
         turns: u16,
     },
-    /// END: the innermost loop has one turn less; it goes on at its first place, or ends.
+    /// END: ends one iteration of the innermost loop. Continues at the loop's first place if iterations are left, else at the next place.
     End,
 }
 
 impl LocalInstr {
-    /// The most turns of REPEAT; the least is 1.
+    /// The greatest number of iterations of REPEAT; the least is 1.
     pub const MAX_TURNS: u16 = 1_000;
 }
 
-/// An instruction on data: it reads and changes besides the store, its notices and the task's right registers.
+/// An instruction on data, which also reads and changes the store, its notices and the task's right registers.
 #[derive(Clone, Copy)]
 pub enum DataInstr {
-    /// NEW: a datum is made; its write right goes to the right register `write`, its read right to `read`.
+    /// NEW: creates a datum, and puts its write right into the right register `write`, its read right into `read`.
     New {
         write: u8,
         read: u8,
         ty: DataType,
     },
-    /// STORE: the datum whose write right is in the right register `datum` gets the value of the value register
-    /// `from`, and the right is spent.
+    /// STORE: sets the datum whose write right is in the right register `datum` to the value in the value register `from`, and spends
+    /// the right.
     Store {
         datum: u8,
         from: u8,
     },
-    /// GET: the value register `to` gets the value of the datum whose read right is in `datum`.
+    /// GET: sets the value register `to` to the value of the datum whose read right is in `datum`.
     Get {
         to: u8,
         datum: u8,
     },
-    /// INS: the container whose write right is in `container` gets the datum of `member` at the subscript that the
-    /// value register `subscript` has. Refused where that subscript is there. The subscripts are of the type `by`.
+    /// INS: inserts the datum of `member` into the container whose write right is in `container`, at the subscript in the value
+    /// register `subscript`. Refused if that subscript is taken. The subscripts are of the type `by`.
     Insert {
         by: Scalar,
         container: u8,
@@ -146,7 +146,7 @@ pub enum DataInstr {
         member: u8,
         skip: u16,
     },
-    /// LOOK: `member` gets a read right on the member at a subscript. Refused where there is none.
+    /// LOOK: puts a read right on the member at a subscript into `member`. Refused if there is no such member.
     Look {
         by: Scalar,
         member: u8,
@@ -154,12 +154,12 @@ pub enum DataInstr {
         subscript: u8,
         skip: u16,
     },
-    /// SIZE: `to` gets the number of members.
+    /// SIZE: sets `to` to the number of members.
     Size {
         to: u8,
         container: u8,
     },
-    /// SUBAT: `to` gets the subscript with exactly as many smaller ones as `index` says. Refused where there is none.
+    /// SUBAT: sets `to` to the subscript with exactly as many smaller ones as `index` says. Refused if there is none.
     SubscriptAt {
         by: Scalar,
         to: u8,
@@ -167,35 +167,35 @@ pub enum DataInstr {
         index: u8,
         skip: u16,
     },
-    /// DUPR: `to` gets a second read right on the datum of `from`.
+    /// DUPR: puts a second read right on the datum of `from` into `to`.
     CopyRead {
         to: u8,
         from: u8,
     },
-    /// DUPW: `to` gets a second write right on the container of `from`.
+    /// DUPW: puts a second write right on the container of `from` into `to`.
     CopyWrite {
         to: u8,
         from: u8,
     },
-    /// DROPR: the read right in `right` ends.
+    /// DROPR: drops the read right in `right`.
     DropRead {
         right: u8,
     },
-    /// DROPW: the write right in `right` ends.
+    /// DROPW: drops the write right in `right`.
     DropWrite {
         right: u8,
     },
 }
 
-/// An instruction, by what it reads and changes.
+/// An instruction, by its layer: the part of the state that it reads and changes.
 #[derive(Drop)]
 pub enum Instr {
     Local(LocalInstr),
     Data(DataInstr),
-    /// RULE: a rule of this engine; its task waits until the data of the `closed` parameters are closed.
+    /// RULE: makes a rule of this engine. Its task waits until the data of the `closed` parameters are closed.
     Rule(Action),
-    /// PUT: a task.
+    /// PUT: makes a task.
     Put(Action),
-    /// RET: the task ends.
+    /// RET: ends the task.
     Ret,
 }

@@ -1,4 +1,4 @@
-//! Programs, the table of their instructions, and what they mean.
+//! Programs, the table of their instructions, and the semantics of both.
 #![tactic(auto)]
 
 pub mod compute;

@@ -8,8 +8,8 @@ ghost use Rattle.tw_code.specs.machine.Opening.{main_params};
 use crate::procedure::Procedure;
 use tw_types::{Kind, Param};
 
-/// Whether the first procedure has the shape that main must have: a control procedure without values, on scalars and on
-/// containers of scalars alone.
+/// Returns whether the first procedure has the shape that main must have: a control procedure without value parameters, whose
+/// types are scalars and containers of scalars.
 pub fn has_main_shape(program: &[Procedure]) -> bool
     ensures { result ≡ has_main_shape program.now }
 {
@@ -19,7 +19,7 @@ pub fn has_main_shape(program: &[Procedure]) -> bool
     }
 }
 
-/// The parameters of main.
+/// Returns the parameters of main, or none for an empty list.
 pub fn main_params(program: &[Procedure]) -> &[Param]
     ensures { result.now ≡ main_params program.now }
 {

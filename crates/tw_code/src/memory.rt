@@ -1,9 +1,9 @@
-//! Want of memory.
+//! The error of calls that fail only if an allocation fails.
 
 use std::alloc::{AllocError, AllocFailed};
 use thiserror::Error;
 
-/// Memory ran out.
+/// An allocation failed.
 #[derive(Clone, Copy, Debug, Error)]
 #[error("memory ran out")]
 pub struct NoMemory;

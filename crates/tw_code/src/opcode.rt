@@ -1,4 +1,4 @@
-//! The instruction set: of each instruction its code, the versions that have it, the forms of its operands, and its name in a text.
+//! The instruction set: of each instruction its code, the versions that have it, the forms of its operands, and its name in assembly.
 
 ghost use Rattle.std.specs.Prelude.{◌≡◌, ◌==◌, slice_get};
 ghost use Rattle.std.specs.List.{find};
@@ -50,7 +50,7 @@ pub enum Opcode {
     PutComputed = 0x54,
 }
 
-/// Each of them.
+/// All opcodes.
 #[rattlefmt::skip]
 pub const OPCODES: [Opcode; 36] = [
     Opcode::Int, Opcode::Text, Opcode::Copy, Opcode::Add, Opcode::Subtract, Opcode::Multiply, Opcode::Divide,
@@ -62,14 +62,14 @@ pub const OPCODES: [Opcode; 36] = [
 ];
 
 impl Opcode {
-    /// The byte with which an instruction of it begins.
+    /// Returns the first byte of the instruction's encoding.
     pub fn code(self) -> u8
         ensures { result ≡ code_of self }
     {
         self as u8
     }
 
-    /// Whether a version has it.
+    /// Returns whether a version has it.
     #[rattlefmt::skip]
     pub fn is_in(self, version: Version) -> bool
         ensures { result ≡ has_opcode version self }
@@ -80,7 +80,7 @@ impl Opcode {
         }
     }
 
-    /// The forms of its operands, in the order of the bytes and of the text.
+    /// Returns the forms of its operands, in the order of bytes and of assembly.
     #[rattlefmt::skip]
     pub fn forms(self) -> &'static [Form]
         ensures { result.now ≡ forms_of self }
@@ -108,14 +108,14 @@ impl Opcode {
     }
 }
 
-/// The one of this code, whatever the version.
+/// Returns the opcode of this code, whatever the version.
 fn opcode_of_code(code: u8) -> Option<Opcode>
     ensures { result ≡ find (λ o. code_of o == code) OPCODES }
 {
     OPCODES.iter().copied().find(|opcode| opcode.code() == code)
 }
 
-/// The one of this code, if the version has one.
+/// Returns the opcode of this code, if the version has one.
 pub fn opcode_at(version: Version, code: u8) -> Option<Opcode>
     ensures { result ≡ opcode_at version code }
 {
@@ -125,7 +125,7 @@ pub fn opcode_at(version: Version, code: u8) -> Option<Opcode>
     }
 }
 
-/// Its name in a text.
+/// Returns its name in assembly.
 pub fn word_of(opcode: Opcode) -> &'static str
     ensures { result.now ≡ word_of opcode }
 {
@@ -169,7 +169,7 @@ pub fn word_of(opcode: Opcode) -> &'static str
     }
 }
 
-/// The one of this name, whatever the version.
+/// Returns the opcode of this name, whatever the version.
 #[tactic(auto, unfolding(crate::specs::format::Table::opcode_of))]
 fn opcode_named(name: &[u8]) -> Option<Opcode>
     ensures { result ≡ opcode_of name.now }
@@ -180,7 +180,7 @@ fn opcode_named(name: &[u8]) -> Option<Opcode>
         .find(|opcode| word_of(*opcode).as_bytes() == name)
 }
 
-/// The one of this name, if the version has one.
+/// Returns the opcode of this name, if the version has one.
 pub fn opcode_in(version: Version, name: &[u8]) -> Option<Opcode>
     ensures { result ≡ opcode_in version name.now }
 {
@@ -190,8 +190,8 @@ pub fn opcode_in(version: Version, name: &[u8]) -> Option<Opcode>
     }
 }
 
-/// The form of the operand at this place, from 0, in a line of this name, if the version has such an instruction and it has so many
-/// operands. A type and arguments have all words that are left.
+/// Returns the form of the operand at an index, from 0, in a line with this name. Returns `None` if the version has no such
+/// instruction or it has fewer operands. A type and arguments may be several words of the line, all that are left.
 pub fn form_at(version: Version, name: &[u8], place: usize) -> Option<Form>
     ensures { result ≡ option_and_then (λ o. slice_get (forms_of o) place) (opcode_in version name.now) }
 {

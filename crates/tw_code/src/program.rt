@@ -7,7 +7,7 @@ use crate::procedure::Procedure;
 use crate::version::Version;
 use std::marker::Model;
 
-/// Procedures within the limits, which have only what the version has; procedure 0 is main.
+/// A program: procedures within the limits, with only the features of the version. Procedure 0 is main.
 #[derive(Drop)]
 pub struct Program {
     version: Version,
@@ -25,10 +25,10 @@ impl Model for Program {
 }
 
 impl Program {
-    /// The most procedures; the least is 1.
+    /// The greatest number of procedures; the least is 1.
     pub const MAX_PROCEDURES: u8 = 64;
 
-    /// A program of these procedures, in this order.
+    /// Makes a program of these procedures, in this order.
     pub fn new(version: Version, procedures: Vec<Procedure>) -> Program
         requires { IsProgramOf version procedures.items }
         ensures { result ≡ record { version = version; procedures = procedures.items } }

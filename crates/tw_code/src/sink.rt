@@ -1,4 +1,4 @@
-//! The table of instructions, for every writer: each instruction's opcode and operands, handed to a sink.
+//! The instruction table for writers: the opcode and the operands of each instruction, passed to a sink.
 
 ghost use Rattle.std.specs.Prelude.{◌≡◌, List, OnOk, map};
 ghost use Rattle.tw_code.specs.declared.opcode.Opcode.{Opcode};
@@ -12,7 +12,7 @@ use crate::opcode::Opcode;
 use std::alloc::AllocError;
 use tw_types::{DataType, Scalar};
 
-/// What follows an instruction's code or name.
+/// An operand of an instruction, by its form.
 #[derive(Drop)]
 pub enum Operand<'a> {
     /// A value register.
@@ -33,7 +33,7 @@ pub enum Operand<'a> {
 
 use Operand::{Args, Callee, Literal, Number, Right, Skip, Target, Turns, TypeOf, Value};
 
-/// A format, which puts instructions behind what it has.
+/// A format, which appends instructions to its output.
 pub trait Sink {
     ghost puts: { Self → Opcode → List Operand → Self → Type 0 };
 
@@ -54,7 +54,7 @@ fn opcode_of_operation(operation: Arithmetic) -> Opcode
     }
 }
 
-/// A row an instruction: its opcode and its operands.
+/// Puts a local instruction: its opcode and its operands, in one row each.
 #[rattlefmt::skip]
 fn put_local<S: Sink>(sink: &mut S, instr: &LocalInstr) -> Result<(), AllocError>
     requires { IsInstr (Local instr.now) }
@@ -86,7 +86,7 @@ fn opcode_by(for_integers: Opcode, for_texts: Opcode, by: Scalar) -> Opcode
     }
 }
 
-/// A row an instruction: its opcode and its operands.
+/// Puts an instruction on data: its opcode and its operands, in one row each.
 #[rattlefmt::skip]
 fn put_data<S: Sink>(sink: &mut S, instr: DataInstr) -> Result<(), AllocError>
     requires { IsDataInstr instr }

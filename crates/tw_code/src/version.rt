@@ -1,6 +1,6 @@
 //! Versions of the language.
 
-/// What a program may have. Version 2 has all that version 1 has, and besides texts as subscripts and priorities that are computed.
+/// The version of a program. Version 2 adds texts as subscripts and computed priorities.
 #[derive(Clone, Copy)]
 pub enum Version {
     One,

@@ -1,4 +1,4 @@
--- The members of a container, where there are some and where there are none, and going through them.
+-- The members of a container, if there are any, and iteration over them.
 use Rattle.std.proofs.Common.{[], ◌≡◌, Bool, true, false, subst, OnErr, ℕ, zero, suc, ℤ, List, ◌∷◌, Some, None, IfSome, refl, sym, ap, ◌∙◌, map as each, length, slice_get, pos, negsuc, arith, ◌+◌, ◌≤◌, fold, drop, inl, inr, OnOk, IsSome, option_map}
 use Rattle.std.specs.declared.option.Option.{Option}
 use Rattle.std.specs.declared.result.Result.{Result}
@@ -24,11 +24,11 @@ use Rattle.tw_types.proofs.Mapped.{insert_mapped, get_mapped}
 pub insert_ids : {M : Type 0} (id : M → ℕ) (m : KeptMembers M) (k : Subscript) (x : M) → ids_of id (map.insert m k x) ≡ map.insert (ids_of id m) k (id x)
 insert_ids id = insert_mapped id value_cmp_total value_cmp-IsAntisymmetric
 
--- what is in a container at first
+-- the content of a new container
 pub container_empty : (ty : NestedScalar) → is_scalar ty ≡ false → empty_content ty ≡ Contains map.empty
 container_empty ty h = rw h refl
 
--- what is in a datum at first is of its type
+-- the content of a new datum is of its type
 pub empty_fits : (ty : NestedScalar) → FitsType ty (empty_content ty)
 empty_fits ty = by (is_scalar ty) refl
   where
@@ -36,7 +36,7 @@ empty_fits ty = by (is_scalar ty) refl
     by true e = rw e (refl, no_kinds ty)
     by false e = rw e (refl, no_kinds ty)
 
--- subscripts are still of the container's type, where a member came or was refused
+-- subscripts are still of the container's type, whether a member was added or the allocation failed
 pub still_kinds : {M A E : Type 0} (id : M → ℕ) (r : Result A E) (ty : NestedScalar) (before after : KeptMembers M) (subscript : Subscript) (member : M) → AreSubscriptsFor ty (ids_of id before) → is_container_by (scalar_of subscript) ty ≡ true
     → OnOk r (after ≡ map.insert before subscript member) → OnErr r (after ≡ before) → AreSubscriptsFor ty (ids_of id after)
 still_kinds id (Ok x) ty before after subscript member kinds kind added refused = subst (AreSubscriptsFor ty) (sym (ap (ids_of id) added ∙ insert_ids id before subscript member)) (one_more_kind ty (ids_of id before) subscript (id member) kinds kind)
@@ -93,7 +93,7 @@ module _ {M : Type 0} where
   nth_there ms i None h = tt
   nth_there ms i (Some e) h = nth_get ms i e (sym h)
 
--- the same, where a member came, was there, or was refused
+-- like that, if a member was added, was there, or the allocation failed
 pub kinds_after : {M E : Type 0} (id : M → ℕ) (r : Result Bool E) (ty : NestedScalar) (before after : KeptMembers M) (subscript : Subscript) (member : M) → AreSubscriptsFor ty (ids_of id before) → is_container_by (scalar_of subscript) ty ≡ true
     → IsAddition r subscript member before after → AreSubscriptsFor ty (ids_of id after)
 kinds_after id (Ok true) ty before after subscript member kinds kind h = subst (AreSubscriptsFor ty) (sym (ap (ids_of id) h.1 ∙ insert_ids id before subscript member)) (one_more_kind ty (ids_of id before) subscript (id member) kinds kind)

@@ -44,7 +44,7 @@ module _ {K X : Type 0} {R : K → K → Ordering} (o : IsTotalOrder R) where
   sorted_back [] e m h = second _ _ h
   sorted_back (f ∷ l) e m h = sorted_back l e m (second _ _ h)
 
-  -- what is found on the two sides of an entry
+  -- look-ups on the two sides of an entry
 
   pub find_left : (q : K) (l : List (K × X)) (e : K × X) (r : List (K × X)) → R q e.0 ≡ Less → T (is_sorted R (l ++ e ∷ r)) → find R q (l ++ e ∷ r) ≡ find R q l
   find_left q [] e r p h = find_below R q (e ∷ r) (both _ _ (subst (λ o. T (is_lt o)) (sym p) tt) (below_less R o q e.0 r p (first _ _ h)))
@@ -58,7 +58,7 @@ module _ {K X : Type 0} {R : K → K → Ordering} (o : IsTotalOrder R) where
   find_here q [] e r p h = ap (λ o. cond (is_eq o) (Some e.1) (find R q r)) p
   find_here q (f ∷ l) e r p h = ap (λ o. cond (is_eq o) (Some f.1) (find R q (l ++ e ∷ r))) (tied_above o q e.0 f.0 p (below_middle f.0 l e r (first _ _ h))) ∙ find_here q l e r p (second _ _ h)
 
-  -- what is put there
+  -- insertions on the two sides of an entry
 
   over : (q : K) (v : X) (e : K × X) (es : List (K × X)) (r : Ordering) → R q e.0 ≡ r → put R q v (e ∷ es) ≡ by_order r ((q, v) ∷ e ∷ es) ((e.0, v) ∷ es) (e ∷ put R q v es)
   over q v e es r p = ap (λ o. by_order o ((q, v) ∷ e ∷ es) ((e.0, v) ∷ es) (e ∷ put R q v es)) p

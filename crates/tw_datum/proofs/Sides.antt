@@ -1,4 +1,4 @@
--- Entries d in order that are l, then e, then r: what is found there, and what is put there. The key q is handed on as k.
+-- Sorted entries d that are l, then e, then r: look-ups and insertions. The key q is passed on as k.
 use Rattle.std.proofs.Common.{◌≡◌, List, ◌∷◌, ◌++◌, T, Result, Ok, Err, OnOk, OnErr, sym, ap, ◌∙◌, subst, Option}
 use Rattle.std.specs.declared.cmp.Ordering.TheVariants.{Less, Equal, Greater}
 use Rattle.std.specs.declared.option.Option.TheVariants.{Some}

@@ -1,4 +1,4 @@
--- What is known where the members of a container are asked for by the kind of their subscripts.
+-- Facts on a container's members when they are looked up by the type of their subscripts.
 use Rattle.std.proofs.Common.{◌≡◌, ℤ, Some, None, IfSome, sym}
 use Rattle.std.specs.declared.option.Option.{Option}
 use Rattle.std.specs.declared.result.Result.TheVariants.{Ok}
@@ -13,7 +13,7 @@ use Rattle.tw_types.specs.ValueOrder.{Subscript}
 use Rattle.tw_types.proofs.Passed.{read_container}
 use Rattle.tw_types.proofs.Subscripts.{subscript_kind}
 
--- what is found in a container is of the type that was asked
+-- a subscript that is found is of the type that was checked
 pub kind_found : (x : Datum) (by : Scalar) (index : ℤ) (found : Option Subscript) (o : Option Datum) → o ≡ Some x → AreSubscriptsFor x.ty (members_in x.content) → found ≡ subscript_after index (map.keys (members_in x.content)) → may_read_members_by by o ≡ Ok tt
     → IfSome found (λ subscript. scalar_of subscript ≡ by)
 kind_found x by index None o live kinds is may = tt

@@ -1,4 +1,4 @@
--- A datum as it is kept: a member may say more than its id, such as the place of its datum.
+-- A datum as it is stored: a member may have more than its id, such as the place of its datum.
 use Rattle.std.specs.Prelude.{[], ◌≡◌, ℕ, ℤ, Bool, true, false, not, List, map as each, Option, Some, None, option_map, Result, Ok, Err, IsSome}
 use Rattle.std.specs.Borrow.{Bor}
 use Rattle.std.specs.FinMap as map
@@ -14,38 +14,38 @@ use Rattle.tw_types.specs.declared.value.Value.TheVariants as value
 use Rattle.tw_datum.specs.declared.datum.Content.{Content}
 use Rattle.tw_datum.specs.declared.datum.Content.TheVariants as content
 
--- the member at each subscript
+-- the members as stored, by their subscripts
 abbrev pub KeptMembers : Type 0 → Type 0
 KeptMembers M = FinMap value_cmp M
 
--- their ids alone
+-- returns their ids
 abbrev pub ids_of : {M : Type 0} → (M → ℕ) → KeptMembers M → Members
 ids_of id members = mapped id members
 
--- before and after a member was put at a subscript that is not there; or all stays, since it is there or memory is refused
+-- holds for the members before and after an insertion at a free subscript; they stay if it is taken, or if an allocation fails
 abbrev pub IsAddition : {M E : Type 0} → Result Bool E → Subscript → M → KeptMembers M → KeptMembers M → Type 0
 IsAddition (Ok true) k v old new = (map.get old k ≡ None) × (new ≡ map.insert old k v)
 IsAddition (Ok false) k v old new = IsSome (map.get old k) × (new ≡ old)
 IsAddition (Err e) k v old new = (map.get old k ≡ None) × (new ≡ old)
 
--- a datum, and its members
+-- a datum, and its members as stored
 pub record KeptDatum (M : Type 0) : Type 0 where
   pub datum : Datum
   pub members : KeptMembers M
 
--- the datum, if there is one
+-- returns the datum, if there is one
 abbrev pub datum_if : {M : Type 0} → Option (KeptDatum M) → Option Datum
 datum_if r = option_map (λ d. d.datum) r
 
--- the id of a member, with its subscript
+-- returns the id of a member, with its subscript
 abbrev pub bare : {M : Type 0} → (M → ℕ) → Subscript × M → Subscript × ℕ
 bare id e = (e.0, id e.1)
 
--- the same, where the subscript is lent
+-- like `bare`, when the subscript is borrowed
 abbrev pub lent : {S : Type 0} → Bor S × ℕ → S × ℕ
 lent e = (e.0.now, e.1)
 
--- the same, if the subscript is an integer
+-- returns the entry if its subscript is an integer
 abbrev pub by_int : Subscript × ℕ → Option (ℤ × ℕ)
 by_int e = of_subscript e.0
   where
@@ -53,24 +53,24 @@ by_int e = of_subscript e.0
     of_subscript (value.Int n) = Some (n, e.1)
     of_subscript (value.Text _) = None
 
--- with no members
+-- returns a datum without members
 abbrev pub new_kept : {M : Type 0} → NestedScalar → KeptDatum M
 new_kept ty = record { datum = new_datum ty; members = map.empty }
 
 abbrev pub with_kept_member : {M : Type 0} → (M → ℕ) → Subscript → M → KeptDatum M → KeptDatum M
 with_kept_member id subscript member d = record { datum = with_member subscript (id member) d.datum; members = map.insert d.members subscript member }
 
--- before and after a member was put at a subscript that is not there; or all stays, since it is there or memory is refused
+-- holds for the datum before and after an insertion at a free subscript; it stays if that is taken, or if an allocation fails
 abbrev pub IsMemberAdded : {M E : Type 0} → (M → ℕ) → Result Bool E → Subscript → M → KeptDatum M → KeptDatum M → Type 0
 IsMemberAdded id (Ok true) k v old new = (map.get (members_in old.datum.content) k ≡ None) × (new ≡ with_kept_member id k v old)
 IsMemberAdded id (Ok false) k v old new = IsSome (map.get (members_in old.datum.content) k) × (new ≡ old)
 IsMemberAdded id (Err e) k v old new = (map.get (members_in old.datum.content) k ≡ None) × (new ≡ old)
 
--- it has one read, and nobody will write it
+-- returns a datum with one read and no write
 abbrev pub closed_datum : NestedScalar → Meaning → Datum
 closed_datum ty content = record { ty = ty; content = content; reads = 1; writes = 0; subscribers = [] }
 
--- ---- as the code keeps it
+-- ---- the code's types
 
 abbrev pub content_of : {M : Type 0} → (M → ℕ) → Content M → Meaning
 content_of id content.Unset = Unset
@@ -87,16 +87,16 @@ is_container Unset = false
 is_container (Set _) = false
 is_container (Contains _) = true
 
--- only a container has members, and their subscripts are of the type that it says
+-- holds if only a container has members, and their subscripts are of its type
 abbrev pub FitsType : NestedScalar → Meaning → Type 0
 FitsType ty content = (is_container content ≡ not (is_scalar ty)) × AreSubscriptsFor ty (members_in content)
 
--- the members of a datum, if it is a container
+-- holds for the members of a datum; a scalar has none
 abbrev pub AreMembers : {M : Type 0} → (M → ℕ) → KeptDatum M → Option (KeptMembers M) → Type 0
 AreMembers id d None = (members_in d.datum.content ≡ map.empty) × (d.members ≡ map.empty)
 AreMembers id d (Some members) = (members_in d.datum.content ≡ ids_of id members) × (d.members ≡ members)
 
--- the ids of members, if there are any
+-- returns the ids of members, if there are any
 abbrev pub ids_if : {M : Type 0} → (M → ℕ) → Option (KeptMembers M) → List ℕ
 ids_if id None = []
 ids_if id (Some members) = each id (map.values members)

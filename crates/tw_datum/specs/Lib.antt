@@ -1,5 +1,5 @@
--- What a reader must believe for tw_datum: a datum with its members as they are kept (Kept). Else its contracts speak of
--- the datum of tw_types' Store, StoreCalls and StoreChecks, and of the standard library's finite map. Tree says what a
--- node of the map's tree is seen as and when it is balanced, for the tree's invariant.
+-- The definitions that a reader has to trust for tw_datum: a datum with its members as stored (Kept). Its contracts otherwise use
+-- tw_types' Store, StoreCalls and StoreChecks, and the standard library's finite map. Tree defines the model of a node of the
+-- map's tree, and when it is balanced, for the tree's invariant.
 pub mod Kept
 pub mod Tree

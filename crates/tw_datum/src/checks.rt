@@ -1,4 +1,4 @@
-//! What the calls ask of their data, each with the first cause that refuses it.
+//! Checks of the store's calls. Each succeeds, or fails with the first cause.
 
 ghost use Rattle.std.specs.Prelude.{◌≡◌};
 ghost use Rattle.std.specs.Option.{option_copied};
@@ -18,14 +18,14 @@ fn must(holds: bool, cause: Cause) -> Result<(), Cause>
     if holds { Ok(()) } else { Err(cause) }
 }
 
-/// Whether a value may be stored in a datum of a type.
+/// Returns whether a value may be stored in a datum of a type.
 fn is_of(value: &Value, ty: DataType) -> bool
     ensures { result ≡ is_of value.now ty }
 {
     ty.is_scalar() && value.scalar() == ty.scalar()
 }
 
-/// Whether the first is the type of the members of the second.
+/// Returns whether the first is the type of the second's members.
 fn is_element_of(element: DataType, ty: DataType) -> bool
     ensures { result ≡ is_element_of element ty }
 {
@@ -73,7 +73,7 @@ pub fn may_read_members<M: Member>(datum: Option<&Datum<M>>) -> Result<(), Cause
     must(datum.closed(), Cause::OpenContainer)
 }
 
-/// Whether the members may be read, by subscripts of this type.
+/// Checks that the members may be read, by subscripts of this type.
 pub fn may_read_members_by<M: Member>(by: Scalar, datum: Option<&Datum<M>>) -> Result<(), Cause>
     ensures { result ≡ may_read_members_by by (datum_if (option_copied datum.entry)) }
 {

@@ -16,7 +16,7 @@ use crate::ranked_map::RankedMap;
 use std::alloc::AllocError;
 use tw_types::{DatumId, Value, ValueRef};
 
-/// The id of a member, with its subscript.
+/// Returns the id of a member, with its subscript.
 fn lent<M: Member>(entry: Option<&(Value, M)>) -> Option<(&Value, DatumId)>
     ensures { option_map lent result ≡ option_map (bare M.id) (option_copied entry.entry) }
 {
@@ -27,7 +27,7 @@ fn lent<M: Member>(entry: Option<&(Value, M)>) -> Option<(&Value, DatumId)>
 }
 
 impl<M: Member> Datum<M> {
-    /// The members of a container.
+    /// Returns the members, or `None` for a scalar.
     fn members(&self) -> Option<&RankedMap<M>>
         ensures { AreMembers M.id self.now (option_copied result) }
     {
@@ -37,7 +37,7 @@ impl<M: Member> Datum<M> {
         }
     }
 
-    /// The number of members; a scalar has none.
+    /// Returns the number of members; a scalar has none.
     pub fn len(&self) -> usize
         ensures { result ≡ map.len (members_in self.now.datum.content) }
     {
@@ -47,7 +47,7 @@ impl<M: Member> Datum<M> {
         }
     }
 
-    /// The member with so many smaller subscripts, by its subscript, an integer. A container by texts has none.
+    /// Returns the member with `index` smaller subscripts, and its subscript. A container with texts as subscripts gives `None`.
     pub fn member(&self, index: usize) -> Option<(i64, DatumId)>
         ensures { result ≡ option_and_then by_int (slice_get (map.entries (members_in self.now.datum.content)) index) }
     {
@@ -57,7 +57,7 @@ impl<M: Member> Datum<M> {
         }
     }
 
-    /// The member with so many smaller subscripts, by its subscript, whatever that is.
+    /// Returns the member with `index` smaller subscripts, and its subscript of either type.
     pub fn entry(&self, index: usize) -> Option<(&Value, DatumId)>
         ensures { option_map lent result ≡ slice_get (map.entries (members_in self.now.datum.content)) index }
     {
@@ -67,7 +67,7 @@ impl<M: Member> Datum<M> {
         }
     }
 
-    /// The same member, as it is kept.
+    /// Like `entry`, with the member as the container stores it.
     pub fn nth_kept(&self, index: usize) -> Option<&(Value, M)>
         ensures member { option_map (bare M.id) (option_copied result) ≡ slice_get (map.entries (members_in self.now.datum.content)) index }
         ensures kept { IfSome (option_copied result) (λ e. map.get self.now.members e.0 ≡ Some e.1) }
@@ -78,7 +78,7 @@ impl<M: Member> Datum<M> {
         }
     }
 
-    /// The subscript with exactly so many smaller ones.
+    /// Returns the subscript with exactly `index` smaller ones, if there is one.
     pub fn subscript(&self, index: i64) -> Option<&Value>
         ensures found { option_copied result ≡ subscript_after index (map.keys (members_in self.now.datum.content)) }
         ensures kinds { AreSubscriptsFor self.now.datum.ty (members_in self.now.datum.content) }
@@ -97,7 +97,7 @@ impl<M: Member> Datum<M> {
         Some(subscript)
     }
 
-    /// The member at a subscript, as it is kept.
+    /// Returns the member at a subscript, as the container stores it.
     pub fn kept_member(&self, subscript: ValueRef<'_>) -> Option<M>
         ensures member { option_map M.id result ≡ map.get (members_in self.now.datum.content) (named subscript.entry) }
         ensures kept { result ≡ map.get self.now.members (named subscript.entry) }
@@ -108,7 +108,7 @@ impl<M: Member> Datum<M> {
         }
     }
 
-    /// The member at a subscript.
+    /// Returns the id of the member at a subscript.
     pub fn member_at(&self, subscript: ValueRef<'_>) -> Option<DatumId>
         ensures { result ≡ map.get (members_in self.now.datum.content) (named subscript.entry) }
     {
@@ -118,7 +118,7 @@ impl<M: Member> Datum<M> {
         }
     }
 
-    /// Puts a member into a container under a copy of a subscript, unless one is there. Returns whether none was.
+    /// Inserts a member at a copy of the subscript, unless one is there. Returns whether none was. Fails if an allocation fails.
     pub fn add_absent(&mut self, subscript: ValueRef<'_>, member: M) -> Result<bool, AllocError>
         requires container { is_container_by (scalar_of (named subscript)) self.old.datum.ty ≡ true }
         requires proper { IsProper (named subscript) }
@@ -130,7 +130,7 @@ impl<M: Member> Datum<M> {
         }
     }
 
-    /// Puts a member into a container.
+    /// Inserts a member, in place of one at the subscript.
     pub fn add_member(&mut self, subscript: Value, member: M) -> Result<(), AllocError>
         requires { is_container_by (scalar_of subscript) self.old.datum.ty ≡ true }
         ensures added { OnOk result (self.new ≡ with_kept_member M.id subscript member self.old) }

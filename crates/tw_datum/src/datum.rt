@@ -1,4 +1,4 @@
-//! One datum.
+//! One datum: its content, its counts and its subscribers.
 
 ghost use Rattle.std.specs.Prelude.{◌≡◌, ◌-◌, ◌<◌, ◌^◌, IfSome, OnOk, OnErr, true, false, if◌then◌else◌, []};
 ghost use Rattle.std.specs.FinMap as map;
@@ -16,7 +16,7 @@ use std::alloc::{AllocError, Global};
 use std::marker::Model;
 use tw_types::{DataType, Subscriber, Value};
 
-/// What is in a datum.
+/// The content of a datum.
 #[derive(Drop)]
 pub enum Content<M> {
     /// A scalar without a value.
@@ -27,7 +27,7 @@ pub enum Content<M> {
     Contains(RankedMap<M>),
 }
 
-/// A datum, with how many rights are held on it and who waits for it.
+/// A datum, with how many rights are held on it, and its subscribers.
 #[derive(Drop)]
 pub struct Datum<M: Member> {
     pub(crate) ty: DataType,
@@ -55,7 +55,7 @@ impl<M: Member> Model for Datum<M> {
     ghost invariant = { λ d. FitsType d.ty (content_of M.id d.content) };
 }
 
-/// An unset scalar, or a container without members.
+/// Returns an unset scalar, or a container without members.
 fn empty_content<M: Member>(alloc: Global, ty: DataType) -> Content<M>
     ensures content { content_of M.id result ≡ empty_content ty }
     ensures members { members_kept result ≡ map.empty }
@@ -68,7 +68,7 @@ fn empty_content<M: Member>(alloc: Global, ty: DataType) -> Content<M>
 }
 
 impl<M: Member> Datum<M> {
-    /// A datum with one read and one write: an unset scalar, or a container without members.
+    /// Makes a datum with one read and one write: an unset scalar, or a container without members.
     pub fn new(alloc: Global, ty: DataType) -> Datum<M>
         ensures { result ≡ new_kept ty }
     {
@@ -81,7 +81,7 @@ impl<M: Member> Datum<M> {
         }
     }
 
-    /// A datum that is closed, with one read: a scalar that is set, or a container with its members.
+    /// Makes a closed datum with one read: a set scalar, or a container with its members.
     pub fn new_closed(alloc: Global, ty: DataType, content: Content<M>) -> Datum<M>
         requires { FitsType ty (content_of M.id content) }
         ensures datum { result.datum ≡ closed_datum ty (content_of M.id content) }
@@ -102,7 +102,7 @@ impl<M: Member> Datum<M> {
         self.ty
     }
 
-    /// The value of a scalar that is set.
+    /// Returns the value of a set scalar.
     pub fn value(&self) -> Option<&Value>
         ensures { option_copied result ≡ value_in self.now.datum.content }
     {
@@ -112,7 +112,7 @@ impl<M: Member> Datum<M> {
         }
     }
 
-    /// Whether it will never change again: a scalar that is set, or a container that nobody may write.
+    /// Returns whether it will never change again: it is a set scalar, or a container without write rights.
     pub fn closed(&self) -> bool
         ensures { result ≡ is_closed self.now.datum }
     {
@@ -123,42 +123,42 @@ impl<M: Member> Datum<M> {
         }
     }
 
-    /// The number of read rights on it, those of its containers and of the host included.
+    /// Returns the number of read rights on it, those of its containers and of the host included.
     pub fn reads(&self) -> u64
         ensures { result ≡ self.now.datum.reads }
     {
         self.reads
     }
 
-    /// The number of write rights on it.
+    /// Returns the number of write rights on it.
     pub fn writes(&self) -> u64
         ensures { result ≡ self.now.datum.writes }
     {
         self.writes
     }
 
-    /// Whether it is a scalar without a value.
+    /// Returns whether it is a scalar without a value.
     pub fn is_unset(&self) -> bool
         ensures { result ≡ is_unset self.now.datum.content }
     {
         matches!(self.content, Content::Unset)
     }
 
-    /// Whether nobody holds a right on it.
+    /// Returns whether nobody holds a right on it.
     pub fn is_unheld(&self) -> bool
         ensures { result ≡ is_unheld self.now.datum }
     {
         self.reads == 0 && self.writes == 0
     }
 
-    /// Who waits for it, in the order of asking.
+    /// Returns its subscribers, in the order of asking.
     pub fn subscribers(&self) -> &[Subscriber]
         ensures { result.now ≡ self.now.datum.subscribers }
     {
         self.subscribers.as_slice()
     }
 
-    /// Who hears of it when it has one write less: nobody where it stays open.
+    /// Returns the subscribers that get a notice if it loses one write: none if it stays open.
     pub fn heard_by_drop_write(&self) -> &[Subscriber]
         ensures { result.now ≡ if is_closed (one_write_less self.now.datum) then self.now.datum.subscribers else [] }
     {
@@ -174,7 +174,7 @@ impl<M: Member> Datum<M> {
         }
     }
 
-    /// Sets a scalar, which spends a write. Nobody waits for it any more.
+    /// Sets a scalar, which spends a write and drops its subscribers. Read the subscribers before.
     pub fn set(&mut self, value: Value)
         requires scalar { is_scalar self.old.datum.ty ≡ true }
         requires write { 0 < self.old.datum.writes }
@@ -185,7 +185,7 @@ impl<M: Member> Datum<M> {
         self.subscribers.clear();
     }
 
-    /// Takes one write. Where that closes it, nobody waits for it any more.
+    /// Takes one write. If that closes it, drops its subscribers: read `heard_by_drop_write` before.
     pub fn take_write(&mut self)
         requires { 0 < self.old.datum.writes }
         ensures { self.new ≡ record self.old { datum = subscribers_cleared (one_write_less self.old.datum) } }
@@ -217,7 +217,7 @@ impl<M: Member> Datum<M> {
         self.writes += 1;
     }
 
-    /// Adds one who waits, after the others.
+    /// Adds a subscriber, after the others.
     pub fn add_subscriber(&mut self, subscriber: Subscriber) -> Result<(), AllocError>
         ensures added { OnOk result (self.new ≡ record self.old { datum = with_subscriber subscriber self.old.datum }) }
         ensures refused { OnErr result (self.new ≡ self.old) }
@@ -226,7 +226,7 @@ impl<M: Member> Datum<M> {
         Ok(())
     }
 
-    /// The members of a datum that goes, if it is a container.
+    /// Returns the members of a datum that is freed, if it is a container.
     pub fn into_members(self) -> Option<RankedMap<M>>
         ensures ids { ids_if M.id result ≡ members_of self.datum.content }
         ensures kept { IfSome result (λ members. members ≡ self.members) }

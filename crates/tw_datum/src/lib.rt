@@ -1,8 +1,8 @@
-//! One datum: what is in it, how many rights are held on it, who waits for it, and what the calls ask of it; and the ordered
-//! map that a container's members stand in, which finds an entry by its rank as quickly as by its key.
+//! One datum: its content, the counts of rights held on it, its subscribers, and the checks of the calls on it.
 //!
-//! A container keeps of each member what its keeper chooses (`Member`): the reference machine the id alone, the host's store
-//! the place of its datum too.
+//! A container's members are in an ordered map. It finds an entry by its rank in logarithmic time, like by its key. The container's
+//! user chooses what is stored of a member (`Member`). The reference machine stores the id alone, the host's store also the place of
+//! its datum.
 #![tactic(auto)]
 
 pub mod checks;

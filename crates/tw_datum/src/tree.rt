@@ -1,6 +1,6 @@
-//! A search tree of entries by their keys. Each node knows how many entries it has, and neither side of a node is more than
-//! three times as heavy as the other, where a side weighs one more than it has entries (after Nievergelt and Reingold,
-//! 1973): so a key and an index are found in a number of steps that grows as the logarithm of the number of entries.
+//! A search tree of entries by their keys. Each node has the number of its entries. Neither side of a node is more than
+//! three times as heavy as the other, where a side's weight is one more than its number of entries (after Nievergelt and Reingold,
+//! 1973). So finding a key or an index takes a logarithmic number of steps.
 
 ghost use Rattle.std.specs.Prelude.{◌≡◌, ◌+◌, ◌-◌, ◌*◌, ◌^◌, ◌<◌, ◌≤◌, [], ◌∷◌, ◌++◌, length, slice_get, OnOk, OnErr, T};
 ghost use Rattle.std.specs.FinMap.{find, put, is_sorted};
@@ -15,14 +15,14 @@ use std::marker::Model;
 use std::mem;
 use tw_types::{Value, ValueRef};
 
-/// Entries, each with a key of its own.
+/// Entries with distinct keys, in order.
 #[cycle(tree)]
 #[derive(Drop)]
 pub struct Tree<V> {
     root: Option<Box<Fork<V>>>,
 }
 
-/// One entry between those before and after it, with the number of all three.
+/// One entry between those before and after it, with the number of them all.
 #[cycle(tree)]
 #[derive(Drop)]
 struct Fork<V> {
@@ -67,7 +67,7 @@ impl<V: Copy> Tree<V> {
         }
     }
 
-    /// The value at a key.
+    /// Returns the value at a key.
     pub fn get(&self, key: ValueRef<'_>) -> Option<V>
         ensures { T (is_sorted value_cmp self.now) → result ≡ find value_cmp (named key.entry) self.now }
     {
@@ -84,7 +84,7 @@ impl<V: Copy> Tree<V> {
         }
     }
 
-    /// The entry with so many smaller keys.
+    /// Returns the entry with `index` smaller keys.
     pub fn nth(&self, index: usize) -> Option<&(Value, V)>
         ensures { option_copied result ≡ slice_get self.now index }
     {
@@ -102,7 +102,7 @@ impl<V: Copy> Tree<V> {
         }
     }
 
-    /// Puts a value at a copy of a key, unless one is there. Returns whether none was.
+    /// Inserts a value at a copy of the key, unless one is there. Returns whether none was.
     pub fn add(&mut self, alloc: Global, key: ValueRef<'_>, value: V) -> Result<bool, AllocError>
         requires room { length self.old < 2 ^ 64 - 1 }
         requires proper { IsProper (named key) }
@@ -146,7 +146,7 @@ impl<V: Copy> Tree<V> {
         }
     }
 
-    /// Puts a value at a key.
+    /// Inserts a value at a key, in place of one that is there.
     pub fn insert(&mut self, alloc: Global, key: Value, value: V) -> Result<(), AllocError>
         requires room { length self.old < 2 ^ 64 - 1 }
         ensures added { OnOk result (T (is_sorted value_cmp self.old) → self.new ≡ put value_cmp key value self.old) }
@@ -199,7 +199,7 @@ impl<V: Copy> Tree<V> {
         Tree { root: Some(fork) }
     }
 
-    /// Its topmost node, which leaves it empty.
+    /// Takes the root node, which leaves the tree empty.
     fn take(&mut self) -> Box<Fork<V>>
         requires { 0 < length self.old }
         ensures entries { self.old ≡ in_fork result.value }
@@ -214,7 +214,7 @@ impl<V: Copy> Tree<V> {
 }
 
 impl<V: Copy> Fork<V> {
-    /// Makes the number right and the sides even, where one side may have one entry too many.
+    /// Corrects the number and balances the sides, one of which may have one entry too many.
     fn even_out(&mut self)
         requires room { length self.old.before + length self.old.after < 2 ^ 64 - 1 }
         requires near { AreNearlyEven (length self.old.before) (length self.old.after) }
@@ -231,7 +231,7 @@ impl<V: Copy> Fork<V> {
         }
     }
 
-    /// Turns what is too heavy on its left side to the right.
+    /// Rotates to the right, if the left side is too heavy.
     #[inline(never)]
     fn turn_right(&mut self)
         requires room { length self.old.before + length self.old.after < 2 ^ 64 - 1 }
@@ -253,7 +253,7 @@ impl<V: Copy> Fork<V> {
         }
     }
 
-    /// Turns what is too heavy on its right side to the left.
+    /// Rotates to the left, if the right side is too heavy.
     #[inline(never)]
     fn turn_left(&mut self)
         requires room { length self.old.before + length self.old.after < 2 ^ 64 - 1 }
@@ -276,7 +276,7 @@ impl<V: Copy> Fork<V> {
     }
 }
 
-/// The entry on the left becomes the whole's own; what was the whole's own stands on the left, with what is after it.
+/// Makes the left entry the root's own. The root's old entry moves to the left node, with the entries after it.
 fn single_right<V: Copy>(whole: &mut Fork<V>, left: &mut Fork<V>)
     requires room { length left.old.after + length whole.old.after < 2 ^ 64 - 1 }
     ensures before { whole.new.before ≡ left.old.before }
@@ -294,7 +294,7 @@ fn single_right<V: Copy>(whole: &mut Fork<V>, left: &mut Fork<V>)
     left.len = left.before.len() + left.after.len() + 1;
 }
 
-/// The entry on the right becomes the whole's own; what was the whole's own stands on the right, with what is before it.
+/// Makes the right entry the root's own. The root's old entry moves to the right node, with the entries before it.
 fn single_left<V: Copy>(whole: &mut Fork<V>, right: &mut Fork<V>)
     requires room { length whole.old.before + length right.old.before < 2 ^ 64 - 1 }
     ensures after { whole.new.after ≡ right.old.after }
@@ -312,7 +312,7 @@ fn single_left<V: Copy>(whole: &mut Fork<V>, right: &mut Fork<V>)
     right.len = right.before.len() + right.after.len() + 1;
 }
 
-/// The inner entry becomes the whole's own; its two sides go to the left and to what was the whole's own.
+/// Makes the inner entry the root's own. Its sides move to the left node and to that of the root's old entry.
 fn double_right<V: Copy>(whole: &mut Fork<V>, left: &mut Fork<V>, inner: &mut Fork<V>)
     requires room { length inner.old.after + length whole.old.after < 2 ^ 64 - 1 }
     requires left_room { length left.old.before + length inner.old.before < 2 ^ 64 - 1 }
@@ -335,7 +335,7 @@ fn double_right<V: Copy>(whole: &mut Fork<V>, left: &mut Fork<V>, inner: &mut Fo
     inner.len = inner.before.len() + inner.after.len() + 1;
 }
 
-/// The inner entry becomes the whole's own; its two sides go to what was the whole's own and to the right.
+/// Makes the inner entry the root's own. Its sides move to the node of the root's old entry and to the right node.
 fn double_left<V: Copy>(whole: &mut Fork<V>, right: &mut Fork<V>, inner: &mut Fork<V>)
     requires room { length whole.old.before + length inner.old.before < 2 ^ 64 - 1 }
     requires right_room { length inner.old.after + length right.old.after < 2 ^ 64 - 1 }

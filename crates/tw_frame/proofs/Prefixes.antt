@@ -1,4 +1,4 @@
--- Lists that begin alike.
+-- Lists with a common prefix.
 use Rattle.std.proofs.Common.{◌≡◌, ◌<◌, ◌≤◌, ◌∙◌, ℕ, List, length, take, get_or, sym, ap, arith}
 use Rattle.std.specs.Prelude.{reverse}
 use Rattle.std.proofs.lemmas.List.{get_or-take, reverse-reverse}

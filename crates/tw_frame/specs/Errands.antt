@@ -1,4 +1,4 @@
--- What goes out with a task and comes back: as what a job, a Done and a draft are seen, and what is kept of each.
+-- The memory of jobs, the models of a job, a `Done` and a draft, and their invariants.
 use Rattle.std.specs.Prelude.{◌≡◌, ℕ, Bool, true, false, [], List, Option, Some, None, slice_get}
 use Rattle.tw_types.specs.declared.actor.Actor.TheVariants.{Engine}
 use Rattle.tw_code.specs.declared.procedure.Procedure.{Procedure}
@@ -11,24 +11,24 @@ use Rattle.tw_frame.specs.declared.job.Went.{Went}
 use Rattle.tw_frame.specs.declared.job.Went.TheVariants as went
 use Rattle.tw_frame.specs.Jobs.{AreTwice, DoneView, DraftView, IsDone, JobView, MayStand, position_of}
 
--- ---- what was done
+-- ---- work done
 
 abbrev pub did_of : Went → Did
 did_of (went.Nowhere short) = record { steps = 0; came = false; short = short }
 did_of (went.There steps short) = record { steps = steps; came = true; short = short }
 
--- where it went nowhere it stands as before
+-- returns the position after a run; the old one if it didn't move
 abbrev pub after_of : Position → Bool → Position → Position
 after_of before true after = after
 after_of before false after = before
 
--- how a run went from a position to a context, of which it left a copy
+-- holds if a run ended in this way, from a position, with these two equal contexts
 abbrev pub IsRun : List Procedure → ℕ → Position → Context → Context → Went → Type 0
 IsRun program procedure before after again (went.Nowhere short) = IsDone program procedure before before 0 short
 IsRun program procedure before after again (went.There steps short) = IsDone program procedure before (position_of after) steps short
     × ((p : Procedure) → slice_get program procedure ≡ Some p → AreTwice p.registers after again)
 
--- what is kept of what was done of a job: where it came to, and that its copy is the same
+-- the invariant of a job's result: where it is after the run, and that the copy is equal
 pub record IsKept (program : List Procedure) (procedure : ℕ) (before : Position) (after again : Context) (did : Did) : Type 0 where
   pub done : IsDone program procedure before (after_of before did.came (position_of after)) did.steps did.short
   pub twice : did.came ≡ true → (p : Procedure) → slice_get program procedure ≡ Some p → AreTwice p.registers after again
@@ -36,9 +36,9 @@ pub record IsKept (program : List Procedure) (procedure : ℕ) (before : Positio
 abbrev pub IsRunOf : Errand → Type 0
 IsRunOf errand = IsKept errand.lent.program.program errand.lent.procedure errand.lent.position errand.after.value errand.again.value errand.did
 
--- ---- what lies in a place for one
+-- ---- memory for an errand
 
--- the job of no task, which no place shows where an errand lies
+-- returns the job of no task, as the model of empty memory
 abbrev pub nobodys : JobView
 nobodys = record {
   program = record { version = Two; program = []; typings = [] };
@@ -72,12 +72,12 @@ abbrev pub IsThere : Option Errand → Type 0
 IsThere None = ⊥
 IsThere (Some errand) = Unit {0}
 
--- an errand lies there whose task may stand where it is
+-- holds if there is an errand whose task may run from its position
 abbrev pub MayRun : Option Errand → Type 0
 MayRun None = ⊥
 MayRun (Some errand) = MayStand errand.lent.program.program errand.lent.procedure errand.lent.position
 
--- an errand lies there that was run
+-- holds if there is an errand that was run
 abbrev pub WasRun : Option Errand → Type 0
 WasRun None = ⊥
 WasRun (Some errand) = IsRunOf errand

@@ -1,9 +1,9 @@
--- What a reader must believe of frames and jobs: as what contracts see them, when a Done is one, and which frame is the
--- machine's (Jobs); when so many local steps lead somewhere, and why a run stops there (Ready).
+-- The definitions on frames and jobs that a reader has to trust: their models, the contract of every `Done`, and the machine's frame
+-- (Jobs). Ready defines when local steps lead somewhere, and why a run stops there.
 pub mod Jobs
 pub mod Ready
 pub mod Drafts
--- What only private functions speak of.
+-- Definitions for private functions.
 pub mod Errands
 pub mod Banks
 pub mod Pieces

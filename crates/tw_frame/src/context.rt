@@ -1,4 +1,4 @@
-//! Where a task stands, in memory that is taken before a run.
+//! Positions of tasks, in memory that is allocated before a run.
 
 ghost use Rattle.std.specs.Prelude.{◌≡◌, OnOk, OnErr};
 ghost use Rattle.tw_frame.specs.Banks.{HasText};
@@ -7,7 +7,7 @@ use crate::loops::Loops;
 use crate::registers::Registers;
 use std::alloc::{AllocError, Global};
 
-/// A task's context: where it stands.
+/// A task's context: its place, registers and loops.
 #[derive(Drop)]
 pub(crate) struct Context<'a> {
     pub(crate) place: usize,
@@ -16,7 +16,7 @@ pub(crate) struct Context<'a> {
 }
 
 impl<'a> Context<'a> {
-    /// Nobody's, in memory of its own.
+    /// Makes a context of no task, in its own memory.
     pub(crate) fn boxed(alloc: Global) -> Result<Box<Context<'a>>, AllocError> {
         let context = Context {
             place: 0,
@@ -26,7 +26,7 @@ impl<'a> Context<'a> {
         Ok(Box::new(alloc, context)?)
     }
 
-    /// Stands elsewhere, with the same values.
+    /// Changes the place and the loops, and keeps the values.
     pub(crate) fn stand_at(&mut self, place: usize, loops: Loops)
         ensures { self.new ≡ record self.old { place = place; loops = loops } }
     {
@@ -34,7 +34,7 @@ impl<'a> Context<'a> {
         self.loops = loops;
     }
 
-    /// Becomes what another is.
+    /// Becomes a copy of another context. Allocates only if that has texts.
     pub(crate) fn copy_from(&mut self, alloc: Global, other: &Context<'a>) -> Result<(), AllocError>
         ensures copy { OnOk result (self.new ≡ other.now) }
         ensures texts { OnErr result (HasText other.now.registers.types) }

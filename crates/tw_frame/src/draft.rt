@@ -1,4 +1,4 @@
-//! Values for a task's next job, made beforehand.
+//! Values for a task's next job, made in advance.
 
 ghost use Rattle.std.specs.Prelude.{◌≡◌, slice_set};
 ghost use Rattle.tw_frame.specs.Drafts.{MaySet};
@@ -9,7 +9,7 @@ use crate::rooms::Ahead;
 use std::marker::Model;
 use tw_types::Value;
 
-/// All values of a task's registers, made where memory may be refused, for a call that takes none.
+/// The values of all of a task's registers. It is made when an allocation may fail, for a call that allocates nothing.
 #[derive(Drop)]
 pub struct Draft<'a> {
     pub(crate) errand: Box<Option<Errand<'a>>>,
@@ -27,7 +27,7 @@ impl<'a> Model for Draft<'a> {
 }
 
 impl<'a> Draft<'a> {
-    /// For the first job of a task, as it is lent, with what goes with a job.
+    /// Makes the draft for a task's first job, with the memory that a job needs.
     pub(crate) fn first(lent: Lent<'a>, ahead: Ahead<'a>, place: NoErrand<'a>) -> Draft<'a>
         ensures { result ≡ record { program = lent.entry.program; procedure = lent.entry.procedure; values = lent.entry.position.values } }
     {
@@ -43,7 +43,7 @@ impl<'a> Draft<'a> {
         }
     }
 
-    /// One value replaced by another of its type, which an instruction gives to the register.
+    /// Replaces one value by another of its type. Call it when an instruction sets the register.
     pub fn set(&mut self, register: u8, value: Value)
         requires { MaySet self.old.values register value }
         ensures { self.new ≡ record self.old { values = slice_set self.old.values register value } }

@@ -1,4 +1,4 @@
-//! What goes out with a task and comes back.
+//! The memory of a job, which moves out with it and comes back with its result.
 
 ghost use Rattle.std.specs.Prelude.{◌≡◌, Some, false, true};
 ghost use Rattle.tw_frame.specs.Errands.{IsRunOf, did_of};
@@ -9,7 +9,7 @@ use crate::job::{Lent, Went};
 use std::alloc::{AllocError, Global};
 use std::marker::Model;
 
-/// What was done of a job: so many steps, whether it came from its place by them, and whether memory was wanting for the next one.
+/// The work done in a job: how many steps, whether it moved at all, and whether an allocation for the next step failed.
 #[derive(Clone, Copy)]
 pub(crate) struct Did {
     pub(crate) steps: u64,
@@ -35,7 +35,7 @@ impl Did {
         }
     }
 
-    /// Nothing yet.
+    /// Returns what was done before the run: nothing.
     pub(crate) fn nothing() -> Did {
         Did {
             steps: 0,
@@ -45,8 +45,8 @@ impl Did {
     }
 }
 
-/// A task as it is lent, what was done of it, and where it came to, twice: for its frame, and for its next job. It lies in one place of
-/// memory while it goes out and comes back, so that a turn moves a word.
+/// A job, what was done of it, and two copies of the resulting context: one for its frame, one for its next job. It is in one
+/// allocation for as long as the job is out, so a scheduling step moves one pointer.
 #[derive(Drop)]
 pub(crate) struct Errand<'a> {
     pub(crate) lent: Lent<'a>,
@@ -56,7 +56,7 @@ pub(crate) struct Errand<'a> {
 }
 
 impl<'a> Errand<'a> {
-    /// Runs the task, in a copy, and copies where it came to once more.
+    /// Runs the task in a copy of its context, and copies the resulting context once more.
     #[inline(always)]
     pub(crate) fn run(&mut self, alloc: Global)
         requires { MayStand self.old.lent.program.program self.old.lent.procedure self.old.lent.position }
@@ -72,7 +72,7 @@ impl<'a> Errand<'a> {
         *did = Did::of(lent.run(alloc, after, again));
     }
 
-    /// Gives the frame where it came to, and takes what the frame had; its copy is for the next job.
+    /// Swaps the resulting context with the frame's, if the task moved. The job keeps the copy.
     pub(crate) fn hand_back(&mut self, own: &mut Box<Context<'a>>)
         requires { IsRunOf self.old }
         ensures came { self.old.did.came ≡ true → (own.new.value ≡ self.old.after.value) × (self.new.lent ≡ record self.old.lent { position = position_of self.old.again.value }) }
@@ -85,7 +85,7 @@ impl<'a> Errand<'a> {
     }
 }
 
-/// Memory for an errand, where none lies.
+/// Memory for an errand, without one in it.
 #[derive(Drop)]
 pub(crate) struct NoErrand<'a> {
     errand: Box<Option<Errand<'a>>>,
@@ -103,7 +103,7 @@ impl<'a> NoErrand<'a> {
         Ok(NoErrand { errand })
     }
 
-    /// Lays an errand there.
+    /// Puts an errand into the memory.
     pub(crate) fn hold(self, errand: Errand<'a>) -> Box<Option<Errand<'a>>>
         ensures { result.value ≡ Some errand.entry }
     {
@@ -112,7 +112,7 @@ impl<'a> NoErrand<'a> {
         place
     }
 
-    /// Takes the errand that lies there.
+    /// Takes the errand out of the memory.
     pub(crate) fn of(mut place: Box<Option<Errand<'a>>>) -> (Option<Errand<'a>>, NoErrand<'a>)
         ensures { result.0 ≡ place.entry.value }
     {

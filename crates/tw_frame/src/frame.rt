@@ -1,4 +1,4 @@
-//! Frames: where a task stands, as the pool keeps it.
+//! Frames: running tasks, as the pool stores them.
 
 ghost use Rattle.std.specs.Prelude.{◌≡◌, ◌<◌, ◌+◌, ◌^◌, IsTrue, ◌↔◌, IfErr, IfOk, OnErr, OnOk, Some, Ok, [], length, slice_get};
 ghost use Rattle.tw_types.specs.Value.{IsProper};
@@ -21,7 +21,7 @@ use tw_rights::{RightFile, Task};
 use tw_types::{Actor, TaskNo, Value, ValueRef};
 use tw_verify::Verified;
 
-/// A task that runs: where it stands, its rights, and how many instructions it has done. Its job is lent while it stands.
+/// A running task: its position, its rights, and how many instructions it has executed. While it runs its job is issued.
 pub struct Frame<'a> {
     verified: &'a Verified,
     task: TaskNo,
@@ -45,8 +45,8 @@ impl<'a> Model for Frame<'a> {
 }
 
 impl<'a> Frame<'a> {
-    /// A task starts, with these values and the rights among its arguments: with the values with which it starts it is the
-    /// machine's frame. The draft is for its first job.
+    /// Starts a task with these values and the rights among its arguments. With the values of `Rooms::start` the frame is the
+    /// machine's. The draft is for its first job.
     pub fn start(
         task: Task,
         actor: Actor,
@@ -95,7 +95,7 @@ impl<'a> Frame<'a> {
         (frame, Draft::first(lent, ahead, errand))
     }
 
-    /// A task that is lent, with its own context and its rights.
+    /// Makes the frame of an issued task, with its own context and its rights.
     fn of(lent: &Lent<'a>, own: Box<Context<'a>>, rights: Box<RightFile>) -> Frame<'a>
         requires { AreOf lent.now.program.program lent.now.procedure own.value.registers.types }
         ensures { result ≡ record {
@@ -121,7 +121,7 @@ impl<'a> Frame<'a> {
         }
     }
 
-    /// Whether this is the job that was lent last. Numbers and place are compared first, then loops, then values.
+    /// Returns whether this is the job that was issued last. Compares numbers and place first, then loops, then values.
     pub fn has_lent(&self, job: &Lent<'_>) -> bool
         requires { job.now.program ≡ self.now.program }
         ensures { IsTrue result ↔ (job.now ≡ job_of self.now) }
@@ -147,8 +147,8 @@ impl<'a> Frame<'a> {
         self.own.registers.same(&job.at.registers)
     }
 
-    /// Lends the task's work up to its next instruction that isn't local, by the number of its actor's events. The draft has
-    /// the frame's values.
+    /// Issues a job: the task's work up to its next instruction that isn't local. `event_no` is the number of its actor's events. The
+    /// draft must have the frame's values.
     pub fn lend(&mut self, event_no: u64, draft: Draft<'a>) -> Job<'a>
         requires program { draft.program ≡ self.old.program }
         requires procedure { draft.procedure ≡ self.old.procedure }
@@ -170,7 +170,7 @@ impl<'a> Frame<'a> {
         Job { errand }
     }
 
-    /// Takes what was done of the job that was lent last, which this is, and gives a draft of the values with which the frame goes on.
+    /// Completes the job that was issued last, which `done` must be of. Returns a draft of the values with which the frame continues.
     pub fn take_back(&mut self, done: Done<'a>) -> Draft<'a>
         requires own { done.before ≡ job_of self.old }
         requires spent { self.old.spent < 2 ^ 63 }
@@ -187,8 +187,8 @@ impl<'a> Frame<'a> {
         Draft { errand }
     }
 
-    /// Takes what was done of the job that was lent last, and gives a draft of the values with which the frame goes on;
-    /// another Done is handed back.
+    /// Completes the job that was issued last, and returns a draft of the values with which the frame continues. Returns any other
+    /// `Done` as the error.
     pub fn exchange(&mut self, done: Done<'a>) -> Result<Draft<'a>, Done<'a>>
         requires program { done.before.program ≡ self.old.program }
         requires spent { self.old.spent < 2 ^ 63 }
@@ -205,7 +205,7 @@ impl<'a> Frame<'a> {
         Ok(self.take_back(done))
     }
 
-    /// Takes what was done of the job that was lent last; another Done is handed back.
+    /// Completes the job that was issued last. Returns any other `Done` as the error.
     pub fn accept(&mut self, done: Done<'a>) -> Result<(), Done<'a>>
         requires program { done.before.program ≡ self.old.program }
         requires spent { self.old.spent < 2 ^ 63 }
@@ -221,7 +221,7 @@ impl<'a> Frame<'a> {
         }
     }
 
-    /// The value of a register, which stays there.
+    /// Returns the value of a register, where it stays.
     pub fn look(&self, register: u8) -> ValueRef<'_>
         requires { register < length self.now.position.values }
         ensures is { slice_get self.now.position.values register ≡ Some (named result) }
@@ -231,7 +231,7 @@ impl<'a> Frame<'a> {
         self.own.registers.at(register)
     }
 
-    /// Gives a register a value of its type.
+    /// Sets a register to a value of its type.
     pub fn set(&mut self, register: u8, value: Value)
         requires { MaySet self.old.position.values register value }
         ensures { self.new ≡ record self.old { position = with_value self.old.position register value } }
@@ -239,7 +239,7 @@ impl<'a> Frame<'a> {
         self.own.registers.replace(register, value);
     }
 
-    /// Goes to a place, by one instruction more.
+    /// Moves to a place, and counts one instruction.
     pub fn go(&mut self, place: usize)
         requires { self.old.spent < 2 ^ 63 }
         ensures { self.new ≡ record self.old { position = record self.old.position { place = place }; spent = self.old.spent + 1 } }
@@ -248,7 +248,7 @@ impl<'a> Frame<'a> {
         self.spent += 1;
     }
 
-    /// Goes on to the next place.
+    /// Moves to the next place, and counts one instruction.
     pub fn go_on(&mut self)
         requires place { self.old.position.place < 2 ^ 63 }
         requires spent { self.old.spent < 2 ^ 63 }
@@ -258,7 +258,7 @@ impl<'a> Frame<'a> {
         self.go(place + 1);
     }
 
-    /// Is refused, and skips.
+    /// Skips, as a refused instruction does, and counts one instruction.
     pub fn skip(&mut self, skip: u16)
         requires place { self.old.position.place < 2 ^ 62 }
         requires spent { self.old.spent < 2 ^ 63 }
@@ -274,7 +274,7 @@ impl<'a> Frame<'a> {
         rights.shut();
     }
 
-    /// Spends every right, and gives its memory and that of a Done for the seat's next task.
+    /// Spends every right. Returns its memory and that of a `Done` for the seat's next task.
     pub fn end(self, alloc: Global, done: Done<'a>) -> Rooms<'a> {
         let Done { errand } = done;
         let (there, errand) = NoErrand::of(errand);
@@ -299,7 +299,7 @@ impl<'a> Frame<'a> {
         rooms
     }
 
-    /// Spends every right; the context and the empty right registers are left.
+    /// Spends every right. Returns the context and the empty right registers.
     fn spend(self) -> (Box<Context<'a>>, EmptyFile) {
         let Frame {
             verified: _,

@@ -1,4 +1,4 @@
-//! Jobs.
+//! Jobs, and their results.
 
 ghost use Rattle.std.specs.Prelude.{◌≡◌, ◌<◌, ℕ, List, IfOk, OnErr, Some, length, slice_get};
 ghost use Rattle.tw_types.specs.Value.{IsProper};
@@ -18,7 +18,7 @@ use std::marker::Model;
 use tw_types::{Actor, TaskNo, Value, ValueRef};
 use tw_verify::Verified;
 
-/// A task as it is lent: its work up to its next instruction that isn't local.
+/// An issued task: its work up to its next instruction that isn't local.
 #[derive(Drop)]
 pub struct Lent<'a> {
     pub(crate) verified: &'a Verified,
@@ -39,7 +39,7 @@ impl<'a> Model for Lent<'a> {
     ghost invariant = { λ j. AreOf j.verified.now.program j.procedure j.at.value.registers.types };
 }
 
-/// A task as it is lent, with room for what is done of it.
+/// An issued task, with memory for its result. It is executed by `run`.
 #[derive(Drop)]
 pub struct Job<'a> {
     pub(crate) errand: Box<Option<Errand<'a>>>,
@@ -56,7 +56,7 @@ impl<'a> Model for Job<'a> {
     ghost invariant = { λ j. MayRun j.errand.value };
 }
 
-/// What was done of a job. Only `run` makes one.
+/// The result of a job, to be handed to the pool. Only `run` makes one.
 #[derive(Drop)]
 pub struct Done<'a> {
     pub(crate) errand: Box<Option<Errand<'a>>>,
@@ -74,35 +74,35 @@ impl<'a> Model for Done<'a> {
 }
 
 impl<'a> Lent<'a> {
-    /// The program that it belongs to.
+    /// Returns the program to which it belongs.
     pub fn program(&self) -> &'a Verified
         ensures { result.now ≡ self.now.program }
     {
         self.verified
     }
 
-    /// The task's number.
+    /// Returns the task's number.
     pub fn task(&self) -> TaskNo
         ensures { result ≡ self.now.task }
     {
         self.task
     }
 
-    /// The task's procedure.
+    /// Returns the number of the task's procedure.
     pub fn procedure(&self) -> u8
         ensures { result ≡ self.now.procedure }
     {
         self.procedure
     }
 
-    /// The place from which it goes on.
+    /// Returns the place from which it continues.
     pub fn place(&self) -> usize
         ensures { result ≡ self.now.position.place }
     {
         self.at.place
     }
 
-    /// The value of a register, which stays there.
+    /// Returns the value of a register, where it stays.
     pub fn look(&self, register: u8) -> ValueRef<'_>
         requires { register < length self.now.position.values }
         ensures is { slice_get self.now.position.values register ≡ Some (named result) }
@@ -112,21 +112,21 @@ impl<'a> Lent<'a> {
         self.at.registers.at(register)
     }
 
-    /// The actor to which it was lent.
+    /// Returns the actor to which it was issued.
     pub fn actor(&self) -> Actor
         ensures { result ≡ self.now.actor }
     {
         self.actor
     }
 
-    /// How many events its actor had when it was lent.
+    /// Returns how many events its actor had when it was issued.
     pub fn event_no(&self) -> u64
         ensures { result ≡ self.now.event_no }
     {
         self.event_no
     }
 
-    /// Runs it, in a copy, and copies where it came to once more.
+    /// Runs it in a copy of its context, and copies the resulting context once more.
     pub(crate) fn run(
         &self,
         alloc: Global,
@@ -139,7 +139,7 @@ impl<'a> Lent<'a> {
         run_in(alloc, self.verified, self.procedure, &self.at, after, again)
     }
 
-    /// Is lent again, with the same values.
+    /// Issues it again, with the same values.
     pub(crate) fn go_out(
         &mut self,
         task: TaskNo,
@@ -156,7 +156,7 @@ impl<'a> Lent<'a> {
         self.at.stand_at(place, loops);
     }
 
-    /// Stands where another context stands, which has the same registers' types.
+    /// Swaps its context with another, whose registers have the same types.
     pub(crate) fn exchange(&mut self, other: &mut Box<Context<'a>>)
         requires { AreOf self.old.program.program self.old.procedure other.old.value.registers.types }
         ensures { self.new ≡ record self.old { position = position_of other.old.value } }
@@ -164,7 +164,7 @@ impl<'a> Lent<'a> {
         std::mem::swap(&mut self.at, other);
     }
 
-    /// One value replaced by another of its type.
+    /// Replaces one value by another of its type.
     pub(crate) fn set(&mut self, register: u8, value: Value)
         requires { MaySet self.old.position.values register value }
         ensures { self.new ≡ record self.old { position = with_value self.old.position register value } }
@@ -173,14 +173,14 @@ impl<'a> Lent<'a> {
     }
 }
 
-/// How a run went: after so many steps, and whether memory was wanting for the next one.
+/// The result of a run: after how many steps it stopped, and whether an allocation for the next one failed.
 #[derive(Clone, Copy)]
 pub(crate) enum Went {
     Nowhere { short: bool },
     There { steps: u64, short: bool },
 }
 
-/// Runs a task of a procedure from where it stands, in a copy, and copies where it came to once more.
+/// Runs a task of a procedure from its position, in a copy of its context, and copies the resulting context once more.
 fn run_in<'a>(
     alloc: Global,
     verified: &'a Verified,
@@ -220,7 +220,7 @@ fn run_in<'a>(
 }
 
 impl<'a> Job<'a> {
-    /// The task as it is lent.
+    /// Returns the issued task.
     pub fn lent(&self) -> &Lent<'a>
         ensures { result.now ≡ self.now }
     {
@@ -230,9 +230,9 @@ impl<'a> Job<'a> {
         }
     }
 
-    /// Runs it up to its next instruction that isn't local; or, short, up to a local one whose memory is refused. The values
-    /// are copied twice, before and after, so that the next job takes no memory; no copy is made where the first
-    /// instruction isn't local. Where the values can't be copied there is no step.
+    /// Runs it up to its next instruction that isn't local, or up to a local one for which an allocation fails (`short`). Copies the
+    /// values twice, before and after, so that the next job needs no allocation. Makes no copy if the first instruction isn't local, and
+    /// no step if the values can't be copied.
     #[inline(always)]
     pub fn run(self, alloc: Global) -> Done<'a>
         ensures { result.before ≡ self.entry }
@@ -257,21 +257,21 @@ impl<'a> Done<'a> {
         }
     }
 
-    /// The job that was run.
+    /// Returns the job that was run.
     pub fn before(&self) -> &Lent<'a>
         ensures { result.now ≡ self.now.before }
     {
         &self.errand().lent
     }
 
-    /// The place to which it came.
+    /// Returns the place that it reached.
     pub fn after_place(&self) -> usize
         ensures { result ≡ self.now.after.place }
     {
         self.context_after().place
     }
 
-    /// The value of a register, to which it came.
+    /// Returns the value of a register after the run.
     pub fn look(&self, register: u8) -> ValueRef<'_>
         requires { register < length self.now.after.values }
         ensures is { slice_get self.now.after.values register ≡ Some (named result) }
@@ -282,7 +282,7 @@ impl<'a> Done<'a> {
         context.registers.at(register)
     }
 
-    /// A copy of the value of a register, to which it came.
+    /// Copies the value of a register after the run.
     pub fn value(&self, alloc: Global, register: u8) -> Result<Value, AllocError>
         requires { register < length self.now.after.values }
         ensures copy { IfOk result (λ value. slice_get self.now.after.values register ≡ Some value) }
@@ -293,7 +293,7 @@ impl<'a> Done<'a> {
         context.registers.copy_of(alloc, register)
     }
 
-    /// How many value registers there are.
+    /// Returns the number of value registers.
     pub fn count(&self) -> usize
         ensures { result ≡ length self.now.after.values }
     {
@@ -311,7 +311,7 @@ impl<'a> Done<'a> {
         }
     }
 
-    /// How many steps were made; the law of every Done.
+    /// Returns how many steps were made. Its clause `done` is the theorem on every `Done`.
     pub fn steps(&self) -> u64
         ensures is { result ≡ self.now.steps }
         ensures done { IsDone self.now.before.program.program self.now.before.procedure self.now.before.position self.now.after self.now.steps self.now.short }
@@ -319,7 +319,7 @@ impl<'a> Done<'a> {
         self.errand().did.steps
     }
 
-    /// Whether it stopped before a local instruction whose memory was refused.
+    /// Returns whether it stopped before a local instruction for which an allocation failed.
     pub fn short(&self) -> bool
         ensures { result ≡ self.now.short }
     {

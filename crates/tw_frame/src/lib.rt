@@ -1,5 +1,5 @@
-//! Frames, and the jobs that a task's local instructions are: where a task stands, as the pool keeps it, and its work up to
-//! its next instruction that isn't local, which runs on registers without tags.
+//! Frames and jobs. A frame is a running task, as the pool stores it. A job is its work up to its next instruction that isn't
+//! local, which runs on registers without tags.
 #![tactic(auto)]
 
 mod context;

@@ -5,7 +5,7 @@ ghost use Rattle.tw_code.specs.machine.Position.{after_end};
 
 use std::marker::Model;
 
-/// A loop: its first place, and the turns that are left.
+/// A loop: its first place, and the iterations that are left, this one included.
 #[derive(Clone, Copy)]
 struct Turns {
     first: u32,
@@ -32,7 +32,7 @@ fn same_turns(left: Turns, right: Turns) -> bool
     }
 }
 
-/// At most four loops in one another; the innermost is the last.
+/// At most four nested loops; the innermost is the last.
 #[derive(Drop)]
 pub(crate) struct Loops {
     begun: [Turns; 4],
@@ -51,7 +51,7 @@ impl Model for Loops {
 }
 
 impl Loops {
-    /// None is begun.
+    /// Returns the loops of a task that has begun none.
     pub(crate) fn new() -> Loops
         ensures { result ≡ [] }
     {
@@ -74,7 +74,7 @@ impl Loops {
         self.depth += 1;
     }
 
-    /// Ends a turn of the innermost loop: where it goes on.
+    /// Ends an iteration of the innermost loop. Returns the next place.
     #[inline(always)]
     pub(crate) fn end_turn(&mut self, place: usize) -> usize
         requires begun { 0 < length self.old }
@@ -91,7 +91,7 @@ impl Loops {
         }
     }
 
-    /// Whether the same loops are begun, with the same turns left.
+    /// Returns whether the same loops are begun, with the same iterations left.
     pub(crate) fn same(&self, other: &Loops) -> bool
         ensures { IsTrue result ↔ (self.now ≡ other.now) }
     {
@@ -106,7 +106,7 @@ impl Loops {
         true
     }
 
-    /// These loops again.
+    /// Copies the loops.
     pub(crate) fn copy(&self) -> Loops
         ensures { result ≡ self.now }
     {

@@ -12,7 +12,7 @@ use tw_rights::{Arg, Bundle, Held, ReadRight, WriteRight};
 use tw_types::{Param, Value};
 
 impl<'a> Frame<'a> {
-    /// The read right of a register, which stays there.
+    /// Returns the read right in a register, where it stays.
     pub fn peek_read(&self, register: u8) -> &ReadRight
         requires { kind_at self.now.held register ≡ Some false }
         ensures { slice_index_or self.now.held register None ≡ Some (ReadOf result.now) }
@@ -20,7 +20,7 @@ impl<'a> Frame<'a> {
         self.rights.peek_read(register)
     }
 
-    /// The write right of a register, which stays there.
+    /// Returns the write right in a register, where it stays.
     pub fn peek_write(&self, register: u8) -> &WriteRight
         requires { kind_at self.now.held register ≡ Some true }
         ensures { slice_index_or self.now.held register None ≡ Some (WriteOf result.now) }
@@ -55,7 +55,7 @@ impl<'a> Frame<'a> {
         self.rights.place(register, right);
     }
 
-    /// Hands over arguments, in memory that has room for them, and goes on to the next place.
+    /// Moves the arguments out of the registers, into memory with capacity for them, and moves to the next place.
     #[inline(always)]
     pub fn hand_over(
         &mut self,

@@ -1,4 +1,4 @@
-//! The memory for those who sit in a seat, one after the other.
+//! Memory for the tasks of a seat, one after the other.
 
 ghost use Rattle.std.specs.Prelude.{◌≡◌};
 ghost use Rattle.tw_rights.specs.Filed.{filed, rights_in};
@@ -9,14 +9,14 @@ use std::alloc::{AllocError, AllocFailed, Global};
 use std::marker::Model;
 use tw_rights::{Bundle, RightFile};
 
-/// Two contexts that go with a job, for its run: what it comes to, and the same again for the next job.
+/// Two contexts that go with a job, for its run: the resulting one, and a copy of it for the next job.
 #[derive(Drop)]
 pub(crate) struct Ahead<'a> {
     pub(crate) after: Box<Context<'a>>,
     pub(crate) again: Box<Context<'a>>,
 }
 
-/// Right registers in which nothing stands, for the next task.
+/// Empty right registers, for the next task.
 pub(crate) struct EmptyFile {
     file: Box<RightFile>,
 }
@@ -44,13 +44,13 @@ impl EmptyFile {
         }
     }
 
-    /// Spends what stands in these.
+    /// Spends the rights in these registers.
     pub(crate) fn of(mut file: Box<RightFile>) -> EmptyFile {
         file.spend_all();
         EmptyFile { file }
     }
 
-    /// The right registers of a task that starts with these arguments.
+    /// Makes the right registers of a task that starts with these arguments.
     pub(crate) fn fill(self, args: Bundle) -> Box<RightFile>
         ensures { result.value ≡ filed (rights_in args) }
     {
@@ -65,8 +65,8 @@ impl EmptyFile {
     }
 }
 
-/// Room for a task's contexts: that of its frame, that of its job, and two that the job's run fills; and for its rights. What
-/// an earlier task left in the contexts means nothing.
+/// Memory for a task's contexts and rights: the context of its frame, that of its job, and two that the job's run fills. What
+/// an earlier task left in the contexts has no meaning.
 pub struct Rooms<'a> {
     pub(crate) own: Box<Context<'a>>,
     pub(crate) lent: Box<Context<'a>>,
@@ -82,7 +82,7 @@ impl<'a> Model for Rooms<'a> {
 }
 
 impl<'a> Rooms<'a> {
-    /// Room for one task at a time.
+    /// Allocates memory for one task at a time.
     pub fn new(alloc: Global) -> Result<Rooms<'a>, AllocError> {
         let own = Context::boxed(alloc)?;
         let lent = Context::boxed(alloc)?;
@@ -99,7 +99,7 @@ impl<'a> Rooms<'a> {
         })
     }
 
-    /// Gives its memory back.
+    /// Frees its memory.
     pub fn shut(self) {
         let Rooms {
             own: _,
@@ -111,7 +111,7 @@ impl<'a> Rooms<'a> {
         rights.shut();
     }
 
-    /// Gives back the memory of texts.
+    /// Frees the memory of texts.
     pub(crate) fn empty(&mut self, alloc: Global) {
         self.own.registers.empty(alloc);
         self.lent.registers.empty(alloc);

@@ -1,4 +1,4 @@
-//! The values with which a task starts.
+//! The values with which tasks start.
 
 ghost use Rattle.std.specs.Prelude.{◌≡◌, IfOk, OnOk, OnErr, List, Ok, slice_get, map as each};
 ghost use Rattle.std.specs.Option.{option_copied};
@@ -19,7 +19,7 @@ use tw_rights::{Arg, Bundle, Task};
 use tw_types::Value;
 use tw_verify::Verified;
 
-/// The values with which a task starts, made where memory may be refused: once for its frame, and once for its first job.
+/// The values with which a task starts: once for its frame, and once for its first job. It is made when an allocation may fail.
 pub struct Start<'a> {
     pub(crate) verified: &'a Verified,
     pub(crate) own: Box<Context<'a>>,
@@ -40,7 +40,7 @@ impl<'a> Model for Start<'a> {
     ghost invariant = { λ s. AreOfBoth s.verified.now.program s.procedure s.own.value.registers s.lent.value.registers };
 }
 
-/// The argument with so many before it, if it is a value.
+/// Returns the argument at an index, if it is a value.
 fn value_at(args: &Bundle, index: usize) -> Option<&Value>
     ensures { option_copied result ≡ value_in (slice_get args.now index) }
 {
@@ -52,7 +52,7 @@ fn value_at(args: &Bundle, index: usize) -> Option<&Value>
     }
 }
 
-/// Gives the values among arguments to the first registers, which are blank.
+/// Sets the first registers to the values among arguments. The registers must be blank.
 fn fill(alloc: Global, registers: &mut Registers<'_>, args: &Bundle) -> Result<(), AllocError>
     requires fit { (values : List Content) × (started args.now registers.old.types ≡ Ok values) }
     requires blank { registers.old.values ≡ each blank_of registers.old.types }
@@ -71,7 +71,7 @@ fn fill(alloc: Global, registers: &mut Registers<'_>, args: &Bundle) -> Result<(
     Ok(())
 }
 
-/// The values with which the task starts, in registers of its procedure's types.
+/// Makes the values with which the task starts, in registers of its procedure's types.
 fn begin<'a>(
     alloc: Global,
     registers: &mut Registers<'a>,
@@ -89,7 +89,7 @@ fn begin<'a>(
     fill(alloc, registers, &task.args)
 }
 
-/// These values twice: in the frame's registers, and in its job's.
+/// Makes these values twice: in the frame's registers, and in its job's.
 fn begin_both<'a>(
     alloc: Global,
     own: &mut Context<'a>,
@@ -109,8 +109,8 @@ fn begin_both<'a>(
 }
 
 impl<'a> Rooms<'a> {
-    /// The values with which the task starts: those among its arguments in the first registers, the others blank. Where
-    /// no register is a text no memory is taken; where memory is refused the rooms come back.
+    /// Makes the values with which the task starts: those among its arguments in the first registers, the others blank. Allocates
+    /// nothing if no register is a text. Returns the memory if an allocation fails.
     pub fn start(
         self,
         alloc: Global,

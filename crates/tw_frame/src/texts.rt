@@ -8,16 +8,16 @@ use std::alloc::{AllocError, Global};
 use std::marker::Model;
 use tw_types::Text;
 
-/// Where a text of a bank stands.
+/// A slot of a bank: where its text is.
 #[derive(Drop)]
 enum Slot {
-    /// By itself: it was given to the bank.
+    /// In its own memory: it was set.
     Own(Text),
-    /// In the bank's block, so many bytes from the first one on: it was copied.
+    /// In the bank's block, `count` bytes from `first` on: it was copied.
     Piece { first: usize, count: usize },
 }
 
-/// Texts by their numbers. A copy of a bank takes two pieces of memory, one for the slots and one for all bytes.
+/// Texts by their numbers. Copying a bank makes two allocations, one for the slots and one for all bytes.
 #[derive(Drop)]
 pub(crate) struct Texts {
     slots: Vec<Slot>,
@@ -35,7 +35,7 @@ impl Model for Texts {
     ghost invariant = { λ t. All (IsSlot t.block.items) t.slots.items };
 }
 
-/// The bytes of a slot.
+/// Returns the bytes of a slot's text.
 fn bytes_of<'a>(block: &'a [u8], slot: &'a Slot) -> &'a [u8]
     requires { IsSlot block.now slot.now }
     ensures is { result.now ≡ text_in block.now slot.now }
@@ -47,7 +47,7 @@ fn bytes_of<'a>(block: &'a [u8], slot: &'a Slot) -> &'a [u8]
     }
 }
 
-/// A text's bytes as a string.
+/// Returns a text's bytes as a string.
 fn string_of(bytes: &[u8]) -> &str
     requires { IsText bytes.now }
     ensures { result.now ≡ bytes.now }
@@ -59,7 +59,7 @@ fn string_of(bytes: &[u8]) -> &str
 }
 
 impl Texts {
-    /// No texts, and no memory.
+    /// Returns a bank without texts and without memory.
     pub(crate) fn none(alloc: Global) -> Texts
         ensures { result ≡ [] }
     {
@@ -69,7 +69,7 @@ impl Texts {
         }
     }
 
-    /// So many empty texts.
+    /// Makes `count` empty texts.
     pub(crate) fn blank(alloc: Global, count: usize) -> Result<Texts, AllocError>
         ensures blank { IfOk result (λ texts. texts ≡ replicate count []) }
         ensures some { OnErr result (0 < count) }
@@ -84,14 +84,14 @@ impl Texts {
         })
     }
 
-    /// How many there are.
+    /// Returns the number of texts.
     pub(crate) fn len(&self) -> usize
         ensures { result ≡ length self.now }
     {
         self.slots.len()
     }
 
-    /// The bytes of a text.
+    /// Returns the bytes of a text.
     pub(crate) fn bytes(&self, index: usize) -> &[u8]
         requires { index < length self.now }
         ensures is { result.now ≡ slice_index_or self.now index result.now }
@@ -100,7 +100,7 @@ impl Texts {
         bytes_of(&self.block, &self.slots[index])
     }
 
-    /// A text.
+    /// Returns a text.
     pub(crate) fn text(&self, index: usize) -> &str
         requires { index < length self.now }
         ensures is { result.now ≡ slice_index_or self.now index result.now }
@@ -112,7 +112,7 @@ impl Texts {
         }
     }
 
-    /// One text replaced.
+    /// Replaces one text.
     pub(crate) fn set(&mut self, index: usize, text: Text)
         requires { index < length self.old }
         ensures { self.new ≡ slice_set self.old index text }
@@ -120,7 +120,7 @@ impl Texts {
         self.slots[index] = Slot::Own(text);
     }
 
-    /// How many bytes they have together.
+    /// Returns how many bytes the texts have together.
     fn room(&self) -> usize
         ensures { 0 < result → 0 < length self.now }
     {
@@ -131,7 +131,7 @@ impl Texts {
         room
     }
 
-    /// The same texts again.
+    /// Copies the texts.
     pub(crate) fn try_clone(&self, alloc: Global) -> Result<Texts, AllocError>
         ensures copy { IfOk result (λ copy. copy ≡ self.now) }
         ensures some { OnErr result (0 < length self.now) }
@@ -150,7 +150,7 @@ impl Texts {
         Ok(Texts { slots, block })
     }
 
-    /// Become so many empty texts.
+    /// Becomes a bank of `count` empty texts.
     pub(crate) fn begin(&mut self, alloc: Global, count: usize) -> Result<(), AllocError>
         ensures blank { OnOk result (self.new ≡ replicate count []) }
         ensures refused { OnErr result (self.new ≡ self.old) }
@@ -162,7 +162,7 @@ impl Texts {
         Ok(())
     }
 
-    /// Become what others are.
+    /// Becomes a copy of other texts.
     #[inline(always)]
     pub(crate) fn copy_from(&mut self, alloc: Global, others: &Texts) -> Result<(), AllocError>
         ensures copy { OnOk result (self.new ≡ others.now) }

@@ -1,4 +1,4 @@
--- The seats of a layout beside a history of which each event is looked at once.
+-- Comparing the seats of a layout with the events of a run, each of which is read once.
 use Rattle.std.proofs.Common.{◌≡◌, ◌≢◌, ◌==◌, ◌≤◌, ◌<◌, ◌+◌, ◌-◌, ℕ, Bool, true, false, Option, Some, None, ◌⊎◌, inl, inr, drop, set, option_map, List, [], ◌∷◌, length, map, nat_lt, refl, sym, ap, subst, ◌∙◌, arith, get_or}
 use Rattle.std.specs.Prelude.{◌↔◌, IfSome, MatchOption, slice_get}
 use Rattle.std.specs.List.{All, range_with_len}
@@ -19,7 +19,7 @@ use Rattle.tw_host.specs.Seats.{Told, actor_at, actor_count, actors_of, told_by}
 use Rattle.tw_host.proofs.Lists.{both_less, first_of_rest, map_map, other_next, own_next, rest_more, same_both}
 use Rattle.tw_host.proofs.Ordering.{apart}
 
--- ---- an actor of the layout stands at its index
+-- ---- an actor of the layout is at its index
 
 pub index_low : (layout : ActorCounts) (a : Actor) → is_in layout a ≡ true → index_of layout a < actor_count layout
 index_low layout (Engine n) is = let low = ltb-true n layout.engines is in omega (arith, low)
@@ -43,7 +43,7 @@ index_back layout (Worker n) is =
     let back : (e + s + n) - (e + s) ≡ n = omega arith in
     rw (first, second) (ap Worker back)
 
--- one that stands there is of the layout
+-- an actor at an index is of the layout
 pub there : (layout : ActorCounts) (j : ℕ) → j < actor_count layout → is_in layout (actor_at layout j) ≡ true
 there layout j low = by (nat_lt j layout.engines) (nat_lt j (layout.engines + layout.servers)) refl refl
   where
@@ -59,7 +59,7 @@ others_apart layout i j other = by (nat_lt i j) refl
     by true is = apart layout i j (ltb-true i j is)
     by false is = λ e. let above : j < i = grind (arith, nat_tests, is, other) in apart layout j i above (sym e)
 
--- ---- of each seat's list so many events were found in the first k of the history
+-- ---- how many events of each seat's list are among the first k of the run
 
 pub made_by : (history : List Event) (k : ℕ) (a : Actor) → option_map actor_of (slice_get history k) ≡ Some a → (e : Event) × (slice_get history k ≡ Some e) × (actor_of e ≡ a) × (k < length history)
 made_by history k a is = by (slice_get_cases history k).1

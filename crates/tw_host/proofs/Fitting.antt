@@ -1,4 +1,4 @@
--- With the events of each line of the table of turns a history is within its limit.
+-- The events of each line of the table of steps fit the limit.
 use Rattle.std.proofs.Common.{◌≡◌, ◌≢◌, ◌==◌, ◌+◌, ◌≤◌, ◌<◌, Bool, true, false, not, ◌&&◌, if◌then◌else◌, refl, sym, ap, subst, ◌∙◌, arith, List, [], ◌∷◌, ◌++◌, length, length-append, Option, Some, None, inl, inr}
 use Rattle.std.specs.Option.{option_map, option_or}
 use Rattle.std.proofs.lemmas.Bool.{eqb-false}
@@ -74,7 +74,7 @@ module _ (p : PoolView) (answer : Turn) (events : List Event) where
   turned s actor (Some job) (Some done) room (inl l) = taken_back actor done.short (is_last p done) done refl room l.1
   turned s actor (Some job) (Some done) room (inr l) = none (omega (arith, room)) l.1.1
 
-  -- where the run isn't over there is room
+  -- if the run isn't over there is room
   room_unless : (o : Option Ending) (stopped : Bool) → option_or (option_map closing_of o) (if stopped then Some Stopped else if length p.history == p.limit then Some Limit else None) ≡ None → length p.history ≢ p.limit
   room_unless (Some e) stopped is = cc
   room_unless None true is = cc

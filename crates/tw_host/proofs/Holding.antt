@@ -1,4 +1,4 @@
--- What turns under one hold of the lock say to a seat.
+-- The events that a seat gets from a batch.
 use Rattle.std.proofs.Common.{◌≡◌, ◌+◌, ◌*◌, ◌<◌, ◌≤◌, ℕ, zero, suc, Bool, true, false, not, refl, sym, ap, subst, ◌∙◌, arith, List, [], ◌∷◌, ◌++◌, append_assoc, length, length-append, slice_get, Option, Some, None, Result, Ok, Err, drop, ◌⊎◌, inl, inr}
 use Rattle.std.specs.Prelude.{IsSomeAnd, is_some}
 use Rattle.std.proofs.lemmas.List.{drop_at}
@@ -101,7 +101,7 @@ pub none_there : {A : Type 0} (o : Option A) (b : Bool) → b ≡ is_some o → 
 none_there None b is holds = refl
 none_there (Some x) b is holds = let no : false ≡ true = sym (ap not is) ∙ holds in cc
 
--- ---- turns, one behind another
+-- ---- steps, one after the other
 
 pub next_done : (program : TypedProgram) (answer : Turn) (next : Option DoneView) → IsAnswerOf program answer → HandsOn answer next → IsDoneOf program next
 next_done program (turn.Over closing) next is on = absurd on
@@ -113,7 +113,7 @@ next_done program turn.Ended next is on = subst (λ (o : Option DoneView). IsDon
 next_done program turn.Went next is on = subst (λ (o : Option DoneView). IsDoneOf program o) (sym on) tt
 next_done program turn.Idle next is on = absurd on
 
--- what so many turns append
+-- the events that several steps append
 pub record Adds (old new : PoolView) (actor : Actor) (answer : Turn) (count : ℕ) : Type 0 where
   pub es : List Event
   pub appended : new ≡ with_events old es
@@ -167,7 +167,7 @@ module _ (old new : PoolView) (actor : Actor) (answer : Turn) (count : ℕ) (a :
     turns = inl (record { pool = old; of_run = is; within = low; same_count = same; before = turns; few = few; turns = subst (λ (q : PoolView). AreTurns old actor given turns answer q) a.appended are });
   }
 
--- ---- as a hold goes on
+-- ---- a batch continues
 
 module _ (old : PoolView) (actor : Actor) (given : Option DoneView) (now : PoolView) (owed : Option DoneView) (past : List Turn)
     (so_far : (rest : List Turn) (answer : Turn) (new : PoolView) → AreTurns now actor owed rest answer new → AreTurns old actor given (past ++ rest) answer new) where

@@ -1,4 +1,4 @@
--- Lists of lists, lists by seats, and what is left of a list.
+-- Lists of lists, lists by seats, and the rest of a list.
 use Rattle.std.proofs.Common.{◌≡◌, ◌≤◌, ◌<◌, ◌+◌, ◌++◌, ◌⊎◌, inl, inr, ℕ, true, false, Option, Some, None, option_to_list, drop, List, [], ◌∷◌, map, length, length-append, append_assoc, refl, sym, ap, ◌∙◌, arith, get_or}
 use Rattle.std.specs.Prelude.{◌↔◌, slice_get, slice_index_or}
 use Rattle.std.specs.List.{range_with_len}
@@ -42,7 +42,7 @@ module _ (actor : Actor) (history : List Event) (k : ℕ) (event : Event) (low :
   pub other_next : same_actor (actor_of event) actor ≡ false → events_of actor (drop k history) ≡ events_of actor (drop (k + 1) history)
   other_next is = rw (rest_more history k event low at, is) refl
 
--- what is there is told behind a list
+-- an item that is there is appended to a list
 pub moved_there : {X : Type 0} (told xs : List X) (k : ℕ) → k < length xs → (told ++ option_to_list (slice_get xs k)) ++ drop (k + 1) xs ≡ told ++ drop k xs
 moved_there {X} told xs k low = by (slice_get_cases xs k).1
   where
@@ -50,7 +50,7 @@ moved_there {X} told xs k low = by (slice_get_cases xs k).1
     by (inl c) = ap (λ (o : Option X). (told ++ option_to_list o) ++ drop (k + 1) xs) c.2 ∙ moved told xs k c.0 c.1 c.2
     by (inr c) = absurd (omega (arith, low, c.0))
 
--- one item more is told, where one is there
+-- one more item is appended, if there is one
 pub told_there : {X : Type 0} (told xs : List X) (k : ℕ) → k < length xs → length (told ++ option_to_list (slice_get xs k)) ≡ length told + 1
 told_there {X} told xs k low = by (slice_get_cases xs k).1
   where
@@ -58,7 +58,7 @@ told_there {X} told xs k low = by (slice_get_cases xs k).1
     by (inl c) = ap (λ (o : Option X). length (told ++ option_to_list o)) c.2 ∙ length-append told (c.0 ∷ [])
     by (inr c) = absurd (omega (arith, low, c.0))
 
--- where a list begins from a place on
+-- the first item of a list's rest
 pub first_of_rest : (xs : List Event) (k : ℕ) (e : Event) (rest : List Event) → drop k xs ≡ e ∷ rest → slice_get xs k ≡ Some e
 first_of_rest xs k e rest is = by (slice_get_cases xs k).1
   where

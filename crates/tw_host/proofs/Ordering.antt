@@ -1,4 +1,4 @@
--- Seats in the order of their actors, and what they were told.
+-- Seats in the order of their actors, and their events.
 use Rattle.std.proofs.Common.{◌≡◌, ◌≢◌, ◌<◌, ◌≤◌, ◌+◌, ◌-◌, ℕ, Bool, true, false, if◌then◌else◌, List, [], ◌∷◌, map, length, nat_lt, ◌==◌, ◌++◌, take, drop, append-nil, refl, sym, ap, subst, ◌∙◌, arith, get_or}
 use Rattle.std.specs.Prelude.{slice_index_or, sum_by}
 use Rattle.std.specs.List.{All, Contains, SwappedAt}
@@ -49,7 +49,7 @@ swapped f (x ∷ xs) ys i j low other same s = (
 )
 
 module _ {X : Type 0} (f : X → Actor) (layout : ActorCounts) where
-  -- the first k stand in order
+  -- the first k are in order
   abbrev pub InOrder : List X → ℕ → Type 0
   InOrder seats k = (j : ℕ) (d : Actor) → j < k → get_or (map f seats) j d ≡ actor_at layout j
 
@@ -91,9 +91,9 @@ lent_back n xs items is same =
     let none : drop (length xs) items ≡ [] = drop_all (length xs) items (omega (arith, same)) in
     ap (λ ys. take n (xs ++ ys)) none ∙ (ap (λ ys. take n ys) (append-nil xs) ∙ (ap (λ k. take k xs) (is ∙ sym same) ∙ take-length xs))
 
--- ---- what seats were told
+-- ---- events of seats
 
--- seats that were each told what their actors did
+-- seats that each have the events of their actors
 pub each_of : (history : List Event) (seats : List Told) → All (λ s. s.events ≡ events_of s.actor history) seats → seats ≡ map (told_of history) (map (λ (s : Told). s.actor) seats)
 each_of history [] all = refl
 each_of history (s ∷ seats) all =
@@ -102,7 +102,7 @@ each_of history (s ∷ seats) all =
     ap (λ (es : List Event). told_by s.actor es ∷ seats) first ∙ ap (λ (ss : List Told). told_of history s.actor ∷ ss) (each_of history seats rest)
 
 module _ {X : Type 0} (view : X → Told) (items seats : List X) (moved : IsPermutation items seats) where
-  -- they were told as many events in whatever order they stand
+  -- they have as many events in any order
   pub sums : (others : List X) → others ≡ seats → sum_by (λ (t : Told). length t.events) (map view others) ≡ sum_by (λ (t : Told). length t.events) (map view items)
   sums others same = ap (λ xs. sum_by (λ (t : Told). length t.events) (map view xs)) same ∙ sum_by-IsPermutation (λ (t : Told). length t.events) (map view items) (map view seats) (IsPermutation-map view items seats moved)
 

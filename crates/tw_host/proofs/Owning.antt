@@ -67,6 +67,6 @@ module _ (p : PoolView) (answer : Turn) (events : List Event) where
   owns s actor (Some closing) given d l = other (turn.Over closing) l.0 tt
   owns s actor None given d l = turned s actor (lent_to p s actor) given d l
 
--- the same of a turn
+-- like that, for a step
 pub is_answer_of : (old new : PoolView) (actor : Actor) (given : Option DoneView) (answer : Turn) → IsTurn old actor given answer new → IsDoneOf old.program given → IsAnswerOf old.program answer
 is_answer_of old new actor given answer turn d = owns old answer turn.events turn.state actor (closing_at old turn.state) given d turn.is

@@ -1,4 +1,4 @@
--- What a turn of the pool says to a seat.
+-- The events that a seat gets from a step of the pool.
 use Rattle.std.proofs.Common.{◌≡◌, ◌+◌, ◌≤◌, refl, ap, ◌∙◌, arith, List, [], ◌∷◌, ◌++◌, length, length-append, Option, drop}
 use Rattle.tw_types.specs.declared.actor.Actor.{Actor}
 use Rattle.tw_frame.specs.Jobs.{DoneView}
@@ -10,7 +10,7 @@ use Rattle.tw_host.specs.Tells.{IsAnswerOf, IsDoneOf}
 use Rattle.tw_host.proofs.Fitting.{fits}
 use Rattle.tw_host.proofs.Owning.{is_answer_of}
 
--- the events behind the old ones are those that were appended
+-- the events after the old ones are those that were appended
 module _ (old new : PoolView) (actor : Actor) (given : Option DoneView) (answer : Turn) (turn : IsTurn old actor given answer new) where
   pub own : AreOwn actor turn.events
   own = own_events old turn.state actor answer turn.events (closing_at old turn.state) given turn.is

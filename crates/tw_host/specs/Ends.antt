@@ -1,4 +1,4 @@
--- What the close of a host answers.
+-- The result of closing a host.
 use Rattle.std.specs.Prelude.{◌≡◌, ◌≢◌, ◌≤◌, ◌⊎◌, true, List, [], length, map, sum_by}
 use Rattle.std.specs.List.{Contains}
 use Rattle.std.specs.List.Sorted.{IsPermutation}
@@ -16,16 +16,16 @@ use Rattle.tw_host.specs.declared.close.Closed.TheVariants.{Ended, Differs}
 use Rattle.tw_host.specs.Run.{Run, run_of}
 use Rattle.tw_host.specs.Seats.{NoneOf, Told, actors_of, told_by}
 
--- a seat that was told just what its actor has done of a history
+-- returns a seat with exactly its actor's events
 abbrev pub told_of : List Event → Actor → Told
 told_of history actor = told_by actor (events_of actor history)
 
--- all seats were told together as many events as the history has
+-- holds if all seats together have as many events as the run
 abbrev pub Together : List Told → List Event → Type 0
 Together seats history = sum_by (λ (s : Told). length s.events) seats ≡ length history
 
--- A pool of the run was shut. The seats are one for each actor, and each was told just what its actor did; the lists come
--- back in the order of the actors
+-- A pool of the run was closed. There is one seat for each actor, with exactly its actor's events; the lists are returned in
+-- the order of the actors.
 pub record IsEnded (run : Run) (seats : List Told) (by_seat : List (List Event)) (final : FinalView) (history : HistoryView) : Type 0 where
   pub pool : PoolView
   pub of_run : run_of pool ≡ run
@@ -36,7 +36,7 @@ pub record IsEnded (run : Run) (seats : List Told) (by_seat : List (List Event))
   pub by_seat_is : by_seat ≡ map (λ actor. events_of actor history.events) (actors_of run.layout)
   pub together : Together seats history.events
 
--- the seat of an actor was told something else than the actor did; or the actor has no seat among these
+-- holds if the seat of an actor has other events than the actor made; or none of these seats is the actor's
 abbrev pub IsOther : List Told → Actor → List Event → List Event → Type 0
 IsOther seats actor list history =
     (Contains seats (told_by actor list) × (list ≢ events_of actor history)) ⊎ (NoneOf actor (map (λ s. s.actor) seats) × (list ≡ []))
@@ -46,7 +46,7 @@ pub record IsDiffering (layout : ActorCounts) (seats : List Told) (actor : Actor
   pub other : IsOther seats actor list history.events
   pub together : Together seats history.events
 
--- the end of a run with these seats
+-- holds for the result of closing a run with these seats
 abbrev pub Closes : Run → List Told → Closed → Type 0
 Closes run seats (Ended history final by_seat) = IsEnded run seats (map (λ v. v.items) by_seat.items) final history
 Closes run seats (Differs actor list history) = IsDiffering run.layout seats actor list.items history

@@ -1,4 +1,4 @@
--- What several turns of one seat under one hold of the lock answer, and tell the seat.
+-- Batches: several steps of one seat that hold the lock once, their result, and the events that the seat gets.
 use Rattle.std.specs.Prelude.{◌≡◌, ◌<◌, ◌≤◌, ◌*◌, ◌⊎◌, ℕ, false, List, [], ◌∷◌, ◌++◌, length, Option, Some, None, Result, Ok, Err, slice_get}
 use Rattle.tw_types.specs.declared.actor.Actor.{Actor}
 use Rattle.tw_types.specs.declared.event.Event.{Event}
@@ -19,19 +19,19 @@ use Rattle.tw_host.specs.declared.locked.Strange.{Strange}
 use Rattle.tw_host.specs.Run.{Run, run_of}
 use Rattle.tw_host.specs.Tells.{Tells}
 
--- how many turns there are at most
+-- the greatest number of steps
 abbrev pub most_turns : ℕ
 most_turns = 64
 
--- the next instruction of a job isn't local
+-- holds if the next instruction of a job isn't local
 abbrev pub Waits : JobView → Type 0
 Waits job = (p : Procedure) × (slice_get job.program.program job.procedure ≡ Some p) × IsStop p.code job.position.place
 
--- how many instructions a task may do at most whose jobs are run under the lock
+-- the greatest budget of a task whose jobs are run under the lock
 abbrev pub few_steps : ℕ
 few_steps = 256
 
--- a job of an accepted procedure whose tasks do at most so many instructions, and without text registers, so that no step takes memory
+-- a job of an accepted procedure whose budget is that small, and without text registers, so that no step allocates
 pub record IsBrief (job : JobView) : Type 0 where
   pub p : Procedure
   pub here : slice_get job.program.program job.procedure ≡ Some p
@@ -42,13 +42,13 @@ pub record IsBrief (job : JobView) : Type 0 where
   pub few : budget ≤ few_steps
   pub plain : HasText p.registers → ⊥
 
--- a job that is run under the lock
+-- holds for a job that is run under the lock
 abbrev pub RunsHere : JobView → Type 0
 RunsHere job = Waits job ⊎ IsBrief job
 
--- What the same hold hands in behind an answer: nothing behind an event that lends no job, and behind the end of a task; of a job whose
--- next instruction isn't local, or whose task is brief, its Done, which has few steps and isn't short. Behind any other answer it hands in
--- nothing more
+-- Holds for what the next step of a batch is passed. After an event that issues no job, and after the end of a task, that is
+-- nothing. After a job whose next instruction isn't local, or whose task is brief, it is the job's `Done`, which has few steps and isn't
+-- short. After any other result the batch ends.
 abbrev pub HandsOn : Turn → Option DoneView → Type 0
 HandsOn (turn.Over closing) next = ⊥
 HandsOn (turn.Foreign done) next = ⊥
@@ -59,13 +59,13 @@ HandsOn turn.Ended next = next ≡ None
 HandsOn turn.Went next = next ≡ None
 HandsOn turn.Idle next = ⊥
 
--- turns of an actor, each in the state that the one before left: some answers, behind each of which the hold goes on, and the last one
+-- holds for steps of an actor, each in the state that the one before left: some results after which the batch continues, and the last one
 abbrev pub AreTurns : PoolView → Actor → Option DoneView → List Turn → Turn → PoolView → Type 0
 AreTurns old actor given [] answer new = IsTurn old actor given answer new
 AreTurns old actor given (first ∷ rest) answer new =
     (next : Option DoneView) × (between : PoolView) × IsTurn old actor given first between × HandsOn first next × AreTurns between actor next rest answer new
 
--- some pool of the run, within its limit, in which the actor has so many events, makes such turns, so many at most, and they append just these
+-- some pool of the run, within its limit, in which the actor has `count` events, makes at most `most` such steps, and they append exactly these
 pub record SomeTurns (most : ℕ) (run : Run) (actor : Actor) (count : ℕ) (given : Option DoneView) (answer : Turn) (es : List Event) : Type 0 where
   pub pool : PoolView
   pub of_run : run_of pool ≡ run
@@ -75,7 +75,7 @@ pub record SomeTurns (most : ℕ) (run : Run) (actor : Actor) (count : ℕ) (giv
   pub few : length before < most
   pub turns : AreTurns pool actor given before answer (with_events pool es)
 
--- the seat of an actor had been told the old events, and is told these; or memory for them was refused, and no pool has turned
+-- the seat had the old events, and gets these; or an allocation for them failed, and the pool made no step
 pub record AreTold (most : ℕ) (run : Run) (actor : Actor) (old new : List Event) (given : Option DoneView) (answer : Turn) : Type 0 where
   pub es : List Event
   pub told : new ≡ old ++ es

@@ -1,4 +1,4 @@
--- What is true of what lies under the lock.
+-- The invariant of the data under the lock.
 use Rattle.std.specs.Prelude.{◌≡◌, ◌≤◌, ℕ, length}
 use Rattle.tw_types.specs.Layout.{IsLayout}
 use Rattle.tw_code.specs.machine.Inputs.{AreInputsOf}
@@ -6,7 +6,7 @@ use Rattle.tw_pool.specs.PoolView.{PoolView}
 use Rattle.tw_host.specs.Run.{Run, run_of}
 use Rattle.tw_host.specs.Seats.{actor_count}
 
--- The pool is the run's, and the ledger's total counts its events. The ledger has a part for each seat, and none stays here
+-- The pool is the run's, and the ledger's total counts its events. The ledger has a part for each seat, and none is left over.
 pub record IsKept (run : Run) (parts total spare_parts spare_amount : ℕ) (pool : PoolView) : Type 0 where
   pub of_run : run_of pool ≡ run
   pub layout : IsLayout run.layout

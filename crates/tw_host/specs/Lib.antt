@@ -1,9 +1,9 @@
--- What a reader must believe of the host: who has which seat (Seats), what one run is (Run), what a turn tells a seat (Tells), and several under one hold of the lock (Holds),
--- and what is said at the end (Ends).
+-- The definitions that a reader has to trust for the host: the seats (Seats), a run (Run), and the results of closing it (Ends).
+-- `Tells` defines the result of one step and the events that its seat gets, Holds those of a batch.
 pub mod Seats
 pub mod Run
 pub mod Tells
 pub mod Holds
 pub mod Ends
--- What is true of what lies under the lock.
+-- The invariant of the data under the lock.
 pub mod Kept

@@ -1,4 +1,4 @@
--- The seats of a layout, one for each actor, with what they were told.
+-- The seats of a layout, one for each actor, with their events.
 use Rattle.std.specs.Prelude.{◌≢◌, List}
 use Rattle.std.specs.List.{All}
 use Rattle.tw_types.specs.declared.actor.Actor.{Actor}
@@ -12,6 +12,6 @@ pub record Told : Type 0 where
 abbrev pub told_by : Actor → List Event → Told
 told_by actor events = record { actor = actor; events = events }
 
--- none of these seats is the actor's
+-- holds if none of these seats is the actor's
 abbrev pub NoneOf : Actor → List Actor → Type 0
 NoneOf actor seats = All (λ other. other ≢ actor) seats

@@ -1,4 +1,4 @@
--- What a turn of a host answers and tells a seat.
+-- The result of a host's step, and the events that its seat gets.
 use Rattle.std.specs.Prelude.{◌≡◌, ◌≢◌, ◌≤◌, ◌⊎◌, ℕ, List, [], ◌++◌, length, Option, Result, Ok, Err, IfSome}
 use Rattle.tw_types.specs.declared.actor.Actor.{Actor}
 use Rattle.tw_types.specs.declared.event.Event.{Event}
@@ -12,7 +12,7 @@ use Rattle.tw_pool.specs.Turns.{AreOwn, IsTurn}
 use Rattle.tw_host.specs.declared.locked.Strange.{Strange}
 use Rattle.tw_host.specs.Run.{Run, run_of}
 
--- some pool of the run, within its limit, in which the actor has so many events, turns and appends just these
+-- some pool of the run, within its limit, in which the actor has `count` events, makes a step that appends exactly these
 pub record SomeTurn (run : Run) (actor : Actor) (count : ℕ) (given : Option DoneView) (answer : Turn) (es : List Event) : Type 0 where
   pub pool : PoolView
   pub of_run : run_of pool ≡ run
@@ -20,11 +20,11 @@ pub record SomeTurn (run : Run) (actor : Actor) (count : ℕ) (given : Option Do
   pub same_count : length (events_of actor pool.history) ≡ count
   pub turns : IsTurn pool actor given answer (with_events pool es)
 
--- or memory for what is told was refused, and no pool has turned
+-- holds for such a step; or an allocation for the events failed, and the pool made no step
 abbrev pub TurnsOrNot : Run → Actor → ℕ → Option DoneView → Turn → List Event → Type 0
 TurnsOrNot run actor count given answer es = SomeTurn run actor count given answer es ⊎ ((answer ≡ turn.NoMemory given) × (es ≡ []))
 
--- the seat of an actor had been told the old events, and is told these
+-- the seat had the old events, and gets these
 pub record IsTold (run : Run) (actor : Actor) (old new : List Event) (given : Option DoneView) (answer : Turn) : Type 0 where
   pub es : List Event
   pub told : new ≡ old ++ es
@@ -35,12 +35,12 @@ abbrev pub Tells : Run → Actor → List Event → List Event → Option DoneVi
 Tells run actor old new given (Ok answer) = IsTold run actor old new given answer
 Tells run actor old new given (Err strange) = (new ≡ old) × (strange.count ≢ length old) × (strange.done ≡ given)
 
--- ---- what follows for jobs
+-- ---- consequences for jobs
 
 abbrev pub IsDoneOf : TypedProgram → Option DoneView → Type 0
 IsDoneOf program done = IfSome done (λ d. d.before.program ≡ program)
 
--- jobs and Dones of an answer are of the program
+-- holds if jobs and results in an answer are of the program
 abbrev pub IsAnswerOf : TypedProgram → Turn → Type 0
 IsAnswerOf program (turn.Over closing) = Unit {0}
 IsAnswerOf program (turn.Foreign done) = done.before.program ≡ program

@@ -1,4 +1,4 @@
-//! The end of a run.
+//! Closes a run.
 
 ghost use Rattle.std.specs.Prelude.{◌≡◌, ◌≢◌, ◌↔◌, ◌+◌, ◌<◌, ◌≤◌, [], ℕ, IfSome, IsTrue, MatchOption, get_or, length, map, slice_get, slice_index_or, sum_by, true, vec_len, vec_capacity};
 ghost use Rattle.std.specs.List.{All};
@@ -17,16 +17,16 @@ use std::sync::ledger::Share;
 use tw_pool::{Events, Final, History};
 use tw_types::{Actor, Layout};
 
-/// The end of a run.
+/// The result of closing a run.
 #[derive(Drop)]
 pub enum Closed {
-    /// Each seat was told the events of its actor in the history.
+    /// Each seat's events are those of its actor.
     Ended {
         history: History,
         outcome: Final,
         by_seat: Vec<Events>,
     },
-    /// The seat of an actor was told something else than its actor's events, or no seat is the actor's.
+    /// The seat of an actor has other events than the actor made, or no seat is the actor's.
     Differs {
         actor: Actor,
         told: Events,
@@ -34,7 +34,7 @@ pub enum Closed {
     },
 }
 
-/// Whether what a list has next is this event of the history.
+/// Returns whether the event at `next` of a list is this event of the run.
 fn is_next(told: &Events, next: usize, history: &History, k: usize) -> bool
     requires within { next ≤ length told.now.items }
     requires there { k < length history.now.events }
@@ -43,14 +43,14 @@ fn is_next(told: &Events, next: usize, history: &History, k: usize) -> bool
     next < told.len() && told.is_at(next, history, k)
 }
 
-/// Whether a seat is an actor's.
+/// Returns whether a seat is an actor's.
 fn is_seat_of<N: Named>(seat: &Seat<N>, actor: Actor) -> bool
     ensures { IsTrue result ↔ (seat.now.actor ≡ actor) }
 {
     seat.actor == actor
 }
 
-/// The first place from here on where the seat of an actor stands.
+/// Returns the first index from `from` on of a seat of an actor.
 fn place_of<N: Named>(seats: &[Seat<N>], from: usize, actor: Actor) -> Option<usize>
     ensures { let actors = map (λ s. s.actor) seats.now in MatchOption result
         ((k : ℕ) (d : AnActor) → from ≤ k → k < length actors → slice_index_or actors k d ≢ actor)
@@ -64,7 +64,7 @@ fn place_of<N: Named>(seats: &[Seat<N>], from: usize, actor: Actor) -> Option<us
     None
 }
 
-/// Puts the seats in the order of their actors; or the first actor that has none.
+/// Sorts the seats by their actors. Returns the first actor without a seat, if there is one.
 fn put_in_order<N: Named>(seats: &mut [Seat<N>], layout: Layout) -> Option<Actor>
     requires { length seats.old ≡ actor_count layout }
     ensures moved { IsPermutation seats.old seats.new }
@@ -81,7 +81,7 @@ fn put_in_order<N: Named>(seats: &mut [Seat<N>], layout: Layout) -> Option<Actor
     None
 }
 
-/// The first seat of whose list more or less was found than there is.
+/// Returns the first seat for whose list another number of events was found than it has.
 fn first_longer<N: Named>(seats: &[Seat<N>], layout: Layout, found: &[usize; 24]) -> Option<usize>
     requires { length seats.now ≡ actor_count layout }
     ensures { let lists = map (λ s. s.told.items) seats.now in MatchOption result
@@ -96,8 +96,8 @@ fn first_longer<N: Named>(seats: &[Seat<N>], layout: Layout, found: &[usize; 24]
     None
 }
 
-/// A seat whose list isn't its actor's events, of seats in the order of their actors. Each event of the history is looked at
-/// once: it has to be what its actor's list has next.
+/// Returns a seat whose list isn't its actor's events. The seats must be in the order of their actors. Reads each event of the
+/// run once: it must be the next one of its actor's list.
 fn differing<N: Named>(seats: &[Seat<N>], layout: Layout, history: &History) -> Option<usize>
     requires { map (λ s. s.actor) seats.now ≡ actors_of layout }
     ensures { let lists = map (λ s. s.told.items) seats.now in MatchOption result
@@ -118,8 +118,8 @@ fn differing<N: Named>(seats: &[Seat<N>], layout: Layout, history: &History) -> 
     first_longer(seats, layout, &found)
 }
 
-/// Puts the seats in the order of their actors, and compares what each was told with its actor's events: an actor that has no
-/// seat, or one whose seat, at this place, was told something else.
+/// Sorts the seats by their actors, and compares the events of each with its actor's. Returns an actor without a seat, or an
+/// actor and the index of its seat, if the events differ.
 fn first_other<N: Named>(
     seats: &mut [Seat<N>],
     layout: Layout,
@@ -142,7 +142,7 @@ fn first_other<N: Named>(
     }
 }
 
-/// Takes the lists and the parts of all seats.
+/// Takes the lists of all seats, and their parts of the ledger.
 fn settle<N: Named>(
     seats: Vec<Seat<N>>,
     mut by_seat: Vec<Events>,
@@ -169,7 +169,7 @@ fn settle<N: Named>(
     by_seat
 }
 
-/// What the seat at a place was told; nothing, where there is no place.
+/// Returns the events of the seat at an index, or none without an index.
 fn told_at(mut by_seat: Vec<Events>, place: Option<usize>) -> Events
     requires { IfSome place (λ k. k < vec_len by_seat) }
     ensures { MatchOption place (result.items ≡ []) (λ k. result ≡ slice_index_or by_seat.items k result) }
@@ -213,7 +213,7 @@ impl<'a, N: Named> Locked<'a, N> {
 }
 
 impl<'a, N: Named> Host<'a, N> {
-    /// Ends the run, with all its seats in whatever order: compares what each was told with its actor's events of the history.
+    /// Closes the run, with all its seats in any order. Compares the events of each seat with its actor's events of the run.
     pub fn close(self, seats: Vec<Seat<N>>) -> Closed
         requires all { vec_len seats ≡ actor_count N.run.layout }
         ensures { Closes N.run (map (λ s. told_by s.actor s.told.items) seats.items) result }

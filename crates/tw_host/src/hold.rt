@@ -1,4 +1,4 @@
-//! Several turns under one hold of the lock.
+//! Several scheduling steps in one batch, which holds the lock once.
 
 ghost use Rattle.std.specs.Prelude.{◌≡◌, ◌<◌, ◌≤◌, IfErr, IfOk, List, true, false, length};
 ghost use Rattle.tw_types.specs.Actor.{is_in};
@@ -14,16 +14,16 @@ use tw_frame::{Done, Job};
 use tw_pool::{Pool, Turn};
 use tw_types::{Actor, Scalar};
 
-/// How many turns of one seat are made under one hold of the lock at most.
+/// The greatest number of steps of one seat in a batch.
 pub(crate) const MOST_TURNS: usize = 64;
 
-/// From so many turns on a hold ends where a task has ended, so that a job is seldom left to be run outside.
+/// From this number of steps on a batch ends when a task has ended, so that seldom a job is left to be run outside of the lock.
 const ENOUGH_TURNS: usize = 56;
 
 /// The greatest budget of a procedure whose jobs are run under the lock.
 const FEW_STEPS: u64 = 256;
 
-/// Whether an instruction that isn't local stands at a place.
+/// Returns whether there is an instruction at a place that isn't local.
 fn stops_at(code: &[Instr], place: usize) -> bool
     ensures { result ≡ true → IsStop code.now place }
 {
@@ -33,7 +33,7 @@ fn stops_at(code: &[Instr], place: usize) -> bool
     }
 }
 
-/// Whether the next instruction of a job isn't local.
+/// Returns whether the next instruction of a job isn't local.
 fn waits(job: &Job<'_>) -> bool
     ensures { result ≡ true → Waits job.now }
 {
@@ -57,7 +57,7 @@ fn has_no_text(types: &[Scalar]) -> bool
     true
 }
 
-/// Returns whether a job's task does few instructions and needs no memory for them.
+/// Returns whether a job's task executes few instructions and allocates nothing for them.
 fn is_brief(job: &Job<'_>) -> bool
     ensures { result ≡ true → IsBrief job.now }
 {
@@ -79,7 +79,7 @@ fn runs_here(job: &Job<'_>) -> bool
     waits(job) || is_brief(job)
 }
 
-/// Runs a job under the lock, and returns its Done.
+/// Runs a job under the lock, and returns its `Done`.
 fn done_at_once<'a>(alloc: Global, job: Job<'a>) -> Done<'a>
     requires { RunsHere job }
     ensures before { result.before ≡ job.entry }
@@ -99,7 +99,7 @@ fn has_ended(answer: &Turn<'_>) -> bool {
     }
 }
 
-/// What is handed in with the next turn under the same hold; or the answer, behind which the hold ends.
+/// Returns what the next step of the batch is passed, or the result with which the batch ends.
 fn handed_on<'a>(alloc: Global, answer: Turn<'a>) -> Result<Option<Done<'a>>, Turn<'a>>
     ensures on { IfOk result (HandsOn answer.entry) }
     ensures back { IfErr result (λ back. back ≡ answer.entry) }
@@ -117,7 +117,7 @@ fn handed_on<'a>(alloc: Global, answer: Turn<'a>) -> Result<Option<Done<'a>>, Tu
     }
 }
 
-/// Takes turns of an actor, at most `most`, as long as little or nothing is to be run between two of them.
+/// Makes steps of an actor, at most `most`, as long as little or nothing has to be run between two of them.
 pub(crate) fn turns<'a>(
     pool: &mut Pool<'a>,
     alloc: Global,

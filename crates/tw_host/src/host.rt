@@ -1,4 +1,4 @@
-//! The host.
+//! The pool of a run under its lock.
 
 ghost use Rattle.std.specs.Prelude.{◌≡◌, ◌<◌, ◌≤◌, IfErr, IfOk, [], map, vec_len, vec_capacity};
 ghost use Rattle.tw_pool.specs.Openings.{IsRefusal, MayOpen};
@@ -22,10 +22,10 @@ use tw_pool::{Events, OpenRefusal, Pool, Turn};
 use tw_types::{Input, Layout};
 use tw_verify::Verified;
 
-/// How often the lock is asked for before the thread sleeps for it.
+/// How often a thread tries to take the lock before it sleeps.
 const TRIES: u32 = 256;
 
-/// Takes a lock that is held for a short time each time: spins and yields first, so that who holds it needs wake nobody.
+/// Takes a lock that is held for short times: spins and yields first, so that its holder seldom has to wake a thread.
 fn locked_soon<'b, T, R: Wait>(lock: &'b Mutex<T>, rt: &R) -> MutexGuard<'b, T> {
     let backoff = Backoff::new();
     for _ in 0..TRIES {
@@ -52,8 +52,8 @@ pub struct Host<'a, N: Named> {
 }
 
 impl<'a, N: Named> Host<'a, N> {
-    /// A run before its first event, and a seat for each actor, in the order of `actor_at`. All memory for the seats is made
-    /// before there is one.
+    /// Opens a run before its first event, with a seat for each actor, in the order of `actor_at`. Allocates all memory for the seats
+    /// before it makes one.
     pub fn open(
         alloc: Global,
         blank: Blank,
@@ -98,14 +98,14 @@ impl<'a, N: Named> Host<'a, N> {
         Ok((host, seats))
     }
 
-    /// The program that is run.
+    /// Returns the program that is run.
     pub fn program(&self) -> &'a Verified
         ensures { result.now ≡ N.run.program }
     {
         self.verified
     }
 
-    /// So many turns of the seat's actor at most, one behind another, under one hold of the lock.
+    /// Makes at most `most` steps of the seat's actor, and holds the lock once.
     #[inline(always)]
     fn hold(
         &self,
@@ -141,8 +141,8 @@ impl<'a, N: Named> Host<'a, N> {
         answer
     }
 
-    /// One turn of the seat's actor, under the lock; the seat is told the events that it appends. Where memory for these is
-    /// refused the pool isn't touched. Where the seat's list isn't the pool's nothing is changed either.
+    /// Makes one step of the seat's actor under the lock. The seat gets the events that it appends. If an allocation for these
+    /// fails, the pool doesn't change. If the seat's list isn't as long as the pool's, nothing changes either.
     #[inline(always)]
     pub fn turn(
         &self,
@@ -159,10 +159,10 @@ impl<'a, N: Named> Host<'a, N> {
         self.hold(rt, alloc, seat, done, 1)
     }
 
-    /// Turns of the seat's actor, one behind another, under one hold of the lock: as long as a turn answers Went or Ended, or lends a
-    /// job whose next instruction isn't local or whose task is brief, which is run at once; and at most 64. The seat is told the events
-    /// that they append. Where memory for these is refused the pool isn't touched. Where the seat's list isn't the pool's nothing is
-    /// changed either.
+    /// Makes steps of the seat's actor, at most 64, and holds the lock once. It continues while a step returns `Went` or `Ended`, or
+    /// issues a job that it runs at once: one whose next instruction isn't local or whose task is brief. The seat gets the events that
+    /// they append. If an allocation for these fails, the pool doesn't change. If the seat's list isn't as long as the pool's, nothing
+    /// changes either.
     #[inline(always)]
     pub fn turns(
         &self,
@@ -179,12 +179,13 @@ impl<'a, N: Named> Host<'a, N> {
         self.hold(rt, alloc, seat, done, MOST_TURNS)
     }
 
-    /// Returns a recent number of events; None once a turn or a stop has said that the run is over. It decides nothing, and is read without the lock.
+    /// Returns a recent number of events, or `None` once a step or a stop has found the run over. It is read without the lock. No
+    /// decision depends on it.
     pub fn events_so_far(&self) -> Option<u64> {
         self.progress.events()
     }
 
-    /// From now on no turn makes an event.
+    /// Stops the run: from now on no step makes an event.
     pub fn stop(&self, rt: &impl Wait) {
         let mut guard = self.locked.lock(rt);
         let locked = &mut **guard;
@@ -194,14 +195,14 @@ impl<'a, N: Named> Host<'a, N> {
         self.parkers.unpark(due);
     }
 
-    /// Parks the thread of a seat whose last turn was idle, until its actor has work or the run is over. It may also return for no reason, and does so
-    /// after 100 ms.
+    /// Parks the thread of a seat whose last step was idle, until its actor has work or the run is over. It may also return without
+    /// a reason, and does so after 100 ms.
     pub fn park(&self, rt: &impl Wait, seat: &Seat<N>) {
         self.parkers.park(rt, self.layout.index_of(seat.actor));
     }
 
-    /// Returns how many wakes got lost: how often a thread came back from `park` by itself although work was there for a parked one, and how many
-    /// wakes were not made. It is 0 unless the host has a fault. Call it when no other thread is in a turn.
+    /// Returns how many wakes were lost: how often a thread returned from `park` by itself although there was work for a parked
+    /// one, and how many wakes weren't made. It is 0 unless the host has a bug. Call it when no other thread is in a step.
     pub fn late_wakes(&self, rt: &impl Wait) -> u64 {
         let guard = self.locked.lock(rt);
         guard.sleepers.late_wakes(self.parkers.unparks())

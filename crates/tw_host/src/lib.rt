@@ -1,4 +1,4 @@
-//! A pool under its one lock, and the seats from which its actors turn it.
+//! A pool under its one lock, and a seat for each actor, from which a driver makes its scheduling steps.
 #![tactic(auto)]
 
 mod close;

@@ -1,4 +1,4 @@
-//! What lies under the lock.
+//! The data under the lock.
 
 ghost use Rattle.std.specs.Prelude.{◌≡◌, ◌<◌, ◌≤◌, ◌+◌, ◌*◌, length, true, IfOk};
 ghost use Rattle.tw_host.specs.Holds.{TellsUpTo};
@@ -14,14 +14,14 @@ use std::sync::ledger::{Book, Share};
 use tw_frame::Done;
 use tw_pool::{Pool, Turn};
 
-/// A seat's list isn't as long as the pool's number of its actor's events.
+/// The error of a seat whose list isn't as long as the pool's number of its actor's events.
 #[derive(Drop)]
 pub struct Strange<'a> {
     pub count: u64,
     pub done: Option<Done<'a>>,
 }
 
-/// The pool, the total of its events, what is left of the ledger's parts, and which actors sleep.
+/// The pool, the total of its events, the parts of the ledger that no seat has, and which actors sleep.
 pub(crate) struct Locked<'a, N: Named> {
     pub(crate) pool: Pool<'a>,
     pub(crate) book: Book<N>,
@@ -42,7 +42,7 @@ impl<'a, N: Named> Model for Locked<'a, N> {
 }
 
 impl<'a, N: Named> Locked<'a, N> {
-    /// Stops the run. Returns who is to be woken.
+    /// Stops the run. Returns the actors to be woken.
     pub(crate) fn stop(&mut self) -> u64
         ensures { self.new ≡ record self.old { stopped = true } }
     {
@@ -63,7 +63,7 @@ impl<'a, N: Named> Locked<'a, N> {
             .check_in(self.pool.layout(), seat.actor, is_over);
     }
 
-    /// Returns who is to be woken after turns of the seat's actor, with so many events and this answer.
+    /// Returns the actors to be woken after steps of the seat's actor, with this number of events and this result.
     pub(crate) fn to_wake(
         &mut self,
         seat: &Seat<N>,
@@ -80,7 +80,7 @@ impl<'a, N: Named> Locked<'a, N> {
         }
     }
 
-    /// Turns of the seat's actor, one behind another, so many at most. The seat is told the events that they append.
+    /// Makes steps of the seat's actor, at most `most`. The seat gets the events that they append.
     pub(crate) fn turns(
         &mut self,
         alloc: Global,

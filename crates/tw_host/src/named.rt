@@ -1,11 +1,12 @@
-//! One run, named by a type.
+//! One run, identified by a type.
 
 ghost use Rattle.tw_host.specs.Run.{Run};
 
 use std::marker::Brand;
 use std::sync::ledger::Ledger;
 
-/// One run and its ledger. What lies under a lock is known by its type alone, so each type of a host bears the run's name.
+/// One run and its ledger. Only the type of data under a lock is known outside of it, so each type of a host has the run's
+/// name as a parameter.
 pub trait Named: Ledger {
     ghost run: { Run };
 }

@@ -1,4 +1,4 @@
-//! Where threads of idle actors park.
+//! Parking of idle actors' threads.
 
 use crossbeam_utils::{Backoff, CachePadded};
 use std::alloc::{AllocError, Global};
@@ -7,10 +7,10 @@ use std::sync::atomic::{AtomicU64, Ordering};
 use std::time::Duration;
 use tw_types::Layout;
 
-/// How often a thread looks for its unpark before it parks. It spins seven times, each time twice as long, and then yields.
+/// How often a thread checks for its unpark before it parks. It spins seven times, each time twice as long, and then yields.
 const MOST_LOOKS: u32 = 32;
 
-/// The longest park, in milliseconds. A wake that got lost delays a run by no more than this.
+/// The longest park, in milliseconds. A lost wake delays a run by no more than this.
 const LONGEST: u64 = 100;
 
 /// The thread isn't parked and wasn't unparked.
@@ -22,7 +22,7 @@ const NOTIFIED: u64 = 1;
 /// The thread is parked.
 const PARKED: u64 = 2;
 
-/// Parks the thread of one actor. An unpark that comes first is kept.
+/// Parks the thread of one actor. An earlier unpark is kept.
 #[derive(Drop)]
 struct Parker {
     state: AtomicU64,
@@ -50,7 +50,8 @@ impl Parker {
         self.state.load(Ordering::SeqCst) == NOTIFIED && self.exchange(NOTIFIED, EMPTY)
     }
 
-    /// Spins and yields, and then parks, until there is an unpark. It may also return for no reason, and does so after the longest park.
+    /// Spins and yields, and then parks, until there is an unpark. It may also return without a reason, and does so after the longest
+    /// park.
     fn park(&self, rt: &impl Wait) {
         let backoff = Backoff::new();
         for _ in 0..MOST_LOOKS {
@@ -91,7 +92,7 @@ impl Parkers {
         Ok(Parkers { parkers })
     }
 
-    /// Parks the thread of the actor at an index until it is unparked, or was since it parked last.
+    /// Parks the thread of the actor at an index until it is unparked, or returns at once if it was since its last park.
     pub(crate) fn park(&self, rt: &impl Wait, index: usize) {
         if let Some(parker) = self.parkers.get(index) {
             parker.park(rt);

@@ -1,9 +1,10 @@
-//! How far a run is, to be read without the lock.
+//! Progress of a run, readable without the lock.
 
 use crossbeam_utils::CachePadded;
 use std::sync::atomic::{AtomicBool, AtomicU64, Ordering};
 
-/// Publishes how many events there are and whether the run is over. It is written by who holds or held the lock, and decides nothing.
+/// Publishes how many events there are and whether the run is over. Only threads that hold or held the lock write it. No decision
+/// depends on it.
 #[derive(Drop)]
 pub(crate) struct RunProgress {
     events: CachePadded<AtomicU64>,
@@ -33,7 +34,7 @@ impl RunProgress {
         self.is_over.load(Ordering::SeqCst)
     }
 
-    /// Returns a recent number of events; None once the run is over.
+    /// Returns a recent number of events, or `None` once the run is over.
     pub(crate) fn events(&self) -> Option<u64> {
         if self.is_over() {
             return None;

@@ -1,4 +1,4 @@
-//! Seats.
+//! Seats, one for each actor.
 
 ghost use Rattle.std.specs.Prelude.{◌≡◌, ◌+◌, ◌-◌, ◌≤◌, ◌++◌, [], vec_len, vec_capacity, drop, length, map, true, IfOk};
 ghost use Rattle.tw_types.specs.Actor.{is_in};
@@ -10,12 +10,12 @@ use std::sync::ledger::{Book, Share};
 use tw_pool::{Events, History};
 use tw_types::{Actor, Layout};
 
-/// The place from which one actor turns the host, with the events that it was told. It must be given back.
+/// The place from which one actor is driven, with the events that it got. It must be returned to the host.
 pub struct Seat<N: Named> {
     pub(crate) actor: Actor,
     pub(crate) told: Events,
     pub(crate) share: Share<N>,
-    /// Nothing: two seats side by side have no line of memory in common, since each thread writes its own.
+    /// Unused: keeps two adjacent seats out of one cache line, since each thread writes its own.
     pub(crate) apart: [u64; 8],
     pub ghost in_layout: { is_in N.run.layout actor ≡ true },
     pub ghost one_part: { share.parts ≡ 1 },
@@ -23,14 +23,14 @@ pub struct Seat<N: Named> {
 }
 
 impl<N: Named> Seat<N> {
-    /// Whose seat it is.
+    /// Returns the actor of the seat.
     pub fn actor(&self) -> Actor
         ensures { result ≡ self.now.actor }
     {
         self.actor
     }
 
-    /// The events that the actor was told, in order.
+    /// Returns the events that the seat got, in order.
     pub fn told(&self) -> &Events
         ensures { result.now ≡ self.now.told }
     {
@@ -38,7 +38,7 @@ impl<N: Named> Seat<N> {
     }
 }
 
-/// Room for so many seats, and for what they are told in the end.
+/// Allocates memory for `count` seats, and for their lists of events.
 pub(crate) fn rooms<N: Named>(
     alloc: Global,
     count: usize,
@@ -51,7 +51,7 @@ pub(crate) fn rooms<N: Named>(
     Ok((seats, by_seat))
 }
 
-/// A seat for each actor of a layout, with a part of the ledger.
+/// Makes a seat for each actor of a layout, with a part of the ledger.
 pub(crate) fn seats_of<N: Named>(
     alloc: Global,
     layout: Layout,
@@ -80,7 +80,7 @@ pub(crate) fn seats_of<N: Named>(
     seats
 }
 
-/// Tells a seat the events of the history from a place on, and counts them.
+/// Appends to a seat the events of the run from an index on, and counts them.
 pub(crate) fn tell<N: Named>(
     history: &History,
     before: usize,

@@ -1,4 +1,4 @@
-//! Which actors sleep, and which of them are to be woken.
+//! Which actors sleep, and which of them have to be woken.
 
 ghost use Rattle.std.specs.Prelude.{◌≡◌, ◌≤◌, ◌<◌, true};
 ghost use Rattle.tw_types.specs.Actor.{is_in, actor_count};
@@ -13,7 +13,7 @@ fn bit(index: usize) -> u64
     1u64.wrapping_shl(index as u32)
 }
 
-/// Returns the bits of the indices from one on, before another.
+/// Returns the bits of the indices from `from` on, before `to`.
 fn bits(from: usize, to: usize) -> u64
     requires from { from < 1000 }
     requires to { to < 1000 }
@@ -21,7 +21,7 @@ fn bits(from: usize, to: usize) -> u64
     bit(to).wrapping_sub(1) & !bit(from).wrapping_sub(1)
 }
 
-/// Returns the bits of the actors that may do what an actor may do and that has no target.
+/// Returns the bits of the actors that may do the same untargeted work as this actor.
 fn peers(layout: Layout, actor: Actor) -> u64 {
     let engines = usize::from(layout.engines());
     let servers = engines + usize::from(layout.servers());
@@ -32,24 +32,24 @@ fn peers(layout: Layout, actor: Actor) -> u64 {
     }
 }
 
-/// Records which actors sleep and which run a job, one bit for each at its index in the layout. All others look for work: they take a turn before
-/// they sleep. It is changed in the same hold of the lock as the pool, so no wake gets lost:
+/// Records which actors sleep and which run a job, with one bit for each at its index in the layout. All others look for work:
+/// they make a step before they sleep. It is changed under the same lock as the pool, so no wake is lost:
 ///
 /// - while work waits that only one actor may do, that actor doesn't sleep;
 /// - while a task without a target waits, an actor of its kind looks for work, or none of that kind sleeps;
 /// - once the run is over nobody sleeps.
 ///
-/// It decides nothing about events.
+/// No event depends on it.
 #[derive(Clone, Copy)]
 pub(crate) struct Sleepers {
     asleep: u64,
     out: u64,
     is_over: bool,
-    /// The actor in its turn slept and wasn't woken, and no other one looks for work that it may do. So its turn is to be idle.
+    /// The actor that makes a step slept and wasn't woken, and no other one looks for work that it may do. So its step must be idle.
     is_unasked: bool,
-    /// How many actors were to be woken so far.
+    /// How many actors had to be woken so far.
     wakes: u64,
-    /// How often an actor came by itself although it was to be woken.
+    /// How often an actor returned by itself although it had to be woken.
     late: u64,
 }
 
@@ -65,8 +65,8 @@ impl Sleepers {
         }
     }
 
-    /// Returns, of the sleepers at the indices from one on and before another, those with work of their own. If a task without a target is left, one
-    /// more is added.
+    /// Returns the sleepers at the indices from `from` on before `to` that have work of their own. If a task without a target is left,
+    /// adds one more.
     fn due_among(&self, pool: &Pool<'_>, from: usize, to: usize, task: bool) -> u64
         requires { to ≤ actor_count pool.now.layout }
     {
@@ -92,7 +92,7 @@ impl Sleepers {
         of_kind & !self.asleep & !self.out == 0 && pool.has_untargeted(kind)
     }
 
-    /// Returns those of the sleepers of a kind, which are at these indices, that are to be woken.
+    /// Returns the sleepers of a kind, which are at these indices, that have to be woken.
     fn due_of(&self, pool: &Pool<'_>, kind: Kind, from: usize, to: usize) -> u64
         requires to { to ≤ actor_count pool.now.layout }
         requires from { from ≤ to }
@@ -124,7 +124,8 @@ impl Sleepers {
         self.due_of(pool, Kind::Leaf, servers, layout.actor_count())
     }
 
-    /// Returns the sleepers for which events of an actor may have made work, or one that is to look for work in the place of an actor that is out.
+    /// Returns the sleepers for which events of an actor may have made work, or one that has to look for work instead of an actor that
+    /// is out.
     fn due_by(&self, pool: &Pool<'_>, actor: Actor, is_out: bool) -> u64 {
         match actor {
             Actor::Engine(_) => {
@@ -141,7 +142,7 @@ impl Sleepers {
         }
     }
 
-    /// Returns the sleepers that are to be woken after turns of an actor with so many events.
+    /// Returns the sleepers that have to be woken after steps of an actor with this number of events.
     fn due_after(&self, pool: &Pool<'_>, actor: Actor, events: usize, is_out: bool) -> u64 {
         if self.asleep == 0 {
             return 0;
@@ -167,7 +168,7 @@ impl Sleepers {
         self.late = self.late.wrapping_add(1);
     }
 
-    /// Marks an actor as awake before its turn. Once it is published that the run is over, all were to be woken.
+    /// Marks an actor as awake before its step. Once it is published that the run is over, all should have been woken.
     pub(crate) fn check_in(&mut self, layout: Layout, actor: Actor, is_over: bool) {
         let own = bit(layout.index_of(actor));
         let is_unwoken = self.asleep & own != 0;
@@ -178,7 +179,8 @@ impl Sleepers {
         self.asleep &= !own;
     }
 
-    /// Returns who is to be woken after turns of an actor, with so many events and this answer. An idle actor sleeps from now on.
+    /// Returns the actors to be woken after steps of an actor, with this number of events and this result. An idle actor sleeps from now
+    /// on.
     pub(crate) fn to_wake(
         &mut self,
         pool: &Pool<'_>,
@@ -205,7 +207,7 @@ impl Sleepers {
         self.wake(due)
     }
 
-    /// Returns who is to be woken once the run is over.
+    /// Returns the actors to be woken once the run is over.
     pub(crate) fn end(&mut self) -> u64 {
         self.is_over = true;
         let asleep = self.asleep;

@@ -1,4 +1,4 @@
--- What events leave of the tasks that run: those of other actors are as they were.
+-- Events don't change the running tasks of other actors.
 use Rattle.std.proofs.Common.{◌≡◌, ◌≢◌, ℕ, Bool, true, false, cond, List, [], ◌∷◌, ◌++◌, length, Some, None, refl, sym, ap, subst, ◌∙◌, arith}
 use Rattle.tw_types.proofs.Orders.{other_key}
 use Rattle.std.specs.Cmp.{tied_itself}
@@ -69,7 +69,7 @@ module _ (program : List Procedure) (layout : ActorCounts) (s t : State) where
 -- ---- events, one after the other
 
 module _ (program : List Procedure) (layout : ActorCounts) where
-  -- what stands behind a history goes from the state to which the history leads
+  -- events after others start from the state that these reach
   pub behind : (history es : List Event) (s t u : State) → run program layout history s ≡ Went t → run program layout (history ++ es) s ≡ Went u → run program layout es t ≡ Went u
   unfolding run
   behind [] es s t u e f = subst (λ x. run program layout es x ≡ Went u) (same_went s t e) f

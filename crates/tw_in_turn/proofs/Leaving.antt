@@ -1,4 +1,4 @@
--- What is left of a pool that has come to its end.
+-- The results of a pool whose run is over.
 use Rattle.std.proofs.Common.{◌≡◌, false, ap, subst, sym, ◌∙◌}
 use Rattle.tw_code.specs.machine.State.{State}
 use Rattle.tw_no_trap.specs.EndsWell.{EndsWell}

@@ -1,4 +1,4 @@
--- What comes of a turn in which an actor hands in what it has.
+-- The result of a step in which an actor submits what it has.
 use Rattle.std.proofs.Common.{◌≡◌, ◌≢◌, ◌==◌, ◌+◌, ◌≤◌, ◌⊎◌, ℕ, zero, suc, Bool, true, false, not, if◌then◌else◌, List, [], ◌∷◌, ◌++◌, length, length-append, Option, Some, None, refl, sym, ap, subst, ◌∙◌, arith, inl, inr, option_map, append-nil}
 use Rattle.std.proofs.lemmas.Bool.{and_parts, eq-eqb, eqb-true}
 use Rattle.std.specs.FinMap.{get}
@@ -158,7 +158,7 @@ without_frame p s actor none = no_frame p (length (events_of actor p.history)) a
 pub lent_none : (p : PoolView) (s : State) (actor : Actor) → get s.frames actor ≡ None → lent_to p s actor ≡ None
 lent_none p s actor none = ap (option_map (job_by p (length (events_of actor p.history)) actor)) none
 
--- answers that lend no job
+-- results that issue no job
 abbrev pub Rests : Turn → Type 0
 Rests (Over closing) = ⊥
 Rests (Foreign done) = ⊥
@@ -184,7 +184,7 @@ goes_on Ended rests = tt
 goes_on Went rests = tt
 goes_on Idle rests = tt
 
--- what was done of a job
+-- the result of a job
 pub work_of : (job : JobView) (done : DoneView) (short : Bool) → done.before ≡ job → done.short ≡ short
     → IsDone done.before.program.program done.before.procedure done.before.position done.after done.steps done.short → IsWorkOf job short done
 work_of job done short own is d = record {
@@ -217,7 +217,7 @@ module _ (old new : PoolView) (actor : Actor) (given : Option DoneView) (answer 
     within = turning.within old new actor given answer turn low;
   }
 
-  -- what another actor has, it has still
+  -- the other actors keep what they have
   pub others_keep : (other : Actor) (kept : Option DoneView) → other ≢ actor → Keeps old other kept → Keeps new other kept
   others_keep other kept apart k = record {
     has = λ t has. subst (λ (job : Option JobView). HasDone job kept) (sym (same t has)) (k.has s turn.has_state);
@@ -230,7 +230,7 @@ module _ (old new : PoolView) (actor : Actor) (given : Option DoneView) (answer 
           let count = others_same other actor apart old.history turn.events own in
           ap (λ (p : PoolView). lent_to p t other) turn.appended ∙ (ap (λ n. option_map (job_by old n other) (get t.frames other)) count ∙ ap (option_map (job_by old (length (events_of other old.history)) other)) frame)
 
-  -- ---- behind a job
+  -- ---- after a job
 
   pub keeps_work : IsDoneOf old.program given → (job : JobView) (done : DoneView) → answer ≡ Run job → IsWorkOf job false done → Keeps new actor (Some done)
   keeps_work owned job done is work = record {
@@ -251,7 +251,7 @@ module _ (old new : PoolView) (actor : Actor) (given : Option DoneView) (answer 
       by (idle a e none nothing runs_on) t has = let no_run : Idle ≡ Run job = sym a ∙ is in cc
       by (refused a e) t has = let no_run : NoMemory given ≡ Run job = sym a ∙ is in cc
 
-  -- ---- behind an answer that lends none
+  -- ---- after a result that issues none
 
   last_step : (es : List Event) (e : Event) (a b : State) → run old.program.program old.layout (es ++ e ∷ []) a ≡ Gone b → (u : State) × (step old.program.program old.layout e u ≡ Gone b)
   last_step [] e a b f = (a, frames.only_one old.program.program old.layout e a b f)
@@ -315,7 +315,7 @@ module _ (old new : PoolView) (actor : Actor) (given : Option DoneView) (answer 
   new_length : length new.history ≡ length old.history + length turn.events
   new_length = turning.longer old new actor given answer turn
 
-  -- a turn behind which the next one comes makes an event, or nothing is changed and the actor is idle
+  -- a step that isn't the last makes an event, or nothing changes and the actor is idle
   pub more_or_idle : GoesOn answer → (length old.history + 1 ≤ length new.history) ⊎ ((new ≡ old) × IsIdle old actor)
   more_or_idle on = by came
     where

@@ -1,4 +1,4 @@
--- Before the first event no actor has anything to hand in.
+-- Before the first event no actor has anything to submit.
 use Rattle.std.proofs.Common.{◌≡◌, List, [], Option, None, refl, sym, ap, subst, ◌∙◌}
 use Rattle.std.specs.FinMap.{get, get-empty}
 use Rattle.tw_types.specs.declared.actor.Actor.{Actor}

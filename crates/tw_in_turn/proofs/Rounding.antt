@@ -1,4 +1,4 @@
--- Rounds: each actor has its turn by its index, and something is due as long as the run isn't over.
+-- Rounds: each actor makes a step by its index, and some event is due while the run isn't over.
 use Rattle.std.proofs.Common.{◌≡◌, ◌≢◌, ◌<◌, ◌≤◌, ◌+◌, ◌-◌, ◌*◌, ◌⊎◌, ◌==◌, ℕ, suc, Bool, true, false, nat_lt, if◌then◌else◌, List, length, Option, Some, None, refl, sym, ap, subst, ◌∙◌, add-one, arith, get_or, set, inl, inr}
 use Rattle.std.proofs.lemmas.Bool.{cases_eq, ltb-true, ltb-false}
 use Rattle.std.proofs.lemmas.Bool.Decides.{nat_tests}
@@ -59,7 +59,7 @@ at_index layout (Worker n) there =
     let back : layout.engines + layout.servers + n - (layout.engines + layout.servers) ≡ n = omega arith in
     (omega (arith, low), rw (not_first, not_second) (ap Worker back))
 
--- ---- what each actor keeps
+-- ---- the results that actors keep
 
 -- an actor's turn changes what it keeps, and no other's
 pub kept_again : (old new : PoolView) (kept : List (Option DoneView)) (index : ℕ) (mine : Option DoneView) → new.layout ≡ old.layout → index < actor_count old.layout → AreKept old kept
@@ -80,7 +80,7 @@ kept_again old new kept index mine same low are own others = record {
           (others (actor_at old.layout k) (get_or kept k d) (at_apart old.layout k index apart) (are.each k d inside))
     ]
 
--- ---- what grows
+-- ---- a pool with more events
 
 pub still_may : (old new : PoolView) → MayTurn old → IsGrown old new → MayTurn new
 still_may old new may grown = record {
@@ -102,7 +102,7 @@ not_grown p may = record { same = refl; within = may.within }
 pub layout_same : (old new : PoolView) → IsGrown old new → new.layout ≡ old.layout
 layout_same old new grown = ap (λ (p : PoolView). p.layout) grown.same
 
--- ---- turns behind turns
+-- ---- steps after steps
 
 whose : (first : PoolView) (layout : ActorCounts) (rounds index : ℕ) → first.layout ≡ layout → index < actor_count layout → actor_after first.layout (rounds * actor_count layout + index) ≡ actor_at layout index
 whose first layout rounds index is low = ap (λ (l : ActorCounts). actor_after l (rounds * actor_count layout + index)) is ∙ ap (actor_at layout) (mod-mul-add rounds (actor_count layout) index low)

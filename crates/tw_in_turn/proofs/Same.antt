@@ -1,4 +1,4 @@
--- Two runs in turn of one opening are the same, but for which of its notices a server delivers.
+-- Two runs in one thread from one opening are equal, except for which of its notices a server delivers.
 use Rattle.std.proofs.Common.{◌≡◌, ◌≢◌, ◌⊎◌, ℕ, zero, suc, Bool, true, false, List, [], ◌∷◌, ◌++◌, append_assoc, Option, Some, None, refl, sym, ap, subst, ◌∙◌, inl, inr, append-nil}
 use Rattle.std.proofs.lemmas.Bool.{cases_eq}
 use Rattle.std.proofs.lemmas.Option.{same_Some}
@@ -25,7 +25,7 @@ use Rattle.tw_pool.specs.Turns.{GoesFree, Lends, Makes, TakesBack, Turns, TurnsU
 use Rattle.tw_in_turn.specs.InTurn.{ComesTo, GoesOn, HasDone, IsAfter, IsMove, IsOver, IsWorkOf, actor_after}
 use Rattle.tw_in_turn.specs.Same.{AreSame, PartAtNotice, delivery}
 
--- ---- what was done of a job
+-- ---- results of jobs
 
 no_step : (code : List Instr) (n : ℕ) (at b : Position) → IsStop code at.place → local_steps (suc n) code at ≡ Gone b → ⊥
 no_step code n at b stop went =
@@ -60,7 +60,7 @@ given_same (Some job) (Some d) (Some e) h k = ap Some (done_same job d e h k)
 
 -- ---- two answers to one turn
 
--- answers but want of memory
+-- results except a failed allocation
 abbrev Stands : Turn → Type 0
 Stands (Over closing) = Unit {0}
 Stands (Foreign done) = Unit {0}
@@ -126,7 +126,7 @@ module _ (p : PoolView) (a b : Turn) (xs ys : List Event) (sa : Stands a) (sb : 
   makes_same actor given es (Release engine rule) (inl l) (inr m) = absurd (refused_not b given sb m.1.0)
   makes_same actor given es (Release engine rule) (inr l) m = absurd (refused_not a given sa l.1.0)
 
-  -- ---- what is due
+  -- ---- due events
 
   same_notice : (n m : Notice) → (n ≡ m) ⊎ (n ≢ m)
   same_notice n m = elim (cases_eq n.datum m.datum) as (λ _. (n ≡ m) ⊎ (n ≢ m)) [
@@ -189,7 +189,7 @@ move_same old new other actor a b m n sa sb =
     let same = subst (λ (o : Option DoneView). TurnsUnless (closing_at old s) old s actor o b n.turn.events) given line in
     unless_same old a b m.turn.events n.turn.events sa sb s actor (closing_at old s) m.given m.turn.is same
 
--- ---- histories
+-- ---- lists of events
 
 parts_on : (h k xs ys : List Event) → PartAtNotice h k → PartAtNotice (h ++ xs) (k ++ ys)
 parts_on h k xs ys d = record {
@@ -232,7 +232,7 @@ leads_same old new other actor a b m n sa sb = by (move_same old new other actor
       },
     )
 
--- two pools behind as many turns
+-- two pools after equally many steps
 abbrev PoolsSame : PoolView → PoolView → Type 0
 PoolsSame p q = (p ≡ q) ⊎ PartAtNotice p.history q.history
 
@@ -251,7 +251,7 @@ after_same first (suc turns) p q (x, a, h, m, on) (y, b, k, n, goes) = by (after
         next (inr l) = inr l.2
     by (inr part) = inr (subst (λ (h : List Event). PartAtNotice h q.history) (sym (history_of x p actor a m)) (subst (λ (k : List Event). PartAtNotice (x.history ++ m.turn.events) k) (sym (history_of y q actor b n)) (parts_on x.history y.history m.turn.events n.turn.events part)))
 
--- a later pool goes by an earlier one, from which the next turn goes on
+-- a later pool continues from an earlier one
 record GoesBy (first : PoolView) (turns : ℕ) (q : PoolView) : Type 0 where
   before : PoolView
   next : PoolView
@@ -262,7 +262,7 @@ record GoesBy (first : PoolView) (turns : ℕ) (q : PoolView) : Type 0 where
   more : List Event
   grown : q.history ≡ next.history ++ more
 
--- so many turns later
+-- some steps later
 abbrev later_on : ℕ → ℕ → ℕ
 later_on zero turns = turns
 later_on (suc later) turns = suc (later_on later turns)

@@ -1,4 +1,4 @@
--- Runs in turn of a program whose events have a bound.
+-- Runs in one thread of a program whose events have a bound.
 use Rattle.std.specs.Prelude.{◌≡◌, ◌<◌, ◌≤◌, ℕ, List, length, Option, Some, None}
 use Rattle.tw_types.specs.declared.input.Input.{Input}
 use Rattle.tw_types.specs.Layout.{ActorCounts}
@@ -17,17 +17,17 @@ use Rattle.tw_pool.specs.PoolView.{PoolView, HasState}
 use Rattle.tw_in_turn.specs.declared.run.Left.TheVariants as left
 use Rattle.tw_in_turn.specs.InTurn.{IsLeft}
 
--- an accepted program, and how many events main's task makes at most, with all tasks that come of it
+-- an accepted program, and a bound of the events of main's task, with all tasks that descend from it
 pub record IsBoundedBy (verified : TypedProgram) (most : ℕ) : Type 0 where
   pub within : IsProgram verified.program
   pub right : AreRight verified.program (typings_of verified)
   pub bound : IsBoundOfMain verified.program events_alone most
 
--- no pool of the program has more events
+-- holds if no pool of the program has more events
 abbrev pub HasFew : TypedProgram → ℕ → Type 0
 HasFew verified most = (p : PoolView) (s : State) → p.program ≡ verified → AreInputsOf verified.program p.inputs → HasState p s → length p.history ≤ most
 
--- the run ended by itself, and not since it had as many events as there may be
+-- holds if the run has ended by itself, not by the limit
 abbrev pub HasEndedByItself : Option Closing → Type 0
 HasEndedByItself None = ⊥
 HasEndedByItself (Some Quiet) = Unit {0}
@@ -35,7 +35,7 @@ HasEndedByItself (Some (Stuck rules)) = Unit {0}
 HasEndedByItself (Some Stopped) = ⊥
 HasEndedByItself (Some Limit) = ⊥
 
--- what is left of a run in turn with a limit above the bound, if memory wasn't refused
+-- holds if a run with a limit above the bound ends by itself, unless an allocation fails
 abbrev pub EndsByItself : TypedProgram → ℕ → Type 0
 EndsByItself verified most =
     (inputs : List Input) (layout : ActorCounts) (limit : ℕ) (final : FinalView) (history : HistoryView) → AreInputsOf verified.program inputs → most < limit

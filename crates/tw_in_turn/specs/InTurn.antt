@@ -1,5 +1,5 @@
--- A run in one thread. Its actors have their turns one after the other, in the order engines, servers, workers, and then again. A job
--- that an actor is lent is done at once, and handed in at its next turn.
+-- A run in one thread. Its actors make steps one after the other: engines, servers, workers, again and again. A job that an actor is
+-- issued is run at once, and its `Done` is submitted with the actor's next step.
 use Rattle.std.specs.Prelude.{◌≡◌, ◌≤◌, ◌%◌, ℕ, zero, suc, Bool, true, false, length, Option, Some, None}
 use Rattle.tw_types.specs.declared.actor.Actor.{Actor}
 use Rattle.tw_types.specs.Actor.{actor_at, actor_count}
@@ -18,37 +18,37 @@ use Rattle.tw_pool.specs.Turns.{IsTurn, lent_to}
 use Rattle.tw_in_turn.specs.declared.run.Left.{Left}
 use Rattle.tw_in_turn.specs.declared.run.Left.TheVariants as left
 
--- ---- a turn
+-- ---- a step
 
--- whose turn it is, where so many were before
+-- returns the actor that makes the step after so many
 abbrev pub actor_after : ActorCounts → ℕ → Actor
 actor_after layout turns = actor_at layout (turns % actor_count layout)
 
--- what was done of a job: so many local steps, up to an instruction that isn't local, or up to one for which memory was refused
+-- the result of a job: local steps up to an instruction that isn't local, or up to one for which an allocation failed
 pub record IsWorkOf (job : JobView) (short : Bool) (done : DoneView) : Type 0 where
   pub own : done.before ≡ job
   pub short_is : done.short ≡ short
   pub is_done : IsDone job.program.program job.procedure job.position done.after done.steps short
 
--- all that can be done of the job that is lent, up to an instruction that isn't local; nothing where none is lent
+-- holds for the result of the issued job, up to an instruction that isn't local; and for none without a job
 abbrev pub HasDone : Option JobView → Option DoneView → Type 0
 HasDone None given = given ≡ None
 HasDone (Some job) None = ⊥
 HasDone (Some job) (Some done) = IsWorkOf job false done
 
--- what an actor has for its turn
+-- holds for what an actor submits with its step
 abbrev pub Has : PoolView → Actor → Option DoneView → Type 0
 Has p actor given = (s : State) → HasState p s → HasDone (lent_to p s actor) given
 
--- the turn of an actor with that
+-- the step of an actor with that
 pub record IsMove (old : PoolView) (actor : Actor) (answer : Turn) (new : PoolView) : Type 0 where
   pub given : Option DoneView
   pub has : Has old actor given
   pub turn : IsTurn old actor given answer new
 
--- ---- turns, one after the other
+-- ---- steps, one after the other
 
--- behind these answers the next actor has its turn
+-- holds for the results after which the next actor makes a step
 abbrev pub GoesOn : Turn → Type 0
 GoesOn (Over closing) = ⊥
 GoesOn (Foreign done) = ⊥
@@ -59,13 +59,13 @@ GoesOn Ended = Unit {0}
 GoesOn Went = Unit {0}
 GoesOn Idle = Unit {0}
 
--- the pool behind so many turns, from the first one on
+-- holds for the pool after so many steps, from the first one on
 abbrev pub IsAfter : PoolView → ℕ → PoolView → Type 0
 IsAfter first zero p = p ≡ first
 IsAfter first (suc turns) p =
     (before : PoolView) × (answer : Turn) × IsAfter first turns before × IsMove before (actor_after first.layout turns) answer p × GoesOn answer
 
--- the turn behind so many others, which answers so
+-- the step after some others, with a result for which `Answers` holds
 pub record ComesTo (first : PoolView) (Answers : Turn → Type 0) (p : PoolView) : Type 0 where
   pub turns : ℕ
   pub before : PoolView
@@ -76,11 +76,11 @@ pub record ComesTo (first : PoolView) (Answers : Turn → Type 0) (p : PoolView)
 
 -- ---- how it ends
 
--- the run is over
+-- holds if the run is over
 abbrev pub IsOver : Turn → Type 0
 IsOver answer = (closing : Closing) × (answer ≡ Over closing)
 
--- memory was refused: for the turn's event, or for a local instruction of the job that it lent
+-- holds if an allocation failed: for the step's event, or for a local instruction of the job that it issued
 abbrev pub IsRefused : Turn → Type 0
 IsRefused (Over closing) = ⊥
 IsRefused (Foreign done) = ⊥
@@ -91,7 +91,7 @@ IsRefused Ended = ⊥
 IsRefused Went = ⊥
 IsRefused Idle = ⊥
 
--- it has ended by itself, or has as many events as there may be
+-- holds if it has ended by itself, or has reached the limit
 abbrev pub HasEnded : Option Closing → Type 0
 HasEnded None = ⊥
 HasEnded (Some Quiet) = Unit {0}
@@ -99,14 +99,14 @@ HasEnded (Some (Stuck rules)) = Unit {0}
 HasEnded (Some Stopped) = ⊥
 HasEnded (Some Limit) = Unit {0}
 
--- the pool was shut, with nothing new since the first one but its history
+-- the pool was closed; since the first one only its events are new
 pub record IsLeftIn (first p : PoolView) (final : FinalView) (history : HistoryView) : Type 0 where
   pub of_first : p ≡ record first { history = p.history }
   pub within : length p.history ≤ first.limit
   pub shut : IsShut p final history
   pub ends_well : EndsWell first.program.program shut.state
 
--- what is left of a run in turn, from its first pool on
+-- holds for a finished run, from its first pool on
 abbrev pub IsLeft : PoolView → Left → Type 0
 IsLeft first (left.Over final history) = (p : PoolView) × ComesTo first IsOver p × IsLeftIn first p final history × HasEnded final.closing
 IsLeft first (left.NoMemory final history) = (p : PoolView) × ComesTo first IsRefused p × IsLeftIn first p final history

@@ -1,7 +1,7 @@
--- What a reader must believe of runs in turn: which turns they make, and what is left of one (InTurn); in what two of them may differ (Same);
--- and that a run whose events have a bound ends by itself (Bounded).
+-- The definitions that a reader has to trust for runs in one thread: their steps and results (InTurn), and how two of them may differ
+-- (Same). Bounded states that a run whose events have a bound ends by itself.
 pub mod Bounded
 pub mod InTurn
 pub mod Same
--- What private functions speak of: what is kept from turn to turn (Rounds).
+-- Definitions for private functions: what is kept from step to step (Rounds).
 pub mod Rounds

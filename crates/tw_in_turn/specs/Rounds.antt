@@ -1,4 +1,4 @@
--- What is kept from turn to turn of a run in turn.
+-- The results that are kept from step to step of a run in one thread.
 use Rattle.std.specs.Prelude.{◌≡◌, ◌≢◌, ◌<◌, ◌≤◌, ◌+◌, ◌*◌, ◌⊎◌, ℕ, false, List, [], length, get_or, Option, Some, None}
 use Rattle.std.specs.FinMap.{get}
 use Rattle.tw_types.specs.declared.actor.Actor.{Actor}
@@ -17,22 +17,22 @@ use Rattle.tw_in_turn.specs.declared.rounds.End.{End}
 use Rattle.tw_in_turn.specs.declared.rounds.End.TheVariants.{Over, NoMemory}
 use Rattle.tw_in_turn.specs.InTurn.{ComesTo, GoesOn, Has, IsAfter, IsMove, IsOver, IsRefused}
 
--- why no turn comes behind this answer
+-- holds for the reason why no step follows this result
 abbrev pub Ends : End → Turn → Type 0
 Ends Over answer = IsOver answer
 Ends NoMemory answer = IsRefused answer
 
--- what an actor keeps for its turn, which is of the program that is run
+-- an actor keeps a result for its step, and it is of the program that is run
 pub record Keeps (p : PoolView) (actor : Actor) (given : Option DoneView) : Type 0 where
   pub has : Has p actor given
   pub program : IsDoneOf p.program given
 
--- what comes of an actor's turn: it has again what it needs for its next one, or no turn comes behind it
+-- holds if an actor keeps what it needs for its next step, or if no step follows
 abbrev pub Comes : PoolView → Actor → Turn → Option DoneView → Option End → Type 0
 Comes p actor answer kept None = GoesOn answer × Keeps p actor kept
 Comes p actor answer kept (Some end) = Ends end answer
 
--- nothing is done there by the actor, and the run isn't over
+-- the actor has nothing to do there, and the run isn't over
 pub record IsIdle (p : PoolView) (actor : Actor) : Type 0 where
   pub state : State
   pub has_state : HasState p state
@@ -40,13 +40,13 @@ pub record IsIdle (p : PoolView) (actor : Actor) : Type 0 where
   pub none_due : (due : Event) → IsDueFree p.layout actor state due → ⊥
   pub runs_on : closing_at p state ≡ None
 
--- nothing but events is new
+-- only events are new
 pub record IsGrown (old new : PoolView) : Type 0 where
   pub same : new ≡ record old { history = new.history }
   pub within : length new.history ≤ old.limit
 
--- a turn of an actor, what it keeps then, and why no turn comes behind it, if none does; what the others keep is theirs still; and where it
--- goes on there is an event more, or nothing has changed and the actor is idle
+-- a step of an actor, the result that it keeps, and why no step follows, if none does; the others keep theirs. If the run
+-- continues, there is one more event, or nothing has changed and the actor is idle.
 pub record IsTurned (old : PoolView) (actor : Actor) (new : PoolView) (kept : Option DoneView) (end : Option End) : Type 0 where
   pub answer : Turn
   pub move : IsMove old actor answer new
@@ -55,31 +55,31 @@ pub record IsTurned (old : PoolView) (actor : Actor) (new : PoolView) (kept : Op
   pub more : GoesOn answer → (length old.history + 1 ≤ length new.history) ⊎ ((new ≡ old) × IsIdle old actor)
   pub grown : IsGrown old new
 
--- each actor has what it needs for its next turn, by the order of the actors
+-- each actor has what it needs for its next step, in the order of the actors
 pub record AreKept (p : PoolView) (kept : List (Option DoneView)) : Type 0 where
   pub each : (index : ℕ) (d : Option DoneView) → index < actor_count p.layout → Keeps p (actor_at p.layout index) (get_or kept index d)
   pub long : length kept ≡ actor_count p.layout
 
--- a pool in which something is due as long as its run isn't over
+-- a pool in which some event is due while its run isn't over
 pub record MayTurn (p : PoolView) : Type 0 where
   pub counts : IsLayout p.layout
   pub targets : HasTargets p.program.program p.layout
   pub stopped : p.stopped ≡ false
   pub within : length p.history ≤ p.limit
 
--- where a round goes on there is some event more
+-- if a round isn't the last, there is some new event
 pub record GoesAround (old new : PoolView) (kept : List (Option DoneView)) : Type 0 where
   pub more : length old.history < length new.history
   pub kept_is : AreKept new kept
   pub after : (first : PoolView) (rounds : ℕ) → first.layout ≡ old.layout → IsAfter first (rounds * actor_count old.layout) old → IsAfter first ((rounds + 1) * actor_count old.layout) new
 
--- what comes of a round, one turn for each actor
+-- holds for the result of a round, one step for each actor
 abbrev pub ComesAround : PoolView → PoolView → List (Option DoneView) → Option End → Type 0
 ComesAround old new kept None = GoesAround old new kept
 ComesAround old new kept (Some end) =
     (first : PoolView) (rounds : ℕ) → first.layout ≡ old.layout → IsAfter first (rounds * actor_count old.layout) old → ComesTo first (Ends end) new
 
--- a pool before its first event, of so many actors
+-- a pool before its first event, with this number of actors
 pub record IsOpened (p : PoolView) (count : ℕ) : Type 0 where
   pub first : p.history ≡ []
   pub count_is : count ≡ actor_count p.layout

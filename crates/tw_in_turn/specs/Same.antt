@@ -1,4 +1,4 @@
--- In what two histories of one run in turn may differ: which of its notices a server delivers.
+-- How the events of two runs in one thread may differ: in which of its notices a server delivers.
 use Rattle.std.specs.Prelude.{◌≡◌, ◌≢◌, ◌⊎◌, ◌++◌, ◌∷◌, ℕ, List}
 use Rattle.tw_types.specs.declared.event.Event.{Event}
 use Rattle.tw_types.specs.declared.event.Event.TheVariants.{Deliver}
@@ -7,7 +7,7 @@ use Rattle.tw_types.specs.declared.notice.Notice.{Notice}
 abbrev pub delivery : ℕ → Notice → Event
 delivery server notice = Deliver server notice.datum notice.rule notice.parameter
 
--- up to some event they are one, and there the same server delivers two notices
+-- they are equal up to some event, and there the same server delivers two different notices
 pub record PartAtNotice (one other : List Event) : Type 0 where
   pub before : List Event
   pub server : ℕ

@@ -1,4 +1,4 @@
-//! Runs in one thread: the actors of a pool have their turns one after the other.
+//! Runs in one thread: the actors of a pool make their scheduling steps one after the other.
 #![tactic(auto)]
 
 mod laws;

@@ -1,4 +1,4 @@
-//! Turns, round by round.
+//! Scheduling steps, round by round.
 
 ghost use Rattle.std.specs.Prelude.{◌≡◌, ◌≤◌, true};
 ghost use Rattle.tw_types.specs.Actor.{is_in};
@@ -10,16 +10,16 @@ use tw_frame::Done;
 use tw_pool::{History, Pool, Turn};
 use tw_types::Actor;
 
-/// Why no turn comes behind one.
+/// The reason why no step follows another.
 #[derive(Clone, Copy)]
 pub(crate) enum End {
     /// The run is over.
     Over,
-    /// Memory was refused.
+    /// An allocation failed.
     NoMemory,
 }
 
-/// One turn of an actor, with what it has for it. A job that it is lent is done at once, and kept for its next turn.
+/// Makes one step of an actor, with its kept `Done`. Runs a job that it is issued at once, and keeps the `Done` for its next step.
 fn turn_one<'a>(
     alloc: Global,
     pool: &mut Pool<'a>,
@@ -48,7 +48,7 @@ fn turn_one<'a>(
     }
 }
 
-/// One turn for each actor, in their order.
+/// Makes one step for each actor, in their order.
 fn turn_round<'a>(alloc: Global, pool: &mut Pool<'a>, kept: &mut [Option<Done<'a>>]) -> Option<End>
     requires may { MayTurn pool.old }
     requires kept { AreKept pool.old kept.old }
@@ -65,7 +65,7 @@ fn turn_round<'a>(alloc: Global, pool: &mut Pool<'a>, kept: &mut [Option<Done<'a
     None
 }
 
-/// Rounds, until the run is over or memory is refused. Each round that goes on makes an event.
+/// Makes rounds until the run is over or an allocation fails. Each round that isn't the last makes an event.
 pub(crate) fn turn_all<'a>(alloc: Global, pool: &mut Pool<'a>, kept: &mut [Option<Done<'a>>]) -> End
     requires may { MayTurn pool.old }
     requires few { pool.old.limit ≤ 1000000 }

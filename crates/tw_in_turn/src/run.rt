@@ -1,4 +1,4 @@
-//! A whole run.
+//! A whole run in one thread.
 
 ghost use Rattle.std.specs.Prelude.{IfErr, IfOk};
 ghost use Rattle.tw_pool.specs.Openings.{IsRefusal, MayOpen, opened};
@@ -13,16 +13,16 @@ use tw_pool::{Final, History, OpenRefusal, Pool};
 use tw_types::{Input, Layout};
 use tw_verify::Verified;
 
-/// What is left of a run.
+/// A finished run.
 #[derive(Drop)]
 pub enum Left {
-    /// The run has ended by itself, or has as many events as there may be.
+    /// The run has ended by itself, or has reached the limit.
     Over { outcome: Final, history: History },
-    /// Memory was refused.
+    /// An allocation failed.
     NoMemory { outcome: Final, history: History },
 }
 
-/// What each actor has before a run, which is nothing.
+/// Returns the kept results before a run: none for each actor.
 fn nothing_kept<'a>(alloc: Global, count: usize) -> Result<Vec<Option<Done<'a>>>, AllocError>
     ensures { (p : PoolView) → IsOpened p count → IfOk result (λ kept. AreKept p kept.items) }
 {
@@ -33,8 +33,8 @@ fn nothing_kept<'a>(alloc: Global, count: usize) -> Result<Vec<Option<Done<'a>>>
     Ok(kept)
 }
 
-/// One run in this thread: the actors have their turns one after the other, engines first, then servers, then workers, and then
-/// again, until the run is over.
+/// Runs a program in this thread: engines, then servers, then workers make one step each, again and again, until the run is
+/// over.
 pub fn run_in_turn(
     alloc: Global,
     verified: &Verified,

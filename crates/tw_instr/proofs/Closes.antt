@@ -1,4 +1,4 @@
--- What the loss of a write leaves, over the finite map.
+-- The result of losing a write, over the finite map.
 use Rattle.std.proofs.Common.{◌≡◌, ℕ, Some, sym, ap, subst, ◌∙◌, IfSome}
 use Rattle.std.specs.FinMap.{get, insert}
 use Rattle.tw_types.proofs.Settled.{here, here_is, settled_written, with_live}

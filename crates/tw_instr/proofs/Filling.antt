@@ -14,7 +14,7 @@ use Rattle.tw_instr.specs.declared.arguments.Arg.{Arg}
 use Rattle.tw_instr.specs.declared.arguments.Arg.TheVariants as arg
 use Rattle.tw_instr.specs.Arguments.{arg_of}
 
--- these values, and then what comes of the others
+-- these values, followed by those of the other arguments
 abbrev pub after : List Value → Result (List Value) Cause → Result (List Value) Cause
 after firsts r = r >>= λ others. Ok (firsts ++ others)
 

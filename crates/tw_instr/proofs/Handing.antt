@@ -14,7 +14,7 @@ use Rattle.tw_instr.specs.declared.failure.Failure.{Failure}
 use Rattle.tw_instr.specs.declared.failure.Failure.TheVariants as failure
 use Rattle.tw_instr.specs.Attempts.{MayFail}
 
--- what fails first
+-- an error in the first step
 pub fails_before : {A B : Type 0} (r : Result A Cause) (next : A → Result B Cause) (why : Failure) → MayFail r why → MayFail (r >>= next) why
 fails_before r next (failure.Trap cause) h = ap (λ q. q >>= next) h
 fails_before r next failure.NoMemory h = tt
@@ -31,7 +31,7 @@ pass_at_end view test live (p ∷ params) [] h = refl
 pass_at_end view test live (p ∷ params) (x ∷ args) (inl e) = cc
 pass_at_end view test live (p ∷ params) (x ∷ args) (inr e) = cc
 
--- these arguments, and then what comes of the others
+-- these arguments, followed by those of the other parameters
 abbrev pub after : List Arg → Result HandedOver Cause → Result HandedOver Cause
 after firsts r = r >>= λ others. Ok (record others { args = firsts ++ others.args })
 

@@ -22,18 +22,18 @@ Kept = KeptDatum ℕ
 pub none_live : data_of [] ≡ empty
 none_live = empty_mapped {R = nat_cmp} bare
 
--- what a look-up finds
+-- the result of a look-up
 pub found : (m : BTreeMap ℕ Kept) (id : ℕ) (r : Option Kept) → r ≡ get_by (nat_cmp id) m → get (data_of m.entries) id ≡ datum_if r
 found m id r h = get_mapped bare _ id ∙ ap datum_if (found_view nat_cmp_total nat_cmp-IsAntisymmetric m id r h)
 
 inserted_bare : (m : FinMap nat_cmp Kept) (id : ℕ) (x : Kept) → mapped bare (insert m id x) ≡ insert (mapped bare m) id x.datum
 inserted_bare = insert_mapped bare nat_cmp_total nat_cmp-IsAntisymmetric
 
--- what a change of the datum leaves
+-- the effect of changing a datum
 pub written : (m n : BTreeMap ℕ Kept) (id : ℕ) (x y : Kept) → Some x ≡ get_by (nat_cmp id) m → WritesThrough nat_cmp (nat_cmp id) m y n → data_of n.entries ≡ insert (data_of m.entries) id y.datum
 written m n id x y here h = ap (mapped bare) (written_view nat_cmp_total nat_cmp-IsAntisymmetric m n id x y here h) ∙ inserted_bare _ id y
 
--- and what stands there then
+-- and the datum that is there then
 pub written_found : (m n : BTreeMap ℕ Kept) (id : ℕ) (x y : Kept) → Some x ≡ get_by (nat_cmp id) m → WritesThrough nat_cmp (nat_cmp id) m y n → get_by (nat_cmp id) n ≡ Some y
 written_found m n id x y here h = (h.3 (subst IsSome here refl)).1
 
@@ -41,15 +41,15 @@ written_found m n id x y here h = (h.3 (subst IsSome here refl)).1
 pub looked : (m n : BTreeMap ℕ Kept) (id : ℕ) (x : Kept) → Some x ≡ get_by (nat_cmp id) m → WritesThrough nat_cmp (nat_cmp id) m x n → data_of n.entries ≡ data_of m.entries
 looked m n id x here h = written m n id x x here h ∙ same _ id x.datum (found m id (Some x) here)
 
--- what a removal leaves
+-- the effect of a removal
 pub removed : (m n : BTreeMap ℕ Kept) (id : ℕ) → UpdatesBy nat_cmp (nat_cmp id) m n None → data_of n.entries ≡ remove (data_of m.entries) id
 removed m n id h = ap (mapped bare) (removed_view nat_cmp_total nat_cmp-IsAntisymmetric m n id h) ∙ remove_mapped bare nat_cmp_total nat_cmp-IsAntisymmetric _ id
 
--- what an addition leaves
+-- the effect of an addition
 pub inserted : (m n : BTreeMap ℕ Kept) (id : ℕ) (x : Kept) → UpdatesBy nat_cmp (nat_cmp id) m n (Some x) → data_of n.entries ≡ insert (data_of m.entries) id x.datum
 inserted m n id x h = ap (mapped bare) (inserted_view nat_cmp_total nat_cmp-IsAntisymmetric m n id x h) ∙ inserted_bare _ id x
 
--- what was found twice has the same members
+-- two results of one look-up have the same members
 pub same_kept : (x y : Kept) (r : Option Kept) → Some x ≡ r → r ≡ Some y → members_of x.datum.content ≡ members_of y.datum.content
 same_kept x y r e f = same_of x y (e ∙ f)
   where

@@ -21,7 +21,7 @@ pub step_stopped : (n k : ℕ) (code : List Instr) (first at : Position) (why : 
     → IsStopped (local_steps n code first) why
 step_stopped n k code first at why h before stop = stopped_is _ _ why (before ∙ next_step n k code at h) (stopped_then _ _ why stop)
 
--- one step more, behind the others
+-- one step more, after the others
 pub one_more : (n : ℕ) (code : List Instr) (at now next : Position) → local_steps n code at ≡ Went now → local_step code now ≡ Went next → local_steps (n + 1) code at ≡ Went next
 one_more zero code at now next went goes =
     let same : at ≡ now = cc in

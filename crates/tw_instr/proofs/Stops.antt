@@ -1,4 +1,4 @@
--- What stops one thing stops all that follows it.
+-- An error of one step stops all that follow it.
 use Rattle.std.proofs.Common.{◌≡◌, ap, sym, subst}
 use Rattle.std.specs.Prelude.{Result}
 use Rattle.tw_types.specs.declared.cause.Cause.{Cause}

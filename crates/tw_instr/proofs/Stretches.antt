@@ -1,4 +1,4 @@
--- How far a task's local instructions go.
+-- How many local instructions a task can execute.
 use Rattle.std.proofs.Common.{◌≡◌, ◌<◌, ◌≤◌, ◌+◌, ℕ, zero, suc, List, Some, Result, Ok, Err, IfOk, sym, ap, ◌∙◌, arith}
 use Rattle.std.specs.Prelude.{slice_get}
 use Rattle.tw_types.specs.Outcome.{Went, ◌>>=◌}
@@ -31,7 +31,7 @@ module _ (program : List Procedure) (frame : Frame) (p : Procedure) (here : slic
     whole = λ less at more. whole less at (last_step n p.code frame.position left at go (rw here at more));
   }
 
--- the same of an attempt
+-- like that, for the code's result
 pub stretched : {E : Type 0} (program : List Procedure) (frame : Frame) (p : Procedure) (most : ℕ) (position left : Position) (result : Result ℕ E) → slice_get program frame.procedure ≡ Some p → position ≡ frame.position
     → IfOk result (λ n. n ≤ most) → IfOk result (λ n. local_steps n p.code position ≡ Went left) → IfOk result (λ n. n < most → (at : Position) → local_step p.code left ≡ Went at → ⊥) → IfOk result (IsStretch program frame most)
 stretched program frame p most position left (Ok n) here same few go whole = is_stretch program frame p here most n left (ap (local_steps n p.code) (sym same) ∙ go) few whole

@@ -1,4 +1,4 @@
--- What a step leaves of the store, and what is read of it.
+-- The store after a step, and look-ups in it.
 use Rattle.std.proofs.Common.{[], ◌≡◌, ◌<◌, ℕ, ℤ, Bool, true, false, cond, List, Some, None, refl, sym, subst, map as each}
 use Rattle.std.specs.declared.option.Option.{Option}
 use Rattle.std.specs.FinMap as map

@@ -1,4 +1,4 @@
--- Arguments, and what is asked of their data, as the code keeps them.
+-- Arguments, and the requirements on their data, as the code has them.
 use Rattle.std.specs.Prelude.{Bool, Option}
 use Rattle.tw_types.specs.declared.param.Param.{Param}
 use Rattle.tw_types.specs.Store.{Datum}

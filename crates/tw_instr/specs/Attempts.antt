@@ -1,4 +1,4 @@
--- Attempts at what instructions and events come to.
+-- Results of the code's instructions and events, against those of the machine.
 use Rattle.std.specs.Prelude.{◌≡◌, Result, Ok, Err, IsOk}
 use Rattle.tw_types.specs.declared.cause.Cause.{Cause}
 use Rattle.tw_types.specs.Outcome.{Outcome, Went, NotEnabled, Trap}
@@ -11,17 +11,17 @@ use Rattle.tw_instr.specs.declared.stopped.Stopped.TheVariants as stopped
 
 -- ---- instructions
 
--- the cause is the machine's, and want of memory is told only where the machine's goes
+-- holds if the cause is the machine's; an allocation fails only if the machine's result is a success
 abbrev pub Fails : {A : Type 0} → Result A Cause → Failure → Type 0
 Fails r (failure.Trap cause) = r ≡ Err cause
 Fails r failure.NoMemory = IsOk r
 
--- the same where memory is taken before all is asked: want of it says nothing
+-- like `Fails`, if memory is allocated before all checks are made: a failed allocation then says nothing of the machine's result
 abbrev pub MayFail : {A : Type 0} → Result A Cause → Failure → Type 0
 MayFail r (failure.Trap cause) = r ≡ Err cause
 MayFail r failure.NoMemory = Unit {0}
 
--- an attempt at a value gives what the machine's comes to
+-- holds if a success is the machine's result
 abbrev pub Gives : {A : Type 0} → Result A Cause → Result A Failure → Type 0
 Gives r (Ok x) = r ≡ Ok x
 Gives r (Err why) = Fails r why
@@ -30,24 +30,24 @@ abbrev pub MayGive : {A : Type 0} → Result A Cause → Result A Failure → Ty
 MayGive r (Ok x) = r ≡ Ok x
 MayGive r (Err why) = MayFail r why
 
--- what takes no memory can fail only with a cause
+-- returns a result without failed allocations
 abbrev pub failing : {A : Type 0} → Result A Cause → Result A Failure
 failing (Ok x) = Ok x
 failing (Err cause) = Err (failure.Trap cause)
 
--- an attempt at a change leaves what the machine's comes to, and one that fails leaves all as it was
+-- holds if a success leaves the machine's result, and an error leaves all as it was
 abbrev pub Leaves : {A : Type 0} → Result A Cause → A → Result (Unit {0}) Failure → A → Type 0
 Leaves r old (Ok _) new = r ≡ Ok new
 Leaves r old (Err why) new = Fails r why × (new ≡ old)
 
 -- ---- events
 
--- what stops an instruction stops the event
+-- returns the event's error for an instruction's
 abbrev pub stopped_by : Failure → Stopped
 stopped_by (failure.Trap cause) = stopped.Trap cause
 stopped_by failure.NoMemory = stopped.NoMemory
 
--- what bars an event that takes no memory
+-- returns the error of an event that doesn't allocate
 abbrev pub barred_by : Barred → Stopped
 barred_by barred.NotEnabled = stopped.NotEnabled
 barred_by (barred.Trap cause) = stopped.Trap cause
@@ -56,13 +56,13 @@ abbrev pub unless_barred : {A : Type 0} → Result A Barred → Result A Stopped
 unless_barred (Ok x) = Ok x
 unless_barred (Err why) = Err (barred_by why)
 
--- that it isn't enabled, or the cause, is the machine's; want of memory says nothing of it
+-- holds if "not enabled" and the cause are the machine's; a failed allocation says nothing of it
 abbrev pub IsStopped : {A : Type 0} → Outcome A → Stopped → Type 0
 IsStopped o stopped.NotEnabled = o ≡ NotEnabled
 IsStopped o (stopped.Trap cause) = o ≡ Trap cause
 IsStopped o stopped.NoMemory = Unit {0}
 
--- an attempt at an event leaves what the machine's comes to, and one that is stopped leaves all as it was
+-- holds if a success leaves the machine's result, and an error leaves all as it was
 abbrev pub Changes : {A : Type 0} → Outcome A → A → Result (Unit {0}) Stopped → A → Type 0
 Changes o old (Ok _) new = o ≡ Went new
 Changes o old (Err why) new = IsStopped o why × (new ≡ old)

@@ -1,4 +1,4 @@
--- What is in a datum whose members are known by their ids alone.
+-- The content of a datum whose members are stored as ids.
 use Rattle.std.specs.Prelude.{ℕ}
 use Rattle.tw_types.specs.Store.{Content as Meaning, Unset, Set, Contains}
 use Rattle.tw_datum.specs.declared.datum.Content.{Content}

@@ -1,14 +1,13 @@
--- What a reader must believe of the instructions: what attempts at them answer (Attempts), which of those on data take
--- memory (Memory), how far a task's local instructions go (Stretch), where one more can be counted (Room), and that a
--- datum that is handed in closed is `closed_datum` of tw_datum's Kept, with what Content sees in it. What instructions
--- come to is `tw_code`'s machine; what calls on live data leave is said in the words of tw_types: Store, StoreCalls,
--- StoreChecks.
+-- The definitions that a reader has to trust: the results of instructions (Attempts), which of those on data allocate (Memory), how
+-- many local instructions a task can execute (Stretch), and bounds of counts (Room).
+-- A datum that is added closed is `closed_datum` of tw_datum's Kept, with the content that Content defines. The semantics of
+-- instructions is tw_code's machine. The results of calls on live data are in tw_types: Store, StoreCalls and StoreChecks.
 pub mod Attempts
 pub mod Memory
 pub mod Stretch
 pub mod Room
 pub mod Content
--- How the code keeps its parts: Contexts makes store, notices and frame the machine's context.
+-- The code's data structures: Contexts makes store, notices and frame the machine's context.
 pub mod Contexts
 pub mod Arguments
 pub mod Parts

@@ -1,11 +1,11 @@
--- Which instructions on data take memory.
+-- Which instructions on data allocate.
 use Rattle.std.specs.Prelude.{Bool, true, false}
 use Rattle.tw_types.specs.declared.data_type.Scalar.TheVariants as scalar
 use Rattle.tw_types.specs.DataType.{same_scalar}
 use Rattle.tw_code.specs.declared.instr.DataInstr.{DataInstr}
 use Rattle.tw_code.specs.declared.instr.DataInstr.TheVariants as on_data
 
--- those that make a datum, a member or notices, or copy a value; a subscript only where it is a text
+-- returns whether it makes a datum, a member or notices, or copies a value; a subscript counts only if it is a text
 abbrev pub takes_memory : DataInstr → Bool
 takes_memory (on_data.New write read ty) = true
 takes_memory (on_data.Store datum from) = true

@@ -1,4 +1,4 @@
--- The data, by the parts that they are kept in.
+-- The data, by the parts in which they are stored.
 use Rattle.std.specs.Prelude.{ℕ, List}
 use Rattle.std.specs.Ordering.{nat_cmp}
 use Rattle.std.specs.FinMap.{from_entries}
@@ -6,7 +6,7 @@ use Rattle.tw_types.specs.Store.{Data, Datum, Store}
 use Rattle.tw_types.specs.Mapped.{mapped}
 use Rattle.tw_datum.specs.Kept.{KeptDatum}
 
--- a datum whose members are known by their ids alone
+-- returns a datum whose members are stored as ids
 abbrev pub bare : KeptDatum ℕ → Datum
 bare d = d.datum
 

@@ -1,4 +1,4 @@
--- Where an instruction on data can count one more.
+-- Bounds below which an instruction on data can count one more.
 use Rattle.std.specs.Prelude.{◌≡◌, ◌<◌, ◌^◌, ℕ, Some}
 use Rattle.std.specs.FinMap.{get, len}
 use Rattle.tw_types.specs.Store.{Datum, Store}

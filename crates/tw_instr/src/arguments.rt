@@ -1,4 +1,4 @@
-//! RULE and PUT: what they name, and the rights that leave the registers for it.
+//! RULE and PUT: the task that they name, and the rights that leave the registers for it.
 
 ghost use Rattle.std.specs.Prelude.{◌≡◌, ◌≤◌, length, map, slice_get, slice_set, IfOk, MatchResult, None, Ok, OnOk};
 ghost use Rattle.std.specs.Option.{option_copied};
@@ -32,7 +32,7 @@ pub enum Arg {
 }
 
 impl Arg {
-    /// A second argument, equal to this one.
+    /// Copies the argument.
     pub fn try_clone(&self, alloc: Global) -> Result<Arg, AllocError>
         ensures { IfOk result (λ copy. copy ≡ self.now) }
     {
@@ -43,7 +43,7 @@ impl Arg {
     }
 }
 
-/// What RULE or PUT names: the task, the parameters that its arguments stand for, and the right registers that are left.
+/// The task that RULE or PUT names, the parameters of its arguments, and the right registers that are left.
 #[derive(Drop)]
 pub struct Named<'a> {
     pub task: Task,
@@ -62,7 +62,7 @@ impl<'a> Model for Named<'a> {
     ghost invariant = { λ n. length n.params.now ≤ 8 };
 }
 
-/// The constant, or the integer of the register.
+/// Returns the constant, or the integer in the register.
 fn priority_of(position: &Position, priority: Priority) -> Result<i64, Cause>
     ensures { result ≡ priority_at position.now priority }
 {
@@ -72,7 +72,7 @@ fn priority_of(position: &Position, priority: Priority) -> Result<i64, Cause>
     }
 }
 
-/// What RULE names, of the task that does it; the frame is as it was.
+/// Returns what a RULE names, executed in a procedure of this kind. The frame doesn't change.
 pub fn called<'a>(
     alloc: Global,
     program: &'a [Procedure],
@@ -111,7 +111,7 @@ pub fn called<'a>(
     })
 }
 
-/// What PUT names: what stands for `closed` parameters must be closed.
+/// Like `called`, for PUT: also checks that the arguments of `closed` parameters are closed.
 pub fn put_called<'a>(
     alloc: Global,
     program: &'a [Procedure],
@@ -131,7 +131,7 @@ pub fn put_called<'a>(
     Ok(named)
 }
 
-/// Whether a register is declared and its value is of the type of a parameter.
+/// Returns whether a register is declared and its value is of the type of a parameter.
 fn has_type(position: &Position, register: u8, param: Param) -> bool
     ensures { result ≡ has_type (slice_get position.now.values register) param }
 {
@@ -141,7 +141,7 @@ fn has_type(position: &Position, register: u8, param: Param) -> bool
     }
 }
 
-/// Whether the registers that stand for `val` parameters have values of their types.
+/// Returns whether the registers for `val` parameters have values of their types.
 fn values_suit(position: &Position, params: &[Param], registers: &[u8]) -> bool
     ensures { result ≡ values_suit position.now.values params.now registers.now }
 {
@@ -153,7 +153,7 @@ fn values_suit(position: &Position, params: &[Param], registers: &[u8]) -> bool
     true
 }
 
-/// The id in a right register that is used; it leaves the register.
+/// Takes the id out of a right register. Fails if it is empty.
 fn take_right(rights: &mut [Option<DatumId>; 16], register: u8) -> Result<DatumId, Cause>
     ensures gives { result ≡ held rights.old register }
     ensures left { OnOk result (rights.new ≡ slice_set rights.old register None) }
@@ -166,7 +166,7 @@ fn take_right(rights: &mut [Option<DatumId>; 16], register: u8) -> Result<DatumI
     Ok(id)
 }
 
-/// The arguments of the registers: values are copied, rights leave. Where one isn't there, earlier ones have left.
+/// Returns the arguments: copies values, and takes rights out of their registers. On an error the earlier rights have been taken.
 fn hand_over(
     alloc: Global,
     position: &Position,
@@ -189,7 +189,7 @@ fn hand_over(
     Ok(args)
 }
 
-/// What is asked of the datum of a right that is an argument.
+/// The requirement on the datum of a right that is an argument.
 #[derive(Clone, Copy)]
 enum Need {
     Live,
@@ -208,7 +208,7 @@ fn passes(need: Need, param: Param, datum: Option<&Datum>) -> bool
     }
 }
 
-/// Whether the datum of each right among the arguments is as it is needed.
+/// Returns whether the datum of each right among the arguments meets the requirement.
 fn all_pass(need: Need, store: &Data, params: &[Param], args: &[Arg]) -> bool
     ensures { result ≡ all_pass (test_of need) store.now.live params.now (map arg_of args.now) }
 {

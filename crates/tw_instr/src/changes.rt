@@ -1,4 +1,4 @@
-//! The calls that change one datum, over the live data.
+//! The calls that change one datum, on the live data.
 
 ghost use Rattle.std.specs.Prelude.{◌≡◌, OnOk, OnErr};
 ghost use Rattle.std.specs.FinMap.{get};
@@ -40,7 +40,7 @@ pub fn drop_write_in(live: &mut BTreeMap<u64, Datum>, id: u64)
     settle(live, id);
 }
 
-/// Puts a member into a container.
+/// Inserts a member into a container.
 pub fn insert_in(
     live: &mut BTreeMap<u64, Datum>,
     id: u64,
@@ -79,7 +79,7 @@ pub fn add_write_in(live: &mut BTreeMap<u64, Datum>, id: u64)
     datum.add_write();
 }
 
-/// Adds one who waits.
+/// Adds a subscriber.
 pub fn subscribe_in(
     live: &mut BTreeMap<u64, Datum>,
     id: u64,

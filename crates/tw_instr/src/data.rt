@@ -1,4 +1,4 @@
-//! The live data.
+//! The live data of the reference machine.
 
 ghost use Rattle.std.specs.Prelude.{◌≡◌, ◌<◌, ◌^◌, IfOk, IfSome, OnOk, OnErr, map as each};
 ghost use Rattle.std.specs.FinMap as map;
@@ -25,7 +25,7 @@ use std::marker::Model;
 use tw_datum::{Content, checks};
 use tw_types::{Cause, DataType, DatumId, Scalar, Subscriber, Value, ValueRef};
 
-/// The live data by their ids. No id is used again.
+/// The live data by their ids. No id is reused.
 #[derive(Drop)]
 pub struct Data {
     live: BTreeMap<u64, Datum>,
@@ -57,21 +57,21 @@ impl Data {
         }
     }
 
-    /// The id of the datum that is made next.
+    /// Returns the id of the datum that is made next.
     pub fn next(&self) -> DatumId
         ensures { result ≡ self.now.next }
     {
         DatumId::new(self.next)
     }
 
-    /// The datum of an id, if it is live.
+    /// Returns the datum of an id, if it is live.
     pub fn datum(&self, id: DatumId) -> Option<&Datum>
         ensures { datum_if (option_copied result) ≡ get self.now.live id }
     {
         self.live.get(&id.number())
     }
 
-    /// Makes a datum of the next id, with one write and one read.
+    /// Makes a datum with the next id, one write and one read.
     pub fn create(&mut self, alloc: Global, ty: DataType) -> Result<DatumId, AllocError>
         requires { self.old.next < 2 ^ 63 }
         ensures made { OnOk result (self.new ≡ created self.old ty) }
@@ -81,7 +81,7 @@ impl Data {
         self.add(Datum::new(alloc, ty))
     }
 
-    /// Makes a closed datum of the next id, with one read: a scalar that is set, or a container with its members.
+    /// Makes a closed datum with the next id and one read: a set scalar, or a container with its members.
     pub fn add_closed(
         &mut self,
         alloc: Global,
@@ -109,7 +109,7 @@ impl Data {
         Ok(DatumId::new(id))
     }
 
-    /// Sets and closes a scalar, which spends a write. Read before who hears of it: `heard_by_set`.
+    /// Sets and closes a scalar, which spends a write. Read its subscribers before: `heard_by_set`.
     pub fn set(&mut self, id: DatumId, value: Value)
         requires { may_store value (get self.old.live id) ≡ Ok tt }
         ensures { self.new ≡ stored self.old id value }
@@ -117,7 +117,7 @@ impl Data {
         set_in(&mut self.live, id.number(), value);
     }
 
-    /// Who hears of it when a scalar is set, in the order of asking.
+    /// Returns the subscribers that get a notice when a scalar is set, in the order of asking.
     pub fn heard_by_set(&self, id: DatumId) -> &[Subscriber]
         ensures { (value : ValueMeaning) → each (notice_to id) result.now ≡ notices_of_stored self.now id value }
     {
@@ -127,7 +127,7 @@ impl Data {
         }
     }
 
-    /// Takes a write of a container, which closes with the last. Read before who hears of it: `heard_by_drop_write`.
+    /// Takes a write of a container, which closes with the last. Read its subscribers before: `heard_by_drop_write`.
     pub fn drop_write(&mut self, id: DatumId)
         requires { may_drop_write (get self.old.live id) ≡ Ok tt }
         ensures { self.new ≡ write_dropped self.old id }
@@ -135,7 +135,7 @@ impl Data {
         drop_write_in(&mut self.live, id.number());
     }
 
-    /// Who hears of it when a write is dropped, in the order of asking: nobody where the datum stays open.
+    /// Returns the subscribers that get a notice when a write is dropped, in the order of asking: none if the datum stays open.
     pub fn heard_by_drop_write(&self, id: DatumId) -> &[Subscriber]
         ensures { each (notice_to id) result.now ≡ notices_of_write_dropped self.now id }
     {
@@ -145,14 +145,14 @@ impl Data {
         }
     }
 
-    /// Takes a read. Where it was the last right, the datum is freed, and each of its members loses a read.
+    /// Takes a read. If it was the last right, frees the datum, and each of its members loses a read.
     pub fn drop_read(&mut self, id: DatumId)
         ensures { self.new ≡ read_dropped self.old id }
     {
         drop_read_within(&mut self.live, id.number(), DataType::MAX_DEPTH);
     }
 
-    /// Puts a member, with its read, at a subscript of a container, in place of one that is there.
+    /// Inserts a member, with its read, at a subscript of a container, in place of one that is there.
     pub fn insert(
         &mut self,
         id: DatumId,
@@ -182,7 +182,7 @@ impl Data {
         add_write_in(&mut self.live, id.number());
     }
 
-    /// Adds one who waits for the datum to close, after the others.
+    /// Adds a subscriber to the datum, after the others.
     pub fn subscribe(&mut self, id: DatumId, subscriber: Subscriber) -> Result<(), AllocError>
         ensures noted { OnOk result (self.new ≡ subscribed self.old id subscriber) }
         ensures refused { OnErr result (self.new ≡ self.old) }
@@ -190,21 +190,21 @@ impl Data {
         subscribe_in(&mut self.live, id.number(), subscriber)
     }
 
-    /// The value of a scalar that is set.
+    /// Returns the value of a set scalar.
     pub fn value(&self, id: DatumId) -> Option<&Value>
         ensures { option_copied result ≡ value_at self.now id }
     {
         self.datum(id)?.value()
     }
 
-    /// The member at a subscript.
+    /// Returns the member at a subscript.
     pub fn member(&self, id: DatumId, subscript: ValueRef<'_>) -> Option<DatumId>
         ensures { result ≡ member_at self.now id (named subscript.entry) }
     {
         self.datum(id)?.member_at(subscript)
     }
 
-    /// The number of members.
+    /// Returns the number of members.
     pub fn size(&self, id: DatumId) -> usize
         ensures { result ≡ map.len (members_at self.now id) }
     {
@@ -214,7 +214,7 @@ impl Data {
         }
     }
 
-    /// The subscript with exactly so many smaller ones, if there is one.
+    /// Returns the subscript with exactly `index` smaller ones, if there is one.
     pub fn subscript_at(&self, id: DatumId, index: i64) -> Option<&Value>
         ensures found { option_copied result ≡ subscript_after index (map.keys (members_at self.now id)) }
         ensures kind { (by : ScalarMeaning) → may_read_members_by by (get self.now.live id) ≡ Ok tt → IfSome (option_copied result) (λ subscript. scalar_of subscript ≡ by) }
@@ -226,7 +226,7 @@ impl Data {
     }
 }
 
-/// What the calls ask, with the first cause that refuses it.
+/// The checks of the calls. Each fails with the first cause.
 impl Data {
     pub fn may_store(&self, id: DatumId, value: &Value) -> Result<(), Cause>
         ensures { result ≡ may_store value.now (get self.now.live id) }

@@ -1,4 +1,4 @@
-//! One datum.
+//! The type of the reference machine's data.
 
 use tw_types::DatumId;
 

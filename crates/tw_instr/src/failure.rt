@@ -1,4 +1,4 @@
-//! Why an instruction isn't made.
+//! Errors of instructions.
 
 ghost use Rattle.std.specs.Prelude.{◌≡◌};
 ghost use Rattle.tw_types.specs.Result.{must};
@@ -6,7 +6,7 @@ ghost use Rattle.tw_types.specs.Result.{must};
 use std::alloc::AllocError;
 use tw_types::Cause;
 
-/// Why an instruction, or a part of one, isn't made.
+/// The error of an instruction, or of a part of one.
 #[derive(Clone, Copy)]
 pub enum Failure {
     Trap(Cause),
@@ -35,7 +35,7 @@ impl From<AllocError> for Failure {
     }
 }
 
-/// Fails with the cause unless this holds.
+/// Fails with the cause unless the condition holds.
 pub fn must(holds: bool, cause: Cause) -> Result<(), Cause>
     ensures { result ≡ must holds cause }
 {

@@ -1,4 +1,4 @@
-//! Tasks that run.
+//! Running tasks.
 
 ghost use Rattle.std.specs.Prelude.{◌≡◌, ◌<◌, ◌^◌, ◌+◌, IfOk, None, Some, is_none, length, slice_set, []};
 ghost use Rattle.std.specs.List.{list_all};
@@ -14,7 +14,7 @@ use std::marker::Model;
 use tw_code::Procedure;
 use tw_types::{DatumId, TaskNo, Value};
 
-/// A task that runs: where it stands, its right registers, and how many instructions it has done.
+/// A running task: its position, its right registers, and how many instructions it has executed.
 #[derive(Drop)]
 pub struct Frame {
     task: TaskNo,
@@ -33,7 +33,7 @@ impl Model for Frame {
 }
 
 impl Frame {
-    /// The task of the number, at the beginning of its procedure's code, with these registers.
+    /// Makes the frame of a task at the start of its procedure's code, with these registers.
     pub fn first(
         alloc: Global,
         task: TaskNo,
@@ -58,29 +58,29 @@ impl Frame {
         self.task
     }
 
-    /// The number of its procedure in the program.
+    /// Returns the number of its procedure in the program.
     pub fn procedure(&self) -> u8
         ensures { result ≡ self.now.procedure }
     {
         self.procedure
     }
 
-    /// The place of the instruction that comes next.
+    /// Returns the place of the next instruction.
     pub fn place(&self) -> usize
         ensures { result ≡ self.now.position.place }
     {
         self.position.place()
     }
 
-    /// How many instructions it has done.
+    /// Returns how many instructions it has executed.
     pub fn spent(&self) -> u64
         ensures { result ≡ self.now.spent }
     {
         self.spent
     }
 
-    /// How many local instructions its task does from here, before one that isn't local or can't be done; at most so
-    /// many.
+    /// Returns how many local instructions its task can execute from here, at most `most`. The instruction after them isn't local, or
+    /// traps, unless there are `most`.
     pub fn local_steps(
         &self,
         alloc: Global,
@@ -102,7 +102,7 @@ impl Frame {
         &self.position
     }
 
-    /// A copy of the right registers.
+    /// Copies the right registers.
     pub(crate) fn rights(&self) -> [Option<DatumId>; 16]
         ensures { result ≡ self.now.rights }
     {
@@ -111,14 +111,14 @@ impl Frame {
         copy
     }
 
-    /// The id in a right register, if it has one.
+    /// Returns the id in a right register, if it has one.
     pub fn right(&self, register: u8) -> Option<DatumId>
         ensures { result ≡ right_at self.now.rights register }
     {
         self.rights.get(usize::from(register)).copied().flatten()
     }
 
-    /// Whether every right register is empty.
+    /// Returns whether every right register is empty.
     pub fn is_clear(&self) -> bool
         ensures { result ≡ list_all is_none self.now.rights }
     {
@@ -139,7 +139,7 @@ impl Frame {
         set_in(&mut self.rights, register, Some(id));
     }
 
-    /// A value register gets the value, and the task goes on.
+    /// Sets a value register, and moves to the next place.
     pub(crate) fn put(&mut self, register: u8, value: Value)
         requires declared { register < length self.old.position.values }
         requires inside { self.old.position.place < 2 ^ 63 }
@@ -148,7 +148,7 @@ impl Frame {
         self.position.put(register, value);
     }
 
-    /// Goes on behind so many instructions after the next place.
+    /// Moves `skip` instructions beyond the next place.
     pub(crate) fn skip(&mut self, skip: u16)
         requires { self.old.position.place < 2 ^ 63 }
         ensures { self.new ≡ record self.old { position = at_goal self.old.position skip } }
@@ -156,7 +156,7 @@ impl Frame {
         self.position.skip(skip);
     }
 
-    /// Goes on to the next place.
+    /// Moves to the next place.
     pub(crate) fn go_on(&mut self)
         requires { self.old.position.place < 2 ^ 63 }
         ensures { self.new ≡ record self.old { position = at_next_place self.old.position } }
@@ -164,7 +164,7 @@ impl Frame {
         self.position.go_on();
     }
 
-    /// Goes on behind a RULE or PUT, which counts, with these right registers.
+    /// Moves to the place after a RULE or PUT, which is counted, with these right registers.
     pub fn go_behind(&mut self, rights: [Option<DatumId>; 16])
         requires place { self.old.position.place < 2 ^ 63 }
         requires spent { self.old.spent < 2 ^ 63 }
@@ -175,7 +175,7 @@ impl Frame {
         self.spent += 1;
     }
 
-    /// Counts one instruction more.
+    /// Counts one more instruction.
     pub fn count(&mut self)
         requires { self.old.spent < 2 ^ 63 }
         ensures { self.new ≡ record self.old { spent = self.old.spent + 1 } }
@@ -183,7 +183,7 @@ impl Frame {
         self.spent += 1;
     }
 
-    /// Moves it there by so many instructions.
+    /// Moves to the position, and counts `steps` instructions.
     pub fn move_to(&mut self, position: Position, steps: u64)
         requires steps { steps < 2 ^ 63 }
         requires spent { self.old.spent < 2 ^ 63 }

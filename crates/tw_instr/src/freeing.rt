@@ -1,4 +1,4 @@
-//! One read less, and what is freed with it.
+//! Takes reads, and frees data.
 
 ghost use Rattle.std.specs.Prelude.{◌≡◌, IfSome, fold};
 ghost use Rattle.std.specs.FinMap.{get};
@@ -11,7 +11,7 @@ use std::collections::BTreeMap;
 use tw_datum::RankedMap;
 use tw_types::DatumId;
 
-/// Takes one read of a datum whose type is nested so deep at most. Where it was the last right, the datum is freed.
+/// Takes one read of a datum whose type has at most `depth` containers. If it was the last right, frees the datum.
 #[cycle(freeing)]
 pub fn drop_read_within(live: &mut BTreeMap<u64, Datum>, id: u64, depth: u8)
     ensures { data_of live.new.entries ≡ drop_read_within depth (data_of live.old.entries) id }
@@ -49,7 +49,7 @@ fn drop_each(live: &mut BTreeMap<u64, Datum>, members: RankedMap<DatumId>, depth
     }
 }
 
-/// Frees a datum that nobody holds.
+/// Frees a datum if nobody holds it.
 pub fn settle(live: &mut BTreeMap<u64, Datum>, id: u64)
     ensures { IfSome (get (data_of live.old.entries) id) (λ x. data_of live.new.entries ≡ settled (data_of live.old.entries) id x) }
 {

@@ -1,13 +1,12 @@
-//! What each instruction does, to a task that runs and to live data: the reference machine's instructions, one function
-//! each.
+//! The reference machine's instructions, one function each. An instruction changes a running task and live data.
 //!
-//! * `Data` is the live data by bare ids; a call asks what its check of `may_store`, `may_insert` and so on tells.
-//! * `Position` is where a task stands, and all that a local instruction changes.
-//! * `Frame` is a task that runs; an instruction on data (`data_instr`) changes its right registers, the data and the
-//!   notices too.
+//! * `Data` is the live data by bare ids. Before a call, its check is called: `may_store`, `may_insert` and so on.
+//! * `Position` is the place, the values and the loops of a task, which is all that a local instruction changes.
+//! * `Frame` is a running task. An instruction on data (`data_instr`) also changes its right registers, the data and the
+//! notices.
 //!
-//! Each instruction goes, or says why not: a cause of the machine, or want of memory. Only what is asked of an event can
-//! also be not enabled.
+//! Each instruction succeeds, or fails with a cause of the machine or a failed allocation. Only an event can also be not
+//! enabled.
 #![tactic(auto)]
 
 mod arguments;

@@ -1,4 +1,4 @@
-//! The instructions of a task by itself.
+//! The local instructions.
 
 ghost use Rattle.std.specs.Prelude.{◌≡◌, ◌<◌, ◌≤◌, ◌^◌, IfOk, MatchResult, if◌then◌else◌};
 ghost use Rattle.tw_types.specs.Outcome.{Went};
@@ -18,7 +18,7 @@ use tw_code::compute::{int_shown_as, joined, result_of, shown};
 use tw_code::{Arithmetic, Instr, LocalInstr};
 use tw_types::{Cause, Scalar, Text, Value};
 
-/// Whether two values are the same; they must be of one type.
+/// Returns whether two values are equal. Fails if their types differ.
 fn same_value(left: &Value, right: &Value) -> Result<bool, Cause>
     ensures { result ≡ same_value left.now right.now }
 {
@@ -231,7 +231,7 @@ fn local_step(alloc: Global, code: &[Instr], position: &mut Position) -> Result<
     Ok(())
 }
 
-/// So many steps, one after the other. Where one is stopped, no clause says which position is left.
+/// Executes `steps` local instructions. If one fails, the position is unspecified.
 pub fn local_steps(
     alloc: Global,
     code: &[Instr],
@@ -246,7 +246,7 @@ pub fn local_steps(
     Ok(())
 }
 
-/// How many local instructions go from a position on, at most so many. The position is that behind them.
+/// Executes local instructions as long as they succeed, at most `most`, and returns how many. The position is the one after them.
 pub fn count_local(
     alloc: Global,
     code: &[Instr],

@@ -11,7 +11,7 @@ use std::alloc::{AllocError, Global};
 use std::marker::Model;
 use tw_types::{DatumId, Notice, Subscriber};
 
-/// Notices that wait to be delivered; contracts see them as a set.
+/// Notices that wait to be delivered. Their model is a set.
 #[derive(Drop)]
 pub struct Notices {
     list: Vec<Notice>,
@@ -44,7 +44,7 @@ impl Notices {
         self.list.is_empty()
     }
 
-    /// All of them; the oldest first, which no clause says.
+    /// Returns all of them. The oldest is first, but no clause promises that.
     pub fn as_slice(&self) -> &[Notice]
         ensures { from_list result.now ≡ self.now }
     {
@@ -57,14 +57,14 @@ impl Notices {
         is_among(&self.list, notice)
     }
 
-    /// Takes a notice out.
+    /// Removes a notice.
     pub fn remove(&mut self, notice: &Notice)
         ensures { self.new ≡ remove self.old notice.now }
     {
         remove_in(&mut self.list, notice);
     }
 
-    /// Adds a notice of the datum for each subscriber, or none where memory is refused.
+    /// Adds a notice of the datum for each subscriber, or none if an allocation fails.
     pub fn tell(&mut self, id: DatumId, subscribers: &[Subscriber]) -> Result<(), AllocError>
         ensures told { OnOk result (self.new ≡ with_notices self.old (map (notice_to id) subscribers.now)) }
         ensures refused { OnErr result (self.new ≡ self.old) }

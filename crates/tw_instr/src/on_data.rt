@@ -13,7 +13,7 @@ use crate::{containers, rights, scalars};
 use std::alloc::Global;
 use tw_code::DataInstr;
 
-/// One instruction on data.
+/// Executes one instruction on data.
 pub fn data_instr(
     alloc: Global,
     instr: DataInstr,

@@ -1,4 +1,4 @@
-//! Where a task stands.
+//! Positions of tasks.
 
 ghost use Rattle.std.specs.Prelude.{◌≡◌, ◌<◌, ◌^◌, ◌∷◌, ◌+◌, [], length, reverse, slice_get, slice_set, IfOk, OnOk, None, Some, true, false, OnErr};
 ghost use Rattle.std.specs.Option.{option_copied, option_map};
@@ -8,7 +8,7 @@ use std::alloc::{AllocError, Global};
 use std::marker::Model;
 use tw_types::{Value, keep};
 
-/// A loop that is begun: its first place, and the turns that are left.
+/// A loop that is begun: its first place, and the iterations that are left, this one included.
 #[derive(Clone, Copy)]
 struct Loop {
     first: usize,
@@ -25,7 +25,7 @@ impl Model for Loop {
     ghost inverse = { λ l. record { first = l.first; left = l.left } };
 }
 
-/// A place in the code, the value registers that the procedure declares, and the loops that are begun.
+/// A place in the code, the values of the declared registers, and the loops that are begun.
 #[derive(Drop)]
 pub struct Position {
     place: usize,
@@ -44,7 +44,7 @@ impl Model for Position {
 }
 
 impl Position {
-    /// At the beginning of the code.
+    /// Returns the position at the start of the code.
     pub fn first(alloc: Global, values: Vec<Value>) -> Position
         ensures { result ≡ record { place = 0; values = values.items; loops = [] } }
     {
@@ -55,21 +55,21 @@ impl Position {
         }
     }
 
-    /// The place of the instruction that comes next; places count from 0.
+    /// Returns the place of the next instruction, counted from 0.
     pub fn place(&self) -> usize
         ensures { result ≡ self.now.place }
     {
         self.place
     }
 
-    /// The value of a register, if it is declared.
+    /// Returns the value of a register, if it is declared.
     pub fn value(&self, register: u8) -> Option<&Value>
         ensures { option_copied result ≡ slice_get self.now.values register }
     {
         self.values.get(usize::from(register))
     }
 
-    /// The register gets the value, and the task goes on.
+    /// Sets a register, and moves to the next place.
     pub fn put(&mut self, register: u8, value: Value)
         requires declared { register < length self.old.values }
         requires inside { self.old.place < 2 ^ 63 }
@@ -79,7 +79,7 @@ impl Position {
         self.place += 1;
     }
 
-    /// Goes on at the next place.
+    /// Moves to the next place.
     pub fn go_on(&mut self)
         requires { self.old.place < 2 ^ 63 }
         ensures { self.new ≡ at_next_place self.old }
@@ -87,7 +87,7 @@ impl Position {
         self.place += 1;
     }
 
-    /// Goes on behind so many instructions after the next place.
+    /// Moves `skip` instructions beyond the next place.
     pub fn skip(&mut self, skip: u16)
         requires { self.old.place < 2 ^ 63 }
         ensures { self.new ≡ at_goal self.old skip }
@@ -95,7 +95,7 @@ impl Position {
         self.place += 1 + usize::from(skip);
     }
 
-    /// Begins a loop of so many turns.
+    /// Begins a loop of `turns` iterations at the next place.
     pub fn begin_loop(&mut self, turns: u16) -> Result<(), AllocError>
         requires { self.old.place < 2 ^ 63 }
         ensures begun { OnOk result (self.new ≡ record self.old { place = self.old.place + 1; loops = record { first = self.old.place + 1; left = turns } ∷ self.old.loops }) }
@@ -107,7 +107,7 @@ impl Position {
         Ok(())
     }
 
-    /// Ends a turn of the innermost loop; false where no loop is begun.
+    /// Ends an iteration of the innermost loop. Returns whether a loop was begun.
     pub fn end_turn(&mut self) -> bool
         requires { self.old.place < 2 ^ 63 }
         ensures ended { result ≡ true → after_end self.old.place self.old.loops ≡ Some (record { place = self.new.place; loops = self.new.loops }) }
@@ -123,7 +123,7 @@ impl Position {
         }
     }
 
-    /// A second position, equal to this one.
+    /// Copies the position.
     pub fn try_clone(&self, alloc: Global) -> Result<Position, AllocError>
         ensures { IfOk result (λ copy. copy ≡ self.now) }
     {
@@ -135,7 +135,7 @@ impl Position {
     }
 }
 
-/// The place that follows the END at this one, if a loop is begun.
+/// Returns the place after the END at this one, if a loop is begun.
 fn end_turn_in(loops: &mut Vec<Loop>, place: usize) -> Option<usize>
     requires { place < 2 ^ 63 }
     ensures next { option_map (λ next. record { place = next; loops = reverse loops.new.items }) result ≡ after_end place (reverse loops.old.items) }

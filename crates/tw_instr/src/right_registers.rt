@@ -1,4 +1,4 @@
-//! What instructions need of their right registers.
+//! Checks of right registers.
 
 ghost use Rattle.std.specs.Prelude.{◌≡◌};
 ghost use Rattle.tw_code.specs.machine.Rights.{held, must_be_empty};
@@ -7,14 +7,14 @@ use crate::failure::must;
 use crate::frame::Frame;
 use tw_types::{Cause, DatumId};
 
-/// The id in a right register that is used.
+/// Returns the id in a right register. Fails with `EmptyRegister` if it is empty.
 pub fn held(frame: &Frame, register: u8) -> Result<DatumId, Cause>
     ensures { result ≡ held frame.now.rights register }
 {
     frame.right(register).ok_or(Cause::EmptyRegister)
 }
 
-/// Fails where something is in a right register that is to be filled.
+/// Fails with `WrongRegister` unless the right register is empty.
 pub fn must_be_empty(frame: &Frame, register: u8) -> Result<(), Cause>
     ensures { result ≡ must_be_empty frame.now.rights register }
 {

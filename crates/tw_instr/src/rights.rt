@@ -80,8 +80,8 @@ pub fn drop_read(store: &mut Data, frame: &mut Frame, right: u8) -> Result<(), C
     Ok(())
 }
 
-/// Takes a write of a container, and adds the notices of those who hear of it; or changes nothing where memory is
-/// refused.
+/// Takes a write of a container, and adds the notices of its subscribers if it closes. Changes nothing if an allocation
+/// fails.
 fn take_write(store: &mut Data, notices: &mut Notices, id: DatumId) -> Result<(), AllocError>
     requires { may_drop_write (get store.old.live id) ≡ Ok tt }
     ensures dropped { OnOk result (store.new ≡ write_dropped store.old id) }

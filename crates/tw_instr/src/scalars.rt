@@ -24,7 +24,7 @@ use crate::value_registers::value_at;
 use std::alloc::{AllocError, Global};
 use tw_types::{Cause, DatumId, Value};
 
-/// Whether a value is of the type of a datum, where that is a live scalar.
+/// Returns whether a value is of the type of the datum, if that is a live scalar.
 fn suits(value: &Value, datum: Option<&Datum>) -> bool
     ensures { result ≡ suits value.now (datum_if (option_copied datum.entry)) }
 {
@@ -34,14 +34,14 @@ fn suits(value: &Value, datum: Option<&Datum>) -> bool
     }
 }
 
-/// The datum of a right register, if it is live.
+/// Returns the datum of a right register, if it is live.
 fn datum_at<'a>(store: &'a Data, frame: &Frame, register: u8) -> Option<&'a Datum>
     ensures { datum_if (option_copied result) ≡ option_and_then (get store.now.live) (right_at frame.now.rights register) }
 {
     store.datum(frame.right(register)?)
 }
 
-/// Sets a scalar, and adds the notices of those who hear of it; or changes nothing where memory is refused.
+/// Sets a scalar, and adds the notices of its subscribers. Changes nothing if an allocation fails.
 fn set(store: &mut Data, notices: &mut Notices, id: DatumId, value: Value) -> Result<(), AllocError>
     requires { may_store value (get store.old.live id) ≡ Ok tt }
     ensures set { OnOk result (store.new ≡ stored store.old id value) }
@@ -77,7 +77,7 @@ pub fn store(
     Ok(())
 }
 
-/// A copy of the value of a scalar, which must be set.
+/// Copies the value of a scalar. Fails with `UnsetDatum` if it isn't set.
 fn copy_of(alloc: Global, store: &Data, id: DatumId) -> Result<Value, Failure>
     ensures { Gives (ok_or (stored_at store.now id) UnsetDatum) result }
 {

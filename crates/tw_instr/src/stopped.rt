@@ -1,26 +1,26 @@
-//! Why an event isn't made.
+//! Errors of events.
 
 use crate::failure::Failure;
 use std::alloc::{AllocError, AllocFailed};
 use tw_types::Cause;
 
-/// Why an event, or a part of one, isn't made.
+/// The error of an event, or of a part of one.
 #[derive(Clone, Copy)]
 pub enum Stopped {
-    /// It can't be made now.
+    /// It isn't enabled in this state.
     NotEnabled,
-    /// The task breaks a rule of data or rights.
+    /// The task traps.
     Trap(Cause),
-    /// Memory is refused.
+    /// An allocation failed.
     NoMemory,
 }
 
-/// Why an event that takes no memory isn't made.
+/// The error of an event that doesn't allocate.
 #[derive(Clone, Copy)]
 pub enum Barred {
-    /// It can't be made now.
+    /// It isn't enabled in this state.
     NotEnabled,
-    /// The task breaks a rule of data or rights.
+    /// The task traps.
     Trap(Cause),
 }
 

@@ -1,4 +1,4 @@
-//! Tasks.
+//! Waiting tasks, and how they start.
 
 ghost use Rattle.std.specs.Prelude.{◌≡◌, ◌<◌, ◌≤◌, ◌++◌, length, drop, map, MatchResult, Ok, IfOk, OnOk};
 ghost use Rattle.tw_types.specs.Task.{is_eligible, is_for};
@@ -42,7 +42,7 @@ impl Model for Task {
 }
 
 impl Task {
-    /// Main, for any engine, with the ids of its rights.
+    /// Makes main's task, for any engine, with the ids of its rights.
     pub fn main(alloc: Global, rights: &[DatumId]) -> Result<Task, AllocError>
         requires { length rights.now ≤ 8 }
         ensures { IfOk result (λ task. task ≡ main_task rights.now) }
@@ -60,7 +60,7 @@ impl Task {
         })
     }
 
-    /// The task of an action on a procedure of this kind, with this priority and these arguments.
+    /// Makes the task of an action on a procedure of this kind, with this priority and these arguments.
     pub fn of(kind: Kind, action: &Action, priority: i64, args: Vec<Arg>) -> Task
         requires { length args.items ≤ 8 }
         ensures { result ≡ record { kind = kind; procedure = action.now.procedure; priority = priority; target = action.now.target; args = map arg_of args.items } }
@@ -74,7 +74,7 @@ impl Task {
         }
     }
 
-    /// A second task, of this kind and otherwise equal to this one.
+    /// Copies the task, with this kind.
     pub fn try_clone(&self, alloc: Global, kind: Kind) -> Result<Task, AllocError>
         ensures { IfOk result (λ copy. copy ≡ record self.now { kind = kind }) }
     {
@@ -87,7 +87,7 @@ impl Task {
         })
     }
 
-    /// The number of its procedure in the program.
+    /// Returns the number of its procedure in the program.
     pub fn procedure(&self) -> u8
         ensures { result ≡ self.now.procedure }
     {
@@ -100,7 +100,7 @@ impl Task {
         self.priority
     }
 
-    /// The number of the one actor that may take it, if not any.
+    /// Returns the number of the one actor that may take it, or `None` for any.
     pub fn target(&self) -> Option<u8>
         ensures { result ≡ self.now.target }
     {
@@ -113,15 +113,15 @@ impl Task {
         &self.args
     }
 
-    /// Whether the actor may take it.
+    /// Returns whether the actor may take it.
     pub fn is_eligible(&self, actor: Actor) -> bool
         ensures { result ≡ is_eligible actor self.now }
     {
         actor.may_take(self.kind) && is_for(self.target, actor.number())
     }
 
-    /// The task of the number, at its start: its values in their order fill the first value registers, which must
-    /// be of their types, and the others are blank; the ids of its rights fill the first right registers.
+    /// Makes the frame of the task at its start. Its values, in order, fill the first value registers, which must be of their
+    /// types; the others are blank. The ids of its rights fill the first right registers.
     pub fn begin(&self, alloc: Global, program: &[Procedure], number: u64) -> Result<Frame, Failure>
         ensures { MayGive (frame_of program.now number self.now) result }
     {
@@ -197,7 +197,7 @@ fn first_rights(args: &[Arg]) -> [Option<DatumId>; 16]
     rights
 }
 
-/// Whether a task with this target is for the actor of the number.
+/// Returns whether a task with this target is for the actor of the number.
 fn is_for(target: Option<u8>, number: u8) -> bool
     ensures { result ≡ is_for target number }
 {

@@ -1,4 +1,4 @@
--- What an attempt at an event leaves is small.
+-- Numbers and counts stay small after an event.
 use Rattle.std.proofs.Common.{◌+◌, ℕ, List, sym, subst, arith}
 use Rattle.std.specs.Prelude.{Result, Ok, Err}
 use Rattle.tw_types.specs.declared.event.Event.{Event}

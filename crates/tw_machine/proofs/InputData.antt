@@ -1,4 +1,4 @@
--- The members of a container that is given.
+-- The members of an input container.
 use Rattle.std.proofs.Common.{[], ◌≡◌, ◌<◌, ◌+◌, ℕ, zero, suc, true, ◌&&◌, List, ◌∷◌, get_or, length, sym, ap, ◌∙◌, arith}
 use Rattle.std.specs.Prelude.{not}
 use Rattle.std.proofs.lemmas.Bool.{and_parts}

@@ -1,4 +1,4 @@
--- A history, one event more: its moments.
+-- The moments of a list of events, extended by one event.
 use Rattle.std.proofs.Common.{arith, ◌≡◌, ◌+◌, ◌∙◌, ℕ, suc, List, [], ◌∷◌, ◌++◌, length, sym, ap}
 use Rattle.tw_types.specs.declared.event.Event.{Event}
 use Rattle.tw_types.specs.Layout.{ActorCounts}

@@ -1,4 +1,4 @@
--- Maps by numbers: tasks that wait, and rules that are pending.
+-- Maps by numbers: waiting tasks and pending rules.
 use Rattle.std.proofs.Common.{◌≡◌, ℕ, Bool, List, sym, ap, ◌∙◌, length, map, IsTrue, ◌↔◌}
 use Rattle.std.specs.Prelude.{◌==◌, not, ◌&&◌, Some, None}
 use Rattle.std.specs.Cmp.{nat_cmp_total}

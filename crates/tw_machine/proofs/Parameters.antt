@@ -21,7 +21,7 @@ use Rattle.tw_code.proofs.Givens.{input_next, none_fit, skips, takes}
 
 -- ---- the loop
 
--- so many parameters have their data, and these inputs are left for the others
+-- the first parameters have their data, and these inputs are left for the others
 pub record IsBegun (params : List Param) (inputs : List Input) (index : ℕ) (o : Opened) (rest : List Input) : Type 0 where
   pub opened : opened nothing_opened params inputs ≡ opened o (drop index params) rest
   pub fit : are_inputs_of (input_params (drop index params)) rest ≡ true
@@ -70,9 +70,9 @@ module _ (params : List Param) (inputs : List Input) (index : ℕ) (o left : Ope
           few = omega (arith, begun.few);
         })
 
--- ---- what is asked
+-- ---- the checks of an opening
 
--- where nothing refuses the opening the inputs are those that main takes
+-- if the opening has no error, the inputs are those that main takes
 are_inputs : (program : List Procedure) (inputs : List Input) → refusal_of program inputs ≡ None → AreInputsOf program inputs
 are_inputs program inputs = by (has_main_shape program) (has_input_count program inputs) (has_fitting_inputs program inputs) refl refl
   where
@@ -84,7 +84,7 @@ are_inputs program inputs = by (has_main_shape program) (has_input_count program
     by false b c count fit e = cc
 
 module _ (program given : List Procedure) (inputs : List Input) (same : given ≡ program) where
-  -- the same, as the code asks and opens
+  -- like that, as the code checks and opens
   none_of : None ≡ refusal_of given inputs → refusal_of program inputs ≡ None
   none_of h = ap (λ p. refusal_of p inputs) (sym same) ∙ sym h
 

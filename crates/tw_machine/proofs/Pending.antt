@@ -1,4 +1,4 @@
--- What comes of asking for a parameter of a rule, and of its release.
+-- Results of asking for a parameter of a rule, and of releasing a rule.
 use Rattle.std.proofs.Common.{◌≡◌, ℕ, Bool, true, false, List, refl, sym, ap, ◌∙◌, is_some, arith}
 use Rattle.std.proofs.lemmas.Bool.Decides.{nat_tests}
 use Rattle.std.specs.Prelude.{◌==◌, Ok, Err, Option, Some, None, slice_get}
@@ -107,7 +107,7 @@ module _ (engine number : ℕ) (s : State) where
           → release_event program engine number s ≡ Went (with_task (record s { rules = (rule_released (record { pending = s.rules; next = s.next_rule }) number).pending }) (task_from p.kind rule))
       release_goes q p same here = release_by ∙ rw (ap (procedure_of program) (sym same) ∙ here) refl
 
--- ---- the same, over tables
+-- ---- the same for tables
 
 module _ (engine number : ℕ) (s : State) (t : Tables) (frames : Frames) where
   abbrev state : Tables → State

@@ -1,4 +1,4 @@
--- From an instruction that a frame has come to, to the event of its actor.
+-- From the next instruction of a frame to the event of its actor.
 use Rattle.std.proofs.Common.{◌≡◌, ℕ, List, refl, sym, ap, subst, ◌∙◌}
 use Rattle.std.specs.declared.option.Option.TheVariants.{Some}
 use Rattle.std.specs.Prelude.{Result, Ok, Err}

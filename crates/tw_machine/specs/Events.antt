@@ -1,4 +1,4 @@
--- Events, over the parts that they change, whatever else is in the state.
+-- Events as functions on the parts that they change, for any rest of the state.
 use Rattle.std.specs.Prelude.{◌≡◌, ◌<◌, ◌^◌, ℕ, List, Some, Result, Ok, Err}
 use Rattle.std.specs.FinMap.{get}
 use Rattle.tw_types.specs.declared.actor.Actor.{Actor}
@@ -35,39 +35,39 @@ pub record HaveRoom (t : Tables) : Type 0 where
   pub rule : t.rules.next < 2 ^ 63
   pub task : t.tasks.next < 2 ^ 63
 
--- ---- what comes of a frame's events
+-- ---- results of a frame's events
 
--- the instruction at the place of a frame
+-- returns the instruction at the place of a frame
 abbrev pub instr_of : List Procedure → Frame → Result Instr Cause
 instr_of program frame = do
   p ← procedure_of program frame.procedure
   instr_at p.code frame.position.place
 
--- a local instruction stands at the place
+-- holds if there is a local instruction at the place
 abbrev pub IsLocalAt : List Instr → ℕ → Type 0
 IsLocalAt code place = (i : LocalInstr) × (instr_at code place ≡ Ok (LOCAL i))
 
--- what comes of it in each state where the actor has this frame: the state with the other frame, or what stops it
--- and no change
+-- holds if, in each state where the actor has this frame, the event leaves the state with the other frame; or it fails, and the frame
+-- doesn't change
 abbrev pub FrameComes : (Actor → State → Outcome State) → Frame → Result (Unit {0}) Stopped → Frame → Type 0
 FrameComes event f (Ok _) g = (s : State) (actor : Actor) → get s.frames actor ≡ Some f → event actor s ≡ Went (with_frame s actor g)
 FrameComes event f (Err why) g = ((s : State) (actor : Actor) → get s.frames actor ≡ Some f → IsStopped (event actor s) why) × (g ≡ f)
 
--- what comes of an instruction that the actor's frame has come to, over tables and frame
+-- holds if the instruction that is next in the actor's frame leaves these tables and this frame; or it fails, and they don't change
 abbrev pub CallComes : List Procedure → Actor → Procedure → Instr → Tables → Frame → Result (Unit {0}) Stopped → Tables → Frame → Type 0
 CallComes program actor p i t f (Ok _) u g = (s : State) → call_by program (with_tables s t) actor (record { frame = f; procedure = p; instr = i }) i ≡ Went (with_frame (with_tables s u) actor g)
 CallComes program actor p i t f (Err why) u g = ((s : State) → IsStopped (call_by program (with_tables s t) actor (record { frame = f; procedure = p; instr = i }) i) why) × (u ≡ t) × (g ≡ f)
 
--- what comes of an event in each state where the actor has this frame, with these tables
+-- holds if, in each state where the actor has this frame, with these tables, the event leaves the other ones; or it fails
 abbrev pub TablesCome : (State → Outcome State) → Actor → Tables → Frame → Result (Unit {0}) Stopped → Tables → Frame → Type 0
 TablesCome event actor t f (Ok _) u g = (s : State) → get s.frames actor ≡ Some f → event (with_tables s t) ≡ Went (with_frame (with_tables s u) actor g)
 TablesCome event actor t f (Err why) u g = ((s : State) → get s.frames actor ≡ Some f → IsStopped (event (with_tables s t)) why) × (u ≡ t) × (g ≡ f)
 
--- ---- what comes of events in each state with these parts
+-- ---- results of events in each state with these parts
 
 abbrev pub FramesCome : (State → Outcome State) → Frames → Result (Unit {0}) Stopped → Frames → Type 0
 FramesCome event frames result left = (s : State) → Changes (event (with_frames s frames)) (with_frames s frames) result (with_frames s left)
 
--- of an event that leaves the frames
+-- like `FramesCome`, for an event that leaves the frames as they are
 abbrev pub TablesChange : (State → Outcome State) → Frames → Tables → Result (Unit {0}) Stopped → Tables → Type 0
 TablesChange event frames t result u = (s : State) → Changes (event (with_frames (with_tables s t) frames)) (with_frames (with_tables s t) frames) result (with_frames (with_tables s u) frames)

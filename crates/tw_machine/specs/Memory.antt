@@ -1,4 +1,4 @@
--- Which events take memory, and when: want of memory is told of no other.
+-- Which events allocate, and when. An allocation fails in no other event.
 use Rattle.std.specs.Prelude.{◌≡◌, ℕ, true, false, List}
 use Rattle.tw_types.specs.declared.actor.Actor.{Actor}
 use Rattle.tw_types.specs.declared.event.Event.{Event}
@@ -14,14 +14,14 @@ use Rattle.tw_code.specs.machine.Machine.{Standing, ask_event, asked, call_event
 use Rattle.tw_code.specs.machine.State.{State}
 use Rattle.tw_instr.specs.Memory.{takes_memory}
 
--- ---- what comes of an event
+-- ---- results of an event
 
 abbrev pub Goes : {A : Type 0} → Outcome A → Type 0
 Goes (Went x) = Unit {0}
 Goes NotEnabled = ⊥
 Goes (Trap cause) = ⊥
 
--- it goes or traps
+-- holds if it succeeds or traps
 abbrev pub IsEnabled : {A : Type 0} → Outcome A → Type 0
 IsEnabled (Went x) = Unit {0}
 IsEnabled NotEnabled = ⊥
@@ -36,7 +36,7 @@ IsLocal (instr.Rule action) = ⊥
 IsLocal (instr.Put action) = ⊥
 IsLocal instr.Ret = ⊥
 
--- one on data takes memory behind all that it asks; RULE and PUT copy their arguments before
+-- holds if the instruction may allocate: one on data allocates after all its checks, RULE and PUT copy their arguments before
 abbrev pub CallTakesMemory : Outcome State → Instr → Type 0
 CallTakesMemory o (instr.Local i) = ⊥
 CallTakesMemory o (instr.Data i) = (takes_memory i ≡ true) × Goes o
@@ -44,24 +44,24 @@ CallTakesMemory o (instr.Rule action) = Unit {0}
 CallTakesMemory o (instr.Put action) = Unit {0}
 CallTakesMemory o instr.Ret = ⊥
 
--- a task runs there, and this holds of the instruction that it has come to
+-- holds if a task runs there, and P holds of its next instruction
 abbrev pub HasCome : (Instr → Type 0) → Outcome Standing → Type 0
 HasCome P (Went at) = P at.instr
 HasCome P NotEnabled = ⊥
 HasCome P (Trap cause) = ⊥
 
--- the actor's task has come to such an instruction
+-- holds if the next instruction of the actor's task may allocate
 abbrev pub MayWant : List Procedure → Actor → State → Type 0
 MayWant program actor s = HasCome (CallTakesMemory (call_event program actor s)) (standing_of program actor s)
 
 -- ---- events
 
--- the engine asks for an open datum, which gets a subscriber
+-- holds if the engine asks for an open datum, which gets a subscriber
 abbrev pub AsksOpen : ℕ → ℕ → ℕ → State → Type 0
 AsksOpen engine number parameter s =
     (rule : Rule) × (id : ℕ) × (x : Datum) × (ask_event engine number parameter s ≡ Went (asked s number rule parameter id x)) × (is_closed x ≡ false)
 
--- A take copies values as it asks for their types, and local instructions change a copy of the position.
+-- Holds if the event may allocate. A Take copies values while it checks their types, and local instructions change a copy of the position.
 abbrev pub TakesMemory : List Procedure → ActorCounts → Event → State → Type 0
 TakesMemory program layout (Take actor) s = IsEnabled (take_event program layout actor s)
 TakesMemory program layout (Local actor n) s = HasCome IsLocal (standing_of program actor s)

@@ -1,4 +1,4 @@
--- The moments of a history, one for each of its events.
+-- The moments of a list of events, one for each event.
 use Rattle.std.specs.Prelude.{ℕ, suc, List, [], ◌∷◌}
 use Rattle.tw_types.specs.declared.event.Event.{Event}
 use Rattle.tw_types.specs.Layout.{ActorCounts}
@@ -8,14 +8,14 @@ use Rattle.tw_code.specs.machine.Machine.{step}
 use Rattle.tw_code.specs.machine.State.{State}
 use Rattle.tw_machine.specs.PlainView.{PlainView}
 
--- an event with its number, and the machine's state before it and behind it
+-- an event with its number, and the machine's state before it and after it
 pub record Moment : Type 0 where
   pub number : ℕ
   pub event : Event
   pub before : State
   pub behind : State
 
--- those of the events that go from a state, numbered from this one on
+-- returns the moments of the events that succeed from a state, numbered from this one on
 abbrev pub moments : List Procedure → ActorCounts → ℕ → List Event → State → List Moment
 moments program layout number [] s = []
 moments program layout number (event ∷ events) s =

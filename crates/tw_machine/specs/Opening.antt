@@ -1,4 +1,4 @@
--- How an opening is refused.
+-- Errors of openings.
 use Rattle.std.specs.Prelude.{◌≡◌, ℕ, not, if◌then◌else◌, List, Option, Some, None}
 use Rattle.tw_types.specs.declared.input.Input.{Input}
 use Rattle.tw_code.specs.declared.procedure.Procedure.{Procedure}
@@ -7,15 +7,15 @@ use Rattle.tw_code.specs.accepting.MainShape.{has_main_shape}
 use Rattle.tw_machine.specs.declared.refusal.OpenRefusal.{OpenRefusal}
 use Rattle.tw_machine.specs.declared.refusal.OpenRefusal.TheVariants.{InputCount, InputType, NoMemory, MainShape}
 
--- the number behind the letter O
+-- returns the code without the letter O
 abbrev pub open_refusal_number : OpenRefusal → ℕ
 open_refusal_number InputCount = 1
 open_refusal_number InputType = 2
 open_refusal_number NoMemory = 5
 open_refusal_number MainShape = 6
 
--- what refuses an opening, if anything but want of memory does: main's shape is asked first, then the number of the
--- inputs, then what they are
+-- returns the error of an opening, apart from a failed allocation: main's shape is checked first, then the number of the inputs,
+-- then their types
 abbrev pub refusal_of : List Procedure → List Input → Option OpenRefusal
 refusal_of program inputs =
     if not (has_main_shape program) then Some MainShape
@@ -23,7 +23,7 @@ refusal_of program inputs =
     else if not (has_fitting_inputs program inputs) then Some InputType
     else None
 
--- this refusal is told; where there is none, want of memory
+-- holds for this error; without one, for a failed allocation
 abbrev pub IsTold : Option OpenRefusal → OpenRefusal → Type 0
 IsTold (Some why) told = told ≡ why
 IsTold None told = told ≡ NoMemory

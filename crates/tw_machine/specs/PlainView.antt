@@ -1,4 +1,4 @@
--- What contracts see of a plain machine.
+-- The model of a reference machine.
 use Rattle.std.specs.Prelude.{List}
 use Rattle.tw_types.specs.Layout.{ActorCounts}
 use Rattle.tw_code.specs.declared.procedure.Procedure.{Procedure}

@@ -1,4 +1,4 @@
--- Tasks that wait and rules that are pending, each with the number that comes next.
+-- Waiting tasks and pending rules, each with the next number.
 use Rattle.std.specs.Prelude.{ℕ, ◌+◌, Option, Some, None, slice_get, if◌then◌else◌}
 use Rattle.std.specs.FinMap.{insert, get, remove}
 use Rattle.std.specs.Option.{option_and_then}
@@ -26,7 +26,7 @@ rule_made t rule = record { pending = insert t.pending t.next rule; next = t.nex
 abbrev pub rule_released : RuleTable → ℕ → RuleTable
 rule_released t number = record t { pending = remove t.pending number }
 
--- a parameter of a rule is at another stage, if the rule is pending
+-- changes the stage of a rule's parameter, if the rule is pending
 abbrev pub staged_in : RuleTable → ℕ → ℕ → Stage → Option Rule → RuleTable
 staged_in t number parameter stage None = t
 staged_in t number parameter stage (Some rule) = record t { pending = insert t.pending number (at_stage rule parameter stage) }
@@ -34,11 +34,11 @@ staged_in t number parameter stage (Some rule) = record t { pending = insert t.p
 abbrev pub staged : RuleTable → ℕ → ℕ → Stage → RuleTable
 staged t number parameter stage = staged_in t number parameter stage (get t.pending number)
 
--- the id that an argument is a right on
+-- returns the id of the datum on which an argument is a right
 abbrev pub id_in : Arg → Option ℕ
 id_in (ValueArg x) = None
 id_in (RightArg id) = Some id
 
--- the id that stands for a parameter, if that is unasked
+-- returns the id of the datum of an unasked parameter
 abbrev pub unasked_id : Rule → ℕ → Option ℕ
 unasked_id rule parameter = option_and_then (λ stage. if is_unasked stage then option_and_then id_in (slice_get rule.args parameter) else None) (slice_get rule.stages parameter)

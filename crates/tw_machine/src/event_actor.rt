@@ -1,4 +1,4 @@
-//! What an event tells of itself.
+//! The actor of an event.
 
 ghost use Rattle.std.specs.Prelude.{◌≡◌};
 ghost use Rattle.tw_code.specs.machine.History.{actor_of};

@@ -1,4 +1,4 @@
-//! The events: what each is to the parts of the state that it changes.
+//! The events, each as a function on the parts of the state that it changes.
 
 pub mod calls;
 pub mod rules;

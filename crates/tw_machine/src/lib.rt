@@ -1,10 +1,10 @@
-//! The plain machine: the state of a program that runs, over maps and bare ids, and its events.
+//! The reference machine: the state of a running program, over maps and bare ids, and its events.
 //!
-//! Each event is the machine's own, cause for cause. Nothing is kept of the rights that tasks hold but the ids of the
-//! data, so a program that breaks the rules of rights is met with a trap and not refused beforehand.
+//! Each event has exactly the machine's result, including the cause of a trap. Of the rights that tasks hold only the ids of the data
+//! are stored. So a program that breaks the rules of rights traps; it isn't rejected before.
 //!
 //! * `Plain` is a machine with its program: `open`, `step`, `ending`, `state`.
-//! * `State` is what a machine has: live data, tasks that run or wait, rules that are pending, notices.
+//! * `State` is the machine's state: live data, running and waiting tasks, pending rules, notices.
 #![tactic(auto)]
 
 mod event_actor;

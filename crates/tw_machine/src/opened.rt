@@ -1,4 +1,4 @@
-//! What stands for main's parameters.
+//! The data of main's parameters.
 
 ghost use Rattle.std.specs.Prelude.{◌≡◌, ◌+◌, ◌<◌, ◌≤◌, ◌^◌, length, IfOk, OnOk, true, Some};
 ghost use Rattle.tw_types.specs.Given.{Container, members_by};
@@ -13,7 +13,7 @@ use std::marker::Model;
 use tw_instr::{Content, Data, RankedMap};
 use tw_types::{AsValue, DataType, DatumId, Input, Param};
 
-/// The data of main's parameters so far, the ids that main is given, and those of the host's outputs.
+/// The data of main's parameters so far, the ids of main's arguments, and the ids of the host's outputs.
 #[derive(Drop)]
 pub struct Opened {
     pub store: Data,
@@ -37,7 +37,7 @@ impl Model for Opened {
 }
 
 impl Opened {
-    /// Before the first parameter.
+    /// Returns the state before the first parameter.
     pub fn new(alloc: Global) -> Opened
         ensures { result ≡ nothing_opened }
     {
@@ -48,7 +48,7 @@ impl Opened {
         }
     }
 
-    /// What stands for parameters, with the inputs for those that take one.
+    /// Makes the data of parameters, with the inputs for those that take one.
     pub fn of(alloc: Global, params: &[Param], inputs: &[Input]) -> Result<Opened, AllocError>
         requires fit { are_inputs_of (input_params params.now) inputs.now ≡ true }
         requires few { length params.now ≤ 8 }
@@ -68,7 +68,7 @@ impl Opened {
         Ok(opened)
     }
 
-    /// Makes an output: main gets the right to write it, and the host that to read it.
+    /// Makes an output: main gets the write right, and the host the read right.
     pub fn add_output(&mut self, alloc: Global, ty: DataType) -> Result<(), AllocError>
         requires { self.old.store.next < 2 ^ 63 }
         ensures { OnOk result (self.new ≡ with_output self.old ty) }
@@ -79,7 +79,7 @@ impl Opened {
         Ok(())
     }
 
-    /// Makes the data of an input: main gets the right to read it.
+    /// Makes the data of an input: main gets the read right.
     pub fn add_input(
         &mut self,
         alloc: Global,
@@ -140,7 +140,7 @@ fn add_container<K: AsValue, V: AsValue>(
     add_values(alloc, store, members)
 }
 
-/// The members have the ids from the first one on, in their order.
+/// Returns the ids of the members by their subscripts: `first` and those after it, in order.
 fn numbered<K: AsValue, V: AsValue>(
     alloc: Global,
     first: u64,

@@ -1,4 +1,4 @@
-//! What is asked of a program before it is opened.
+//! Checks of a program and its inputs, before it is opened.
 
 ghost use Rattle.std.specs.Prelude.{◌≡◌};
 ghost use Rattle.tw_machine.specs.Opening.{refusal_of};
@@ -7,7 +7,7 @@ use crate::refusal::OpenRefusal;
 use tw_code::{Procedure, has_fitting_inputs, has_input_count, has_main_shape};
 use tw_types::Input;
 
-/// What refuses an opening, if anything but want of memory does.
+/// Returns the error of an opening, apart from a failed allocation.
 pub fn refusal_of(program: &[Procedure], inputs: &[Input]) -> Option<OpenRefusal>
     ensures { result ≡ refusal_of program.now inputs.now }
 {

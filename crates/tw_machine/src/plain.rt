@@ -1,4 +1,4 @@
-//! The plain machine.
+//! The reference machine with its program.
 
 ghost use Rattle.std.specs.Prelude.{◌≡◌, ℕ, ◌<◌, ◌+◌, ◌^◌, Err, IfErr, IfOk, MatchResult, None};
 ghost use Rattle.tw_code.specs.machine.Bounds.{AreBelow, opening_bound, size_of};
@@ -18,7 +18,7 @@ use tw_code::{Program, main_params};
 use tw_instr::Stopped;
 use tw_types::{Ending, Event, Input, Layout};
 
-/// A program that runs on the actors of a layout, one event at a time.
+/// A program running on the actors of a layout, one event at a time.
 #[derive(Drop)]
 pub struct Plain {
     program: Program,
@@ -55,8 +55,8 @@ impl Model for Plain {
 }
 
 impl Plain {
-    /// A machine in which main waits, with the data of the inputs. Main's shape is asked first, then how many inputs
-    /// there are, then what they are; a refusal hands the program back.
+    /// Makes a machine in which main waits, with the data of the inputs. Checks main's shape first, then the number of the
+    /// inputs, then their types. An error returns the program.
     pub fn open(
         alloc: Global,
         program: Program,
@@ -84,7 +84,7 @@ impl Plain {
         }
     }
 
-    /// Makes one event, if it is enabled and breaks no rule and memory is there; else nothing changes.
+    /// Makes one event. Changes nothing if it isn't enabled, it traps, or an allocation fails.
     pub fn step(&mut self, alloc: Global, event: Event) -> Result<(), Stopped>
         requires small { AreBelow (2 ^ 63) self.old.state }
         requires size { size_of event < 2 ^ 63 }
@@ -118,7 +118,7 @@ impl Plain {
         self.layout
     }
 
-    /// How the run has ended, if it has.
+    /// Returns how the run has ended, if it has.
     pub fn ending(&self) -> Option<Ending>
         ensures { result ≡ ending self.now.state }
     {

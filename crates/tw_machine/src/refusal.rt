@@ -1,4 +1,4 @@
-//! Refused openings.
+//! Errors of openings.
 
 ghost use Rattle.std.specs.Prelude.{◌≡◌};
 ghost use Rattle.tw_machine.specs.Opening.{open_refusal_number};
@@ -7,22 +7,22 @@ use std::fmt;
 use thiserror::Error;
 use tw_code::Program;
 
-/// Why a program isn't opened.
+/// The error of a program that isn't opened.
 #[derive(Clone, Copy)]
 pub enum OpenRefusal {
-    /// O01: another number of inputs than main takes.
+    /// O01: the number of inputs isn't the number that main takes.
     InputCount,
-    /// O02: an input of another type than its parameter, with a text that is too long, or with members that are too
+    /// O02: an input is of another type than its parameter, has a text that is too long, or has members that are too
     /// many or don't rise.
     InputType,
-    /// O05.
+    /// O05: an allocation failed.
     NoMemory,
-    /// O06.
+    /// O06: main doesn't have its shape.
     MainShape,
 }
 
 impl OpenRefusal {
-    /// The number behind the letter O.
+    /// Returns its code without the letter O.
     pub fn number(self) -> u8
         ensures { result ≡ open_refusal_number self }
     {
@@ -35,7 +35,7 @@ impl OpenRefusal {
     }
 }
 
-/// A program that wasn't opened, and why.
+/// A program that wasn't opened, with the error.
 #[derive(Drop, Error)]
 #[error("refused O{:02}", .no.number())]
 pub struct OpenRefused {
@@ -43,7 +43,7 @@ pub struct OpenRefused {
     pub no: OpenRefusal,
 }
 
-/// As it is displayed, without the program.
+/// Displays the error, without the program.
 impl fmt::Debug for OpenRefused {
     fn fmt<W: fmt::Write>(&self, f: &mut fmt::Formatter<W>) -> fmt::Result {
         write!(f, "{self}")

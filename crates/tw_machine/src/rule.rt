@@ -1,4 +1,4 @@
-//! Rules.
+//! A pending rule of the reference machine.
 
 ghost use Rattle.std.specs.Prelude.{◌≡◌, ◌≤◌, length, map, slice_set, IfOk};
 ghost use Rattle.tw_types.specs.Rule.{at_stage, first_stage, has_unasked, is_releasable, task_from};
@@ -11,7 +11,7 @@ use std::marker::Model;
 use tw_instr::{Arg, Task};
 use tw_types::{DatumId, Kind, Param, Stage};
 
-/// A rule: the engine that holds it, the task that it becomes but for the kind, and the stage of each parameter.
+/// A rule: the engine that holds it, the task that it becomes (its kind isn't used), and the stage of each parameter.
 #[derive(Drop)]
 pub struct Rule {
     engine: u8,
@@ -31,7 +31,7 @@ impl Model for Rule {
 }
 
 impl Rule {
-    /// A rule of the engine for such a task, with every `closed` parameter unasked.
+    /// Makes a rule of the engine for such a task, with every `closed` parameter unasked.
     pub fn new(alloc: Global, engine: u8, params: &[Param], task: Task) -> Result<Rule, AllocError>
         requires { length params.now ≤ 8 }
         ensures { IfOk result (λ rule. rule ≡ new_rule engine params.now task) }
@@ -44,14 +44,14 @@ impl Rule {
         })
     }
 
-    /// The number of the engine that holds it.
+    /// Returns the number of the engine that holds it.
     pub fn engine(&self) -> u8
         ensures { result ≡ self.now.engine }
     {
         self.engine
     }
 
-    /// The number of its task's procedure in the program.
+    /// Returns the number of its task's procedure in the program.
     pub fn procedure(&self) -> u8
         ensures { result ≡ self.now.procedure }
     {
@@ -64,7 +64,7 @@ impl Rule {
         self.task.priority()
     }
 
-    /// The number of the one actor that may take its task, if not any.
+    /// Returns the number of the one actor that may take its task, or `None` for any.
     pub fn target(&self) -> Option<u8>
         ensures { result ≡ self.now.target }
     {
@@ -77,14 +77,14 @@ impl Rule {
         self.task.args()
     }
 
-    /// What is known of each parameter.
+    /// Returns the stage of each parameter.
     pub fn stages(&self) -> &[Stage]
         ensures { result.now ≡ self.now.stages }
     {
         &self.stages
     }
 
-    /// Whether it can be released: nothing is left to be known of any parameter.
+    /// Returns whether it can be released: all its parameters are settled.
     pub fn is_releasable(&self) -> bool
         ensures { result ≡ is_releasable self.now }
     {
@@ -97,7 +97,7 @@ impl Rule {
         Stage::any_unasked(&self.stages)
     }
 
-    /// The id that stands for a parameter, if that is unasked.
+    /// Returns the id of the datum of an unasked parameter.
     pub fn unasked_id(&self, parameter: u8) -> Option<DatumId>
         ensures { result ≡ unasked_id self.now parameter }
     {
@@ -110,14 +110,14 @@ impl Rule {
         }
     }
 
-    /// Puts a parameter at a stage.
+    /// Changes the stage of a parameter.
     pub(crate) fn set_stage(&mut self, parameter: u8, stage: Stage)
         ensures { self.new ≡ at_stage self.old parameter stage }
     {
         set_in(&mut self.stages, parameter, stage);
     }
 
-    /// The task that it becomes, where its procedure is of this kind.
+    /// Returns the task that it becomes, if its procedure is of this kind.
     pub fn task(&self, alloc: Global, kind: Kind) -> Result<Task, AllocError>
         ensures { IfOk result (λ task. task ≡ task_from kind self.now) }
     {
@@ -125,7 +125,7 @@ impl Rule {
     }
 }
 
-/// The id that an argument is a right on.
+/// Returns the id of the datum on which an argument is a right.
 fn id_in(arg: &Arg) -> Option<DatumId>
     ensures { result ≡ id_in (arg_of arg.now) }
 {

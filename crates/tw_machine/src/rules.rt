@@ -1,4 +1,4 @@
-//! The rules that are pending.
+//! The table of pending rules.
 
 ghost use Rattle.std.specs.Prelude.{◌≡◌, ◌<◌, ◌^◌, not, ◌&&◌, map, OnErr, OnOk};
 ghost use Rattle.std.specs.FinMap.{empty, get, len, values};
@@ -17,7 +17,7 @@ use std::collections::BTreeMap;
 use std::marker::Model;
 use tw_types::{RuleNo, Stage};
 
-/// The rules that are pending, by their numbers, and the number of the next one. No number is used again.
+/// The pending rules by their numbers, and the number of the next one. No number is reused.
 #[derive(Drop)]
 pub struct Rules {
     pending: BTreeMap<u64, Rule>,
@@ -40,7 +40,7 @@ impl Model for Rules {
 }
 
 impl Rules {
-    /// None is pending; the first is rule 1.
+    /// Makes a table without rules; the first will be rule 1.
     pub fn new(alloc: Global) -> Rules
         ensures { result ≡ record { pending = empty; next = 1 } }
     {
@@ -68,7 +68,7 @@ impl Rules {
         self.pending.get(&number.number())
     }
 
-    /// A rule of the next number is pending.
+    /// Adds a rule with the next number.
     pub fn add(&mut self, rule: Rule) -> Result<(), AllocError>
         requires { self.old.next < 2 ^ 63 }
         ensures added { OnOk result (self.new ≡ rule_made self.old rule) }
@@ -79,14 +79,14 @@ impl Rules {
         Ok(())
     }
 
-    /// Takes a rule out.
+    /// Removes a rule.
     pub fn remove(&mut self, number: RuleNo)
         ensures { self.new ≡ rule_released self.old number }
     {
         let _released = self.pending.remove(&number.number());
     }
 
-    /// Puts a parameter of a rule at a stage, if the rule is pending.
+    /// Changes the stage of a rule's parameter, if the rule is pending.
     pub fn set_stage(&mut self, number: RuleNo, parameter: u8, stage: Stage)
         ensures { self.new ≡ staged self.old number parameter stage }
     {
@@ -96,7 +96,7 @@ impl Rules {
         rule.set_stage(parameter, stage);
     }
 
-    /// Whether no rule has anything unasked, and none can be released.
+    /// Returns whether no rule has an unasked parameter, and none can be released.
     pub fn are_idle(&self) -> bool
         ensures { result ≡ (not (list_any has_unasked (values self.now.pending)) && not (list_any is_releasable (values self.now.pending))) }
     {
@@ -112,7 +112,7 @@ fn neither(first: bool, second: bool) -> bool
     !first && !second
 }
 
-/// Whether any of the rules has a parameter that is unasked.
+/// Returns whether any of the rules has an unasked parameter.
 fn has_unasked(rules: &BTreeMap<u64, Rule>) -> bool
     ensures is { result ≡ list_any has_unasked (map (λ e. e.1) rules.now.entries) }
     ensures sorted { IsStrictlySortedBy nat_cmp (keys_of rules.now.entries) }
@@ -125,7 +125,7 @@ fn has_unasked(rules: &BTreeMap<u64, Rule>) -> bool
     false
 }
 
-/// Whether any of the rules can be released.
+/// Returns whether any of the rules can be released.
 fn has_releasable(rules: &BTreeMap<u64, Rule>) -> bool
     ensures { result ≡ list_any is_releasable (map (λ e. e.1) rules.now.entries) }
 {

@@ -27,7 +27,7 @@ use tw_code::Procedure;
 use tw_instr::{Datum, Frame, Notices, Stopped, Task};
 use tw_types::{Actor, DatumId, Ending, Event, Input, Layout, Notice, Param, RuleNo, TaskNo};
 
-/// The data, the rules, the tasks that wait, the notices, the tasks that run, and the outputs.
+/// The data, the rules, the waiting tasks, the notices, the running tasks, and the outputs.
 #[derive(Drop)]
 pub struct State {
     tables: Tables,
@@ -74,7 +74,7 @@ impl Model for State {
 }
 
 impl State {
-    /// The state in which main waits, with the data of its parameters.
+    /// Makes the state in which main waits, with the data of its parameters.
     pub(crate) fn open(
         alloc: Global,
         params: &[Param],
@@ -104,56 +104,56 @@ impl State {
         })
     }
 
-    /// The data of main's `write` parameters, in their order.
+    /// Returns the data of main's `write` parameters, in their order.
     pub fn outputs(&self) -> &[DatumId]
         ensures { result.now ≡ self.now.outputs }
     {
         &self.outputs
     }
 
-    /// The datum of an id, if it is live.
+    /// Returns the datum of an id, if it is live.
     pub fn datum(&self, id: DatumId) -> Option<&Datum>
         ensures { option_map (λ d. d.datum) (option_copied result) ≡ get self.now.store.live id }
     {
         self.tables.store.datum(id)
     }
 
-    /// The task that an actor runs, if it runs one.
+    /// Returns the task that an actor runs, if it runs one.
     pub fn frame(&self, actor: Actor) -> Option<&Frame>
         ensures { option_copied result ≡ get self.now.frames actor }
     {
         self.frames.get(&actor)
     }
 
-    /// The tasks that run, by their actors.
+    /// Returns the running tasks, by their actors.
     pub fn frames(&self) -> &BTreeMap<Actor, Frame>
         ensures { frames_of result.now.entries ≡ self.now.frames }
     {
         &self.frames
     }
 
-    /// The rules that are pending, by their numbers.
+    /// Returns the pending rules, by their numbers.
     pub fn rules(&self) -> &BTreeMap<u64, Rule>
         ensures { rules_of result.now.entries ≡ self.now.rules }
     {
         self.tables.rules.pending()
     }
 
-    /// The tasks that wait, by their numbers.
+    /// Returns the waiting tasks, by their numbers.
     pub fn tasks(&self) -> &BTreeMap<u64, Task>
         ensures { tasks_of result.now.entries ≡ self.now.tasks }
     {
         self.tables.tasks.waiting()
     }
 
-    /// The notices that wait; the oldest first, which no clause says.
+    /// Returns the notices that wait. The oldest is first, but no clause promises that.
     pub fn notices(&self) -> &[Notice]
         ensures { from_list result.now ≡ self.now.notices }
     {
         self.tables.notices.as_slice()
     }
 
-    /// Whether no task runs and none waits, no notice is to be delivered, and the rules are idle.
+    /// Returns whether no task runs or waits, no notice has to be delivered, and the rules are idle.
     fn is_quiet(&self) -> bool
         ensures { result ≡ is_quiet self.now }
     {
@@ -164,7 +164,7 @@ impl State {
         no_frame & no_task & no_notice & are_idle
     }
 
-    /// How the run has ended, if it has.
+    /// Returns how the run has ended, if it has.
     pub fn ending(&self) -> Option<Ending>
         ensures { result ≡ ending self.now }
     {
@@ -179,7 +179,7 @@ impl State {
         }
     }
 
-    /// Makes one event, or says why not; then all is as it was.
+    /// Makes one event. Changes nothing if it isn't enabled, it traps, or an allocation fails.
     #[rattlefmt::skip]
     pub(crate) fn step(
         &mut self,

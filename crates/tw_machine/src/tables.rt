@@ -1,4 +1,4 @@
-//! All of the state but the tasks that run.
+//! The state without the running tasks.
 
 use crate::rules::Rules;
 use crate::tasks::Tasks;

@@ -1,4 +1,4 @@
-//! The tasks that wait.
+//! The table of waiting tasks.
 
 ghost use Rattle.std.specs.Prelude.{◌≡◌, ◌<◌, ◌^◌, ◌==◌, option_map, OnErr, OnOk};
 ghost use Rattle.std.specs.FinMap.{empty, len};
@@ -13,7 +13,7 @@ use std::marker::Model;
 use tw_instr::Task;
 use tw_types::Actor;
 
-/// The tasks that wait, by their numbers, and the number of the next one. No number is used again.
+/// The waiting tasks by their numbers, and the number of the next one. No number is reused.
 #[derive(Drop)]
 pub struct Tasks {
     waiting: BTreeMap<u64, Task>,
@@ -36,7 +36,7 @@ impl Model for Tasks {
 }
 
 impl Tasks {
-    /// None wait; the first is task 1.
+    /// Makes a table without tasks; the first will be task 1.
     pub fn new(alloc: Global) -> Tasks
         ensures { result ≡ record { waiting = empty; next = 1 } }
     {
@@ -58,7 +58,7 @@ impl Tasks {
         self.waiting.is_empty()
     }
 
-    /// A task of the next number waits.
+    /// Adds a task with the next number.
     pub fn put(&mut self, task: Task) -> Result<(), AllocError>
         requires { self.old.next < 2 ^ 63 }
         ensures put { OnOk result (self.new ≡ task_put self.old task) }
@@ -69,15 +69,15 @@ impl Tasks {
         Ok(())
     }
 
-    /// Takes a task out.
+    /// Removes a task.
     pub fn remove(&mut self, number: u64)
         ensures { self.new ≡ task_taken self.old number }
     {
         let _taken = self.waiting.remove(&number);
     }
 
-    /// The task that the actor takes, with its number: of those that it may take the one with the greatest priority,
-    /// and among these the one with the least number.
+    /// Returns the task that the actor takes, with its number: among those that it may take, the one with the greatest priority,
+    /// and among several of these the one with the least number.
     pub fn best(&self, actor: Actor) -> Option<(u64, &Task)>
         ensures { option_map (λ e. (e.0, e.1.now)) result ≡ best actor self.now.waiting }
     {
@@ -97,7 +97,7 @@ fn best_of(tasks: &BTreeMap<u64, Task>, actor: Actor) -> Option<(u64, &Task)>
     best
 }
 
-/// Whether a later task goes before the best of the earlier ones.
+/// Returns whether a later task is preferred to the best of the earlier ones.
 fn is_better(best: Option<(u64, &Task)>, task: &Task) -> bool
     ensures { result ≡ is_better (option_map (λ e. (e.0, e.1.now)) best.entry) task.now }
 {

@@ -1,4 +1,4 @@
--- What acceptance gives of a task that runs: its instruction's turn, and where it goes on.
+-- Consequences of acceptance for a running task: its instruction is executed, and the task continues.
 use Rattle.std.proofs.Common.{◌≡◌, ℕ, zero, suc, ◌<◌, ◌≤◌, true, List, [], ◌∷◌, ◌++◌, length, slice_get, get_or, Option, Some, None, refl, sym, ap, subst, ◌∙◌, arith}
 use Rattle.tw_no_trap.proofs.MachineNames.{Accepts, Actor, AllByRecursion, Completed, DataInstr, Frame, Instr, IsDataInstr, IsHeld, IsInstr, Param, Procedure, RightType, Stands, State, Typing, Typings, asks, asks_at, asks_data, at_next_place, context_of, data_instr, flow_of, flows, get, is_none, is_ret, leb-true, length-map, list_all, local_steps, option_to_list, right_of, rights_given, same_Some, slice_get-get_or, slice_get_within, typing_of, value_types, values_fit}
 use Rattle.tw_code.specs.declared.flow.Flow.TheVariants.{Straight}

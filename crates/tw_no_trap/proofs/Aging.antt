@@ -1,4 +1,4 @@
--- What data become: of the same type, with the same members, closed where they were, and right in content and writers.
+-- Changes of data that keep type and members, keep closed data closed, and keep content and writers right.
 use Rattle.std.proofs.Common.{ℕ, suc, ◌+◌, ◌≤◌, ◌≡◌, true, Some, refl, ◌∙◌}
 use Rattle.tw_no_trap.proofs.MachineNames.{AreNested, Balanced, Data, Datum, HasWriters, IsAging, IsOfType, depth_of, drop_read_within, get, insert, inside, is_closed, members_of, settled_by}
 use Rattle.tw_types.proofs.Freeing as freeing

@@ -1,4 +1,4 @@
--- One event, whichever: it keeps all that is held, and doesn't trap; with it runs from the opening.
+-- Any single event keeps the invariant, and doesn't trap; so do runs from the opening.
 use Rattle.std.proofs.Common.{◌≡◌, ℕ, ◌+◌, ◌==◌, Bool, true, false, not, List, [], ◌∷◌, slice_get, Option, Some, None, is_none, refl, sym, ap, subst, arith}
 use Rattle.tw_no_trap.proofs.MachineNames.{◌>>◌, Actor, ActorCounts, Event, Frame, Instr, IsHeld, NotEnabled, Outcome, Position, Procedure, RightLeft, Rights, RightsFit, Stands, State, Store, Typing, Typings, Went, actor_cmp, actor_cmp-IsAntisymmetric, actor_cmp_total, balanced_same, before_removal, frame_reads, frame_writes, get, list_all, must, only_if, outcome_of, over, read_by, remove, typing_at, typing_of, with_frame, write_by}
 use Rattle.tw_types.specs.declared.event.Event.TheVariants.{Take, Local, Call, End, Ask, Deliver, Release}
@@ -10,7 +10,7 @@ use Rattle.tw_no_trap.proofs.TaskEvents.{Starts, take_keeps}
 use Rattle.tw_no_trap.proofs.Whole.{Turn, call_keeps}
 use Rattle.tw_no_trap.proofs.Sums.{sum_apart, sum_replaced}
 
--- where all is empty, nothing is held
+-- if all registers are empty, nothing is held
 none_held : (d : ℕ) (typing : Typing) (rights : Rights) → list_all is_none typing ≡ true → (over (read_by d) typing rights ≡ 0) × (over (write_by d) typing rights ≡ 0)
 none_held d [] rights e = (refl, refl)
 none_held d (None ∷ typing) [] e = (refl, refl)
@@ -26,7 +26,7 @@ all_empty m (None ∷ typing) (Some id ∷ rights) h e = absurd h.0
 all_empty m (Some right ∷ typing) (r ∷ rights) h e = cc
 
 module _ (program : List Procedure) (typings : Typings) where
-  -- what an accepted program gives of a task that runs, in any state that is held
+  -- facts on a running task of an accepted program, in any state with the invariant
   pub record Known (s : State) (held : IsHeld program typings s) (a : Actor) (f : Frame) (is : get s.frames a ≡ Some f) : Type 0 where
     pub procedure : Procedure
     pub here : slice_get program f.procedure ≡ Some procedure

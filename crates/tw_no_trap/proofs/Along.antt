@@ -1,4 +1,4 @@
--- Along a run numbers and counts stay small.
+-- Numbers and counts stay small along a run.
 use Rattle.std.proofs.Common.{◌≡◌, ℕ, suc, ◌+◌, ◌*◌, ◌≤◌, ◌==◌, not, List, [], ◌∷◌, length, slice_get, subst, arith}
 use Rattle.tw_no_trap.proofs.MachineNames.{ActorCounts, AreRight, Event, IsHeld, IsProgram, Procedure, State, Typings, Went, WrongCall, enabled, get, greatest_budget, only_if, outcome_of, procedure_of, there_ok}
 use Rattle.tw_types.specs.declared.event.Event.TheVariants.{Take, Local, Call, End, Ask, Deliver, Release}
@@ -19,7 +19,7 @@ numbers_along program layout (event ∷ events) bound s t h e =
     (numbers_along program layout events (bound + 1) one.0 t ((step_grows program layout event).numbers bound s one.0 h one.1) one.2)
 
 module _ (program : List Procedure) (typings : Typings) (is : IsProgram program) (are : AreRight program typings) (layout : ActorCounts) where
-  -- an event that goes does no more instructions than a budget may have
+  -- an event that succeeds executes no more instructions than a budget may have
   pub event_small : (event : Event) (s next : State) → IsHeld program typings s → step program layout event s ≡ Went next → size_of event ≤ greatest_budget
   unfolding step
   event_small (Take actor) s next held e = omega arith
@@ -38,7 +38,7 @@ module _ (program : List Procedure) (typings : Typings) (is : IsProgram program)
   event_small (Deliver server datum rule parameter) s next held e = omega arith
   event_small (Release engine rule) s next held e = omega arith
 
-  -- so numbers, counts and what is spent stay small along a run
+  -- numbers, counts and spent instructions therefore stay small along a run
   pub small_along : (events : List Event) (bound : ℕ) (s t : State) → IsHeld program typings s → AreBelow bound s → run program layout events s ≡ Went t → AreBelow (bound + length events * greatest_budget) t
   unfolding run
   small_along [] bound s t held h e = subst (AreBelow (bound + 0 * greatest_budget)) (same_went s t e) (below_more bound (bound + 0 * greatest_budget) s (omega arith) h)

@@ -1,4 +1,4 @@
--- Rules come, are asked for, told and released, and still just what waits is named.
+-- Rules are made, asked for, notified and released, and still exactly the waiting parameters are named.
 use Rattle.std.proofs.Common.{◌≡◌, ◌≢◌, ℕ, ◌+◌, ◌≤◌, inl, inr, Bool, true, false, if◌then◌else◌, List, [], ◌∷◌, slice_get, Option, Some, None, refl, sym, ap, subst, ◌∙◌, arith, nat_cmp}
 use Rattle.tw_no_trap.proofs.MachineNames.{Arg, Data, Datum, Free, Input, Notice, Notices, Procedure, Ready, RightArg, Rule, Rules, Stage, Unasked, ValueArg, Waiting, arg_at, cases_eq, data_insert_other, data_insert_same, empty, get, get-empty, insert, is_closed, notice_cmp, remove, same_Some, stage_at, times_among, times_at, times_noticed, times_noticed_by, times_subscribed, times_waiting, total, with_subscriber}
 use Rattle.std.specs.FinSet as set
@@ -29,7 +29,7 @@ module _ (m : Data) (s : Notices) (rules : Rules) (h : AreNamed m s rules) (numb
     notices = λ q there. let k = h.notices q there in (staged_arg rules number rule is parameter stage q.rule q.parameter ∙ k.0, k.1);
   }
 
-  -- asked of a datum that isn't closed, it waits as a subscriber
+  -- a parameter whose datum is open when it is asked for waits as a subscriber
   pub named_asked : (id : ℕ) (x : Datum) → old ≡ Unasked → slice_get rule.args parameter ≡ Some (RightArg id) → get m id ≡ Some x → is_closed x ≡ false
       → AreNamed (insert m id (with_subscriber (record { rule = number; parameter = parameter }) x)) s (staged rules number rule is parameter Waiting)
   named_asked id x unasked arg there is_open = record {
@@ -144,10 +144,10 @@ named_delivered m s rules n h has rule is = record {
               omega arith
         ]
 
--- ---- a rule that doesn't wait comes, or goes
+-- ---- a rule that doesn't wait is added, or removed
 
 module _ (m : Data) (s : Notices) (rules : Rules) (h : AreNamed m s rules) where
-  -- what doesn't wait isn't named
+  -- a parameter that doesn't wait isn't named
   pub unnamed : (r p : ℕ) → times_waiting rules r p ≡ 0 → (total (times_subscribed r p) m ≡ 0) × (times_noticed s rules r p ≡ 0)
   unnamed r p none = let o = h.once r p in (omega arith, omega arith)
 
@@ -233,7 +233,7 @@ named_silent m silent = record {
   notices = λ q has. let no : false ≡ true = sym (set.contains-empty notice_cmp q) ∙ has in cc;
 }
 
--- nor in the state in which main waits, whatever the program and the inputs
+-- nor in the state in which main waits, for any program and inputs
 pub opening_named : (program : List Procedure) (inputs : List Input) → NoticesHeld (opening program inputs)
 unfolding opening
 opening_named program inputs = named_silent _ (opening_silent program inputs)

@@ -1,10 +1,10 @@
--- Stages and arguments of a rule that is neither to be asked for nor to be released.
+-- Stages and arguments of a rule that neither has an unasked parameter nor can be released.
 use Rattle.std.proofs.Common.{[], ◌≡◌, ℕ, suc, ◌+◌, ◌<◌, ◌==◌, Bool, true, false, ◌||◌, if◌then◌else◌, List, ◌∷◌, map, slice_get, Some, None, refl, ap, arith}
 use Rattle.tw_no_trap.proofs.MachineNames.{Arg, Closed, Free, Mode, Param, Ready, Ref, RightArg, Stage, Unasked, Val, ValueArg, Waiting, Write, hits, id_of, is_settled, is_unasked, is_write, list_all, list_any, over, right_of, write_by}
 use Rattle.tw_types.specs.Distinct.{is_among}
 use Rattle.tw_code.specs.machine.Pending.{waited_for, written_by}
 
--- ---- what waits
+-- ---- waiting parameters
 
 -- one parameter waits
 waiting_there : (stages : List Stage) → list_any is_unasked stages ≡ false → list_all is_settled stages ≡ false → (j : ℕ) × (slice_get stages j ≡ Some Waiting)
@@ -14,7 +14,7 @@ waiting_there (Unasked ∷ stages) u r = cc
 waiting_there (Waiting ∷ stages) u r = (0, refl)
 waiting_there (Ready ∷ stages) u r = let rest = waiting_there stages u r in (suc rest.0, rest.1)
 
--- where what waits is a right
+-- holds if each waiting parameter is a right
 abbrev pub WaitsForRights : List Stage → List Arg → Type 0
 WaitsForRights stages args = (j : ℕ) → slice_get stages j ≡ Some Waiting → (d : ℕ) × (slice_get args j ≡ Some (RightArg d))
 
@@ -40,9 +40,9 @@ first_waited (Waiting ∷ stages) (RightArg id ∷ args) u r h = record { parame
 first_waited (Ready ∷ stages) (ValueArg x ∷ args) u r h = let f = first_waited stages args u r (λ j e. h (suc j) e) in later f f.first
 first_waited (Ready ∷ stages) (RightArg id ∷ args) u r h = let f = first_waited stages args u r (λ j e. h (suc j) e) in later f f.first
 
--- ---- what is written
+-- ---- written data
 
--- what holds a write holds it by a `write` argument
+-- a write right is held by a `write` argument
 pub written_there : (d : ℕ) (params : List Param) (args : List Arg) → 0 < over (write_by d) (map right_of params) (map id_of args) → is_among d (written_by params args) ≡ true
 written_there d [] args h = absurd (omega arith)
 written_there d (p ∷ params) [] h = absurd (omega arith)

@@ -1,4 +1,4 @@
--- RULE and PUT don't trap where they are asked for.
+-- RULE and PUT don't trap if their checks hold.
 use Rattle.std.proofs.Common.{◌≡◌, ℕ, ℤ, ◌+◌, ◌<◌, ◌==◌, Bool, true, false, if◌then◌else◌, List, [], ◌∷◌, length, slice_get, Option, Some, None, refl, ap, ◌∙◌, arith}
 use Rattle.tw_no_trap.proofs.MachineNames.{ArgumentNotClosed, Called, Context, Datum, FreedDatum, HandedOver, Ok, Param, Procedure, Scalar, Typing, ValuesFit, WrongCall, WrongRegister, WrongType, all_pass, asks_action, asks_args, asks_callee, asks_priority, called, eq-eqb, eqb-true, get, handed_over, held_is_there, is_closed_if_asked, is_control, is_live, is_of_type, ok_or, over, priority_at, procedure_of, put_called, read_by, values_suit, without_args, write_by}
 use Rattle.tw_types.specs.declared.data_type.Scalar.TheVariants as scalar
@@ -32,7 +32,7 @@ module _ (program : List Procedure) (p : Procedure) (c : Context) (typing : Typi
   priority_there (Constant n) met = (n, refl)
   priority_there (Computed register) met = int_there p.registers c.position values register (declared_as (slice_get p.registers register) scalar.Int met.1.0)
 
-  -- what was called, and what was given away for it
+  -- a call, and the rights that were moved into it
   pub record CalledSo (waits : Bool) (call : Called) : Type 0 where
     pub callee : Procedure
     pub is : slice_get program action.procedure ≡ Some callee
@@ -40,7 +40,7 @@ module _ (program : List Procedure) (p : Procedure) (c : Context) (typing : Typi
     pub params : call.params ≡ callee.params
     pub so : GivenSo waits c.store callee.params typing c.rights (without_args callee.params action.args typing) (record { args = call.task.args; rights = call.rights })
 
-  -- what was given away was held, so it is live
+  -- the data of rights that were moved were held, so they are live
   live_so : (waits : Bool) (params : List Param) (left : Typing) (given : HandedOver) → GivenSo waits c.store params typing c.rights left given → (d : ℕ) → 0 < over_params (read_by d) params given.args + over_params (write_by d) params given.args → (x : Datum) × (get c.store.live d ≡ Some x)
   live_so waits params left given so d some =
       let a = so.reads d in

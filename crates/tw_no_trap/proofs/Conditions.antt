@@ -1,11 +1,11 @@
--- What the calls of a store ask is met, where an instruction on data goes.
+-- The checks of the store's calls hold, if an instruction on data succeeds.
 use Rattle.std.proofs.Common.{◌≡◌, ℕ, ℤ, true, not, ◌==◌, slice_get, Some, is_none, refl}
 use Rattle.tw_no_trap.proofs.MachineNames.{Cause, Context, EmptyRegister, Err, NestedScalar, Ok, Result, Scalar, Subscript, Value, WrongRegister, data_instr, datum_at, datum_of, int_at, may_be_read, may_copy_write, may_drop_read, may_drop_write, may_insert, may_look, may_read_members, may_read_members_by, may_retrieve, may_store, must_be_empty, must_have_type, must_ok, must_then, of_type_at, ok_after, ok_first, right_at, suits, there_then}
 use Rattle.tw_code.specs.declared.instr.DataInstr.TheVariants as on_data
 use Rattle.tw_types.specs.declared.data_type.Scalar.TheVariants as scalar
 use Rattle.tw_no_trap.proofs.Steps.{Goes}
 
--- what goes comes to something
+-- a success has a result
 pub goes_ok : {A : Type 0} (r : Result A Cause) (P : A → Type 0) → Goes r P → (x : A) × (r ≡ Ok x) × P x
 goes_ok (Ok x) P h = (x, refl, h)
 goes_ok (Err cause) P h = absurd h

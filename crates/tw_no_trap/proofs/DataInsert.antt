@@ -1,4 +1,4 @@
--- A member goes into a container, with its read: what INSERT leaves fits.
+-- A member is inserted into a container, with its read: the result of INS fits.
 use Rattle.std.proofs.Common.{◌≡◌, ℕ, ◌+◌, ◌<◌, ◌≤◌, true, false, List, [], ◌∷◌, map, slice_set, Option, Some, None, refl, sym, ap, subst, ◌∙◌, arith, inl, inr, nat_cmp}
 use Rattle.tw_no_trap.proofs.MachineNames.{AreSubscriptsFor, Contains, Content, Context, Datum, HasWriters, IsDataType, IsOfType, IsTypedStore, Members, RightType, Set, Store, Subscript, Typing, Unset, balanced_none, cases_eq, count_of, element_is, element_of, entries, eqb-true, get, get-empty, hits, hits_other, hits_same, insert, inside, is_closed, is_container_by, is_element_of, is_scalar, is_write, members_in, members_of, nat_cmp-IsAntisymmetric, nat_cmp_total, over, part, part-le-total, put_balanced, put_or_before, read_by, same_Some, scalar_of, subscripts_in, value_cmp, with_member, write_by}
 use Rattle.std.specs.FinMap as fin
@@ -8,7 +8,7 @@ use Rattle.tw_types.proofs.Subscripts.{members_kinds, one_more_kind}
 use Rattle.tw_no_trap.proofs.Registers.{Fits, Settles, At, Undisturbed, holds_undisturbed, rights_kept, emptied, rights_set}
 use Rattle.tw_no_trap.proofs.Sums.{sum_new}
 
--- ---- how often a datum stands in a map of members
+-- ---- how often a datum is in a map of members
 
 count_values : (d : ℕ) (es : List (Subscript × ℕ)) → count_of d (map (λ e. e.1) es) ≡ sum_of (hits d) es
 count_values d [] = refl
@@ -77,7 +77,7 @@ module _ (typing : Typing) (c : Context) (r w : ℕ → ℕ) (fits : Fits typing
     ];
   }
 
-  -- the type of what stands at an id is as it was
+  -- the type of the datum at an id doesn't change
   type_was : (m : ℕ) (y : Datum) → get (insert c.store.live h.id fuller) m ≡ Some y → (z : Datum) × (get c.store.live m ≡ Some z) × (z.ty ≡ y.ty)
   type_was m y at = elim (put_or_before nat_cmp_total nat_cmp-IsAntisymmetric c.store.live h.id fuller m y at) [
     | inl e ↦ (h.x, ap (get c.store.live) e.0 ∙ h.live, ap (λ (z : Datum). z.ty) e.1)
@@ -138,7 +138,7 @@ module _ (typing : Typing) (c : Context) (r w : ℕ → ℕ) (fits : Fits typing
         };
       }
 
--- where the store and the registers stay, all fits
+-- if the store and the registers don't change, all still fits
 pub same_settles : (typing : Typing) (c k : Context) (r w : ℕ → ℕ) → Fits typing c r w → k.store ≡ c.store → k.rights ≡ c.rights → Settles typing c r w k
 same_settles typing c k r w fits s t =
     let f : Fits typing (record k { store = c.store; rights = c.rights }) r w = record { balanced = fits.balanced; writers = fits.writers; store = fits.store; rights = fits.rights } in
@@ -146,7 +146,7 @@ same_settles typing c k r w fits s t =
     let done : Settles typing c r w (record k { store = c.store; rights = c.rights }) = record { fits = f; others = itself } in
     subst (λ (m : Store). Settles typing c r w (record k { store = m })) (sym s) (subst (λ (u : List (Option ℕ)). Settles typing c r w (record k { store = c.store; rights = u })) (sym t) done)
 
--- a member stands in its container
+-- a member is in its container
 pub found_inside : (x : Datum) (k : Subscript) (m : ℕ) → get (members_in x.content) k ≡ Some m → 0 < subscripts_in m x
 found_inside x k m at = by x.content at
   where
@@ -159,7 +159,7 @@ found_inside x k m at = by x.content at
         let t = count_total m ms in
         omega arith
 
--- what LOOK finds is live, and of the type that the container says
+-- the member that LOOK finds is live, and of the container's element type
 module _ (typing : Typing) (c : Context) (r w : ℕ → ℕ) (fits : Fits typing c r w) where
   pub member_there : (id : ℕ) (x : Datum) (k : Subscript) (m : ℕ) → get c.store.live id ≡ Some x → get (members_in x.content) k ≡ Some m → (y : Datum) × (get c.store.live m ≡ Some y) × (element_of x.ty ≡ Some y.ty)
   member_there id x k m is at = by (get c.store.live m) refl

@@ -1,4 +1,4 @@
--- Each instruction on data, a line an instruction.
+-- Each instruction on data, with one line for each.
 use Rattle.std.proofs.Common.{◌≡◌, ℕ, length, arith}
 use Rattle.tw_no_trap.proofs.MachineNames.{Context, DataInstr, IsDataInstr, Procedure, Typing, ValuesFit, asks_data, data_instr}
 use Rattle.tw_code.specs.declared.instr.DataInstr.TheVariants as on_data

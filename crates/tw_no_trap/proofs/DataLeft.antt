@@ -1,4 +1,4 @@
--- STORE and the drops of rights go where they are asked for, and leave what fits the typing behind them.
+-- STORE, DROPR and DROPW succeed if their checks hold, and their results fit the typing after them.
 use Rattle.std.proofs.Common.{◌≡◌, ℕ, ◌+◌, ◌-◌, ◌<◌, ◌==◌, Bool, true, false, not, ◌&&◌, ◌||◌, List, slice_get, slice_set, Option, Some, None, refl, sym, ap, ◌∙◌, arith}
 use Rattle.tw_no_trap.proofs.MachineNames.{Closed, Completed, Contains, Content, Context, DataInstr, Datum, EmptyRegister, HasWriters, IsOfType, Mode, NestedScalar, Procedure, Ref, RightType, Scalar, Set, Typing, Unset, Val, Value, ValuesFit, Write, WrongRegister, after_data, and_parts, asks_data, data_flow, data_instr, datum_at, datum_of, eq-eqb, eqb-true, get, held, hits, hits_other, hits_same, is_closed, is_read, is_scalar, is_unset, is_write, may_drop_read, may_drop_write, may_store, members_of, ne_eqb, not-true, ok_or, one_write_less, option_and_then, option_flatten, over, passes, read_by, read_dropped, reads, right_at, same_scalar, scalar_itself, scalar_of, set_to, settled, store_after, subscribers_cleared, suits, write_by, writes, writes_scalar}
 use Rattle.tw_code.specs.declared.instr.DataInstr.TheVariants as on_data
@@ -7,7 +7,7 @@ use Rattle.tw_no_trap.proofs.Values.{AllYes, passed, Moves, declared_as, value_f
 use Rattle.tw_no_trap.proofs.Registers.{Fits, Settles, At, at_right, aged_context, emptied, rights_set}
 use Rattle.tw_no_trap.proofs.Steps.{Goes, goes, goes_must, goes_then}
 
--- what an instruction on data leaves
+-- the effect of an instruction on data
 pub record Leaves (registers : List Scalar) (i : DataInstr) (typing : Typing) (old : Context) (r w : ℕ → ℕ) (new : Context) : Type 0 where
   pub moves : Moves registers (data_flow i) old.position new.position
   pub settles : Settles (after_data moves.way i typing) old r w new

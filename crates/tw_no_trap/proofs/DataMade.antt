@@ -1,4 +1,4 @@
--- The copies of rights go where they are asked for, and leave what fits the typing behind them.
+-- DUPR and DUPW succeed if their checks hold, and their results fit the typing after them.
 use Rattle.std.proofs.Common.{◌≡◌, ℕ, ◌+◌, ◌<◌, true, false, not, ◌&&◌, length, is_none, slice_get, slice_set, Option, Some, None, refl, sym, ap, subst, ◌∙◌, arith}
 use Rattle.tw_no_trap.proofs.MachineNames.{Completed, Contains, Content, Context, Datum, EmptyRegister, Holds, IsOfType, Ok, Procedure, RightType, RightsFit, Set, Store, Typing, Unset, ValuesFit, WrongRegister, asks_data, changed, count_of, data_instr, datum_of, eqb-true, get, held, hits, hits_other, hits_same, insert, inside, is_closed, is_free, is_scalar, is_write, may_be_read, may_copy_write, must, must_be_empty, not-true, ok_or, one_read_more, one_write_more, option_flatten, over, passes, put_balanced, read_by, reads, right_at, same_Some, subscripts_in, write_by, writes, writes_scalar}
 use Rattle.tw_code.specs.declared.instr.DataInstr.TheVariants as on_data
@@ -30,7 +30,7 @@ put_context ts us k l r w id x y fits is aged other reads writes some store_is f
     let done : Settles us k r w (record l { store = record k.store { live = insert k.store.live id y } }) = record { fits = new; others = others } in
     subst (λ (s : Store). Settles us k r w (record l { store = s })) (sym store_is) done
 
--- what a register with a right says of its datum
+-- facts on the datum of a register with a right
 pub at_holds : (ts : Typing) (k : Context) (r w : ℕ → ℕ) (d : ℕ) (q : RightType) → Fits ts k r w → (h : At ts k r w d q) → Holds k.store q h.id
 at_holds ts k r w d q fits h = record {
   given = fits.store.fresh h.id h.x h.live;

@@ -1,4 +1,4 @@
--- An instruction on data keeps that just what waits is named.
+-- After an instruction on data exactly the waiting parameters are named.
 use Rattle.std.proofs.Common.{◌≡◌, ℕ, ◌+◌, ◌<◌, ◌==◌, true, false, not, ◌&&◌, [], Option, Some, None, refl, sym, ap, subst, ◌∙◌, arith, inl, inr}
 use Rattle.tw_no_trap.proofs.MachineNames.{AlreadySet, Cause, Contains, Content, Context, Data, DataInstr, Datum, EmptyRegister, FreedDatum, IsOfType, IsTypedStore, Members, NoWriteCount, Ok, Rules, Scalar, Set, Store, Subscript, Unset, UnsetDatum, Value, WhereOk, WrongRegister, WrongType, after_insert, after_look, and_parts, by_deep, cases_eq, changed, data_insert_other, data_insert_same, data_instr, datum_at, datum_of, get, held, insert, int_at, is_closed, is_container_by, is_element_of, is_of, is_scalar, is_unset, may_be_read, may_copy_write, may_drop_read, may_drop_write, may_insert, may_look, may_read_members, may_read_members_by, may_retrieve, may_store, member_at, must, must_be_empty, must_have_type, must_ok, must_then, ne_eqb, new_datum, not-true, notices_after, notices_of, of_type_at, ok_both, ok_or, ok_then, ok_there, one_read_more, one_write_less, one_write_more, read_dropped, right_at, same_Some, set_to, settled, store_after, subscribers_cleared, suits, there_then, value_at, with_member, with_notices}
 use Rattle.tw_types.specs.StoreCalls as store
@@ -39,12 +39,12 @@ HasWriter c (on_data.CopyWrite to from) = (id : ℕ) (x : Datum) → right_at c.
 HasWriter c i = Unit {0}
 
 module _ (rules : Rules) where
-  -- if what is wanted is there, just what waits is named
+  -- if each datum that a parameter waits for is there, exactly the waiting parameters are named
   abbrev pub StaysNamed : Context → Type 0
   StaysNamed c = ((d : ℕ) → Wanted rules d → (y : Datum) × (get c.store.live d ≡ Some y)) → AreNamed c.store.live c.notices rules
 
   module _ (c : Context) (h : AreNamed c.store.live c.notices rules) (was : (d : ℕ) → Wanted rules d → (x : Datum) × (get c.store.live d ≡ Some x)) (typed : IsTypedStore c.store) where
-    -- where each datum comes of one that was, or is new
+    -- if each datum is a change of an earlier one, or is new
     pub stays_from : (k : Context) → k.notices ≡ c.notices → ((d : ℕ) (y : Datum) → get k.store.live d ≡ Some y → IsFrom (get c.store.live d) y) → StaysNamed k
     stays_from k same from stays =
         let f = named_follows c.store.live k.store.live c.notices rules h (record { from = from; was = was; stays = stays }) in
@@ -111,7 +111,7 @@ module _ (rules : Rules) where
     looked_stays register skip None = stays_same (after_look c register skip None) refl refl
     looked_stays register skip (Some member) = stays_from (after_look c register skip (Some member)) refl (changed_from member one_read_more (λ x e. (refl, refl)))
 
-    -- what a question of the store says of the datum that it is asked of
+    -- facts on a datum that follow from a check of the store
     store_open : (x : Value) (d : Datum) → may_store x (Some d) ≡ Ok tt → is_closed d ≡ false
     store_open x d e =
         let of = must_then (is_of x d.ty) WrongType _ tt e in

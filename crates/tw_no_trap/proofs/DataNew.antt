@@ -1,4 +1,4 @@
--- NEW goes where it is asked for: a new datum, with one write and one read.
+-- NEW succeeds if its checks hold: a new datum, with one write and one read.
 use Rattle.std.proofs.Common.{◌≡◌, ◌≢◌, ℕ, ◌+◌, ◌<◌, ◌≤◌, ◌==◌, Bool, true, false, not, if◌then◌else◌, [], map, length, is_none, slice_get, slice_set, Option, Some, None, refl, sym, ap, subst, ◌∙◌, arith, inl, inr, nat_cmp}
 use Rattle.tw_no_trap.proofs.MachineNames.{Completed, Contains, Context, Datum, HasWriters, Holds, IsDataType, IsOfType, IsTypedStore, NestedScalar, Procedure, Ref, RightType, Store, Typing, Unset, ValuesFit, Write, WrongRegister, a_read, a_write, asks_data, balanced_none, cases_Bool, count_of, created, data_insert_other, data_insert_same, data_instr, empty_content, entries, eqb-false, get, get-empty, hits, hits_other, hits_same, inside, is_closed_mode, is_scalar, len-empty, len-entries, members_of, must, must_be_empty, nat_cmp-IsAntisymmetric, nat_cmp_total, new_balanced, new_datum, not-true, option_flatten, over, part, part-le-total, put_or_before, read_by, same_Some, subscripts_in, value_cmp, write_by}
 use Rattle.std.specs.FinMap as fin

@@ -1,4 +1,4 @@
--- Instructions that read data, or put a member into a container, go where they are asked for, and leave what fits.
+-- Instructions that read data, or insert a member, succeed if their checks hold, and their results fit.
 use Rattle.std.proofs.Common.{◌≡◌, ℕ, ◌+◌, ◌<◌, ◌==◌, pos, true, false, not, ◌||◌, length, is_none, slice_get, slice_set, Option, Some, None, refl, sym, ap, subst, ◌∙◌, arith}
 use Rattle.tw_no_trap.proofs.MachineNames.{Completed, Contains, Content, Context, Datum, EmptyRegister, FreedDatum, Holds, IsOfType, NestedScalar, Ok, Procedure, Ref, RightType, Scalar, Set, Skipped, Store, Subscript, Typing, Unset, UnsetDatum, Value, ValuesFit, WrongRegister, a_member_read, a_read, after_insert, after_look, and_parts, asks_data, balanced_some, by_deep, changed, data_instr, datum_at, datum_of, element_of, get, given, held, hits, hits_other, hits_same, insert, inserted, int_at, is_closed, is_closed_mode, is_container_by, is_element_of, is_kept, is_read, is_scalar, is_write, may_insert, may_look, may_read_members, may_read_members_by, may_retrieve, member_at, members_at, members_in, must, must_be_empty, must_have_type, ne_eqb, not-true, of_type_at, ok_or, one_read_more, option_and_then, option_flatten, over, passes, read_by, reads_closed_container, reads_closed_container_by, reads_closed_scalar, reads_member_of, right_at, same_Some, same_scalar, scalar_itself, scalar_of, subscript_after, suits, value_at, value_in, with_member, with_result, write_by, writes_container_by}
 use Rattle.std.specs.FinMap as map
@@ -24,7 +24,7 @@ closed_value x scalar of closed = at x.content of closed
     at (Set v) h c = (v, refl, h.1)
     at (Contains members) h c = let z : true ≡ false = sym scalar ∙ h.0 in cc
 
--- what is a member of the type has a read on it after LOOK
+-- LOOK gives a read right of the container's element type
 member_read : (ty element : NestedScalar) → element_of ty ≡ Some element → option_and_then a_read (element_of ty) ≡ a_read element
 member_read ty element e = ap (option_and_then a_read) e
 

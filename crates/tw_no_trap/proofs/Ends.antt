@@ -1,4 +1,4 @@
--- A quiet end leaves the outputs and what they hold; in a stuck one each rule waits for what a rule may write.
+-- A quiet end leaves only the outputs and their members; in a stuck state each rule waits for a datum that a rule may write.
 use Rattle.std.proofs.Common.{◌≡◌, ◌⊎◌, inl, inr, ℕ, zero, suc, ◌+◌, ◌<◌, ◌≤◌, ◌==◌, Bool, true, false, not, ◌&&◌, if◌then◌else◌, T, List, [], ◌∷◌, map, slice_get, length, Option, Some, None, refl, sym, ap, subst, ◌∙◌, arith, nat_cmp}
 use Rattle.tw_no_trap.proofs.MachineNames.{Arg, Contains, Content, Datum, HasWriters, IsEntry, IsHeld, Notice, Procedure, RightArg, Rule, Set, State, Typings, Unset, ValueArg, Waiting, actor_cmp, and_parts, arg_at, balanced_none, balanced_some, cases_eq, count_of, depth_of, element_of, entries, entries_sorted, eq-eqb, eqb-false, eqb-true, frame_reads, frame_writes, get, get_entry, has_unasked, held_is_there, inside, is_closed, is_releasable, is_sorted, len, len-entries, list_any, nat_cmp-IsAntisymmetric, nat_cmp_total, not-true, notice_cmp, params_of, part, part-le-total, reads_of, rule_reads, rule_writes, same_Some, stage_at, subscripts_in, task_reads, task_writes, times_at, times_noticed, times_noticed_by, times_subscribed, times_waiting, total, values, writes_of}
 use Rattle.std.specs.FinMap.Entries.{below_all}
@@ -16,7 +16,7 @@ use Rattle.tw_no_trap.specs.EndsWell.{EndsWell, IsBlockedRule, IsKept, LeavesOut
 use Rattle.tw_no_trap.proofs.Blocked.{IsFirstWaited, first_waited, written_there}
 use Rattle.tw_no_trap.proofs.Entries.{entry_of, none_of, none_passes, not_below, some_part}
 
--- ---- what an ending says
+-- ---- consequences of an ending
 
 quiet_parts : (s : State) → ending s ≡ Some Quiet → (is_quiet s ≡ true) × (len s.rules ≡ 0)
 quiet_parts s h = by (is_quiet s) refl (len s.rules == 0) refl h
@@ -52,7 +52,7 @@ open_writes x writers unfinished = by x.content writers unfinished
     by (Set v) zero_is h = cc
     by (Contains members) w h = let some = eqb-false x.writes 0 h in omega arith
 
--- ---- rules by their numbers, as they are told
+-- ---- rules by their numbers, as they are reported
 
 rules_in : (program : List Procedure) (e : ℕ × Rule) (es : List (ℕ × Rule)) → IsEntry e es → IsIn (pending_of program e) (map (pending_of program) es)
 rules_in program e [] i = absurd i
@@ -138,7 +138,7 @@ module _ (program : List Procedure) (typings : Typings) (s : State) (held : IsHe
         let of : element_of p.1.ty ≡ Some x.ty = held.types.store.nested.members p.0 d p.1 x p.2 is p.3 in
         record { container = p.0; y = p.1; live = p.2; has = p.3; deeper = element_depth p.1.ty x.ty of; few = held.types.store.nested.types p.0 p.1 p.2 }
 
-    -- so it is an output or is held by one, by recursion on how much deeper a type may be
+    -- it is an output or a member of one, by recursion on how much deeper a type may be
     kept_within : (more d : ℕ) (x : Datum) → get s.store.live d ≡ Some x → 3 ≤ depth_of x.ty + more → IsKept s d
     kept_within zero d x is deep = elim (cases_eq (count_of d s.outputs) 0) [
       | inr some ↦ output (omega arith)
@@ -180,7 +180,7 @@ module _ (program : List Procedure) (typings : Typings) (s : State) (held : IsHe
     unsettled : is_releasable rule ≡ false
     unsettled = none_passes is_releasable (entries s.rules) (number, rule) (not-true _ idle.1) entry
 
-    -- what waits is a subscriber of an open datum, its own
+    -- a parameter that waits is a subscriber of its own open datum
     record WaitsFor (j : ℕ) : Type 0 where
       id : ℕ
       x : Datum
@@ -248,7 +248,7 @@ module _ (program : List Procedure) (typings : Typings) (s : State) (held : IsHe
       let e = in_rules program r (entries s.rules) i in
       subst (IsBlocked (pending_rules program s)) (sym e.2) (blocked_one e.0.0 e.0.1 (get_entry nat_cmp nat_cmp_total s.rules e.0 e.1))
 
-  -- ---- the law
+  -- ---- the theorem
 
   circle_found : (len s.rules ≡ 0 → ⊥) → (links : List Link) × (circle_of (pending_rules program s) ≡ Some links) × IsCircle (pending_rules program s) links
   circle_found some = by (entries s.rules) (len-entries s.rules) (numbered program (entries s.rules) (entries_sorted s.rules)) all_blocked

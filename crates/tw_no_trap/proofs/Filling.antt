@@ -21,7 +21,7 @@ pub record IsFilling (t : Store) (ty : Scalar) (left : ℕ) (r w : ℕ → ℕ) 
 pub inside-le : (t : Store) (c d : ℕ) (x : Datum) → get t.live c ≡ Some x → subscripts_in d x ≤ inside t.live d
 inside-le t c d x at = subst (λ (o : Option Datum). part (subscripts_in d) o ≤ inside t.live d) at (part-le-total nat_cmp nat_cmp_total nat_cmp-IsAntisymmetric (subscripts_in d) t.live c)
 
--- the datum that is added, where so many members are left then
+-- the datum that is added, with `left` members still to come
 pub record IsNext (t : Store) (y : Datum) (ty : Scalar) (left : ℕ) (r w s v : ℕ → ℕ) : Type 0 where
   pub content : IsOfType y.ty y.content
   pub shallow : IsDataType y.ty
@@ -157,7 +157,7 @@ module _ (t : Store) (ty : Scalar) (r w : ℕ → ℕ) (f : IsFilling t ty 0 r w
           let zero : inside t.live d ≡ 0 = elim (cases_lt d t.next) [ inl l ↦ f.freed d l e | inr l ↦ f.never d (omega arith) ] in
           subst (λ o. BalancedAt o (inside t.live d) (r d) (w d)) (sym e) (zero, u.0, u.1)
 
--- a datum without members, where none is awaited
+-- a datum without members, if no member is to come
 pub plain_next : (t : Store) (of ty : Scalar) (r w s v : ℕ → ℕ) (y : Datum) → IsFilling t of 0 r w → IsOfType y.ty y.content → IsDataType y.ty → HasWriters y.content y.writes → members_of y.content ≡ []
     → ((d : ℕ) → (d ≡ t.next → ⊥) → (s d ≡ r d) × (v d ≡ w d)) → y.reads ≡ s t.next → y.writes ≡ v t.next → 0 < y.reads + y.writes → IsNext t y ty 0 r w s v
 plain_next t of ty r w s v y f content shallow writers empty others reads writes some = record {

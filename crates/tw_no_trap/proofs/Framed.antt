@@ -1,4 +1,4 @@
--- A task, a rule or a frame is put into a state.
+-- Putting a task, a rule or a frame into a state.
 use Rattle.std.proofs.Common.{◌≡◌, ℕ, ◌+◌, List, slice_get, Some, None, sym, ap, subst, ◌∙◌, arith, inl, inr, nat_cmp}
 use Rattle.tw_no_trap.proofs.MachineNames.{Actor, AreBegun, ArgsFit, BudgetsHeld, CountsHeld, Frame, IsBudget, NumbersHeld, Procedure, RightsFit, Rule, RuleArgsFit, Stands, State, Task, TypesHeld, Typings, ValuesFit, actor_cmp, actor_cmp-IsAntisymmetric, actor_cmp_total, balanced_same, before_removal, flows, frame_reads, frame_writes, get, nat_cmp-IsAntisymmetric, nat_cmp_total, put_or_before, remove, rule_reads, rule_writes, same_Some, task_reads, task_writes, typing_of, with_frame, with_rule, with_task}
 use Rattle.tw_budget.specs.Frames.{IsWithinBudget}
@@ -128,7 +128,7 @@ module _ (program : List Procedure) (typings : Typings) where
       ];
     }
 
-  -- ---- counts: what a frame gave away stands in a task or a rule, and back
+  -- ---- counts: rights move from a frame to a task or a rule, and back
 
   module _ (s : State) (a : Actor) (f f₁ : Frame) (is : get s.frames a ≡ Some f) where
     pub counts_put : (task : Task) → get s.tasks s.next_task ≡ None

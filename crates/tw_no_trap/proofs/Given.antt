@@ -1,4 +1,4 @@
--- What RULE and PUT ask for goes: the rights leave their registers and stand for the parameters.
+-- RULE and PUT move rights out of their registers, and make them arguments of the parameters, if their checks hold.
 use Rattle.std.proofs.Common.{◌≡◌, ℕ, ◌+◌, ◌<◌, Bool, true, false, not, ◌||◌, if◌then◌else◌, List, [], ◌∷◌, ◌++◌, map, length, slice_get, slice_set, Option, Some, None, is_some, refl, sym, ap, subst, ◌∙◌, arith, inl, inr}
 use Rattle.tw_no_trap.proofs.MachineNames.{Arg, ArgFits, ArgsFit, Cause, Closed, Datum, EmptyRegister, Free, HandedOver, Holds, Mode, NestedScalar, Ok, Param, Ref, Result, RightArg, RightType, Rights, RightsFit, RuleArgsFit, Scalar, Store, Typing, Unasked, Val, Value, ValueArg, ValuesFit, Write, WrongRegister, all_pass, and_from, and_parts, asks_args, asks_value, cases_Bool, first_stage, get, handed_over, has_type, held, hits, hits_same, is_asked_for, is_closed, is_closed_if_asked, is_closed_mode, is_live, is_of_type, is_read, is_val, is_write, may_stand_for, ok_or, option_flatten, or_left, or_right, over, passes, read_by, right_at, right_of, right_until, same_scalar, same_type, same_types, scalar_itself, scalar_of, suits_mode, type_itself, values_suit, with_arg, without_args, write_by}
 use Rattle.tw_types.specs.Result.{◌>>=◌}
@@ -7,7 +7,7 @@ use Rattle.tw_no_trap.proofs.Registers.{Found, found, emptied, rights_set}
 use Rattle.tw_no_trap.proofs.Steps.{Goes, goes_more, goes}
 use Rattle.tw_no_trap.proofs.Values.{AllYes, declared_as, value_found, passed}
 
--- ---- what stands for a parameter
+-- ---- the argument of a parameter
 
 -- a right that suits the parameter, held on this datum
 pub record StandsFor (waits : Bool) (s : Store) (p : Param) (id : ℕ) : Type 0 where
@@ -28,7 +28,7 @@ ArgsStand waits s [] (arg ∷ args) = ⊥
 ArgsStand waits s (p ∷ params) [] = ⊥
 ArgsStand waits s (p ∷ params) (arg ∷ args) = ArgStands waits s p (is_val p.mode) arg × ArgsStand waits s params args
 
--- what the registers were given away for
+-- the arguments into which the registers' rights were moved
 pub record GivenSo (waits : Bool) (s : Store) (params : List Param) (typing : Typing) (rights : Rights) (left : Typing) (given : HandedOver) : Type 0 where
   pub args : ArgsStand waits s params given.args
   pub rights_left : RightsFit s left given.rights
@@ -146,7 +146,7 @@ module _ (waits : Bool) (s : Store) (declared : List Scalar) (values : List Valu
         and_from (not (is_val p.mode) || has_type (slice_get values r) p) (values_suit values params registers) (or_left (not (is_val p.mode)) (has_type (slice_get values r) p) (ap not e)) (values_met params registers (slice_set typing r None) asked.1)
   ]
 
--- ---- what is asked of their data
+-- ---- the checks of their data
 
 -- C2: what somebody holds is live
 pub all_live : (waits : Bool) (s : Store) (params : List Param) (args : List Arg) → ArgsStand waits s params args
@@ -202,7 +202,7 @@ all_closed s (p ∷ params) (RightArg id ∷ args) h = elim (cases_Bool (is_val 
         by Ref suits = refl
         by Write suits = refl
 
--- ---- what the arguments are then
+-- ---- the arguments then
 
 holds_as : (waits : Bool) (s : Store) (p : Param) (id : ℕ) (mode : Mode) → StandsFor waits s p id → (is_closed_mode mode ≡ true → is_closed_mode p.mode ≡ true) → (is_closed_mode mode ≡ true → waits ≡ false) → Holds s (record { mode = mode; ty = p.ty }) id
 holds_as waits s p id mode f to now = record {

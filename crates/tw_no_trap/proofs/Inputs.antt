@@ -1,4 +1,4 @@
--- Each input that main is given makes a store that is right: closed, with one read, which main holds.
+-- Each input of main makes a right store: its data are closed, with one read, which main holds.
 use Rattle.std.proofs.Common.{◌≡◌, ℕ, ◌+◌, ◌<◌, ◌≤◌, ◌⊎◌, inl, inr, Bool, true, false, List, [], ◌∷◌, fold, length, Some, None, refl, sym, ap, subst, ◌∙◌, arith}
 use Rattle.tw_no_trap.proofs.MachineNames.{Balanced, Contains, Datum, HaveWriters, Holds, Input, IsTypedStore, Mode, NestedScalar, Scalar, Store, Subscript, Value, added, added_given, and_parts, cases_eq, closed_scalar, container_of, count_of, data_insert_same, get, get-empty, hits, hits_other, hits_same, insert, insert_other, is_closed, is_short, nat_le, numbered, put_or_before, same_Some, same_scalar, same_type, same_types, scalar_itself, scalar_of, scalar_type, subscripts_in, tied_itself, total-empty, value_cmp, with_container, with_input}
 use Rattle.std.specs.declared.cmp.Ordering.TheVariants.{Less}
@@ -87,7 +87,7 @@ right_filled s ty r w h = filled s ty r w h.typed h.balanced h.writers
 pub filled_right : (s : Store) (ty : Scalar) (r w : ℕ → ℕ) → IsFilling s ty 0 r w → IsRight s r w
 filled_right s ty r w f = record { typed = filled_typed s ty r w f; balanced = filled_balanced s ty r w f; writers = f.writers }
 
--- what an input leaves: one datum more that main holds a read of, and that it may wait for
+-- the effect of an input: one more datum, of which main holds a read, and for which it may wait
 pub record IsGiven (s t : Store) (ty : NestedScalar) (r w : ℕ → ℕ) : Type 0 where
   pub right : IsRight t (λ d. r d + hits d s.next) w
   pub others : Undisturbed s t
@@ -130,7 +130,7 @@ fill_members (e ∷ es) t by ty r w f of =
     let rest = fill_members es (added t (closed_scalar e.1)) by ty r w (added_filling t ty (length es + 1) r w g (closed_scalar e.1) ty (length es) r w (member_next t ty (length es) r w e.1 g of.1)) of.2 in
     (rest.0, undisturbed_after t (added t (closed_scalar e.1)) (fold add_member (added t (closed_scalar e.1)) es) (undisturbed_added t ty (length es + 1) r w g (closed_scalar e.1)) rest.1)
 
--- ---- a datum that stands at the next id, closed
+-- ---- a closed datum at the next id
 
 closed_holds : (s : Store) (y : Datum) (mode : Mode) → is_closed y ≡ true → Holds (added s y) (record { mode = mode; ty = y.ty }) s.next
 closed_holds s y mode closed = record {
@@ -144,7 +144,7 @@ closed_holds s y mode closed = record {
 
 -- ---- containers
 
--- each member stands at a subscript of the container's type
+-- each member has a subscript of the container's type
 numbered_by : (es : List (Subscript × Value)) (id : ℕ) (by ty : Scalar) (k : Subscript) (m : ℕ) → AreTyped by ty es → get (numbered id es) k ≡ Some m → same_scalar (scalar_of k) by ≡ true
 numbered_by [] id by ty k m of at = let z : None ≡ Some m = sym (get-empty value_cmp k) ∙ at in cc
 numbered_by (e ∷ es) id by ty k m of at = elim (put_or_before value_cmp_total value_cmp-IsAntisymmetric (numbered (id + 1) es) e.0 id k m at) [
@@ -224,7 +224,7 @@ module _ (s : Store) (r w : ℕ → ℕ) (h : IsRight s r w) where
         holds = λ mode. closed_holds s (closed_scalar v) mode refl;
       }
 
-  -- ---- what an input gives
+  -- ---- the data of an input
 
   given_right : (given : Given) (ty : NestedScalar) → IsTyped given → is_given_for ty given ≡ true → IsGiven s (added_given s given) ty r w
   given_right (Single x) ty of fit =

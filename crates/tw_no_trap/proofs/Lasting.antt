@@ -1,5 +1,5 @@
--- What an event leaves as it was: data that were there keep their types and stay closed, the host has its outputs, and the
--- numbers of tasks that run are below the next one.
+-- The parts that an event keeps: data that were there keep their types and stay closed, the host keeps its outputs, and the
+-- numbers of running tasks are below the next one.
 use Rattle.std.proofs.Common.{◌≡◌, ℕ, ◌+◌, ◌<◌, ◌≤◌, List, [], ◌∷◌, slice_get, Some, inl, inr, refl, sym, ap, subst, ◌∙◌, arith}
 use Rattle.tw_no_trap.proofs.MachineNames.{Actor, ActorCounts, Cause, Context, DataInstr, Datum, Event, Frame, Frames, Instr, IsHeld, Ok, Procedure, Result, State, Task, Typings, Went, WhereOk, WrongCall, actor_cmp-IsAntisymmetric, actor_cmp_total, before_removal, called, context_of, data_instr, filled, frame_of, get, insert, ok_both, ok_of, ok_there, put_called, put_or_before, same_Some, subscribed, values_in}
 use Rattle.tw_types.specs.declared.event.Event.TheVariants.{Take, Local, Call, End, Ask, Deliver, Release}

@@ -1,4 +1,4 @@
--- What is held is live: by a register, an argument of a task or of a rule, an output, a container and a notice.
+-- A datum is live if something holds it: a register, an argument of a task or of a rule, an output, a container or a notice.
 use Rattle.std.proofs.Common.{[], ◌≡◌, ℕ, zero, suc, ◌+◌, ◌≤◌, Bool, true, false, List, ◌∷◌, slice_get, if◌then◌else◌, Option, Some, None, refl, sym, ap, subst, ◌∙◌, arith, nat_cmp}
 use Rattle.tw_no_trap.proofs.MachineNames.{Actor, Arg, ArgFits, ArgsFit, Datum, Frame, Free, IsHeld, Notice, Param, Procedure, Ready, Ref, RightArg, RightType, Rights, RightsFit, Rule, RuleArgsFit, Stage, State, Store, Task, Typing, Typings, Unasked, Waiting, context_of, count_of, get, held_is_there, hits, hits_same, is_val, is_write, nat_cmp-IsAntisymmetric, nat_cmp_total, option_flatten, params_in, part, part-le-total, read_by, read_until, reads_of, right_at, right_of, right_until, rule_reads, rule_writes, same_Some, task_reads, task_writes, total, typing_of, write_by, writes_of}
 use Rattle.std.specs.FinSet as set
@@ -29,7 +29,7 @@ read_until_counts s p d fit = until (is_val p.mode) fit
     until true fit = absurd fit
     until false fit = right_counts d (record { mode = p.mode; ty = p.ty })
 
--- of a rule's argument too, whatever its stage
+-- also the datum of a rule's argument, at any stage
 staged_right : (s : Store) (stage : Stage) (p : Param) (d : ℕ) → ArgFits s p (right_until stage p) (RightArg d) → read_by d (right_of p) (Some d) + write_by d (right_of p) (Some d) ≡ 1
 staged_right s Free p d fit = arg_counts s p (right_of p) d fit
 staged_right s Unasked p d fit = read_until_counts s p d fit
@@ -59,7 +59,7 @@ rule_args_count s (p ∷ params) (stage ∷ stages) (arg ∷ args) zero d fit at
     rw arg_is (omega arith)
 rule_args_count s (p ∷ params) (stage ∷ stages) (arg ∷ args) (suc k) d fit at = let rest = rule_args_count s params stages args k d fit.2 at in omega arith
 
--- where a register holds an id, its typing has a right
+-- if a register has an id, its typing has a right
 pub typed_where_held : (s : Store) (typing : Typing) (rights : Rights) (k d : ℕ) → RightsFit s typing rights → right_at rights k ≡ Some d → (right : RightType) × (right_at typing k ≡ Some right)
 typed_where_held s [] [] k d fit at = cc
 typed_where_held s [] (r ∷ rights) k d fit at = absurd fit

@@ -1,4 +1,4 @@
--- A typing has all 16 registers, and so have the registers: one that is free is there.
+-- A typing has 16 registers, and so has the bank: a free register exists.
 use Rattle.std.proofs.Common.{◌≡◌, ℕ, zero, suc, ◌-◌, ◌<◌, ◌≤◌, Bool, true, false, if◌then◌else◌, List, [], ◌∷◌, map, length, replicate, slice_get, slice_set, Option, Some, None, refl, ap, ◌∙◌, arith, length-append}
 use Rattle.tw_no_trap.proofs.MachineNames.{Completed, DataInstr, Instr, Param, Procedure, RightType, Rights, RightsFit, Skipped, Store, Typing, a_member_read, a_read, a_write, after, after_data, get_or, is_free, is_val, length-map, length-replicate, params_of, right_at, rights_given, slice_get-get_or, slice_get_within, start_typing, without_args}
 use Rattle.tw_code.specs.declared.flow.Way.{Way}

@@ -1,4 +1,4 @@
--- Names of the machine, of its state and of what is known of them, for the files here.
+-- Names of the machine, of its state and of its invariants, for the files here.
 pub use Rattle.std.proofs.lemmas.Bool.{and_from, and_parts, cases_Bool, cases_eq, cases_lt, eq-eqb, eqb-false, eqb-true, leb-true, ne_eqb, not-true, or_left, or_right}
 pub use Rattle.std.proofs.lemmas.List.{append-nil, append_assoc, length-map, length-replicate, map-append}
 pub use Rattle.std.proofs.lemmas.Option.{same_Some, slice_get-get_or, slice_get-map, slice_get_within}

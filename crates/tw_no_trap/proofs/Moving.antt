@@ -1,4 +1,4 @@
--- Where a task goes on: in the loops that it has begun, within its budget, and with the typing of the place.
+-- Where a task continues: in the loops that it has begun, within its budget, and with the typing of the place.
 use Rattle.std.proofs.Common.{◌≡◌, ℕ, zero, suc, ◌+◌, ◌<◌, ◌==◌, ◌⊎◌, inl, inr, List, [], ◌∷◌, length, slice_get, get_or, Some, None, refl, sym, ap, subst, ◌∙◌, arith, if◌then◌else◌}
 use Rattle.tw_no_trap.proofs.MachineNames.{Accepts, AreBegun, Completed, Cursor, DataInstr, Instr, Loop, NotEnabled, Outcome, Position, Procedure, Skipped, Stands, Typing, after, asks, asks_at, asks_params, data_flow, flow_of, flows, length-map, local_flow, local_of, local_step, local_steps, moved, onward, option_and_then, option_map, outcome_of, same_Some, slice_get-get_or, slice_get-map, slice_get_within, turned}
 use Rattle.tw_code.specs.declared.flow.Flow.{Flow}
@@ -107,7 +107,7 @@ module _ (program : List Procedure) (typings : List Typing) (p : Procedure) (acc
   instr_there (i ∷ code) zero h = (i, refl)
   instr_there (i ∷ code) (suc place) h = instr_there code place (omega arith)
 
-  -- its instruction is asked for
+  -- the checks of its instruction hold
   pub asked : (place : ℕ) (i : Instr) → slice_get p.code place ≡ Some i → AllYes (asks program p i (get_or typings place []))
   asked place i here =
       yes_behind (if place == 0 then asks_params p else []) (asks program p i (get_or typings place []))
@@ -118,7 +118,7 @@ module _ (program : List Procedure) (typings : List Typing) (p : Procedure) (acc
   has_loop spent at i s here closes =
       end_goes_on (flows p.code) at.place at.loops (s.within accepts.budget.0 accepts.budget.1).fits (flow_there at.place i here ∙ ap Some closes)
 
-  -- where a task moves it stands, one instruction later
+  -- after a move a task has a right position, one instruction later
   pub stands_on : (spent : ℕ) (at to : Position) (i : Instr) → Stands p spent at → slice_get p.code at.place ≡ Some i → Moves p.registers (flow_of i) at to → Stands p (spent + 1) to
   stands_on spent at to i s here m =
       let cursor : Cursor = record { place = to.place; loops = to.loops } in
@@ -172,7 +172,7 @@ module _ (program : List Procedure) (typings : List Typing) (p : Procedure) (acc
   pub at_other : (at : Position) (i : Instr) → slice_get p.code at.place ≡ Some i → local_of i ≡ None → local_step p.code at ≡ NotEnabled
   at_other at i here none = rw (here, none) refl
 
-  -- a local instruction goes
+  -- a local instruction succeeds
   pub step_goes : (typing : Typing) (spent : ℕ) (at : Position) (i : LocalInstr) → IsLeftBy typing spent at → slice_get p.code at.place ≡ Some (instr.Local i) → Happens (local_step p.code at) (IsLeftBy typing (spent + 1))
   step_goes typing spent at i l here =
       subst (λ (o : Outcome Position). Happens o (IsLeftBy typing (spent + 1))) (sym (at_local at i here))
@@ -192,7 +192,7 @@ module _ (program : List Procedure) (typings : List Typing) (p : Procedure) (acc
       by (instr.Put action) here = waits_keeps (local_step p.code at) (IsLeftBy typing (spent + 1)) (at_other at (instr.Put action) here refl)
       by instr.Ret here = waits_keeps (local_step p.code at) (IsLeftBy typing (spent + 1)) (at_other at instr.Ret here refl)
 
-  -- so many of them don't trap
+  -- several of them don't trap
   pub steps_keep : (n : ℕ) (typing : Typing) (spent : ℕ) (at : Position) → IsLeftBy typing spent at → Keeps (local_steps n p.code at) (IsLeftBy typing (spent + n))
   steps_keep zero typing spent at l = let same : spent ≡ spent + 0 = omega arith in subst (λ (m : ℕ). IsLeftBy typing m at) same l
   steps_keep (suc n) typing spent at l =

@@ -1,4 +1,4 @@
--- Subscribers and notices name just the parameters that wait, whatever happens to data, notices and rules.
+-- Subscribers and notices name exactly the parameters that wait, after any change of data, notices and rules.
 use Rattle.std.proofs.Common.{◌≡◌, ◌≢◌, ℕ, ◌+◌, ◌≤◌, inl, inr, Bool, true, false, if◌then◌else◌, [], Option, Some, None, refl, sym, ap, subst, ◌∙◌, arith}
 use Rattle.tw_no_trap.proofs.MachineNames.{Data, Datum, Notice, Notices, RightArg, Rules, arg_at, cases_Bool, cases_eq, data_insert_other, data_insert_same, get, insert, is_closed, notices_of, part, same_Some, stage_at, subscribers_cleared, times_among, times_noticed, times_subscribed, times_waiting, total, with_notices}
 use Rattle.std.specs.FinSet as set
@@ -7,7 +7,7 @@ use Rattle.tw_code.proofs.Sets.{told_keeps, told_has, told_only}
 use Rattle.tw_code.proofs.Subscribed.{subscribed_put, subscribed-le, waits-le, noticed_at, noticed_one, noticed_alike, silenced, and_told}
 use Rattle.tw_no_trap.proofs.Sums.{same_bool, subscribed_same}
 
--- ---- what waits
+-- ---- waiting parameters
 
 -- a datum for which a parameter waits
 pub record Wanted (rules : Rules) (id : ℕ) : Type 0 where
@@ -23,7 +23,7 @@ module _ (m : Data) (s : Notices) (rules : Rules) (h : AreNamed m s rules) where
       let l : times_waiting rules rule parameter ≤ 1 = waits-le (stage_at (get rules rule) parameter) in
       omega arith
 
-  -- the datum of a subscriber is wanted
+  -- a parameter waits for the datum of a subscriber
   pub subscriber_wants : (id : ℕ) (x : Datum) (rule parameter : ℕ) → get m id ≡ Some x → 0 ≢ times_subscribed rule parameter x → Wanted rules id
   subscriber_wants id x rule parameter is some =
       let e = h.once rule parameter in
@@ -31,7 +31,7 @@ module _ (m : Data) (s : Notices) (rules : Rules) (h : AreNamed m s rules) where
       let k = subscribed-le rule parameter m id x is in
       record { rule = rule; parameter = parameter; waits = omega arith; arg = (h.subscribers id x rule parameter is some).1 }
 
-  -- so is that of a notice
+  -- a parameter waits for the datum of a notice
   pub notice_wants : (n : Notice) → set.contains s n ≡ true → Wanted rules n.datum
   notice_wants n is =
       let e = h.once n.rule n.parameter in
@@ -41,12 +41,12 @@ module _ (m : Data) (s : Notices) (rules : Rules) (h : AreNamed m s rules) where
 
 -- ---- data change, with their subscribers and as closed as before
 
--- a datum that is there comes of one that was, or is new and has no subscribers
+-- a datum is a change of an earlier one, or is new and has no subscribers
 abbrev pub IsFrom : Option Datum → Datum → Type 0
 IsFrom None y = y.subscribers ≡ []
 IsFrom (Some x) y = (y.subscribers ≡ x.subscribers) × (is_closed y ≡ is_closed x)
 
--- each datum comes so, and what is wanted was there and stays
+-- each datum is a change of an earlier one, and each one that is waited for was there and stays
 pub record Follows (m n : Data) (rules : Rules) : Type 0 where
   pub from : (d : ℕ) (y : Datum) → get n d ≡ Some y → IsFrom (get m d) y
   pub was : (d : ℕ) → Wanted rules d → (x : Datum) × (get m d ≡ Some x)

@@ -1,4 +1,4 @@
--- Each task that runs has exactly one next step, which goes, and is below its budget.
+-- Each running task has exactly one next step, which succeeds, and is below its budget.
 use Rattle.std.proofs.Common.{◌≡◌, ℕ, ◌+◌, inl, inr, true, false, List, slice_get, Some, None, is_none, refl, sym, ap, subst, ◌∙◌}
 use Rattle.tw_no_trap.proofs.MachineNames.{◌>>=◌, ◌>>◌, Accepts, Actor, ActorCounts, Cause, Err, ExactlyOne, Frame, GivesState, HasOneStep, Instr, IsBelowBudget, IsHeld, NotEnabled, Ok, Outcome, Position, Procedure, Result, RightLeft, State, Trap, Typings, Went, after_context, asks, called, context_of, data_instr, flows, get, gone_behind, list_all, must, new_rule, number_in_kind, only_if, outcome_of, put_called, remove, typing_of, with_frame, with_rule, with_task}
 use Rattle.tw_code.specs.declared.instr.Instr.TheVariants as instr
@@ -13,7 +13,7 @@ use Rattle.tw_no_trap.proofs.Steps.{Goes, Happens}
 use Rattle.tw_no_trap.proofs.Values.{AllYes}
 use Rattle.tw_no_trap.proofs.TaskEvents.{fits_of, other_reads, other_writes}
 
--- what goes gives a state
+-- a success is a state
 goes_gives : {A : Type 0} (r : Result A Cause) (f : A → State) (P : A → Type 0) → Goes r P → GivesState (outcome_of r >>= λ x. Went (f x))
 goes_gives (Ok x) f P h = (f x, refl)
 goes_gives (Err cause) f P h = absurd h

@@ -1,4 +1,4 @@
--- The state in which main waits: all is held, whatever the inputs.
+-- The invariant holds in the state in which main waits, for any inputs.
 use Rattle.std.proofs.Common.{◌≡◌, ℕ, ◌+◌, Bool, true, false, not, List, [], ◌∷◌, ◌++◌, length, map, filter, slice_get, Option, Some, None, refl, sym, ap, subst, ◌∙◌, arith, if◌then◌else◌, nat_cmp, inl, inr}
 use Rattle.tw_no_trap.proofs.MachineNames.{Actor, AllByRecursion, Arg, ArgFits, ArgsFit, BalancedAt, BudgetsHeld, Closed, CountsHeld, Datum, Frame, Holds, Input, IsDataType, IsHeld, IsParam, IsTypeUnder, Mode, NestedScalar, NumbersHeld, Param, Procedure, Ref, RightArg, RightType, Rule, Store, Task, TypesHeld, Typings, Val, Write, actor_cmp, added, and_parts, append-nil, append_assoc, balanced_same, cases_eq, count_of, empty, eqb-true, frame_reads, frame_writes, get, get-empty, hits, hits_other, hits_same, id_of, insert, insert_other, insert_same, inside, is_closed_mode, is_control, is_flat, is_val, is_write, list_all, map-append, nat_cmp-IsAntisymmetric, nat_cmp_total, new_datum, not-true, output_rights, part, read_by, right_of, rule_reads, rule_writes, same_Some, subscripts_in, task_reads, task_writes, total, total-empty, total-insert, write_by}
 use Rattle.std.proofs.lemmas.List.Elements.{filter-append}
@@ -95,7 +95,7 @@ outputs_same params p reads =
     let none : outputs_of (p ∷ []) ≡ [] = rw reads refl in
     outputs_more params p ∙ ap (λ (rights : List RightType). outputs_of params ++ rights) none ∙ append-nil (outputs_of params)
 
--- what holds while they are gone through
+-- the invariant of the loop over the parameters
 pub record IsOpened (params : List Param) (o : Opened) : Type 0 where
   pub outputs : OutputsFit o.store (outputs_of params) o.outputs
   pub right : IsRight o.store (given_reads params o) (given_writes params o)

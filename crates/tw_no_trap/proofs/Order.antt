@@ -1,4 +1,4 @@
--- What is held of a state, in the reader's words.
+-- The invariant of a state, in the words of the definitions that a reader has to trust.
 use Rattle.std.proofs.Common.{◌≡◌, ℕ, zero, suc, List, [], ◌∷◌, slice_get, Option, Some, None, refl, sym, ap, subst, ◌∙◌}
 use Rattle.tw_no_trap.proofs.MachineNames.{Actor, AreRight, Arg, ArgAsDue, ArgFits, ArgsFit, Datum, Frame, HeldAsDue, Holds, IsArgOf, IsHeld, IsHeldAs, IsInOrder, IsProgram, IsTypedFrame, IsTypedRule, IsTypedTask, Param, Procedure, RightArg, RightType, Rule, RuleArgAsDue, RuleArgsFit, Scalar, Stage, State, Store, Task, Typings, Value, ValueArg, ValueAsDue, ValuesFit, get, output_rights, right_at, right_of, right_until, typing_of}
 use Rattle.tw_no_trap.proofs.Lasting.{AreRunning}
@@ -13,7 +13,7 @@ values_at (ty ∷ registers) [] h k = absurd h
 values_at (ty ∷ registers) (x ∷ values) h zero = h.0
 values_at (ty ∷ registers) (x ∷ values) h (suc k) = values_at registers values h.1 k
 
--- ---- what is live and fits
+-- ---- live data that fit
 
 module _ (s : Store) where
   held_as : (right : RightType) (id : ℕ) → Holds s right id → (x : Datum) × (get s.live id ≡ Some x) → IsHeldAs s right id

@@ -1,4 +1,4 @@
--- What is known of a right register, and what an instruction leaves that changes one datum.
+-- Facts on a right register, and the result of an instruction that changes one datum.
 use Rattle.std.proofs.Common.{◌≡◌, ℕ, zero, suc, ◌+◌, ◌<◌, ◌≤◌, true, false, [], ◌∷◌, slice_get, slice_set, Option, Some, None, refl, ap, subst, ◌∙◌, arith, inl, inr}
 use Rattle.tw_no_trap.proofs.MachineNames.{Balanced, Context, Datum, HaveWriters, Holds, IsTypedStore, RightFits, RightType, Rights, RightsFit, Store, Typing, balanced_some, cases_Bool, depth_of, drop_read_within, get, held_is_there, hits_same, inside, is_closed, is_closed_mode, is_write, over, read_by, right_at, settled, write_by}
 use Rattle.tw_no_trap.proofs.Aging.{Aged, Later, Freed, drops, settled_balanced, nested_later}
@@ -38,7 +38,7 @@ emptied by typing rights k p id none a b = let h = over-set by typing rights k (
 
 -- ---- one register
 
--- where the typing has a right, the register has an id
+-- if the typing has a right, the register has an id
 pub record Found (m : Store) (rights : Rights) (typing : Typing) (k : ℕ) (p : RightType) : Type 0 where
   pub id : ℕ
   pub typed : slice_get typing k ≡ Some (Some p)
@@ -57,7 +57,7 @@ found m (r ∷ rights) (t ∷ typing) (suc k) p f e =
 
 -- ---- a context
 
--- it fits a typing, where r reads and w writes are held by others
+-- it fits a typing, when others hold r reads and w writes
 pub record Fits (typing : Typing) (c : Context) (r w : ℕ → ℕ) : Type 0 where
   pub balanced : Balanced c.store.live (λ d. over (read_by d) typing c.rights + r d) (λ d. over (write_by d) typing c.rights + w d)
   pub writers : HaveWriters c.store.live
@@ -98,7 +98,7 @@ later_store s t l next h = record {
   fresh = λ d z at. let p = l.there d z at in let lt = h.fresh d p.0 p.1 in rw next lt;
 }
 
--- what one datum leaves that ages
+-- the effect of changing one datum
 pub record Settles (typing : Typing) (old : Context) (r w : ℕ → ℕ) (new : Context) : Type 0 where
   pub fits : Fits typing new r w
   pub others : Undisturbed old.store new.store

@@ -1,4 +1,4 @@
--- Ask, Deliver and Release keep all that is held, and never trap.
+-- Ask, Deliver and Release keep the invariant, and never trap.
 use Rattle.std.proofs.Common.{◌≡◌, ℕ, ◌==◌, true, false, ◌&&◌, nat_lt, List, slice_get, is_none, Option, Some, None, refl, sym, ap, subst, ◌∙◌, arith, inl, inr}
 use Rattle.tw_no_trap.proofs.MachineNames.{ActorCounts, Arg, ArgFits, Datum, FreedDatum, IsHeld, Notice, Procedure, Ready, RightArg, Rule, State, Task, Typings, Unasked, ValueArg, Waiting, WrongCall, ask_event, asked, cases_Bool, deliver_event, get, id_in, is_closed, is_releasable, is_unasked, own_rule, ready_at, release_event, right_of, right_until, same_Some, server_of, with_stage}
 use Rattle.std.specs.FinSet as set

@@ -1,4 +1,4 @@
--- What right typings say of the code, and of a task that runs: what is asked, what is left, and what its registers hold.
+-- Consequences of right typings for the code and for a running task: checks, results, and the content of its registers.
 use Rattle.std.proofs.Common.{[], ◌≡◌, ℕ, ◌+◌, ◌<◌, true, List, length, slice_get, Option, Some, None, refl, sym, ap, subst, ◌∙◌, arith}
 use Rattle.tw_no_trap.proofs.MachineNames.{Accepts, Actor, AreRight, Completed, Datum, Frame, Instr, IsHeld, IsProgram, Position, Procedure, RightType, Rights, RightsFit, Skipped, Stands, State, Typing, Typings, Went, after, asks, context_of, flow_of, flows, get, goal_of, is_closed, is_closed_mode, length-map, local_steps, onward, option_flatten, option_map, right_at, same_Some, slice_get-get_or, slice_get-map, slice_get_within, start_typing, typing_at, typing_of}
 use Rattle.tw_code.specs.declared.flow.Flow.{Flow}
@@ -30,7 +30,7 @@ onward_inside code s place next Close Skipped at e = cc
 onward_inside code s place next Stop Completed at e = cc
 onward_inside code s place next Stop Skipped at e = cc
 
--- where the typing has nothing, a register is empty
+-- if the typing is empty there, the register is
 empty_where_free : (s : State) (typing : Typing) (rights : Rights) (k : ℕ) (o : Option ℕ) → RightsFit s.store typing rights → right_at typing k ≡ None → right_at rights k ≡ o → o ≡ None
 empty_where_free s typing rights k None fit free at = refl
 empty_where_free s typing rights k (Some d) fit free at =
@@ -57,7 +57,7 @@ module _ (program : List Procedure) (typings : Typings) (is : IsProgram program)
     there : (place : ℕ) → place < length (flows p.code) → slice_get (typings number) place ≡ Some (typing_at typings number place)
     there place h = slice_get-get_or (typings number) place [] (omega (arith, h, length-map p.code flow_of, acc.typed.long))
 
-    -- the parameters' typing stands at the first place
+    -- the first place has the parameters' typing
     pub typed_at_start : typing_at typings number 0 ≡ start_typing p.params
     typed_at_start = acc.typed.begins (typing_at typings number 0) (there 0 acc.sound.long)
 
@@ -82,7 +82,7 @@ module _ (program : List Procedure) (typings : Typings) (is : IsProgram program)
       own : Accepts program (typings f.procedure) p
       own = accepts program typings is are f.procedure p here
 
-      -- it stands in loops that were begun, within its budget, with values of the declared types
+      -- it is in loops that it has begun, within its budget, with values of the declared types
       pub stands_there : Stands p f.spent f.position
       stands_there = acceptance.stands program typings (accepts program typings is are) s held a f runs p here
 
@@ -90,7 +90,7 @@ module _ (program : List Procedure) (typings : Typings) (is : IsProgram program)
         left_by : IsLeftBy program (typings f.procedure) p own (typing_of typings f) (f.spent + n) to
         left_by = keeps_went (local_steps n p.code f.position) _ to (steps_keep program (typings f.procedure) p own n (typing_of typings f) f.spent f.position (record { stands = stands_there; typing_there = refl })) went
 
-        -- where local steps lead it stands again
+        -- after local steps it has a right position again
         pub steps_stand : Stands p (f.spent + n) to
         steps_stand = left_by.stands
 
@@ -100,12 +100,12 @@ module _ (program : List Procedure) (typings : Typings) (is : IsProgram program)
 
     -- ---- its registers
 
-    -- where the typing has a right, such a datum stands in the register
+    -- if the typing has a right, the register has such a datum
     pub register_holds : (k : ℕ) (right : RightType) → right_at (typing_of typings f) k ≡ Some right → HoldsLive s f k right
     register_holds k right typed =
         let h = at_right k (typing_of typings f) (context_of s f) (other_reads program typings s a) (other_writes program typings s a) right (fits_of program typings s held a f runs) typed in
         record { id = h.id; register = ap option_flatten h.register; x = h.x; live = h.live; ty = h.ty; closed = h.closed }
 
-    -- where the typing has none, it is empty
+    -- if the typing has no right, the register is empty
     pub register_is_empty : (k : ℕ) → right_at (typing_of typings f) k ≡ None → right_at f.rights k ≡ None
     register_is_empty k free = empty_where_free s (typing_of typings f) f.rights k (right_at f.rights k) (held.types.rights a f runs) free refl

@@ -1,4 +1,4 @@
--- Accepted programs reach no trap.
+-- Accepted programs don't trap.
 use Rattle.std.proofs.Common.{◌≡◌, ℕ, List, [], ◌∷◌, slice_get, Some}
 use Rattle.tw_no_trap.proofs.MachineNames.{Accepts, ActorCounts, AreRight, Event, Input, IsHeld, IsProcedure, IsProgram, IsSafe, NoTrap, Procedure, State, Typings, Went, opening, reached, step}
 use Rattle.tw_code.specs.machine.Inputs.{AreInputsOf}
@@ -52,6 +52,6 @@ reached_is_held program typings is right inputs layout events s given e =
     keeps_went (reached program inputs layout events) (IsHeld program typings) s
     (run_keeps program typings layout (accepted program typings (accepts program typings is right)) events (opening program inputs) (opened_held program typings is right inputs given)) e
 
--- what one event leaves, where it goes
+-- the state after one event that succeeds
 pub kept_by : (program : List Procedure) (typings : Typings) (layout : ActorCounts) (event : Event) (s next : State) → IsProgram program → AreRight program typings → IsHeld program typings s → step program layout event s ≡ Went next → IsHeld program typings next
 kept_by program typings layout event s next is right held e = keeps_went (step program layout event s) (IsHeld program typings) next (event_keeps program typings is right layout event s held) e

@@ -6,7 +6,7 @@ use Rattle.tw_no_trap.proofs.Aging.{Aged, later_put}
 use Rattle.tw_no_trap.proofs.Registers.{Undisturbed, holds_undisturbed, rights_kept, later_undisturbed, later_store}
 use Rattle.tw_no_trap.proofs.Sums.{sum_apart, sum_new, sum_replaced}
 
--- ---- what another store leaves of the arguments
+-- ---- arguments in another store
 
 pub arg_kept : (s t : Store) → Undisturbed s t → (p : Param) (o : Option RightType) (arg : Arg) → ArgFits s p o arg → ArgFits t p o arg
 arg_kept s t u p None (ValueArg x) h = h
@@ -43,7 +43,7 @@ fit_staged s (p ∷ params) (first ∷ stages) (arg ∷ args) zero old stage h a
     (asked ∙ ap is_asked_for (sym first_is) ∙ h.0, f p arg refl (subst (λ (z : Stage). ArgFits s p (right_until z p) arg) first_is h.1), h.2)
 fit_staged s (p ∷ params) (first ∷ stages) (arg ∷ args) (suc k) old stage h at asked f = (h.0, h.1, fit_staged s params stages args k old stage h.2 at asked f)
 
--- what is closed is held as a closed read
+-- a closed datum is held by a closed read
 pub made_ready : (s : Store) (p : Param) (stage : Stage) (id : ℕ) → right_until stage p ≡ (if is_val p.mode then None else Some (record { mode = Ref; ty = p.ty })) → ((x : Datum) → get s.live id ≡ Some x → is_closed x ≡ true)
     → ArgFits s p (right_until stage p) (RightArg id) → ArgFits s p (right_of p) (RightArg id)
 made_ready s p stage id is closed h = by (is_val p.mode) (subst (λ o. ArgFits s p o (RightArg id)) is h)

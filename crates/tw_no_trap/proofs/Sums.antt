@@ -1,4 +1,4 @@
--- Sums over a finite map of a state, with one entry taken apart, replaced or new.
+-- Sums over a finite map of a state, with one entry removed, replaced or new.
 use Rattle.std.proofs.Common.{◌≡◌, ℕ, ◌+◌, Bool, true, false, Some, None, refl, sym, subst, arith, nat_cmp}
 use Rattle.std.specs.declared.cmp.Ordering.{Ordering}
 use Rattle.tw_no_trap.proofs.MachineNames.{Data, FinMap, IsAntisymmetric, IsTotalOrder, get, insert, nat_cmp-IsAntisymmetric, nat_cmp_total, part, remove, times_subscribed, total, total-insert, total-le, total-remove}

@@ -1,4 +1,4 @@
--- The task that is taken waits, and its frame starts as its arguments say.
+-- The task that is taken was waiting, and its frame starts with its arguments.
 use Rattle.std.proofs.Common.{◌≡◌, ℕ, zero, suc, ◌+◌, ◌-◌, ◌≤◌, Bool, true, false, List, [], ◌∷◌, ◌++◌, length, map, replicate, Option, Some, None, refl, sym, ap, subst, ◌∙◌, arith, if◌then◌else◌}
 use Rattle.tw_no_trap.proofs.MachineNames.{Arg, ArgFits, ArgsFit, Ok, Param, RightArg, RightType, Rights, RightsFit, Scalar, Store, Typing, Value, ValueArg, ValuesFit, WrongRegister, and_parts, blank_of, filled, first_rights, id_of, ids_in, is_val, option_to_list, over, rights_given, same_scalar, same_scalars, scalar_itself, scalar_of, start_typing, value_types, values_fit, values_in}
 use Rattle.tw_types.specs.declared.data_type.Scalar.TheVariants as scalar
@@ -81,7 +81,7 @@ start_fits s params args h =
     rights_joined s (map Some (rights_given params)) (replicate (16 - length (rights_given params)) None) (map Some (ids_in args)) (replicate (16 - length (ids_in args)) None) (args_rights s params args h)
     (subst (λ (n : ℕ). RightsFit s (replicate (16 - length (rights_given params)) None) (replicate (16 - n) None)) (same_length s params args h) (empty_fit s (16 - length (rights_given params))))
 
--- ---- what it holds
+-- ---- its rights
 
 over_joined : (by : Option RightType → Option ℕ → ℕ) (xs us : Typing) (ys vs : Rights) → length xs ≡ length ys → over by (xs ++ us) (ys ++ vs) ≡ over by xs ys + over by us vs
 over_joined by [] us [] vs e = omega arith

@@ -1,4 +1,4 @@
--- RULE, PUT and Take keep all that is held, and never trap.
+-- RULE, PUT and Take keep the invariant, and never trap.
 use Rattle.std.proofs.Common.{◌≡◌, ℕ, ◌+◌, ◌≤◌, Bool, true, false, ◌&&◌, List, [], map, length, slice_get, is_none, Option, Some, None, refl, sym, ap, subst, ◌∙◌, arith}
 use Rattle.tw_no_trap.proofs.MachineNames.{◌>>=◌, Actor, ActorCounts, Called, Frame, IsBudget, IsHeld, Ok, Procedure, RightsFit, Rule, RuleArgsFit, Standing, Stands, State, Task, Typing, Typings, Went, actor_cmp, actor_cmp-IsAntisymmetric, actor_cmp_total, and_parts, asks_action, at_next_place, balanced_same, best, called, context_of, count_of, first_rights, first_stage, flows, frame_of, frame_reads, frame_writes, get, gone_behind, ids_in, is_in, new_rule, number_in_kind, outcome_of, over, params_in, params_of, put_called, put_event, read_by, remove, rule_event, rule_reads, rule_writes, start_typing, take_event, task_reads, task_writes, total, typing_at, typing_of, value_types, values_fit, values_in, with_frame, with_rule, with_task, without_args, write_by}
 use Rattle.tw_code.specs.declared.instr.Action.{Action}
@@ -17,7 +17,7 @@ use Rattle.tw_no_trap.proofs.Taking.{args_values, filled_fits, over_start, start
 use Rattle.tw_no_trap.proofs.Sums.{sum_apart}
 
 module _ (program : List Procedure) (typings : Typings) where
-  -- what the others hold
+  -- the rights of the others
   abbrev pub other_reads : State → Actor → ℕ → ℕ
   other_reads s a d = total (frame_reads typings d) (remove s.frames a) + (total (task_reads program d) s.tasks + (total (rule_reads program d) s.rules + count_of d s.outputs))
 
@@ -54,7 +54,7 @@ module _ (program : List Procedure) (typings : Typings) where
         rights = held.types.rights a f is;
       }
 
-      -- where it stands before RULE or PUT; what `stands_on` and `typing_on` say of the place behind
+      -- its position before RULE or PUT; `stands_on` and `typing_on` give the position and typing after it
       module _ (p : Procedure) (here : slice_get program f.procedure ≡ Some p) (action : Action) (stands : Stands p (f.spent + 1) (at_next_place f.position))
           (next : typing_at typings f.procedure (f.position.place + 1) ≡ without_args (params_of program action.procedure) action.args (typing_of typings f)) where
         module _ (waits : Bool) (call : Called) (so : CalledSo program p (context_of s f) (typing_of typings f) (other_reads s a) (other_writes s a) action (fits_of) (held.types.values a f p is here) waits call) where
@@ -126,7 +126,7 @@ module _ (program : List Procedure) (typings : Typings) where
             (called_goes program p (context_of s f) (typing_of typings f) (other_reads s a) (other_writes s a) action fits_of (held.types.values a f p is here) true met)
             (λ call so. rule_held call so))
 
-  -- what the verifier knows of the first place
+  -- facts of the verifier on the first place
   pub record Starts (k : ℕ) (p : Procedure) : Type 0 where
     pub few : length (value_types p.params) ≤ length p.registers
     pub fit : values_fit (value_types p.params) p.registers ≡ true

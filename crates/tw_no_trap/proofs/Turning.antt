@@ -1,4 +1,4 @@
--- What a turn needs: an instruction of a task that runs goes, a task begins, and what an engine asks for is a read.
+-- The facts that a scheduling step needs: an instruction of a running task succeeds, a task starts, and what an engine asks for is a read.
 use Rattle.std.proofs.Common.{◌≡◌, ℕ, ◌+◌, ◌<◌, List, slice_get, Some, sym, ap, ◌∙◌, arith}
 use Rattle.tw_no_trap.proofs.MachineNames.{Actor, AreRight, Context, DataInstr, Frame, IsHeld, IsProgram, Ok, Position, Procedure, State, Typings, Went, context_of, data_instr, flows, get, greatest_budget, local_steps, same_Some}
 use Rattle.tw_code.specs.declared.instr.Instr.TheVariants as instr
@@ -10,7 +10,7 @@ use Rattle.tw_no_trap.proofs.Safe.{accepts}
 
 module _ (program : List Procedure) (typings : Typings) (is : IsProgram program) (are : AreRight program typings) (s : State) (held : IsHeld program typings s) where
   module _ (a : Actor) (f : Frame) (runs : get s.frames a ≡ Some f) (p : Procedure) (here : slice_get program f.procedure ≡ Some p) where
-    -- its instruction on data goes
+    -- its instruction on data succeeds
     pub data_goes : (d : DataInstr) → slice_get p.code f.position.place ≡ Some (instr.Data d) → (k : Context) × (data_instr d (context_of s f) ≡ Ok k)
     data_goes d at =
         let known = acceptance.known program typings (accepts program typings is are) s held a f runs in

@@ -1,4 +1,4 @@
--- The local instructions that are asked for go, and keep the types of the values.
+-- The local instructions succeed if their checks hold, and keep the types of the values.
 use Rattle.std.proofs.Common.{◌≡◌, ℕ, zero, suc, Bool, true, false, List, [], ◌∷◌, ◌++◌, length, ℤ, pos, slice_get, slice_set, Option, Some, None, refl, sym, ap, ◌∙◌, if◌then◌else◌, bytes_eq}
 use Rattle.tw_no_trap.proofs.MachineNames.{Completed, Cursor, NoLoop, Ok, Position, Question, Scalar, Skipped, Value, ValuesFit, WrongRegister, after_end, asks_alike, asks_local, asks_value, asks_values, at_goal, at_next_place, int_at, int_in, int_lt, local_flow, moved, must_have_type, of_type_at, ok_or, option_map, passes, refusal_in, same_scalar, same_scalars, scalar_itself, scalar_of, text_at, text_in, value_at, with_result, with_value}
 use Rattle.std.specs.Fmt.{signed_decimal}
@@ -20,7 +20,7 @@ abbrev pub AllYes : List Question → Type 0
 AllYes [] = Unit {0}
 AllYes (q ∷ questions) = (q.1 ≡ true) × AllYes questions
 
--- where nothing is refused each answer is met
+-- if there is no error, each check holds
 pub all_yes : (questions : List Question) → refusal_in questions ≡ None → AllYes questions
 all_yes [] e = tt
 all_yes ((n, true) ∷ questions) e = (refl, all_yes questions e)
@@ -34,7 +34,7 @@ pub yes_before : (first second : List Question) → AllYes (first ++ second) →
 yes_before [] second h = tt
 yes_before (q ∷ first) second h = (h.0, yes_before first second h.1)
 
--- what passes is there
+-- an item that passes a test is there
 pub passed : {A : Type 0} (test : A → Bool) (o : Option A) → passes test o ≡ true → (x : A) × (o ≡ Some x) × (test x ≡ true)
 passed test None e = cc
 passed test (Some x) e = (x, refl, e)
@@ -63,7 +63,7 @@ values_set (u ∷ registers) [] register ty x f e g = absurd f
 values_set (u ∷ registers) (y ∷ values) zero ty x f e g = let same : u ≡ ty = cc in (g ∙ sym same, f.1)
 values_set (u ∷ registers) (y ∷ values) (suc register) ty x f e g = (f.0, values_set registers values register ty x f.1 e g)
 
--- ---- what a local instruction leaves
+-- ---- the effect of a local instruction
 
 -- it moved by one of its outcomes, and the values fit
 pub record Moves (registers : List Scalar) (flow : Flow) (at next : Position) : Type 0 where

@@ -1,4 +1,4 @@
--- What is asked for holds a read, so it is there.
+-- A datum that is waited for has a read, so it is live.
 use Rattle.std.proofs.Common.{◌≡◌, ℕ, zero, suc, ◌≤◌, true, false, if◌then◌else◌, List, [], ◌∷◌, slice_get, Option, Some, None, refl, sym, ap, subst, ◌∙◌, arith, nat_cmp}
 use Rattle.tw_no_trap.proofs.MachineNames.{Arg, Closed, CountsHeld, Datum, Free, Mode, Param, Procedure, Ready, Ref, RightArg, Rule, RuleArgsFit, Stage, State, Store, TypesHeld, Typings, Unasked, Val, Waiting, Write, arg_at, get, held_is_there, hits, hits_same, is_asked_for, is_closed_mode, is_val, is_write, nat_cmp-IsAntisymmetric, nat_cmp_total, params_in, part, part-le-total, read_by, reads_of, right_of, rule_reads, same_Some, stage_at, times_at, total, writes_of}
 use Rattle.tw_no_trap.proofs.Over.{over_params}
@@ -23,7 +23,7 @@ closed_reads p d e =
     let right : right_of p ≡ Some (record { mode = p.mode; ty = p.ty }) = ap (λ b. if b then None else Some (record { mode = p.mode; ty = p.ty })) (closed_is_no_value p.mode e) in
     ap (λ r. read_by d r (Some d)) right ∙ ap (λ b. if b then 0 else hits d d) (closed_is_no_write p.mode e) ∙ one
 
--- one that is asked for holds a read, from the making of its rule on
+-- a parameter that is asked for has a read right since its rule was made
 pub asked_reads : (s : Store) (params : List Param) (stages : List Stage) (args : List Arg) (k d : ℕ) (asked : Stage) → is_asked_for asked ≡ true → RuleArgsFit s params stages args → slice_get stages k ≡ Some asked → slice_get args k ≡ Some (RightArg d)
     → 1 ≤ over_params (read_by d) params args
 asked_reads s [] [] [] k d asked known h e g = cc
@@ -47,7 +47,7 @@ module _ (program : List Procedure) (typings : Typings) (s : State) (types : Typ
       let l : rule_reads program d rule ≤ total (rule_reads program d) s.rules = subst (λ o. part (rule_reads program d) o ≤ total (rule_reads program d) s.rules) is (part-le-total nat_cmp nat_cmp_total nat_cmp-IsAntisymmetric (rule_reads program d) s.rules number) in
       omega arith
 
-  -- so the datum of a parameter that is asked for is live
+  -- the datum of a parameter that is asked for is therefore live
   pub asked_is_there : (number : ℕ) (rule : Rule) (k d : ℕ) (stage : Stage) → get s.rules number ≡ Some rule → slice_get rule.stages k ≡ Some stage → is_asked_for stage ≡ true → slice_get rule.args k ≡ Some (RightArg d)
       → (x : Datum) × (get s.store.live d ≡ Some x)
   asked_is_there number rule k d stage is at known arg =

@@ -1,4 +1,4 @@
--- The three events of a task that runs keep all that is held, and never trap, where its turn is as the typing says.
+-- The three events of a running task keep the invariant, and never trap, if its step is one that the typing allows.
 use Rattle.std.proofs.Common.{◌≡◌, ℕ, ◌+◌, ◌<◌, true, List, slice_get, Some, refl, sym, ap, subst, ◌∙◌, arith}
 use Rattle.tw_no_trap.proofs.MachineNames.{◌>>=◌, Actor, Cause, Context, CountsHeld, DataInstr, Datum, Err, Frame, Instr, IsHeld, Ok, Outcome, Procedure, Result, RightType, Scalar, Standing, Stands, State, TypesHeld, Typing, Typings, Went, actor_cmp, actor_cmp-IsAntisymmetric, actor_cmp_total, after_context, asks, asks_data, at_next_place, balanced_same, call_by, call_event, context_of, data_instr, frame_reads, frame_writes, get, insert, is_write, ok_of, option_flatten, outcome_of, params_of, right_at, same_Some, standing_of, total, typing_at, typing_of, without_args, writes}
 use Rattle.tw_code.specs.declared.instr.DataInstr.TheVariants as on_data
@@ -40,15 +40,15 @@ has_writer registers c typing r w fits (on_data.CopyRead to from) met = tt
 has_writer registers c typing r w fits (on_data.DropRead right) met = tt
 has_writer registers c typing r w fits (on_data.DropWrite right) met = tt
 
--- ---- a task goes on
+-- ---- a task continues
 
 module _ (program : List Procedure) (typings : Typings) (s : State) (held : IsHeld program typings s) (a : Actor) (f : Frame) (is : get s.frames a ≡ Some f) (p : Procedure) (here : slice_get program f.procedure ≡ Some p) where
-  -- what an instruction on data leaves: the task stands, and the rest fits the typing there
+  -- the result of an instruction on data: the task's position is right, and the rest fits the typing there
   pub record LeftSo (c : Context) : Type 0 where
     pub stands : Stands p (f.spent + 1) c.position
     pub settles : Settles (typing_at typings f.procedure c.position.place) (context_of s f) (other_reads program typings s a) (other_writes program typings s a) c
 
-  -- where a task goes on behind a RULE or PUT, which are straight
+  -- where a task continues after a RULE or PUT, which are straight
   pub record GoesBehind (action : Action) : Type 0 where
     pub stands : Stands p (f.spent + 1) (at_next_place f.position)
     pub next : typing_at typings f.procedure (f.position.place + 1) ≡ without_args (params_of program action.procedure) action.args (typing_of typings f)

@@ -1,4 +1,4 @@
--- What holds where a run of an accepted program has ended by itself.
+-- The state after a run of an accepted program has ended by itself.
 use Rattle.std.specs.Prelude.{◌≡◌, ℕ, ◌<◌, true, false, List, Some, slice_get}
 use Rattle.std.specs.FinMap.{get}
 use Rattle.tw_types.specs.declared.ending.Ending.TheVariants.{Quiet, Stuck}
@@ -19,13 +19,13 @@ pub data IsKept (s : State) : ℕ → Type 0 where
   output : {id : ℕ} → 0 < count_of id s.outputs → IsKept s id
   member : {id : ℕ} (container : ℕ) (x : Datum) → IsKept s container → get s.store.live container ≡ Some x → 0 < subscripts_in id x → IsKept s id
 
--- what is live is an output or is held by one, and is closed; and these are live
+-- all live data are outputs or members of these, and are closed; and all of these are live
 pub record LeavesOutputs (s : State) : Type 0 where
   pub kept : (id : ℕ) (x : Datum) → get s.store.live id ≡ Some x → IsKept s id
   pub closed : (id : ℕ) (x : Datum) → get s.store.live id ≡ Some x → is_closed x ≡ true
   pub live : (id : ℕ) → IsKept s id → (x : Datum) × (get s.store.live id ≡ Some x)
 
--- the first datum that the rule waits for is live and open, and a rule has a write right on it
+-- the first datum for which the rule waits is live and open, and a pending rule has a write right on it
 pub record IsBlockedRule (program : List Procedure) (s : State) (rule : Rule) : Type 0 where
   pub id : ℕ
   pub waits : slice_get (waited_for rule.stages rule.args) 0 ≡ Some id

@@ -1,5 +1,5 @@
-//! The law that accepted programs reach no trap, and the parts of the invariant by which it is proved. Nothing is run
-//! here: the contracts are the laws.
+//! The theorem that accepted programs don't trap, and the parts of its invariant. Nothing is computed here: the contracts are the
+//! theorems.
 
 ghost use Rattle.std.specs.Prelude.{◌≡◌, List};
 ghost use Rattle.tw_types.specs.declared.event.Event.{Event};
@@ -19,36 +19,37 @@ ghost use Rattle.tw_no_trap.specs.Invariant.{BudgetsHeld, CountsHeld, IsHeld, Nu
 ghost use Rattle.tw_no_trap.specs.Noticed.{NoticesHeld};
 ghost use Rattle.tw_no_trap.specs.NoTrap.{AreRight, NoTrap};
 
-/// One event keeps the types of values and rights, and numbers below the next ones.
+/// Proves that one event keeps the types of values and rights, and keeps numbers below the next ones.
 pub fn types_held()
     ensures numbers { (program : List Procedure) (typings : Typings) (layout : ActorCounts) (event : Event) (s next : State) → IsProgram program → AreRight program typings → IsHeld program typings s → step program layout event s ≡ Went next → NumbersHeld next }
     ensures types { (program : List Procedure) (typings : Typings) (layout : ActorCounts) (event : Event) (s next : State) → IsProgram program → AreRight program typings → IsHeld program typings s → step program layout event s ≡ Went next → TypesHeld program typings next }
 {}
 
-/// After one event the counts of each datum are again those of its holders, of which one writes while a scalar is unset.
+/// Proves that one event keeps the counts of each datum equal to its holders, and one writer for each unset scalar.
 pub fn counts_held()
     ensures { (program : List Procedure) (typings : Typings) (layout : ActorCounts) (event : Event) (s next : State) → IsProgram program → AreRight program typings → IsHeld program typings s → step program layout event s ≡ Went next → CountsHeld program typings next }
 {}
 
-/// After one event subscribers and notices again name just the parameters that wait, each once.
+/// Proves that after one event subscribers and notices name exactly the parameters that wait, each once.
 pub fn notes_held()
     ensures { (program : List Procedure) (typings : Typings) (layout : ActorCounts) (event : Event) (s next : State) → IsProgram program → AreRight program typings → IsHeld program typings s → step program layout event s ≡ Went next → NoticesHeld next }
 {}
 
-/// After one event each task that runs still stands in loops that were begun, and within its budget.
+/// Proves that after one event each running task is in loops that it has begun, and within its budget.
 pub fn budgets_held()
     ensures { (program : List Procedure) (typings : Typings) (layout : ActorCounts) (event : Event) (s next : State) → IsProgram program → AreRight program typings → IsHeld program typings s → step program layout event s ≡ Went next → BudgetsHeld program next }
 {}
 
-/// Accepted programs reach no trap, whatever the inputs of the signature, the layout and the events, in whatever order;
-/// and each state that they reach is in order, whatever typings are right.
+/// Proves that accepted programs don't trap, with any inputs of the signature, any layout and any events in any order. Each state
+/// that they reach is in order, with any right typings.
 pub fn no_trap()
     ensures safe { (program : List Procedure) (typings : Typings) → IsProgram program → AreRight program typings → NoTrap program }
     ensures ordered { (program : List Procedure) (typings : Typings) → IsProgram program → AreRight program typings → StaysInOrder program typings }
 {}
 
-/// Whatever the inputs, the layout and the events: a quiet end leaves the outputs and what they hold, all closed; in a stuck
-/// one each rule waits for what a rule may write, and just there the walk along these finds a circle of rules.
+/// Proves how runs end, with any inputs, layout and events. At a quiet end only the outputs and their members are left, all
+/// closed. In a stuck state each rule waits for a datum that a rule may write, and the walk along these finds a circle of rules.
+/// The walk finds a circle in stuck states only.
 pub fn ends_well()
     ensures { (program : List Procedure) (typings : Typings) (inputs : List Input) (layout : ActorCounts) (events : List Event) (s : State) → IsProgram program → AreRight program typings → AreInputsOf program inputs → reached program inputs layout events ≡ Went s → EndsWell program s }
 {}

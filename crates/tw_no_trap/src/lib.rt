@@ -1,4 +1,4 @@
-//! What holds of every state that an accepted program reaches.
+//! The soundness theorem: properties of every state that an accepted program reaches.
 #![tactic(auto)]
 
 mod laws;

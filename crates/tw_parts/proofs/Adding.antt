@@ -1,4 +1,4 @@
--- Data are added, and one takes the place of another of its id: what the store's calls leave, where nothing is freed or told.
+-- Adding data, and replacing one by another with its id: the effects of the store's calls, if nothing is freed and there is no notice.
 use Rattle.std.proofs.Common.{◌≡◌, ◌<◌, ◌+◌, ℕ, Bool, true, false, cond, List, [], Option, Some, None, refl, sym, ap, subst, ◌∙◌, arith, inl, inr, slice_set}
 use Rattle.tw_parts.proofs.PartNames.{Datum, FinMap, FreedDatum, HasNoticeRoom, IsAntisymmetric, IsHere, IsLeft, IsNow, IsSome, IsTotalOrder, NestedScalar, Notice, Ok, Right, Scalar, Served, Store, Subscript, Value, added, append-nil, cases_eq, changed, closed_scalar, created, empty, eq_by_cmp, get, get-empty, get-insert, insert, inserted, is_unheld, may_insert, may_store, member_at, members_in, nat_cmp, nat_cmp-IsAntisymmetric, nat_cmp_total, new_datum, notices_after, notices_of, option_and_then, queued, same_map, scalar_of, scalar_type, set-get_or, set_to, store_after, subscribers_cleared, there_then, with_datum, with_member}
 use Rattle.std.specs.declared.cmp.Ordering.{Ordering}
@@ -56,7 +56,7 @@ added_here s z = data_insert_same s.live s.next z
 pub changed_is : (s : Store) (id : ℕ) (f : Datum → Datum) (x : Datum) → get s.live id ≡ Some x → changed s id f ≡ replaced s id (f x)
 changed_is s id f x here = rw here refl
 
--- what is live by that was live, or is the datum
+-- a datum that is live afterwards was live before, or is the replaced one
 not_gone : (s : Store) (id : ℕ) (y : Datum) (k : ℕ) → get (replaced s id y).live k ≡ None → get s.live k ≡ None
 not_gone s id y k none = elim (cases_eq k id) [
   | inl same ↦ let there : get (replaced s id y).live k ≡ Some y = ap (get (replaced s id y).live) same ∙ data_insert_same s.live id y in absurd (let t : None ≡ Some y = sym none ∙ there in cc)
@@ -65,7 +65,7 @@ not_gone s id y k none = elim (cases_eq k id) [
 
 -- ---- calls
 
--- a datum is another now; all stands where it stood, and there is no notice more
+-- a datum is replaced; all data keep their places, and no notice is added
 pub record IsReplaced (id : ℕ) (y : Datum) (old new : Served) : Type 0 where
   pub store : new.store ≡ replaced old.store id y
   pub places : (k : ℕ) → get new.places k ≡ get old.places k
@@ -110,7 +110,7 @@ module _ (old new : Served) (id : ℕ) (f : Datum → Datum) (x : Datum) (here :
         live = λ k none. ap (λ ps. get ps k) now.places ∙ all k (not_gone old.store id (f x) k (ap (λ (t : Store). get t.live k) (sym store) ∙ none));
       }
 
--- what was added, with one of them another now
+-- the added data, after one of them was replaced
 pub added_then : (t : Store) (s a b : Served) (r : Right) (id : ℕ) (y : Datum) → IsAdded t s a r → IsReplaced id y a b → IsAdded (replaced t id y) s b r
 added_then t s a b r id y h then_is = record {
   store = then_is.store ∙ ap (λ u. replaced u id y) h.store;
@@ -122,7 +122,7 @@ added_then t s a b r id y h then_is = record {
 
 -- ---- a datum is made
 
--- what `create` says, where all that stood was live
+-- the effect of `create`, if all data with places were live
 pub record IsMade (s a : Served) (ty : NestedScalar) (w r : Right) : Type 0 where
   pub made : a.store ≡ created s.store ty
   pub write : w.id ≡ s.store.next

@@ -1,4 +1,4 @@
--- What an instruction on data answers, by cases.
+-- The result of an instruction on data, by cases.
 use Rattle.std.proofs.Common.{◌≡◌, ℕ, Ok, Err, Result}
 use Rattle.tw_parts.proofs.PartNames.{DoneView, FrameView, IfErr, IfOk, IsLentAnswer, IsLentBehind, IsRefused, JobView, OnErr, OnOk, Served}
 use Rattle.tw_code.specs.declared.instr.DataInstr.{DataInstr}

@@ -1,4 +1,4 @@
--- RULE and PUT: what is asked of their parts, where a task stands at one behind a Done.
+-- RULE and PUT: the requirements on their parts, if a task is at one after a job.
 use Rattle.std.proofs.Common.{map as each, ◌≡◌, ◌≤◌, ◌<◌, ◌+◌, ◌^◌, ◌∙◌, ℕ, List, Option, Some, None, IsSome, sym, ap, subst, length, slice_get, arith}
 use Rattle.tw_parts.proofs.PartNames.{Action, Actor, DoneView, FrameView, HasSeat, Held, IsInstr, IsOwed, IsProcedure, IsProgram, MayStand, Param, Parts, Procedure, StandsAt, Value, at_next_place, bare_frame, come, context_of, get, job_of, named_values, same_Some, state_of, with_done}
 use Rattle.tw_rights.specs.Bundled.{Bundled, bundled}
@@ -52,7 +52,7 @@ module _ (old : Parts) (actor : Actor) (done : DoneView) (instr : Instr) (s : St
 
 -- ---- when it was done
 
--- what was handed over behind the Done, in the words of another who owes it
+-- arguments taken after a job, for any frame to which the job belongs
 module _ (old : Parts) (actor : Actor) (done : DoneView) (instr : Instr) (s : StandsAt old actor done instr) (f : FrameView) (owed : IsOwed old actor f done) where
   same_frame : s.f ≡ f
   same_frame = same_Some s.f f (sym s.owed.sits ∙ owed.sits)
@@ -82,6 +82,6 @@ pub in_queue : (o : Option ℕ) → format.IsTarget o → queues.IsTarget o
 in_queue None h = tt
 in_queue (Some n) h = omega (arith, h.1)
 
--- the operands of the instruction at which a task stands
+-- the operands of the instruction at which a task is
 pub operands : (program : List Procedure) → IsProgram program → (k : ℕ) (p : Procedure) → slice_get program k ≡ Some p → (place : ℕ) (i : Instr) → slice_get p.code place ≡ Some i → IsInstr i
 operands program is k p here place i at = all_found IsInstr p.code place i (all_found IsProcedure program k p is.1 here).code.1 at

@@ -1,4 +1,4 @@
--- An instruction on data is called: on the parts.
+-- An instruction on data, as a call on the parts.
 use Rattle.std.proofs.Common.{map as each, ◌≡◌, ◌<◌, ◌+◌, ℕ, List, Some, None, refl, sym, ap, subst, ◌∙◌, slice_get, slice_index_or, length, arith, inl, inr}
 use Rattle.tw_parts.proofs.PartNames.{Actor, ActorCounts, AreAt, AreParts, AreQueued, Call, Context, FrameFits, FrameView, Goes, Held, IsAt, IsDone, IsInstr, IsLive, IsProcedure, IsSmall, MayDo, Notices, Ok, Parts, Procedure, Right, Stand, TypedProgram, Went, actor_cmp-IsAntisymmetric, actor_cmp_total, after_context, after_data, asked_at, bare_file, bare_frame, bare_rule, bare_task, data_instr, get, id_of, insert, insert_mapped, kinds_in, length-set, mapped, notice_to, params_of, queued, right_in, sees, server_of, slice_get_within, state_of, typed_after, typings_of, with_notices}
 use Rattle.tw_types.proofs.Parts.{put_or_before}
@@ -83,7 +83,7 @@ module _ (verified : TypedProgram) (layout : ActorCounts) (old : Parts) (notices
         inside : (id : ℕ) → server_of (length old.store.queues) id < length old.store.queues
         inside id = omega (arith, some)
 
-    -- ---- what stands
+    -- ---- rights and places
 
     abbrev Both : ℕ → Type 0
     Both id = IsLive old.store id × IsLive new.store id

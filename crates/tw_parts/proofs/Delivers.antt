@@ -13,7 +13,7 @@ use Rattle.tw_parts.proofs.Notes as notes
 
 -- ---- rules at a stage
 
--- the table's word for it, where the rule is pending
+-- the table's `staged`, if the rule is pending
 pub staged_is : (rules : RulesOf Arg) (number : ℕ) (r : RuleOf Arg) (parameter : ℕ) (stage : Stage) → get rules number ≡ Some r → staged rules number parameter stage ≡ insert rules number (at_stage r parameter stage)
 staged_is rules number r parameter stage at = rw at refl
 

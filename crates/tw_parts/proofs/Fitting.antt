@@ -1,4 +1,4 @@
--- What stands, when one rule, task or frame changes.
+-- Rights stay right when one rule, task or frame changes.
 use Rattle.std.proofs.Common.{◌≡◌, ℕ, List, Option, Some, None, refl, sym, ap, subst, ◌∙◌, inl, inr, option_map}
 use Rattle.std.specs.declared.cmp.Ordering.{Ordering}
 use Rattle.tw_parts.proofs.PartNames.{Actor, Arg, ArgsStand, FinMap, FrameFits, FrameView, Places, Right, RuleOf, RulesOf, Seated, Stand, TaskOf, TasksOf, TypedProgram, actor_cmp-IsAntisymmetric, actor_cmp_total, at_stage, get, get_mapped, insert, mapped, nat_cmp-IsAntisymmetric, nat_cmp_total, params_of, remove, same_Some, task_from}
@@ -6,7 +6,7 @@ use Rattle.tw_types.specs.declared.actor.Kind.{Kind}
 use Rattle.tw_types.specs.declared.stage.Stage.{Stage}
 use Rattle.tw_types.proofs.Parts.{put_or_before, before_removal}
 
--- what stands behind an entry that is something else
+-- all other entries after an entry changes
 pub record Behind {K X Y : Type 0} {R : K → K → Ordering} (f : X → Y) (m : FinMap R X) (k : K) (y : Y) : Type 0 where
   pub x : X
   pub there : get m k ≡ Some x
@@ -80,7 +80,7 @@ module _ (verified : TypedProgram) (places : Places) (seats : Seated) (tasks : T
     outputs = h.outputs;
   }
 
-  -- a task begins, or goes on
+  -- a task starts, or moves on
   pub stand_seated : (actor : Actor) (f : FrameView) → FrameFits verified places actor f → Stand verified places (insert seats actor f) tasks rules outputs
   stand_seated actor f fits = record {
     frames = λ a x there. elim (put_or_before actor_cmp_total actor_cmp-IsAntisymmetric seats actor f a x there) as (λ _. FrameFits verified places a x) [

@@ -1,4 +1,4 @@
--- GET: what is asked is met, and that it is done.
+-- GET: its requirements hold, and it is executed.
 use Rattle.tw_parts.proofs.PartNames.{Completed, Context, EmptyRegister, FrameView, IsDone, IsHere, MayDo, MaySet, Notices, Ok, Right, Served, UnsetDatum, Value, WrongRegister, at_next_place, bare_file, data_instr, datum_at, first_so, get, get_asks, is_closed_mode, is_scalar, kind_at, may_retrieve, must_then, ok_after, option_and_then, reads_closed_scalar, right_at, same_Some, sees, suits, there_then, value_at, with_notices, with_value}
 use Rattle.tw_rights.specs.declared.held.Held.TheVariants as held
 use Rattle.tw_code.specs.declared.instr.DataInstr.TheVariants as on_data

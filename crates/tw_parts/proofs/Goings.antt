@@ -1,4 +1,4 @@
--- A task goes on by local steps, and is lent: on the parts.
+-- A task moves on by local steps, and its next job is issued: on the parts.
 use Rattle.std.proofs.Common.{◌≡◌, ◌<◌, ◌+◌, ◌∙◌, ℕ, false, List, Some, refl, sym, ap, subst, slice_get, arith, nat_eq}
 use Rattle.tw_parts.proofs.PartNames.{Actor, ActorCounts, AreParts, FrameFits, Goes, IsLent, IsOwed, IsReached, Local, Notices, Parts, Procedure, Seated, Stand, State, TypedProgram, Went, actor_cmp-IsAntisymmetric, actor_cmp_total, come, get, insert, insert_mapped, kinds_in, lent_as, mapped, nat_tests, stands_there, state_of, steps_leave, typings_of, with_done, with_frame}
 use Rattle.tw_types.specs.declared.event.Event.{Event}
@@ -13,7 +13,7 @@ use Rattle.tw_parts.proofs.Fitting.{seen, stand_seated}
 use Rattle.tw_parts.proofs.Law.{goes_to, held}
 use Rattle.tw_parts.proofs.Seating.{again, get_other, get_own, same_seat}
 
--- where a Done of the frame's job leads
+-- where the `Done` of the frame's job leads
 pub record Leads (program : List Procedure) (f : FrameView) (done : DoneView) : Type 0 where
   pub p : Procedure
   pub here : slice_get program f.procedure ≡ Some p
@@ -55,7 +55,7 @@ module _ (verified : TypedProgram) (layout : ActorCounts) (old : Parts) (notices
       (stand_seated verified old.store.places old.seats old.tasks.tasks old.rules.rules old.outputs h.stand actor (come f done) fits)
       (get_other old.seats actor (come f done))
 
--- where no step was made it stands as before
+-- without a step its position doesn't change
 pub stayed : (program : List Procedure) (old : Parts) (actor : Actor) (f : FrameView) → get old.seats actor ≡ Some f → (done : DoneView) → Leads program f done → done.steps ≡ 0 → with_done old actor f done ≡ old
 stayed program old actor f runs done way none =
     let at : f.position ≡ done.after = same_went f.position done.after (ap (λ n. local_steps n way.p.code f.position) (sym none) ∙ way.steps) in
@@ -63,14 +63,14 @@ stayed program old actor f runs done way none =
     let same : come f done ≡ f = λ i. record f { position = sym at i; spent = spent i } in
     ap (λ m. record old { seats = m }) (ap (insert old.seats actor) same ∙ same_seat old.seats actor f runs)
 
--- ---- lending
+-- ---- issuing
 
 module _ (verified : TypedProgram) (layout : ActorCounts) (old : Parts) (notices : Notices) (h : AreParts verified layout old notices)
     (actor : Actor) (f : FrameView) (runs : get old.seats actor ≡ Some f) where
   in_frames : get (mapped bare_frame old.seats) actor ≡ Some (bare_frame f)
   in_frames = seen bare_frame old.seats actor (Some f) runs
 
-  -- it may stand there
+  -- it may run from there
   pub may_stand : MayStand f.program.program f.procedure f.position
   may_stand p here =
       let fits = h.stand.frames actor f runs in
@@ -83,7 +83,7 @@ module _ (verified : TypedProgram) (layout : ActorCounts) (old : Parts) (notices
   stands_then event t goes g now p here = stands_fresh p g.spent g.position (stands_there verified.program (typings_of verified) h.runnable.is h.runnable.right t
       (kept_by verified.program (typings_of verified) layout event (state_of old notices) t h.runnable.is h.runnable.right (held verified layout old notices h) goes) actor g now p here)
 
--- the number under which it is lent isn't the machine's
+-- the number under which it is issued isn't in the machine's state
 module _ (new : Parts) (seats : Seated) (actor : Actor) (f : FrameView) (event_no : ℕ) (sits : new.seats ≡ insert seats actor (lent_as event_no f)) where
   abbrev unlent : Parts
   unlent = record new { seats = insert seats actor f }

@@ -1,4 +1,4 @@
--- RULE and PUT: what leaves the registers as the definition says leaves the file, with its rights.
+-- RULE and PUT: arguments that leave the machine's registers leave the file, with its rights.
 use Rattle.std.proofs.Common.{map as each, length, arith, ◌≡◌, ℕ, zero, suc, Bool, true, false, if◌then◌else◌, List, [], ◌∷◌, Option, Some, None, Result, Ok, Err, refl, sym, ap, subst, ◌∙◌, slice_get, slice_set, slice_index_or, option_map, set}
 use Rattle.tw_parts.proofs.PartNames.{ArePlaced, Arg, ArgStands, ArgsStand, Cause, EmptyRegister, Held, IsPlaced, Mode, Param, Places, RightArg, Value, ValueArg, WrongRegister, bare_arg, bare_file, id_of, is_val, is_write, map-set, ok_or, option_and_then, option_flatten, right_of}
 use Rattle.tw_types.specs.Result.{◌>>=◌}
@@ -178,7 +178,7 @@ module _ (places : Places) (values : List Value) (p : Param) (params : List Para
       right_vals [] are = are.1
       right_vals (x ∷ vals) are = subst (λ b. ValOr b (slice_get values register) (Some x) (AreVals values params registers vals) (AreVals values params registers (x ∷ vals))) is are
 
--- where the definition hands over, the file does, with the rights
+-- if the definition takes the arguments, the file does, with their rights
 pub handed : (places : Places) (values : List Value) (held : List (Option Held)) (params : List Param) (registers : List ℕ) (vals : List Value) (given : bare.HandedOver)
     → length registers ≡ length params → bare.handed_over values (bare_file held) params registers ≡ Ok given → AreSuited held params registers → AreVals values params registers vals → ArePlaced places held
     → Handed places params registers held vals given

@@ -1,4 +1,4 @@
--- RULE and PUT: what leaves the frame, and what is left of it.
+-- RULE and PUT: arguments that leave the frame, and the rest of it.
 use Rattle.std.proofs.Common.{map as each, ◌≡◌, ◌+◌, ◌<◌, ◌≤◌, ◌∙◌, ℕ, List, Option, Some, IsSome, refl, sym, ap, subst, slice_get, length, arith}
 use Rattle.tw_parts.proofs.PartNames.{Action, Actor, ActorCounts, AreParts, ArePlaced, Arg, ArgsStand, FrameFits, FrameView, Held, IsProcedure, IsProgram, Notices, Parts, Procedure, TypedProgram, Typing, Value, at_next_place, bare_arg, bare_file, bare_frame, context_of, get, gone_behind, gone_on, kinds_in, kinds_of, named_values, params_in, params_of, same_Some, slice_get_within, state_of, typings_of, without_args}
 use Rattle.tw_rights.specs.Bundled.{Bundled, bundled}

@@ -1,4 +1,4 @@
--- INS: what is asked is met, and that it is done.
+-- INS: its requirements hold, and it is executed.
 use Rattle.tw_parts.proofs.PartNames.{Context, EmptyRegister, FrameView, Held, IsAbsent, IsDone, IsHere, IsNow, IsSome, IsUnchanged, MayDo, Notices, Ok, Right, RightType, Scalar, Served, Skipped, Subscript, after_insert, at_goal, at_next_place, bare_file, bare_frame, data_instr, first_so, get, insert_asks, inserted, is_container_by, is_element_of, is_read, is_write, kind_at, may_insert, member_at, of_type_at, ok_after, ok_first, passed, passes, reads_member_of, right_at, scalar_of, sees, there_then, writes_container_by}
 use Rattle.tw_no_trap.proofs.DataLeft.{read_no_write}
 use Rattle.tw_rights.specs.declared.held.Held.TheVariants as held
@@ -17,7 +17,7 @@ still_writes (x ∷ xs) zero (suc k) e f = f
 still_writes (x ∷ xs) (suc r) zero e f = f
 still_writes (x ∷ xs) (suc r) (suc k) e f = still_writes xs r k e f
 
--- what is there when one was taken out was there before
+-- a right that is there after one was taken was there before
 was_there : (xs : List (Option Held)) (r k : ℕ) (h : Held) → slice_index_or (slice_set xs r None) k None ≡ Some h → slice_index_or xs k None ≡ Some h
 was_there [] r k h e = e
 was_there (x ∷ xs) zero zero h e = cc

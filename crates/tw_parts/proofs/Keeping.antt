@@ -1,9 +1,9 @@
--- What is held before and after an instruction on data is live, so it keeps its place, whatever was freed.
+-- Data that are held before and after an instruction on data are live, so they keep their places, whatever was freed.
 use Rattle.std.proofs.Common.{map as each, ◌≡◌, ℕ, suc, List, [], ◌∷◌, Option, Some, None, refl, ap, slice_get}
 use Rattle.tw_parts.proofs.PartNames.{AreAt, ArePlaced, Arg, ArgStands, ArgsStand, Held, Param, Places, Read, Right, RightArg, RightType, Val, Write, bare_arg, bare_file, get, option_flatten, right_of}
 use Rattle.tw_rights.specs.declared.held.Held.TheVariants as held
 
--- every right of these has its place still, where it is live
+-- every right of these still has its place, if its datum is live
 module _ (places new_places : Places) (Lives : ℕ → Type 0) (stays : (id place : ℕ) → Lives id → get places id ≡ Some place → get new_places id ≡ Some place) where
   pub file_kept : (file : List (Option Held)) → ((k d : ℕ) → option_flatten (slice_get (bare_file file) k) ≡ Some d → Lives d) → ArePlaced places file → ArePlaced new_places file
   file_kept [] live h = tt

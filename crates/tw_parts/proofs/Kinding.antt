@@ -20,7 +20,7 @@ kind_there (h ∷ held) (t ∷ typing) (suc k) e = kind_there held typing k (ap 
     rest [] = []
     rest (x ∷ xs) = xs
 
--- what may stand for a parameter writes where the parameter does
+-- a right that suits a parameter is a write right if and only if the parameter is
 same_kind : (waits : Bool) (m : Mode) (t : RightType) → suits_mode waits m t ≡ true → is_write t.mode ≡ is_write m
 same_kind waits mode.Val t e = cc
 same_kind true mode.Closed t e = by t.mode e
@@ -69,7 +69,7 @@ module _ (waits : Bool) (declared : List Scalar) where
       by true m same left = same (yes_behind (asks_value declared register p.ty.scalar) (asks_args waits declared params registers typing) m)
       by false m same left = (suits_at p (slice_index_or held register None) (right_at typing register) (kind_there held typing register e) m.0, left m.1)
 
--- what is left is of the kinds that the typing has left
+-- the remaining rights are of the kinds of the remaining typing
 pub kinds_left : (params : List Param) (registers : List ℕ) (held : List (Option Held)) (typing : Typing) → kinds_of held ≡ kinds_in typing → kinds_of (without_held held params registers) ≡ kinds_in (without_args params registers typing)
 kinds_left [] registers held typing e = e
 kinds_left (p ∷ params) [] held typing e = e

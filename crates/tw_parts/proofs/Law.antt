@@ -1,4 +1,4 @@
--- What the laws of the machine say of the state for which parts stand.
+-- The theorems on the machine, for the state of the parts.
 use Rattle.std.proofs.Common.{◌≡◌, ◌≢◌, ◌<◌, ◌∙◌, sym, ap, ℕ, ◌++◌, ◌∷◌, [], length, slice_get, Option, Some, None, ◌≤◌, true, arith}
 use Rattle.tw_parts.proofs.PartNames.{Actor, ActorCounts, AreParts, AreQueued, FrameView, Goes, HasSeat, IsLayout, IsReached, Notices, Parts, Procedure, Stand, State, TypedProgram, Went, bare_frame, get, is_control, is_in, ltb-true, number_in_kind, opening, state_of, step, typings_of}
 use Rattle.tw_types.specs.declared.actor.Actor.TheVariants.{Engine, Server, Worker}

@@ -1,4 +1,4 @@
--- What an instruction leaves, by what became of the right registers: one was emptied, one was filled, or none changed.
+-- The effects of an instruction, by what changed in the right registers: one was emptied, one was filled, or none changed.
 use Rattle.tw_parts.proofs.PartNames.{AllYes, Cause, Completed, Context, Datum, FrameView, Held, IsAt, IsDone, IsLeft, IsLive, IsTold, Notice, Notices, Ok, Position, Result, Scalar, Served, Typing, after_data, asks_data, at_next_place, bare_file, data_instr, get, id_of, is_closed, kinds_in, map-set, notice_to, notices_after, notices_of, queued, right_in, same_Some, sees, with_notices, writes as typed_writes}
 use Rattle.tw_parts.proofs.Registers.{set_own}
 use Rattle.std.proofs.Common.{map as each, ◌≡◌, ◌⊎◌, ◌+◌, ◌∙◌, ℕ, zero, suc, Bool, true, false, if◌then◌else◌, List, [], ◌∷◌, ◌++◌, Some, None, refl, sym, ap, subst, slice_index_or, slice_set, set, option_map, inl, inr, append-nil}
@@ -87,7 +87,7 @@ module _ (d : DataInstr) (old new : Served) (f : FrameView) (more : List Notice)
     pub moved_done : (g : FrameView) → g ≡ moved → IsDone d old new f g
     moved_done g g_is = subst (λ (n : FrameView). IsDone d old new f n) (sym g_is) moved_is
 
--- ---- what is told
+-- ---- notices
 
 queued_none : (queues : List (List Notice)) (k : ℕ) → slice_set queues k (slice_index_or queues k [] ++ []) ≡ queues
 queued_none [] k = refl
@@ -109,7 +109,7 @@ module _ (old new : Served) (id : ℕ) (change : Datum → Datum) (left : IsLeft
           let none : notices_of id (change x) ≡ [] = ap (λ b. if b then each (notice_to id) (change x).subscribers else []) e in
           inl (told_is ∙ none, left.queues ∙ ap (λ ns. queued id ns old.queues) (told_is ∙ none) ∙ queued_none old.queues _)
 
--- where nothing is freed, all stays
+-- if nothing is freed, all data keep their places
 pub now_stays : (old new : Served) → new.places ≡ old.places → (id place : ℕ) → IsLive old id → IsLive new id → get old.places id ≡ Some place → get new.places id ≡ Some place
 now_stays old new same id place was now there = ap (λ ps. get ps id) same ∙ there
 

@@ -1,4 +1,4 @@
--- LOOK: what is asked is met, and that it is done.
+-- LOOK: its requirements hold, and it is executed.
 use Rattle.tw_parts.proofs.PartNames.{Context, EmptyRegister, FrameView, HasMemberRoom, IsDone, IsHere, IsLook, MayDo, NestedScalar, Notices, Ok, Right, RightType, Scalar, Served, Skipped, Subscript, a_member_read, after_look, at_goal, at_next_place, bare_file, data_instr, element_of, first_so, get, is_closed_mode, is_container_by, is_none, kind_at, kinds_in, look_asks, map-set, may_look, member_at, must_be_empty, of_type_at, ok_after, ok_first, passed, passes, reads_closed_container_by, right_at, second_so, sees, there_then, writes as typed_writes}
 use Rattle.tw_rights.specs.declared.held.Held.TheVariants as held
 use Rattle.tw_code.specs.declared.instr.DataInstr.TheVariants as on_data

@@ -162,7 +162,7 @@ nothing_made servers o store places queues args outputs = record {
 
 -- ---- the loop
 
--- so many parameters have their data, and these inputs are left for the others
+-- the first parameters have their data, and these inputs are left for the others
 pub record IsBegun (first : OpenedParts) (params : List Param) (inputs : List Input) (index : ℕ) (o : OpenedParts) (rest : List Input) : Type 0 where
   pub done : List Param
   pub all : params ≡ done ++ drop index params

@@ -1,4 +1,4 @@
--- RULE and PUT: what the law says of them, where a task stands at one.
+-- RULE and PUT: consequences of the theorem, if a task is at one.
 use Rattle.std.proofs.Common.{◌≡◌, ◌==◌, ℤ, Bool, true, false, List, Some, Result, Ok, Err, refl, sym, ap, subst, ◌∙◌, length, slice_get}
 use Rattle.tw_parts.proofs.PartNames.{Action, Actor, ActorCounts, AllYes, AreParts, ArgumentNotClosed, Call, Called, Cause, Context, FrameView, FreedDatum, HandedOver, Held, Notices, Parts, Procedure, Trap, TypedProgram, Typing, WrongCall, WrongRegister, WrongType, all_pass, asked_at, asks_callee, asks_priority, bare_frame, called, context_of, get, handed_over, is_closed_if_asked, is_control, is_live, is_of_type, mapped, must_then, ok_first, priority_at, put_called, same_Some, state_of, there_then, typings_of, values_suit, yes_behind}
 use Rattle.tw_types.specs.declared.actor.Kind.{Kind}
@@ -13,7 +13,7 @@ use Rattle.tw_parts.proofs.Handing.{AreSuited}
 use Rattle.tw_parts.proofs.Kinding.{suited}
 use Rattle.tw_parts.proofs.Law.{held}
 
--- what the action names, and that it is handed over
+-- the action's task, and that its arguments can be taken
 pub record IsNamed (program : List Procedure) (kind : Kind) (c : Context) (action : Action) (file : List (Option Held)) : Type 0 where
   pub procedure : Procedure
   pub is : slice_get program action.procedure ≡ Some procedure
@@ -90,7 +90,7 @@ module _ (verified : TypedProgram) (layout : ActorCounts) (old : Parts) (notices
     unfolding step
     put_trapped why err = let t = there in rw (t, here, at, err) refl
 
-    -- what stands for `closed` parameters is closed besides
+    -- the arguments of `closed` parameters are also closed
     pub record IsPut : Type 0 where
       pub is_named : IsNamed verified.program p.kind context action f.held
       pub is_closed : put_called verified.program p.kind context action ≡ called verified.program p.kind context action

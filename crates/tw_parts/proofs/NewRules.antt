@@ -25,7 +25,7 @@ module _ (verified : TypedProgram) (layout : ActorCounts) (old : Parts) (notices
       let g = rule_named.goes in
       rw (t, here, at, g) refl
 
-  -- it may stand behind it
+  -- it may run from the place after it
   pub rule_stands : MayStand f.program.program f.procedure (at_next_place f.position)
   rule_stands = subst (λ (v : TypedProgram). MayStand v.program f.procedure (at_next_place f.position)) (sym (h.stand.frames actor f runs).program)
       (stands_then verified layout old notices h actor f runs (Call actor) _ rule_steps (gone_behind (bare_frame f) rule_named.given.rights) (get_own (mapped bare_frame old.seats) actor (gone_behind (bare_frame f) rule_named.given.rights)))

@@ -1,4 +1,4 @@
--- NEW: what is asked is met, and that it is done.
+-- NEW: its requirements hold, and it is executed.
 use Rattle.tw_parts.proofs.PartNames.{◌==◌, Completed, Context, FrameView, Held, IsAt, IsDone, IsHere, MayDo, NestedScalar, Notices, Ok, Right, Served, WrongRegister, a_read, a_write, at_next_place, bare_file, created, data_instr, eq_by_cmp, get, get-insert, get_or-set_other, id_of, insert, is_none, map-set, must_be_empty, must_then, nat_cmp, nat_cmp_total, nat_tests, new_asks, not, ok_after, right_at, right_in, same_Some, sees, with_notices, writes as typed_writes}
 use Rattle.tw_rights.specs.declared.held.Held.TheVariants as held
 use Rattle.tw_code.specs.declared.instr.DataInstr.TheVariants as on_data

@@ -1,4 +1,4 @@
--- Notices leave the queues, and come to them.
+-- Notices leave the queues, and are added to them.
 use Rattle.std.proofs.Common.{◌≡◌, ◌≢◌, ◌<◌, ℕ, Bool, true, false, not, ◌&&◌, ◌||◌, List, [], ◌∷◌, Some, None, refl, sym, ap, subst, ◌∙◌, length, set, slice_get, drop, inl, inr}
 use Rattle.tw_parts.proofs.PartNames.{AreApart, AreQueued, Equal-is, Notice, Notices, cases_eq, eq_by_cmp, get_or-set_other, get_or-set_same, is_among, is_eq, is_queued, length-set, notice_cmp, queue_at, server_of, tied_itself}
 use Rattle.std.specs.FinSet as set_of

@@ -1,4 +1,4 @@
--- Names of the host's parts, of the machine and of what is known of them, for the files here.
+-- Names of the host's parts, of the machine and of its invariants, for the files here.
 pub use Rattle.std.proofs.lemmas.Bool.{and_parts, cases_eq, eq-eqb, eqb-true, ltb-true, or_left, or_right}
 pub use Rattle.std.proofs.lemmas.Bool.Decides.{nat_tests}
 pub use Rattle.std.proofs.lemmas.List.{append-nil, get_or-set_other, get_or-set_same, length-map, length-replicate, length-set, length-take-le, map-append, map-set, map_more, set-get_or, take_all}

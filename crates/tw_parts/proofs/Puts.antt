@@ -24,7 +24,7 @@ module _ (verified : TypedProgram) (layout : ActorCounts) (old : Parts) (notices
       let g = (puts verified layout old notices h actor f p action runs here at).is_closed ∙ put_named.goes in
       rw (t, here, at, g) refl
 
-  -- it may stand behind it
+  -- it may run from the place after it
   pub put_stands : MayStand f.program.program f.procedure (at_next_place f.position)
   put_stands = subst (λ (v : TypedProgram). MayStand v.program f.procedure (at_next_place f.position)) (sym (h.stand.frames actor f runs).program)
       (stands_then verified layout old notices h actor f runs (Call actor) _ put_steps (gone_behind (bare_frame f) put_named.given.rights) (get_own (mapped bare_frame old.seats) actor (gone_behind (bare_frame f) put_named.given.rights)))

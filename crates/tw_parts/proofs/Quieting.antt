@@ -1,4 +1,4 @@
--- Whether a run is quiet, by what the parts tell at once: how many run, how many wait, the firsts of queues and agendas.
+-- Whether a run is quiet, by counters: how many tasks run, how many wait, and the first entries of queues and agendas.
 use Rattle.std.proofs.Common.{map as each, ◌≡◌, ◌<◌, inl, inr, ◌⊎◌, ℕ, zero, suc, slice_get, ◌==◌, Bool, true, false, not, ◌&&◌, List, [], ◌∷◌, Option, Some, None, refl, sym, ap, subst, ◌∙◌, length, is_some, arith, nat_cmp}
 use Rattle.tw_parts.proofs.PartNames.{AreQueued, Arg, MatchBool, Notice, Notices, Parts, Rule, RuleOf, RulesOf, bare_arg, bare_frame, bare_rule, bare_task, entries, eq-eqb, eqb-true, get, has_unasked, is_among, is_releasable, is_unasked, len_mapped, mapped, nat_cmp_total, next_ask, next_release, notice_cmp, or_left, or_right, queue_at, same_Some, server_of, state_of}
 use Rattle.tw_types.specs.declared.stage.Stage.{Stage}
@@ -102,7 +102,7 @@ quiet_by p notices engines q some below frames tasks queues asks releases =
     let r = unreleasing engines p.rules.rules below releases in
     rw (f, t, n, a, r) refl
 
--- ---- what isn't quiet
+-- ---- states that aren't quiet
 
 module _ (p : Parts) (notices : Notices) where
   pub running : (map.len p.seats == 0) ≡ false → is_quiet (state_of p notices) ≡ false
@@ -160,7 +160,7 @@ module _ (p : Parts) (notices : Notices) where
       by true false c i = refl
       by false b c i = refl
 
--- what is left to be known, by what the rules have to do
+-- whether the state is quiet, by whether the rules have work
 pub quiet_or : (p : Parts) (notices : Notices) (engines : ℕ) → AreQueued p.store.queues notices → 0 < length p.store.queues → AreOfEngines engines p.rules.rules
     → map.len p.seats ≡ 0 → map.len p.tasks.tasks ≡ 0 → ((server : ℕ) → server < length p.store.queues → slice_get (queue_at p.store.queues server) 0 ≡ None)
     → (b : Bool) → MatchBool b ((engine : ℕ) × ((is_some (next_ask engine p.rules.rules) ≡ true) ⊎ (is_some (next_release engine p.rules.rules) ≡ true)))

@@ -1,4 +1,4 @@
--- One right register: what a typing says of it, the right that is in it, and what is left when it is filled or emptied.
+-- One right register: its typing, its right, and the effect of filling or emptying it.
 use Rattle.tw_types.specs.declared.param.Mode.TheVariants as mode
 use Rattle.tw_rights.specs.declared.held.Held.TheVariants as held
 use Rattle.tw_parts.proofs.PartNames.{ArePlaced, FrameView, Held, IsAt, Mode, Places, RightType, Typing, bare_file, id_of, is_closed_mode, is_none, is_write, kind_at, kinds_in, kinds_of, passed, passes, right_at, right_in, same_Some, writes as typed_writes}
@@ -66,7 +66,7 @@ empty_at (x ∷ file) (suc k) e = empty_at file k e
 
 -- ---- filled and emptied
 
--- what is in a register stood there, or is what one register was given
+-- a register's right was there before, or is the one that was put
 pub set_own : (xs : List (Option Held)) (r k : ℕ) (o : Option Held) (h : Held) → slice_index_or (slice_set xs r o) k None ≡ Some h → (slice_index_or xs k None ≡ Some h) ⊎ (o ≡ Some h)
 set_own [] r k o h e = cc
 set_own (x ∷ xs) zero zero o h e = inr e
@@ -74,13 +74,13 @@ set_own (x ∷ xs) zero (suc k) o h e = inl e
 set_own (x ∷ xs) (suc r) zero o h e = inl e
 set_own (x ∷ xs) (suc r) (suc k) o h e = set_own xs r k o h e
 
--- what was taken out is put back
+-- putting back a right that was taken
 pub set_again : (xs : List (Option Held)) (r : ℕ) (o : Option Held) → slice_index_or xs r None ≡ o → slice_set (slice_set xs r None) r o ≡ xs
 set_again [] r o e = refl
 set_again (x ∷ xs) zero o e = ap (λ y. y ∷ xs) (sym e)
 set_again (x ∷ xs) (suc r) o e = ap (λ ys. x ∷ ys) (set_again xs r o e)
 
--- what has no room is more than nothing
+-- a number that doesn't fit is more than zero
 pub more_than : (n room : ℕ) → (n ≤ room → false ≡ true) → 0 < n
 more_than zero room full = let wrong : false ≡ true = full (omega arith) in cc
 more_than (suc n) room full = omega arith

@@ -1,4 +1,4 @@
--- Each empty seat has room for a task, whoever comes and goes.
+-- Each empty seat has memory for a task, whenever tasks start and end.
 use Rattle.std.proofs.Common.{◌≡◌, ◌<◌, ℕ, zero, suc, List, [], ◌∷◌, length, Option, Some, None, get_or, set, refl, sym, ap, subst, arith}
 use Rattle.tw_parts.proofs.PartNames.{AreKept, FrameView, IsSome}
 
@@ -36,7 +36,7 @@ kept_seated (Some g ∷ seats) (room ∷ rooms) kept (suc k) f = kept_seated sea
 pub still_kept : (seats : Seats) (rooms : Rooms) → AreKept seats rooms → (k : ℕ) (f : FrameView) (new : Seats) → new ≡ set seats k (Some f) → AreKept new rooms
 still_kept seats rooms kept k f new is = subst (λ (xs : Seats). AreKept xs rooms) (sym is) (kept_seated seats rooms kept k f)
 
--- and takes the room
+-- and takes the memory
 pub kept_begun : (seats : Seats) (rooms : Rooms) → AreKept seats rooms → (k : ℕ) (f : FrameView) → AreKept (set seats k (Some f)) (set rooms k None)
 kept_begun [] [] kept k f = tt
 kept_begun [] (room ∷ rooms) kept k f = absurd kept
@@ -46,7 +46,7 @@ kept_begun (Some g ∷ seats) (room ∷ rooms) kept zero f = kept
 kept_begun (None ∷ seats) (room ∷ rooms) kept (suc k) f = (kept.0, kept_begun seats rooms kept.1 k f)
 kept_begun (Some g ∷ seats) (room ∷ rooms) kept (suc k) f = kept_begun seats rooms kept k f
 
--- who sat there goes, and leaves room
+-- a task that ends leaves its memory
 pub kept_ended : (seats : Seats) (rooms : Rooms) → AreKept seats rooms → (k : ℕ) → AreKept (set seats k None) (set rooms k (Some tt))
 kept_ended [] [] kept k = tt
 kept_ended [] (room ∷ rooms) kept k = absurd kept

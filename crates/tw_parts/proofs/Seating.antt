@@ -37,9 +37,9 @@ low_seat (Worker n) h = omega arith
 same_actor : (a b : Actor) → eq_by_cmp actor_cmp a b ≡ true → a ≡ b
 same_actor a b e = actor_cmp-IsAntisymmetric a b ((Equal-is (actor_cmp a b)).0 e)
 
--- ---- what is found
+-- ---- look-ups
 
--- an actor that stands at no place from here on isn't found
+-- an actor whose seat isn't here or later isn't found
 unfound : (a : Actor) (n : ℕ) (seats : Seats) → ((k : ℕ) → n ≤ k → a ≡ actor_of k → ⊥) → find actor_cmp a (who_sit n seats) ≡ None
 unfound a n [] h = refl
 unfound a n (None ∷ seats) h = unfound a (suc n) seats (λ k l. h k (omega (arith, l)))
@@ -131,13 +131,13 @@ count_set (x ∷ seats) (suc k) o h =
     let rest = count_set seats k o (omega arith) in
     omega (arith, rest, sum_by-cons (λ o. cond (is_some o) 1 0) x (set seats k o), sum_by-cons (λ o. cond (is_some o) 1 0) x seats)
 
--- what is read there, whatever the default
+-- the item that is read there, with any default
 pub in_list : {A : Type 0} (xs : List A) (k : ℕ) (d e : A) → k < length xs → get_or xs k d ≡ get_or xs k e
 in_list [] k d e l = absurd (omega (arith, l))
 in_list (x ∷ xs) zero d e l = refl
 in_list (x ∷ xs) (suc k) d e l = in_list xs k d e (omega (arith, l))
 
--- what the seats become when who sits in one changes
+-- the seats after the task in one changes
 module _ (seats : Seats) (taken : ℕ) (all : AreSeats seats taken) (m : Seated) (same : seated seats ≡ m) (a : Actor) (h : HasSeat a) (seat : ℕ) (here : seat ≡ seat_of a) where
   inside : seat < length seats
   inside = omega (arith, here, low_seat a h, all.many)

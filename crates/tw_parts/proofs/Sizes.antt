@@ -1,4 +1,4 @@
--- SIZE and SUBAT: what is asked is met, and that it is done.
+-- SIZE and SUBAT: their requirements hold, and they are executed.
 use Rattle.std.specs.FinMap as map
 use Rattle.tw_parts.proofs.PartNames.{◌^◌, Completed, Context, Datum, EmptyRegister, FrameView, FreedDatum, HasThatMany, IsDone, IsHere, MayDo, MaySet, Notices, Ok, Position, Right, RightType, Scalar, Served, Skipped, Store, Subscript, WrongType, ℤ, at_goal, at_next_place, bare_file, bare_frame, data_instr, first_so, get, int_at, is_closed_mode, is_container_by, is_scalar, kind_at, may_read_members, may_read_members_by, members_at, members_in, must_have_type, must_then, not, ok_after, ok_first, pos, reads_closed_container, reads_closed_container_by, right_at, scalar_of, sees, size_asks, subscript_after, subscript_asks, there_then, with_notices, with_result, with_value, writes as typed_writes}
 use Rattle.tw_types.specs.declared.data_type.Scalar.TheVariants as scalar
@@ -95,7 +95,7 @@ module _ (by : Scalar) (to container index skip : ℕ) (s : Served) (f : FrameVi
     pub subscript_there : (k : Subscript) → subscript_after count (map.keys (members_at s.store right.id)) ≡ Some k → HasThatMany s.store (bare_frame f) container index
     subscript_there k found = (right.id, count, k, id_at f.held container (held.Read right) at, count_is, found)
 
-    -- what is found is of the type that the container says
+    -- a subscript that is found is of the container's type
     pub subscript_by : (k : Subscript) → subscript_after count (map.keys (members_at s.store right.id)) ≡ Some k → scalar_of k ≡ by
     subscript_by k found =
         let x = there_then (get s.store.live right.id) FreedDatum _ tt may_by in
@@ -106,7 +106,7 @@ module _ (by : Scalar) (to container index skip : ℕ) (s : Served) (f : FrameVi
     subscript_fits k found =
         may_set_kind f.position to k (ap (must_have_type f.position to) (subscript_by k found) ∙ (ok_after (must_have_type f.position to by) _ m.left m.goes).0)
 
-    -- where it goes on
+    -- where it continues
     abbrev found_at : Option Subscript → Position
     found_at o = with_result f.position to skip o
 

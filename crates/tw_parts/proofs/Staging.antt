@@ -16,7 +16,7 @@ use Rattle.tw_parts.proofs.Fitting.{Behind, behind, seen, stand_staged}
 use Rattle.tw_types.proofs.Chosen.{next_ask_mapped}
 use Rattle.tw_parts.proofs.Law.{goes_to, held}
 
--- ---- the argument that is asked for is a right to read
+-- ---- the argument of an ask is a read right
 
 pub record Reads (places : Places) (args : List Arg) (k : ℕ) : Type 0 where
   pub right : Right
@@ -47,7 +47,7 @@ asked_reads s places (p ∷ params) (stage ∷ stages) (arg ∷ args) (suc k) fi
     let it = asked_reads s places params stages args k fit.2 stands.1 at in
     record { right = it.right; there = it.there; here = it.here }
 
--- ---- what an engine asks for next
+-- ---- the next ask of an engine
 
 module _ (verified : TypedProgram) (layout : ActorCounts) (old : Parts) (notices : Notices) (h : AreParts verified layout old notices)
     (engine number parameter : ℕ) (due : next_ask engine old.rules.rules ≡ Some (number, parameter)) where
@@ -97,7 +97,7 @@ module _ (verified : TypedProgram) (layout : ActorCounts) (old : Parts) (notices
   pub live : (x : Datum) × (get old.store.store.live reads.right.id ≡ Some x)
   live = asked_is_there verified.program (typings_of verified) (state_of old notices) held_there.types held_there.counts number found.rule parameter reads.right.id Unasked pending found.has refl arg_there
 
-  -- where it is open, it is so in the state
+  -- if it is open, it is open in the state
   pub asks_open : closed_by (get old.store.store.live reads.right.id) ≡ false → (ns : Notices) → AsksOpen (state_of old ns) number parameter
   asks_open e ns = record { rule = found.rule; pends = pending; id = reads.right.id; asks = arg_there; x = live.0; live = live.1; not_closed = sym (ap closed_by live.1) ∙ e }
 
@@ -143,7 +143,7 @@ module _ (verified : TypedProgram) (layout : ActorCounts) (old : Parts) (notices
           stand_is : Stand verified new.store.places new.seats new.tasks.tasks new.rules.rules new.outputs
           stand_is = rw (places, seats, tasks, rules, outputs) staged_stand
 
-    -- both cases of what it comes to
+    -- the results in both cases
     pub closed_leads : closed_by (get old.store.store.live reads.right.id) ≡ true → asked (state_of old notices) number found.rule parameter reads.right.id live.0 ≡ with_stage (record (state_of old notices) { store = old.store.store }) number found.rule parameter Ready
     closed_leads e = let c : is_closed live.0 ≡ true = sym (ap closed_by live.1) ∙ e in rw c refl
 

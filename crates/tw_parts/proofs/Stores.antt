@@ -1,4 +1,4 @@
--- STORE: what is asked is met, and that it is done.
+-- STORE: its requirements hold, and it is executed.
 use Rattle.tw_parts.proofs.PartNames.{Context, Datum, EmptyRegister, FrameView, FreedDatum, IsDone, IsHere, IsLeft, MayDo, Notices, Ok, Right, Served, Value, WrongRegister, at_next_place, bare_file, data_instr, datum_at, first_so, get, is_scalar, is_write, kind_at, may_store, must_then, notices_after, notices_of_stored, ok_after, right_at, same_Some, sees, set_to, slice_get_within, store_asks, stored, suits, there_then, with_notices, writes_scalar}
 use Rattle.tw_rights.specs.declared.held.Held.TheVariants as held
 use Rattle.tw_code.specs.declared.instr.DataInstr.TheVariants as on_data

@@ -51,7 +51,7 @@ placed_given places (p ∷ params) (arg ∷ args) n h = by (right_of p) arg h.0 
     by (Some t) (Read right) s rest = (s.1, rest)
     by (Some t) (Write right) s rest = (s.1, rest)
 
--- what is answered, where one has begun or none has
+-- the result, whether a task has started or not
 pub taken : {E : Type 0} (verified : TypedProgram) (actor : Actor) (event_no : ℕ) (old : Seated) (waiting : TasksOf Arg) (new : Seated) (left : TasksOf Arg) (Made : ℕ × TaskOf Arg → JobView → Type 0) (Same : Type 0)
     (r : Result (Option JobView) E) → IsBegun verified actor event_no old waiting new left r → ((job : JobView) (b : Begins verified actor event_no old waiting new left job) → Made b.e job) → (new ≡ old → left ≡ waiting → Same)
     → IsTaken (best actor waiting) Made Same r
@@ -143,7 +143,7 @@ module _ (verified : TypedProgram) (layout : ActorCounts) (old : Parts) (notices
           stand_is : Stand verified new.store.places new.seats new.tasks.tasks new.rules.rules new.outputs
           stand_is = rw (store, seats, tasks, rules, outputs) (stand_seated verified old.store.places old.seats (remove old.tasks.tasks e.0) old.rules.rules old.outputs without_it actor (record begun { event_no = event_no }) (fits event_no))
 
-    -- it may stand there
+    -- it may run from there
     pub begun_stands : MayStand verified.program e.1.procedure begun.position
     begun_stands = let g = takes 0 next refl refl refl refl refl refl in may_stand verified layout next g.left g.parts actor begun (get_own old.seats actor begun)
       where

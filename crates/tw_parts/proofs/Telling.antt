@@ -63,7 +63,7 @@ its_datum id (x ∷ xs) m e = by (eq_by_cmp notice_cmp m (notice_to id x)) refl 
     by true same others e = ap (λ (n : Notice). n.datum) (same_is m (notice_to id x) same)
     by false same others e = others e
 
--- one that is named stands among the subscribers
+-- a parameter that is named is among the subscribers
 is_named : (id : ℕ) (xs : List Subscriber) (m : Notice) → is_among m (each (notice_to id) xs) ≡ true → 1 ≤ times_among m.rule m.parameter xs
 is_named id [] m e = cc
 is_named id (x ∷ xs) m e = by (eq_by_cmp notice_cmp m (notice_to id x)) refl (is_named id xs m) e
@@ -87,7 +87,7 @@ apart_told id (x ∷ xs) few = (once (is_among (notice_to id x) (each (notice_to
         absurd (omega (arith, more, one, both))
     once false e = e
 
--- ---- by the law
+-- ---- by the theorem
 
 module _ (live : Data) (ns : Notices) (rules : Rules) (h : AreNamed live ns rules) (id : ℕ) (x : Datum) (is : get live id ≡ Some x) where
   in_all : (r p : ℕ) → times_subscribed r p x + times_noticed ns rules r p ≤ 1
@@ -100,7 +100,7 @@ module _ (live : Data) (ns : Notices) (rules : Rules) (h : AreNamed live ns rule
   few : (r p : ℕ) → times_among r p x.subscribers ≤ 1
   few r p = omega (arith, in_all r p)
 
-  -- what its subscribers are told wasn't told before
+  -- the notices of its subscribers are new
   unsaid : (m : Notice) → is_among m (each (notice_to id) x.subscribers) ≡ true → set_of.contains ns m ≡ false
   unsaid m there = by (set_of.contains ns m) refl
     where

@@ -4,7 +4,7 @@ use Rattle.tw_types.specs.declared.param.Param.{Param}
 use Rattle.tw_types.specs.declared.value.Value.{Value}
 use Rattle.tw_types.specs.Mode.{is_val}
 
--- of each value parameter in turn, what is in the register that is named for it
+-- returns for each value parameter in order what is in the register that is named for it
 abbrev pub named_values : List Value → List Param → List ℕ → List (Option Value)
 named_values values [] registers = []
 named_values values (p ∷ params) [] = []

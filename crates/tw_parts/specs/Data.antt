@@ -1,5 +1,5 @@
--- What an instruction on data asks of a store and of the task that does it, and what it leaves of them. The event on the parts says
--- it by the machine's step; this is for the functions below it.
+-- The requirements of an instruction on data on a store and a task, and its effects. The event on the parts is defined by the machine's
+-- step; this is for the functions below it.
 use Rattle.std.specs.Prelude.{◌≡◌, ◌⊎◌, ◌<◌, ◌^◌, ◌+◌, ℕ, List, [], Some, None, map as each, slice_index_or}
 use Rattle.std.specs.declared.result.Result.{Result}
 use Rattle.std.specs.declared.result.Result.TheVariants.{Ok, Err}
@@ -28,16 +28,16 @@ use Rattle.tw_parts.specs.Coming.{come, lent_as}
 use Rattle.tw_parts.specs.Fits.{ArePlaced, IsAt, kinds_in, right_in}
 use Rattle.tw_parts.specs.Memory.{TakesMemory}
 
--- what it sees, where these are the notices
+-- returns the instruction's context, if these are the notices
 abbrev pub sees : Served → Notices → FrameView → Context
 sees s ns f = record { store = s.store; notices = ns; rights = bare_file f.held; position = f.position }
 
 abbrev pub IsLive : Served → ℕ → Type 0
 IsLive s id = (x : Datum) × (get s.store.live id ≡ Some x)
 
--- ---- before it
+-- ---- requirements
 
--- there is room for each number and count to grow
+-- each number and count can be increased
 pub record HasRoom (s : Served) (f : FrameView) : Type 0 where
   pub next : s.store.next < 2 ^ 62
   pub reads : (id : ℕ) (x : Datum) → get s.store.live id ≡ Some x → x.reads < 2 ^ 62
@@ -53,32 +53,32 @@ pub record IsTypedFor (d : DataInstr) (f : FrameView) : Type 0 where
   pub kinds : kinds_of f.held ≡ kinds_in typing
   pub asked : AllYes (asks_data registers d typing)
 
--- ---- after it
+-- ---- effects
 
--- nothing is told; or all that wait for one live datum are, by its server
+-- holds if there is no notice; or all subscribers of one live datum get notices, from its server
 abbrev pub IsTold : Served → Served → List Notice → Type 0
 IsTold old new more = ((more ≡ []) × (new.queues ≡ old.queues))
     ⊎ ((id : ℕ) × (x : Datum) × (get old.store.live id ≡ Some x) × (more ≡ each (notice_to id) x.subscribers) × (new.queues ≡ queued id more old.queues))
 
--- it is done: the new store and frame are what the definition comes to
+-- it was executed: the new store and frame are those of the machine's definition
 pub record IsDone (d : DataInstr) (old new : Served) (f g : FrameView) : Type 0 where
   pub more : List Notice
   pub goes : (ns : Notices) (left : Context) → data_instr d (sees old ns f) ≡ Ok left → left ≡ sees new (with_notices ns more) g
   pub told : IsTold old new more
-  -- what was live and is, is where it was
+  -- data that stay live keep their places
   pub stays : (id place : ℕ) → IsLive old id → IsLive new id → get old.places id ≡ Some place → get new.places id ≡ Some place
-  -- each right of the task was its own, or is at its place now
+  -- each right of the task was its own, or has its datum's place now
   pub own : (k : ℕ) (h : Held) → slice_index_or g.held k None ≡ Some h → (slice_index_or f.held k None ≡ Some h) ⊎ IsAt new.places (right_in h)
-  -- the typing goes on as the definition says
+  -- the typing continues as the definition says
   pub way : Way
   pub onwards : onward way f.position.place (data_flow d) ≡ Some g.position.place
   pub kinds : (registers : List Scalar) (typing : Typing) → kinds_of f.held ≡ kinds_in typing → AllYes (asks_data registers d typing) → kinds_of g.held ≡ kinds_in (after_data way d typing)
-  -- and one instruction more is spent
+  -- and one more instruction is spent
   pub rest : g ≡ record f { position = g.position; held = g.held; spent = f.spent + 1 }
 
--- ---- before and after it
+-- ---- requirements and effects
 
--- the task may do it: by the definition it goes, where some notices wait, and the task may stand wherever that leads it
+-- the task may execute it: by the definition it succeeds, with some notices, and the task may run from wherever it leads
 pub record MayDo (d : DataInstr) (s : Served) (f : FrameView) : Type 0 where
   pub ns : Notices
   pub left : Context
@@ -90,9 +90,9 @@ pub record MayDo (d : DataInstr) (s : Served) (f : FrameView) : Type 0 where
   pub room : HasRoom s f
   pub stands : (new : Served) (g : FrameView) → IsDone d s new f g → MayStand g.program.program g.procedure g.position
 
--- ---- without memory
+-- ---- without an allocation
 
--- the instructions that take none
+-- holds for the instructions that don't allocate
 abbrev pub TakesNone : DataInstr → Type 0
 TakesNone (on_data.New write read ty) = ⊥
 TakesNone (on_data.Store datum from) = ⊥
@@ -106,14 +106,14 @@ TakesNone (on_data.CopyWrite to from) = Unit {0}
 TakesNone (on_data.DropRead right) = Unit {0}
 TakesNone (on_data.DropWrite right) = ⊥
 
--- ---- behind a Done
+-- ---- after a job
 
--- it was done behind the Done, and the draft is of the values then
+-- it was executed after the job, and the draft is of the values then
 pub record IsDoneBehind (d : DataInstr) (old new : Served) (f g : FrameView) (done : DoneView) (draft : DraftView) : Type 0 where
   pub is_done : IsDone d old new (come f done) g
   pub is_draft : draft ≡ draft_of g
 
--- memory was refused where it takes some, and all is as it was
+-- an allocation failed, where one may be needed, and nothing has changed
 pub record IsRefused (d : DataInstr) (old new : Served) (f g : FrameView) (done back : DoneView) : Type 0 where
   pub memory : TakesMemory d old (come f done)
   pub store : IsUnchanged old new
@@ -124,9 +124,9 @@ abbrev pub IsAnswer : DataInstr → Served → Served → FrameView → FrameVie
 IsAnswer d old new f g done (Ok draft) = IsDoneBehind d old new f g done draft
 IsAnswer d old new f g done (Err back) = IsRefused d old new f g done back
 
--- ---- and lent then
+-- ---- and issued then
 
--- it was done behind the Done, and the job is the task, which is lent under this number
+-- it was executed after the job, and the task's next job is issued under this number
 pub record IsLentBehind (d : DataInstr) (old new : Served) (f g : FrameView) (event_no : ℕ) (done : DoneView) (job : JobView) : Type 0 where
   pub at : FrameView
   pub is_done : IsDone d old new (come f done) at

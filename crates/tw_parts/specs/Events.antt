@@ -1,4 +1,4 @@
--- What one event makes of the parts of a pool.
+-- The effect of one event on the parts of a pool.
 use Rattle.std.specs.Prelude.{◌≡◌, ◌≢◌, ℕ, ◌^◌, Option, Some, None, IsSome, slice_get}
 use Rattle.std.specs.declared.result.Result.{Result}
 use Rattle.std.specs.declared.result.Result.TheVariants.{Ok, Err}
@@ -22,20 +22,20 @@ use Rattle.tw_parts.specs.Fits.{AreParts}
 use Rattle.tw_parts.specs.Parts.{state_of}
 use Rattle.tw_parts.specs.declared.parts.Parts.{Parts}
 
--- ---- an event
+-- ---- events
 
--- the event goes, what it leaves are parts again, and nobody else's task has changed
+-- the event succeeds, the results are parts again, and no other actor's task has changed
 pub record Goes (verified : TypedProgram) (layout : ActorCounts) (event : Event) (old : Parts) (notices : Notices) (new : Parts) : Type 0 where
   pub left : Notices
   pub step_is : step verified.program layout event (state_of old notices) ≡ Went (state_of new left)
   pub parts : AreParts verified layout new left
   pub others : (actor : Actor) → actor ≢ actor_of event → get new.seats actor ≡ get old.seats actor
 
--- so does it from whatever set of notices stands for the queues
+-- holds if it does so for any set of notices that has those in the queues
 abbrev pub Makes : TypedProgram → ActorCounts → Event → Parts → Parts → Type 0
 Makes verified layout event old new = (notices : Notices) → AreParts verified layout old notices → Goes verified layout event old notices new
 
--- nothing has changed but how much room there is
+-- only reserved memory has changed
 pub record Untouched (old new : Parts) : Type 0 where
   pub store : IsUnchanged old.store new.store
   pub rules : new.rules.rules ≡ old.rules.rules
@@ -45,28 +45,28 @@ pub record Untouched (old new : Parts) : Type 0 where
   pub seats : new.seats ≡ old.seats
   pub outputs : new.outputs ≡ old.outputs
 
--- an event that is due goes, for what it is about; where none is due, or one is and memory is refused, nothing is touched
+-- holds if a due event succeeds; nothing changes if none is due, or if an allocation fails
 abbrev pub IsTried : {A E : Type 0} → Option A → (A → Type 0) → Type 0 → Result (Option A) E → Type 0
 IsTried due Made Same (Ok None) = (due ≡ None) × Same
 IsTried due Made Same (Ok (Some x)) = (due ≡ Some x) × Made x
 IsTried due Made Same (Err e) = IsSome due × Same
 
--- ---- a task that has done local steps meanwhile
+-- ---- after a job
 
--- the parts then
+-- returns the parts after the job
 abbrev pub with_done : Parts → Actor → FrameView → DoneView → Parts
 with_done p actor f done = record p { seats = insert p.seats actor (come f done) }
 
--- the Done is of the job that was lent last to the actor's task
+-- the `Done` is of the job that was issued last for the actor's task
 pub record IsOwed (p : Parts) (actor : Actor) (f : FrameView) (done : DoneView) : Type 0 where
   pub sits : get p.seats actor ≡ Some f
   pub own : done.before ≡ job_of f
 
--- numbers, counts and what is spent are small
+-- numbers, counts and spent instructions are small
 abbrev pub IsSmall : State → Type 0
 IsSmall s = AreBelow (2 ^ 62) s
 
--- the actor's task stands at this instruction then, in parts that are a pool's
+-- the actor's task is at this instruction after the job, in parts of a pool
 pub record StandsAt (p : Parts) (actor : Actor) (done : DoneView) (instr : Instr) : Type 0 where
   pub layout : ActorCounts
   pub notices : Notices
@@ -78,20 +78,20 @@ pub record StandsAt (p : Parts) (actor : Actor) (done : DoneView) (instr : Instr
   pub here : slice_get done.before.program.program f.procedure ≡ Some q
   pub behind : slice_get q.code done.after.place ≡ Some instr
 
--- the event goes from there
+-- holds if the event succeeds from there
 abbrev pub MakesBehind : Event → Parts → Actor → DoneView → Parts → Type 0
 MakesBehind event old actor done new = (layout : ActorCounts) (f : FrameView) → IsOwed old actor f done → Makes done.before.program layout event (with_done old actor f done) new
 
 -- ---- jobs
 
--- the job is the actor's task, which is lent under this number
+-- the job is the actor's, issued under this number
 pub record IsLent (p : Parts) (actor : Actor) (event_no : ℕ) (job : JobView) : Type 0 where
   pub f : FrameView
   pub sits : get p.seats actor ≡ Some f
   pub number : f.event_no ≡ event_no
   pub job_is : job ≡ job_of f
 
--- what a Take answers: where a task waits for the actor, the best one starts, and is lent
+-- holds for the result of a Take: the best task that waits for the actor starts, and its job is issued
 abbrev pub IsTaken : {A E : Type 0} → Option A → (A → JobView → Type 0) → Type 0 → Result (Option JobView) E → Type 0
 IsTaken due Made Same (Ok None) = (due ≡ None) × Same
 IsTaken {A = A} due Made Same (Ok (Some job)) = (x : A) × (due ≡ Some x) × Made x job

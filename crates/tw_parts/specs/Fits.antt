@@ -1,6 +1,5 @@
--- What is true of the parts of every pool: the state for which they stand is one that the program reaches; each right has its
--- datum's place, and is of the kind that its holder's typing says; each task that runs is of the program, and sits with its
--- actor.
+-- Invariants of the parts of every pool. Their state is one that the program reaches. Each right has its datum's place, and is of the
+-- kind that its holder's typing has. Each running task is of the program, and is in its actor's seat.
 use Rattle.std.specs.Prelude.{◌≡◌, ℕ, Bool, true, false, List, [], ◌∷◌, Option, Some, None, map as each, option_map, length}
 use Rattle.std.specs.FinMap.{get}
 use Rattle.tw_types.specs.declared.actor.Actor.{Actor}
@@ -60,13 +59,13 @@ ArePlaced places (h ∷ file) = IsPlaced places h × ArePlaced places file
 
 -- ---- kinds
 
--- of each register, whether it is to have a right to write, if it is to have one
+-- returns for each register whether it must have a write right, if it must have a right
 abbrev pub kinds_in : Typing → List (Option Bool)
 kinds_in typing = each (option_map (λ right. is_write right.mode)) typing
 
 -- ---- arguments
 
--- a value for a value, and else a right of the parameter's kind at its place
+-- holds for a value if the parameter is one, and else for a right of the parameter's kind that has its datum's place
 abbrev pub ArgStands : Places → Option RightType → Arg → Type 0
 ArgStands places None (arg.Val value) = Unit {0}
 ArgStands places None (arg.Read right) = ⊥
@@ -75,16 +74,16 @@ ArgStands places (Some t) (arg.Val value) = ⊥
 ArgStands places (Some t) (arg.Read right) = (is_write t.mode ≡ false) × IsAt places right
 ArgStands places (Some t) (arg.Write right) = (is_write t.mode ≡ true) × IsAt places right
 
--- one for each parameter
+-- holds if each parameter has one
 abbrev pub ArgsStand : Places → List Param → List Arg → Type 0
 ArgsStand places [] [] = Unit {0}
 ArgsStand places [] (arg ∷ args) = ⊥
 ArgsStand places (p ∷ params) [] = ⊥
 ArgsStand places (p ∷ params) (arg ∷ args) = ArgStands places (right_of p) arg × ArgsStand places params args
 
--- ---- all that is held, by whomever
+-- ---- all rights
 
--- a task of the program that sits with this actor
+-- a task of the program in this actor's seat
 pub record FrameFits (verified : TypedProgram) (places : Places) (actor : Actor) (f : FrameView) : Type 0 where
   pub program : f.program ≡ verified
   pub own : f.actor ≡ actor
@@ -113,7 +112,7 @@ pub record IsRunnable (verified : TypedProgram) (layout : ActorCounts) : Type 0 
   pub counts : IsLayout layout
   pub targets : HasTargets verified.program layout
 
--- Of the state by itself the laws of the machine say the rest: no trap, who is in the layout, and that numbers stay small.
+-- The theorems on the machine give the rest for the state by itself: no trap, actors in the layout, and small numbers.
 pub record AreParts (verified : TypedProgram) (layout : ActorCounts) (p : Parts) (notices : Notices) : Type 0 where
   pub runnable : IsRunnable verified layout
   pub law : IsReached verified.program layout (state_of p notices)

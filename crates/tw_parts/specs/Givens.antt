@@ -8,12 +8,12 @@ use Rattle.tw_types.specs.ValueOrder.{Subscript}
 use Rattle.tw_store.specs.Served.{Served}
 use Rattle.tw_code.specs.machine.Opening.{closed_scalar}
 
--- what isn't live stands nowhere
+-- holds if data that aren't live have no place
 abbrev pub AreAllLive : Served → Type 0
 AreAllLive s = (id : ℕ) → get s.store.live id ≡ None → get s.places id ≡ None
 
--- a closed scalar of the next id came, and is a member of the container; what stood before stands where it stood, and there is
--- no notice more
+-- a closed scalar with the next id was added, and is a member of the container; earlier data keep their places, and no notice was
+-- added
 pub record HasMember (container : ℕ) (subscript : Subscript) (value : Value) (old new : Served) : Type 0 where
   pub store : new.store ≡ inserted (added old.store (closed_scalar value)) container subscript old.store.next
   pub stays : (id : ℕ) → id < old.store.next → get new.places id ≡ get old.places id

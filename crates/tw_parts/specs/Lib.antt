@@ -1,6 +1,7 @@
--- What a reader must believe of a pool's parts: the seats (Seats), the notices in the queues (Notes), the state that the parts
--- stand for (Parts), what is true of them (Fits), what becomes of a task behind a Done (Coming), what one event makes of the
--- parts (Events), the parts of a program that is opened (Opening), and where an instruction on data takes memory (Memory).
+-- The definitions that a reader has to trust for a pool's parts: the seats (Seats), the queued notices (Notes), the state of the parts
+-- (Parts), and their invariants (Fits).
+-- Coming defines changes of a task after a job, Events the effect of one event, Opening the parts of an opened program, and Memory where
+-- an instruction on data allocates.
 pub mod Seats
 pub mod Notes
 pub mod Parts
@@ -9,7 +10,7 @@ pub mod Coming
 pub mod Events
 pub mod Opening
 pub mod Memory
--- What only private functions speak of.
+-- Definitions for private functions.
 pub mod Copies
 pub mod Data
 pub mod Givens

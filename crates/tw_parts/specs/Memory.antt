@@ -1,4 +1,4 @@
--- Where memory is taken, which may be refused: want of it is told of no other event.
+-- Events and instructions that may allocate. An allocation fails in no other event.
 use Rattle.std.specs.Prelude.{◌≡◌, ◌⊎◌, ◌<◌, ℕ, ℤ, false, List, Option, Some, None, slice_get}
 use Rattle.std.specs.FinMap.{get, keys}
 use Rattle.tw_types.specs.declared.actor.Actor.{Actor}
@@ -24,29 +24,29 @@ use Rattle.tw_code.specs.machine.State.{Frame, State}
 use Rattle.tw_frame.specs.Drafts.{HasTexts}
 use Rattle.tw_frame.specs.Jobs.{FrameView, bare_frame}
 
--- ---- what a task that stands at an instruction sees
+-- ---- the state at an instruction
 
--- the register has a text
+-- holds if the register has a text
 abbrev pub IsTextAt : List Value → ℕ → Type 0
 IsTextAt values register = (text : List ℕ) × (slice_get values register ≡ Some (value.Text text))
 
--- a rule waits for the datum of the right
+-- holds if a rule waits for the datum of the right
 abbrev pub IsAwaited : Store → Frame → ℕ → Type 0
 IsAwaited s f register = (id : ℕ) × (right_at f.rights register ≡ Some id) × (0 < waiting_for (get s.live id))
 
--- the container has no member at the subscript
+-- holds if the container has no member at the subscript
 abbrev pub IsAbsent : Store → Frame → ℕ → ℕ → Type 0
 IsAbsent s f container subscript = (id : ℕ) × (k : Subscript) × (right_at f.rights container ≡ Some id) × (slice_get f.position.values subscript ≡ Some k) × (member_at s id k ≡ None)
 
--- the container has a member with so many smaller subscripts
+-- holds if the container has a member with so many smaller subscripts
 abbrev pub HasThatMany : Store → Frame → ℕ → ℕ → Type 0
 HasThatMany s f container index = (id : ℕ) × (count : ℤ) × (k : Subscript) × (right_at f.rights container ≡ Some id) × (slice_get f.position.values index ≡ Some (value.Int count))
     × (subscript_after count (keys (members_at s id)) ≡ Some k)
 
 -- ---- an instruction
 
--- One on data, where there is room for so many data more: it takes memory for one datum more than that, for copies of a
--- text, for what is told, or for one member more.
+-- Holds if an instruction on data may allocate, when `room` more data fit: for a datum beyond those, for copies of a text, for
+-- notices, or for one more member.
 abbrev pub DataTakes : DataInstr → ℕ → Store → Frame → Type 0
 DataTakes (on_data.New write read ty) room s f = room ≡ 0
 DataTakes (on_data.Store datum from) room s f = IsTextAt f.position.values from ⊎ IsAwaited s f datum
@@ -63,7 +63,7 @@ DataTakes (on_data.DropWrite right) room s f = IsAwaited s f right
 abbrev pub TakesMemory : DataInstr → Served → FrameView → Type 0
 TakesMemory d s f = DataTakes d s.data_room s.store (bare_frame f)
 
--- RULE and PUT take memory for what they add
+-- holds if an instruction may allocate: RULE and PUT do for what they add
 abbrev pub InstrTakes : Instr → Store → Frame → Type 0
 InstrTakes (instr.Local i) s f = ⊥
 InstrTakes (instr.Data d) s f = (room : ℕ) × DataTakes d room s f
@@ -79,7 +79,7 @@ pub record TakesTexts {A : Type 0} (program : List Procedure) (due : Option (ℕ
   pub is : due ≡ Some e
   pub texts : HasTexts program e.1.procedure
 
--- the actor's task stands at an instruction that takes memory
+-- the actor's task is at an instruction that may allocate
 pub record StandsAtTaker (program : List Procedure) (s : State) (actor : Actor) : Type 0 where
   pub frame : Frame
   pub runs : get s.frames actor ≡ Some frame
@@ -87,7 +87,7 @@ pub record StandsAtTaker (program : List Procedure) (s : State) (actor : Actor) 
   pub is : instr_here program frame ≡ Some here
   pub takes : InstrTakes here s.store frame
 
--- the rule's parameter is a datum that is open, and gets a subscriber
+-- the rule's parameter is an open datum, which gets a subscriber
 pub record AsksOpen (s : State) (number parameter : ℕ) : Type 0 where
   pub rule : Rule
   pub pends : get s.rules number ≡ Some rule
@@ -97,7 +97,7 @@ pub record AsksOpen (s : State) (number parameter : ℕ) : Type 0 where
   pub live : get s.store.live id ≡ Some x
   pub not_closed : is_closed x ≡ false
 
--- a release makes room for the task in its queue
+-- holds if an event may allocate: a release reserves memory for the task in its queue
 abbrev pub EventTakes : List Procedure → State → Event → Type 0
 EventTakes program s (event.Take actor) = TakesTexts program (best actor s.tasks)
 EventTakes program s (event.Local actor steps) = ⊥

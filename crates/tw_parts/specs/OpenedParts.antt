@@ -1,4 +1,4 @@
--- What was made for main's first parameters while a program is opened.
+-- The data of main's first parameters while a program is opened.
 use Rattle.std.specs.Prelude.{◌≡◌, ◌≤◌, ◌<◌, ◌+◌, ◌*◌, ℕ, true, pos, List, [], ◌∷◌, ◌++◌, map as each, length, replicate, None}
 use Rattle.std.specs.List.{AllByRecursion, list_all}
 use Rattle.std.specs.FinMap as fin
@@ -18,7 +18,7 @@ use Rattle.tw_parts.specs.Givens.{AreAllLive}
 use Rattle.tw_parts.specs.Seats.{Seated}
 use Rattle.tw_parts.specs.declared.parts.Parts.{Parts}
 
--- the data, the arguments that main gets, and the host's rights
+-- the data, main's arguments, and the host's rights
 pub record OpenedParts : Type 0 where
   pub store : Served
   pub args : List Arg
@@ -27,7 +27,7 @@ pub record OpenedParts : Type 0 where
 abbrev pub AreBefore : ℕ → List ℕ → Type 0
 AreBefore next ids = AllByRecursion (λ id. id < next) ids
 
--- this was made for these parameters, and the definition makes that
+-- these are the data of these parameters, as the machine's definition makes them
 pub record IsMade (servers : ℕ) (params : List Param) (o : OpenedParts) (made : Opened) : Type 0 where
   pub store : o.store.store ≡ made.store
   pub queues : o.store.queues ≡ replicate servers []
@@ -41,22 +41,22 @@ pub record IsMade (servers : ℕ) (params : List Param) (o : OpenedParts) (made 
   pub next : made.store.next ≤ 1001 * length params + 1
   pub few : length o.outputs ≤ length params
 
--- one parameter more may have its data
+-- holds if one more parameter may get its data
 abbrev pub MayAdd : OpenedParts → Type 0
 MayAdd o = (servers : ℕ) × (params : List Param) × (made : Opened) × (length params < 8) × IsMade servers params o made
 
--- it has, as the definition says by f
+-- holds if a parameter got its data, as the definition makes them by f
 abbrev pub Adds : Param → (Opened → Opened) → OpenedParts → OpenedParts → Type 0
 Adds p f old new = (servers : ℕ) (params : List Param) (made : Opened) → IsMade servers params old made → IsMade servers (params ++ p ∷ []) new (f made)
 
--- parameters such as main may have, with an input for each that takes one
+-- parameters that main may have, with an input for each that takes one
 pub record AreForAll (params : List Param) (inputs : List Input) : Type 0 where
   pub few : length params ≤ 8
   pub shape : list_all is_main_param params ≡ true
   pub count : length inputs ≡ length (input_params params)
   pub fit : are_inputs_of (input_params params) inputs ≡ true
 
--- main waits with that, and these run
+-- main waits with these data, and these tasks run
 pub record MainWaits (running : Seated) (o : OpenedParts) (p : Parts) : Type 0 where
   pub store : p.store ≡ o.store
   pub rules : p.rules.rules ≡ fin.empty

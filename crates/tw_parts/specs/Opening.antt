@@ -1,4 +1,4 @@
--- The parts of a program that is opened.
+-- The parts of an opened program.
 use Rattle.std.specs.Prelude.{◌≡◌, ◌<◌, ℕ, List}
 use Rattle.std.specs.FinMap as fin
 use Rattle.std.specs.FinMap.{get}
@@ -14,8 +14,8 @@ use Rattle.tw_parts.specs.Fits.{AreParts}
 use Rattle.tw_parts.specs.Parts.{state_of}
 use Rattle.tw_parts.specs.declared.parts.Parts.{Parts}
 
--- the store is this one: data were added, of which the right is on the first; what stood before stands where it stood, and
--- there is no notice more
+-- the store is this one, with data added, and the right is on the first; earlier data keep their places, and no notice was
+-- added
 pub record IsAdded (added : Store) (old new : Served) (right : Right) : Type 0 where
   pub store : new.store ≡ added
   pub first : right.id ≡ old.store.next

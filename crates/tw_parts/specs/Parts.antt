@@ -1,4 +1,4 @@
--- The state for which the parts of a pool stand.
+-- The state of the parts of a pool.
 use Rattle.std.specs.Prelude.{map as each}
 use Rattle.tw_types.specs.Mapped.{mapped}
 use Rattle.tw_types.specs.Notices.{Notices}
@@ -7,7 +7,7 @@ use Rattle.tw_code.specs.machine.State.{State}
 use Rattle.tw_frame.specs.Jobs.{bare_frame}
 use Rattle.tw_parts.specs.declared.parts.Parts.{Parts}
 
--- with the set of notices that stands for the queues; the places of rights, and whose job was lent last, aren't the machine's
+-- returns the state, with the set of queued notices; places of rights, and the numbers of issued jobs, aren't in the machine's state
 abbrev pub state_of : Parts → Notices → State
 state_of p notices = record {
   store = p.store.store;

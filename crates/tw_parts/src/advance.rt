@@ -1,4 +1,4 @@
-//! A task goes on by the local steps of its job.
+//! A task moves on by the local steps of its job.
 
 ghost use Rattle.std.specs.Prelude.{◌≡◌, ◌<◌, MatchOption};
 ghost use Rattle.tw_types.specs.declared.event.Event.TheVariants as event;
@@ -15,7 +15,7 @@ use tw_frame::{Done, Job};
 use tw_types::{Actor, Event};
 
 impl<'a> Parts<'a> {
-    /// The event that the steps of a Done are, if there are any, which is of the job that was lent last to the actor's task.
+    /// Returns the event of the steps of `done`, if there are any. `done` must be of the job that was issued last for the actor's task.
     pub fn event_of(&self, actor: Actor, done: &Done<'a>) -> Option<Event>
         requires owed { (f : FrameView) × IsOwed self.now actor f done.now }
         ensures { MatchOption result
@@ -31,7 +31,7 @@ impl<'a> Parts<'a> {
         }
     }
 
-    /// The actor's task comes as far as the Done says, and is lent again, by the number of its actor's events.
+    /// Completes the job of the actor's task, and issues the next one. `event_no` is the number of its actor's events.
     pub fn advance(&mut self, actor: Actor, event_no: u64, done: Done<'a>) -> Job<'a>
         requires stands { (layout : ActorCounts) × (notices : Notices) × (f : FrameView) × AreParts done.before.program layout self.old notices
             × IsSmall (state_of self.old notices) × IsOwed self.old actor f done }

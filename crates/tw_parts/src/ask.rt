@@ -19,7 +19,7 @@ use tw_store::Asked;
 use tw_types::RuleNo;
 
 impl<'a> Parts<'a> {
-    /// What an engine without a task asks for next, if there is something: the rule, and the parameter.
+    /// Asks for the next unasked parameter of an engine without a task. Returns the rule and the parameter, or `None` if there is none.
     pub fn ask(&mut self, engine: u8) -> Result<Option<(RuleNo, u8)>, AllocError>
         requires free { get self.old.seats (Engine engine) ≡ None }
         requires parts { (verified : TypedProgram) × (layout : ActorCounts) × (notices : Notices) × AreParts verified layout self.old notices }

@@ -1,4 +1,4 @@
-//! What RULE and PUT have in common.
+//! The common part of RULE and PUT.
 
 ghost use Rattle.std.specs.Prelude.{◌≡◌, ℤ, IfOk, Ok, Some, true, length, map as each, slice_get};
 ghost use Rattle.tw_code.specs.declared.procedure.Procedure.{Procedure as Callee};
@@ -12,7 +12,7 @@ use tw_code::{Action, Priority, Procedure};
 use tw_frame::Done;
 use tw_types::{Param, Value};
 
-/// What an action asks for, as far as the Done came: the procedure that it names, its priority, and copies of the values.
+/// The operands of an action after a job: the procedure that it names, its priority, and copies of the values.
 #[derive(Drop)]
 pub(crate) struct Asked<'a> {
     pub(crate) callee: &'a Procedure,
@@ -20,7 +20,7 @@ pub(crate) struct Asked<'a> {
     pub(crate) vals: Vec<Value>,
 }
 
-/// The constant, or the number in its register, as far as the Done came.
+/// Returns the constant, or the integer in its register after the job.
 pub(crate) fn priority_of(done: &Done<'_>, priority: Priority) -> i64
     requires { (n : ℤ) × (priority_at done.now.after priority ≡ Ok n) }
     ensures { priority_at done.now.after priority ≡ Ok result }
@@ -31,7 +31,7 @@ pub(crate) fn priority_of(done: &Done<'_>, priority: Priority) -> i64
     }
 }
 
-/// Copies of the values in the registers that are named for value parameters, as they are where the Done came to.
+/// Copies the values in the registers that are named for value parameters, as they are after the job.
 #[inline(always)]
 pub(crate) fn values_of(
     alloc: Global,
@@ -53,7 +53,7 @@ pub(crate) fn values_of(
     Ok(vals)
 }
 
-/// What the action at which a task stands behind the Done asks for.
+/// Returns the operands of the action at which a task is after the job.
 #[inline(always)]
 pub(crate) fn asked_by<'a>(
     alloc: Global,

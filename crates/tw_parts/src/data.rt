@@ -24,7 +24,7 @@ use tw_frame::{Done, Draft, Frame, Job};
 use tw_store::Store;
 use tw_types::Actor;
 
-/// An instruction that takes no memory.
+/// Executes an instruction that doesn't allocate.
 fn run_at_once<'a>(
     store: &mut Store,
     frame: &mut Frame<'a>,
@@ -55,8 +55,8 @@ fn run_at_once<'a>(
     }
 }
 
-/// A task does an instruction behind the Done of its job, and the draft is of its values then; or the Done comes back, where
-/// memory is refused.
+/// Completes a task's job, executes an instruction, and returns a draft of the values then. Returns the `Done` if an allocation
+/// fails.
 fn run_data<'a>(
     store: &mut Store,
     frame: &mut Frame<'a>,
@@ -101,7 +101,7 @@ fn run_data<'a>(
     }
 }
 
-/// Then its job is lent again.
+/// Like `run_data`, but also issues the next job.
 pub(crate) fn run_and_lend<'a>(
     store: &mut Store,
     frame: &mut Frame<'a>,
@@ -121,8 +121,8 @@ pub(crate) fn run_and_lend<'a>(
 }
 
 impl<'a> Parts<'a> {
-    /// The actor's task, which stands at this instruction on data behind the Done, comes there, does it, and is lent
-    /// again, by the number of its actor's events. Where memory is refused the Done comes back.
+    /// Completes the actor's job, executes this instruction on data, at which the task then is, and issues the next job.
+    /// `event_no` is the number of its actor's events. Returns the `Done` if an allocation fails.
     pub fn call_data(
         &mut self,
         alloc: Global,

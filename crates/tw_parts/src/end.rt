@@ -10,7 +10,7 @@ use tw_frame::Done;
 use tw_types::Actor;
 
 impl<'a> Parts<'a> {
-    /// The actor's task, which stands at RET behind the Done, ends.
+    /// Ends the actor's task, which is at RET after the job of `done`.
     pub fn end(&mut self, alloc: Global, actor: Actor, done: Done<'a>)
         requires stands { StandsAt self.old actor done instr.Ret }
         ensures { MakesBehind (event.End actor) self.old actor done.entry self.new }

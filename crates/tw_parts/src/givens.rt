@@ -19,7 +19,7 @@ use tw_rights::{ReadRight, WriteRight};
 use tw_store::{Inserted, Store};
 use tw_types::{AsValue, DataType, Input, Value};
 
-/// Adds the data of an input: a closed datum, and behind it those of its members. The right is on the first.
+/// Adds the data of an input: a closed datum, and then those of its members. Returns a right on the first.
 pub(crate) fn add_input(
     alloc: Global,
     store: &mut Store,
@@ -72,7 +72,7 @@ fn add_value<V: AsValue>(
     add_scalar(alloc, store, own)
 }
 
-/// Adds a closed scalar, and puts it into a container that is open.
+/// Adds a closed scalar, and inserts it into an open container.
 fn add_member<K: AsValue, V: AsValue>(
     alloc: Global,
     store: &mut Store,
@@ -126,7 +126,7 @@ fn add_container<K: AsValue, V: AsValue>(
     }
 }
 
-/// Spends both rights where memory is refused.
+/// Spends both rights, after a failed allocation.
 fn give_up(write: WriteRight, read: ReadRight) -> Result<ReadRight, AllocError>
     ensures { IsErr result }
 {

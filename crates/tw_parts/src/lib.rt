@@ -1,5 +1,5 @@
-//! The parts of a pool, and one function an event: what each makes of them is the machine's own step on the state that the
-//! parts stand for.
+//! The state of a pool in parts, with one function for each event. Each function makes the machine's own step on the state of the
+//! parts.
 #![tactic(auto)]
 
 mod advance;

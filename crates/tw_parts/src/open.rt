@@ -1,4 +1,4 @@
-//! A program is opened.
+//! Opens a program.
 
 ghost use Rattle.std.specs.Prelude.{◌≡◌, ◌<◌, ℕ, true, false, IfOk, None, OnOk, Some, []};
 ghost use Rattle.std.specs.FinMap as map;
@@ -25,8 +25,7 @@ use tw_store::Store;
 use tw_types::{DatumId, Input, Kind, Layout, Param, TaskNo};
 use tw_verify::Verified;
 
-/// What was made for main's parameters so far: their data, the arguments that main gets, and the rights of the host on the
-/// outputs with their ids.
+/// The data of main's parameters so far: the store, main's arguments, and the host's rights on the outputs, with their ids.
 struct Opened {
     store: Store,
     args: Vec<Arg>,
@@ -59,7 +58,7 @@ impl Model for Opened {
 }
 
 impl Opened {
-    /// Before the first parameter, with room for all.
+    /// Makes the state before the first parameter, with memory for all parameters.
     fn new(alloc: Global, servers: u8) -> Result<Opened, AllocError>
         requires { 0 < servers }
         ensures { IfOk result (λ o. IsMade servers [] o nothing_opened) }
@@ -79,7 +78,7 @@ impl Opened {
         })
     }
 
-    /// All that stands for these parameters, with the inputs for those that take one.
+    /// Makes the data of these parameters, with the inputs for those that take one.
     fn of(
         alloc: Global,
         servers: u8,
@@ -100,7 +99,7 @@ impl Opened {
         }
     }
 
-    /// Adds what stands for each of the parameters, where there is nothing yet.
+    /// Adds the data of each of the parameters. There must be none yet.
     fn add_all(
         &mut self,
         alloc: Global,
@@ -125,7 +124,7 @@ impl Opened {
         Ok(())
     }
 
-    /// Makes an output: main gets the right to write it, and the host that to read it.
+    /// Makes an output: main gets the write right, and the host the read right.
     fn add_output(&mut self, alloc: Global, param: Param) -> Result<(), AllocError>
         requires mode { is_write param.mode ≡ true }
         requires room { MayAdd self.old }
@@ -142,7 +141,7 @@ impl Opened {
         Ok(())
     }
 
-    /// Makes the data of an input: main gets the right to read it.
+    /// Makes the data of an input: main gets the read right.
     fn add_given(&mut self, alloc: Global, param: Param, input: &Input) -> Result<(), AllocError>
         requires read { is_write param.mode ≡ false }
         requires right { is_val param.mode ≡ false }
@@ -170,7 +169,7 @@ impl Opened {
     }
 }
 
-/// Queues without a task, with room for main.
+/// Makes queues without a task, with memory for main.
 fn queues_for_main(alloc: Global) -> Result<TaskQueues, AllocError>
     ensures empty { IfOk result (λ queues. queues.tasks ≡ map.empty) }
     ensures room { IfOk result (λ queues. room_for Control None queues ≡ true) }
@@ -186,7 +185,7 @@ fn queues_for_main(alloc: Global) -> Result<TaskQueues, AllocError>
 }
 
 impl<'a> Parts<'a> {
-    /// The parts of a program that is opened with these inputs: its data stand, and main waits.
+    /// Opens a program with these inputs: makes their data, and main's task, which waits.
     pub fn open(
         alloc: Global,
         verified: &Verified,
@@ -211,7 +210,7 @@ impl<'a> Parts<'a> {
         Ok(Parts::begun(alloc, seats, queues, opened))
     }
 
-    /// The parts in which main waits with what was made for it, and nobody runs.
+    /// Makes the parts in which main waits with its data, and no task runs.
     fn begun(alloc: Global, seats: Seats<'a>, mut queues: TaskQueues, opened: Opened) -> Parts<'a>
         requires tasks { queues.tasks ≡ map.empty }
         requires room { room_for Control None queues ≡ true }

@@ -7,8 +7,8 @@ use std::marker::Model;
 use tw_rights::ReadRight;
 use tw_types::DatumId;
 
-/// The outputs, by the order of main's parameters: a right of the host's on each. Their ids are kept beside them, so that
-/// they are told at the end without memory.
+/// The outputs, by the order of main's parameters: a right of the host's on each. Their ids are stored separately, so that
+/// they can be reported at the end without an allocation.
 pub struct Outputs {
     rights: Vec<ReadRight>,
     ids: Vec<DatumId>,
@@ -34,7 +34,7 @@ fn spend_all(mut rights: Vec<ReadRight>) {
 }
 
 impl Outputs {
-    /// Outputs of these rights, with the ids of their data.
+    /// Makes outputs of these rights, with the ids of their data.
     pub fn new(rights: Vec<ReadRight>, ids: Vec<DatumId>) -> Outputs
         requires { ids.items ≡ each (λ (r : Right). r.id) rights.items }
         ensures { result ≡ rights.items }
@@ -42,7 +42,7 @@ impl Outputs {
         Outputs { rights, ids }
     }
 
-    /// Spends the rights, and tells the ids of their data.
+    /// Spends the rights, and returns the ids of their data.
     pub fn shut(self) -> Vec<DatumId>
         ensures { result.items ≡ each (λ (r : Right). r.id) self }
     {

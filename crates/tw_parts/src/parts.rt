@@ -1,4 +1,4 @@
-//! The parts of a pool.
+//! The state of a pool.
 
 use crate::outputs::Outputs;
 use crate::seats::Seats;
@@ -6,7 +6,7 @@ use tw_queue::TaskQueues;
 use tw_rules::RuleTable;
 use tw_store::Store;
 
-/// All that the machine's state is read off.
+/// All parts of which the machine's state consists.
 pub struct Parts<'a> {
     pub store: Store,
     pub rules: RuleTable,

@@ -14,8 +14,8 @@ use tw_queue::Task;
 use tw_types::{Actor, TaskNo};
 
 impl<'a> Parts<'a> {
-    /// The actor's task, which stands at this PUT behind the Done, comes there, puts the task, and is lent again, by the
-    /// number of its actor's events. Where memory is refused the Done comes back.
+    /// Completes the actor's job, executes this PUT, at which the task then is, and issues the next job. `event_no` is the number of
+    /// its actor's events. Returns the `Done` if an allocation fails.
     pub fn put(
         &mut self,
         alloc: Global,

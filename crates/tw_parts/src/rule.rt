@@ -14,8 +14,8 @@ use tw_rules::PlannedTask;
 use tw_types::Actor;
 
 impl<'a> Parts<'a> {
-    /// The actor's task, which stands at this RULE behind the Done, comes there, makes the rule, and is lent again, by
-    /// the number of its actor's events. Where memory is refused the Done comes back.
+    /// Completes the actor's job, executes this RULE, at which the task then is, and issues the next job. `event_no` is the number of
+    /// its actor's events. Returns the `Done` if an allocation fails.
     pub fn rule(
         &mut self,
         alloc: Global,

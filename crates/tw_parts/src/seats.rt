@@ -1,4 +1,4 @@
-//! The tasks that run, by their actors.
+//! The running tasks, by their actors.
 
 ghost use Rattle.std.specs.Prelude.{◌≡◌, ◌<◌, ◌≤◌, ◌+◌, ◌^◌, ℕ, IfOk, List, OnErr, Option, IsSome, None, Some, length, replicate, slice_index_or, slice_set};
 ghost use Rattle.std.specs.FinMap as map;
@@ -32,7 +32,7 @@ use tw_verify::Verified;
 /// A seat for each actor of the greatest layout: engines, servers, workers.
 pub struct Seats<'a> {
     sitters: Sitters<'a>,
-    /// Room for a task, for each empty seat.
+    /// Memory for a task, for each empty seat.
     rooms: Vec<Option<Rooms<'a>>>,
     taken: usize,
 }
@@ -55,7 +55,7 @@ impl<'a> Model for Seats<'a> {
     ghost invariant = { λ s. AreSeats s.sitters.frames.items s.taken × AreKept s.sitters.frames.items s.rooms.items };
 }
 
-/// Takes the room that is there.
+/// Takes the memory that is there.
 fn lift<'a>(rooms: &mut Vec<Option<Rooms<'a>>>, seat: usize) -> Rooms<'a>
     requires inside { seat < length rooms.old.items }
     requires there { IsSome (slice_index_or rooms.old.items seat None) }
@@ -68,7 +68,7 @@ fn lift<'a>(rooms: &mut Vec<Option<Rooms<'a>>>, seat: usize) -> Rooms<'a>
     }
 }
 
-/// Lays room there, in place of what was there.
+/// Puts memory there, and frees what was there.
 fn lay<'a>(rooms: &mut Vec<Option<Rooms<'a>>>, seat: usize, room: Rooms<'a>)
     requires { seat < length rooms.old.items }
     ensures { rooms.new.items ≡ slice_set rooms.old.items seat (Some tt) }
@@ -80,7 +80,7 @@ fn lay<'a>(rooms: &mut Vec<Option<Rooms<'a>>>, seat: usize, room: Rooms<'a>)
     }
 }
 
-/// Room for each seat.
+/// Allocates memory for each seat.
 fn rooms_for_all<'a>(alloc: Global) -> Result<Vec<Option<Rooms<'a>>>, AllocError>
     ensures { IfOk result (λ rooms. rooms.items ≡ replicate 24 (Some tt)) }
 {
@@ -95,7 +95,7 @@ fn rooms_for_all<'a>(alloc: Global) -> Result<Vec<Option<Rooms<'a>>>, AllocError
     Ok(rooms)
 }
 
-/// Gives their memory back.
+/// Frees their memory.
 fn shut_rooms<'a>(mut rooms: Vec<Option<Rooms<'a>>>) {
     while let Some(room) = rooms.pop() {
         if let Some(room) = room {
@@ -106,7 +106,7 @@ fn shut_rooms<'a>(mut rooms: Vec<Option<Rooms<'a>>>) {
 }
 
 impl<'a> Seats<'a> {
-    /// Empty seats, with room for a task in each.
+    /// Makes empty seats, with memory for a task in each.
     pub fn new(alloc: Global) -> Result<Seats<'a>, AllocError>
         ensures { IfOk result (λ seats. seats ≡ map.empty) }
     {
@@ -133,14 +133,14 @@ impl<'a> Seats<'a> {
         shut_rooms(rooms);
     }
 
-    /// The number of tasks that run.
+    /// Returns the number of running tasks.
     pub fn running(&self) -> usize
         ensures { result ≡ len self.now }
     {
         self.taken
     }
 
-    /// The task of an actor, if it has one.
+    /// Returns the task of an actor, if it has one.
     pub fn get(&self, actor: Actor) -> Option<&Frame<'a>>
         requires { HasSeat actor }
         ensures { option_copied result ≡ get self.now actor }
@@ -148,7 +148,7 @@ impl<'a> Seats<'a> {
         self.sitters.sitting(actor.place())
     }
 
-    /// The best task of an actor without one begins, if there is one, and is lent.
+    /// Starts the best task of an actor without one, if there is one, and issues its job.
     pub(crate) fn start(
         &mut self,
         alloc: Global,
@@ -185,7 +185,7 @@ impl<'a> Seats<'a> {
         Ok(Some(job))
     }
 
-    /// The actor's task ends, and its memory and that of its last Done is for the next one.
+    /// Ends the actor's task. Its memory, and that of its last `Done`, is for the next one.
     pub(crate) fn end(&mut self, alloc: Global, actor: Actor, done: Done<'a>)
         requires seat { HasSeat actor }
         requires sits { IsSome (get self.old actor) }
@@ -199,7 +199,7 @@ impl<'a> Seats<'a> {
         lay(&mut self.rooms, number, frame.end(alloc, done));
     }
 
-    /// The actor's task comes as far as the Done says, which is of the job that was lent last, and is lent again.
+    /// Completes the actor's job, which `done` must be of, and issues the next one.
     pub(crate) fn advance(&mut self, actor: Actor, event_no: u64, done: Done<'a>) -> Job<'a>
         requires seat { HasSeat actor }
         requires sits { (f : FrameView) × (get self.old actor ≡ Some f) × (done.before ≡ job_of f) × (f.spent < 2 ^ 63) }
@@ -209,7 +209,7 @@ impl<'a> Seats<'a> {
         self.sitters.advance(actor.place(), event_no, done)
     }
 
-    /// Then hands over arguments, goes on to the next place, and is lent there.
+    /// Completes the actor's job, moves arguments out of its registers, moves to the next place, and issues the next job.
     #[inline(always)]
     pub(crate) fn hand_over(
         &mut self,
@@ -240,7 +240,7 @@ impl<'a> Seats<'a> {
             .hand_over(actor.place(), event_no, done, params, args, vals, room)
     }
 
-    /// The actor's task does an instruction on data behind the Done, and is lent again; or the Done comes back.
+    /// Completes the actor's job, executes an instruction on data, and issues the next job. Returns the `Done` if an allocation fails.
     pub(crate) fn data(
         &mut self,
         actor: Actor,

@@ -1,4 +1,4 @@
-//! What is left when a run is shut.
+//! The remains of a finished run.
 
 ghost use Rattle.std.specs.Prelude.{◌≡◌, map as each};
 ghost use Rattle.std.specs.FinMap.{entries};
@@ -10,7 +10,7 @@ use tw_rules::PlainRule;
 use tw_store::Store;
 use tw_types::DatumId;
 
-/// What is left of parts for reading, without rights: the data, the outputs by the order of main's parameters, and the rules
+/// The data of a finished run for reports, without rights: the store, the outputs by the order of main's parameters, and the rules
 /// that were pending, by rising number.
 #[derive(Drop)]
 pub struct Remains {
@@ -20,7 +20,7 @@ pub struct Remains {
 }
 
 impl<'a> Parts<'a> {
-    /// Spends every right. No memory is taken.
+    /// Spends every right. Allocates nothing.
     pub fn shut(self) -> Remains
         ensures store { result.store ≡ self.entry.store }
         ensures outputs { result.outputs.items ≡ each (λ (r : Right). r.id) self.entry.outputs }

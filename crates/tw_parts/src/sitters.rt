@@ -1,4 +1,4 @@
-//! Who sits where.
+//! The seats' tasks.
 
 ghost use Rattle.std.specs.Prelude.{◌≡◌, ◌<◌, ◌≤◌, ◌+◌, ◌^◌, IfOk, List, Option, IsSome, None, Some, length, replicate, slice_index_or, slice_set};
 ghost use Rattle.std.specs.Option.{option_copied};
@@ -18,16 +18,16 @@ use tw_rights::{Arg, Bundle};
 use tw_store::Store;
 use tw_types::{Param, Value};
 
-/// Who sits in each seat, a task or nobody.
+/// The task in each seat, if there is one.
 pub(crate) struct Sitters<'a> {
     pub(crate) frames: Vec<Option<Frame<'a>>>,
 }
 
 impl<'a> Sitters<'a> {
-    /// How many seats there are.
+    /// The number of seats.
     pub(crate) const COUNT: usize = 24;
 
-    /// Nobody.
+    /// Makes empty seats.
     pub(crate) fn none(alloc: Global) -> Result<Sitters<'a>, AllocError>
         ensures { IfOk result (λ sitters. sitters.frames.items ≡ replicate 24 None) }
     {
@@ -38,7 +38,7 @@ impl<'a> Sitters<'a> {
         Ok(Sitters { frames })
     }
 
-    /// Who sits there.
+    /// Returns the task in a seat.
     pub(crate) fn sitting(&self, seat: usize) -> Option<&Frame<'a>>
         requires { seat < length self.now.frames.items }
         ensures { option_copied result ≡ slice_index_or self.now.frames.items seat None }
@@ -46,7 +46,7 @@ impl<'a> Sitters<'a> {
         self.frames[seat].as_ref()
     }
 
-    /// Takes who sits there.
+    /// Takes the task out of a seat.
     pub(crate) fn unseat(&mut self, seat: usize) -> Option<Frame<'a>>
         requires { seat < length self.old.frames.items }
         ensures taken { result ≡ slice_index_or self.old.frames.items seat None }
@@ -69,7 +69,7 @@ impl<'a> Sitters<'a> {
         }
     }
 
-    /// The task there comes as far as the Done says, which is of the job that was lent last, and is lent again.
+    /// Completes the job of the task there, which `done` must be of, and issues the next one.
     pub(crate) fn advance(&mut self, seat: usize, event_no: u64, done: Done<'a>) -> Job<'a>
         requires inside { seat < length self.old.frames.items }
         requires sits { (f : FrameView) × (slice_index_or self.old.frames.items seat None ≡ Some f) × (done.before ≡ job_of f) × (f.spent < 2 ^ 63) }
@@ -87,7 +87,7 @@ impl<'a> Sitters<'a> {
         }
     }
 
-    /// Then it hands over arguments, goes on to the next place, and is lent there.
+    /// Completes the job of the task there, moves arguments out of its registers, moves to the next place, and issues the next job.
     #[inline(always)]
     pub(crate) fn hand_over(
         &mut self,
@@ -120,7 +120,8 @@ impl<'a> Sitters<'a> {
         }
     }
 
-    /// The task there does an instruction on data behind the Done, and is lent again; or the Done comes back.
+    /// Completes the job of the task there, executes an instruction on data, and issues the next job. Returns the `Done` if an
+    /// allocation fails.
     pub(crate) fn data(
         &mut self,
         seat: usize,
@@ -142,7 +143,7 @@ impl<'a> Sitters<'a> {
         }
     }
 
-    /// Spends every right of those who sit there.
+    /// Spends every right of every task.
     pub(crate) fn shut(self) {
         let Sitters { mut frames } = self;
         while let Some(seat) = frames.pop() {

@@ -20,7 +20,7 @@ use tw_types::Actor;
 use tw_verify::Verified;
 
 impl<'a> Parts<'a> {
-    /// The best task of an actor without one starts, if there is one, and its job is lent, by the number of its actor's
+    /// Starts the best task of an actor without one, if there is one, and issues its job. `event_no` is the number of its actor's
     /// events.
     pub fn take(
         &mut self,

@@ -1,4 +1,4 @@
-//! Which actor has work that waits.
+//! Which actors have work.
 
 ghost use Rattle.std.specs.Prelude.{◌≡◌, ◌<◌, ℕ, length};
 ghost use Rattle.tw_types.specs.declared.actor.Actor.TheVariants.{Server};
@@ -19,7 +19,7 @@ impl<'a> Parts<'a> {
         self.rules.next_release(engine).is_some()
     }
 
-    /// Returns whether work waits that others made for this actor alone. Data to ask for aren't counted: an engine makes its rules itself.
+    /// Returns whether work waits that others made for this actor alone. Asks aren't counted: an engine makes its rules itself.
     pub fn has_own_work(&self, actor: Actor) -> bool
         requires { (server : ℕ) → actor ≡ Server server → server < length self.now.store.queues }
     {

@@ -1,4 +1,4 @@
--- Actors have places, and one event more is counted at the place of who makes it.
+-- Actors have places, and a new event is counted at its actor's place.
 use Rattle.std.proofs.Common.{◌≡◌, ◌≢◌, ◌<◌, ◌≤◌, ◌+◌, ◌/◌, ◌%◌, ℕ, Bool, true, false, cond, refl, sym, ap, subst, ◌∙◌, arith, List, [], ◌∷◌, ◌++◌, length, length-append, get_or, set}
 use Rattle.std.specs.List.{All}
 use Rattle.std.proofs.lemmas.Bool.{eq-eqb, eqb-true, ltb-true}
@@ -79,7 +79,7 @@ one_place (Worker a) (Engine b) f g e = absurd (omega (arith, f, g, e))
 one_place (Worker a) (Server b) f g e = absurd (omega (arith, f, g, e))
 one_place (Worker a) (Worker b) f g e = eq-eqb a b (omega (arith, e))
 
--- the word of an event tells its maker's place
+-- the word of an event has its actor's place
 pub is_placed : (e : Event) → FitsWord e → IsPlaced (word_of e)
 is_placed e fits = subst (λ (x : Event). HasPlace (actor_of x) × (word_of e / 8 % 32 ≡ place_of (actor_of x))) (sym (round e fits)) (fits.0, maker_of e fits.0)
 

@@ -1,4 +1,4 @@
--- The events of rules and notices have words: their numbers are small, since each event makes these larger by one at most.
+-- The events of rules and notices can be encoded: their numbers are small, since each event raises these by one at most.
 use Rattle.std.proofs.Common.{◌≡◌, ◌<◌, ◌≤◌, ◌+◌, ℕ, zero, suc, List, [], ◌∷◌, length, Option, Some, None, slice_get, refl, ap, subst, arith}
 use Rattle.std.proofs.lemmas.Option.{slice_get_within}
 use Rattle.std.specs.FinMap.{get}
@@ -66,7 +66,7 @@ module _ (program : List Procedure) (typings : Typings) (is : IsProgram program)
   pub low_datum : (parameter id : ℕ) → slice_get rule.args parameter ≡ Some (RightArg id) → id < s.store.next
   low_datum parameter id here = right_given s.store its.0.params rule.stages rule.args parameter id fit here
 
--- ---- along a history
+-- ---- along a run
 
 pub small_numbers : (program : List Procedure) (inputs : List Input) (layout : ActorCounts) (history : List Event) (s : State) → IsProgram program → AreInputsOf program inputs → length history ≤ 1000000
     → reached program inputs layout history ≡ Went s → AreNumbersBelow (opening_bound + length history) s

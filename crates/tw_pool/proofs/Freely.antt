@@ -1,4 +1,4 @@
--- What an actor without a task does: the lines of the table, from the events of the parts.
+-- Steps of an actor without a task: the lines of the table, from the events of the parts.
 use Rattle.std.proofs.Common.{IsSome, ◌≡◌, ◌<◌, ◌+◌, ◌^◌, ◌==◌, nat_lt, ◌&&◌, ℕ, Bool, true, false, List, [], ◌∷◌, ◌++◌, length, Option, Some, None, refl, sym, ap, subst, ◌∙◌, arith, inl, inr, option_map, append-nil}
 use Rattle.std.proofs.lemmas.Bool.{and_parts, eqb-true}
 use Rattle.std.proofs.lemmas.Option.{same_Some}
@@ -56,7 +56,7 @@ use Rattle.tw_pool.proofs.Keeping.{ask_frames, deliver_frames, made_free, made_l
 abbrev pub viewed : TypedProgram → List Input → ActorCounts → Bool → HistoryView → PoolView
 viewed verified inputs layout stopped told = record { program = verified; inputs = inputs; layout = layout; limit = told.limit; stopped = stopped; history = told.events }
 
--- what is tried, by whether it was due
+-- the result of an attempt, by whether an event was due
 pub tried_none : {A : Type 0} (due : Option A) (Done : A → Type 0) (Same : Type 0) (o : Option A) → o ≡ None → IsTried {E = AllocError} due Done Same (Ok o) → (due ≡ None) × Same
 tried_none due Done Same o is h = subst (λ x. IsTried {E = AllocError} due Done Same (Ok x)) is h
 
@@ -69,7 +69,7 @@ taken_none due Done Same o is h = subst (λ x. IsTaken {E = AllocError} due Done
 pub taken_some : {A : Type 0} (due : Option A) (Done : A → JobView → Type 0) (Same : Type 0) (o : Option JobView) (job : JobView) → o ≡ Some job → IsTaken {E = AllocError} due Done Same (Ok o) → (x : A) × (due ≡ Some x) × Done x job
 taken_some due Done Same o job is h = subst (λ y. IsTaken {E = AllocError} due Done Same (Ok y)) is h
 
--- the notice that goes waits for this server
+-- the notice that is delivered is of this server
 delivery : (program : List Procedure) (layout : ActorCounts) (server : ℕ) (n : Notice) (s t : State) → step program layout (Deliver server n.datum n.rule n.parameter) s ≡ Went t → (set.contains s.notices n ≡ true) × (server_of layout.servers n.datum ≡ server)
 unfolding step
 delivery program layout server n s t e =
@@ -94,7 +94,7 @@ module _ (verified : TypedProgram) (inputs : List Input) (layout : ActorCounts) 
   free_here : (actor : Actor) → IsFree w actor → get state.frames actor ≡ None
   free_here actor free = free state has_state
 
-  -- events that are told
+  -- events that are recorded
   pub appended : (es : List Event) (now : HistoryView) → now ≡ record { events = told.events ++ es; limit = told.limit } → viewed verified inputs layout stopped now ≡ with_events w es
   appended es now pushed = ap (viewed verified inputs layout stopped) pushed ∙ ap (λ (x : PoolView). with_events x es) seen
 
@@ -108,11 +108,11 @@ module _ (verified : TypedProgram) (inputs : List Input) (layout : ActorCounts) 
   pub line_told : (line : State → Line) (answer : Turn) (es : List Event) (now : HistoryView) → now ≡ record { events = told.events ++ es; limit = told.limit } → line state answer es → IsTurnBy line w answer (viewed verified inputs layout stopped now)
   line_told line answer es now pushed is = record { state = state; has_state = has_state; events = es; is = is; appended = appended es now pushed }
 
-  -- nothing is told
+  -- no event is recorded
   pub line_still : (line : State → Line) (answer : Turn) → line state answer [] → IsTurnBy line w answer (viewed verified inputs layout stopped told)
   line_still line answer is = record { state = state; has_state = has_state; events = []; is = is; appended = seen ∙ ap (λ es. record w { history = es }) (sym (append-nil w.history)) }
 
-  -- where memory is taken at once
+  -- if the event may allocate at once
   wanted : (event : Event) → EventTakes verified.program state event → TakesMemory w [] event
   wanted event takes = record {
     state = state;
@@ -262,9 +262,9 @@ module _ (verified : TypedProgram) (inputs : List Input) (layout : ActorCounts) 
         by None e is = cc
         by (Some rule) e is = release_refused none rule e
 
-  -- ---- a job that is lent
+  -- ---- an issued job
 
-  -- with these events told, and a task of the actor's that is lent by its number
+  -- with these events recorded, and a task of the actor's that is issued under its number
   module _ (actor : Actor) (es : List Event) (new : Parts) (kept : IsKept verified inputs layout told.limit (told.events ++ es) new) (f : FrameView) (sits : get new.seats actor ≡ Some f)
       (by_number : f.event_no ≡ length (events_of actor (told.events ++ es))) where
     abbrev after : State

@@ -1,4 +1,4 @@
--- What comes of a Done: the lines of the table, from the events of the parts.
+-- Steps with a `Done`: the lines of the table, from the events of the parts.
 use Rattle.std.proofs.Common.{◌≡◌, ◌≢◌, ◌<◌, ◌≤◌, ◌+◌, ◌*◌, ◌^◌, ◌==◌, not, ◌&&◌, ℕ, Bool, true, false, cond, List, [], ◌∷◌, ◌++◌, length, length-append, Option, Some, None, refl, sym, ap, subst, ◌∙◌, arith, inl, option_map, slice_get, append_assoc, append-nil}
 use Rattle.tw_types.proofs.Orders.{other_key, own_key}
 use Rattle.std.specs.Prelude.{IfSome, MatchOption, option_to_list}
@@ -147,7 +147,7 @@ module _ (verified : TypedProgram) (inputs : List Input) (layout : ActorCounts) 
   abbrev pub came : Parts
   came = with_done old actor its.0 done
 
-  -- the steps are told, and lead to where the task has come
+  -- the steps are recorded, and lead to the task's position
   pub record HasCome (o : Option Event) : Type 0 where
     pub is : option_to_list o ≡ steps_of actor done
     pub at : AreAt verified inputs layout (told.events ++ option_to_list o) came
@@ -198,7 +198,7 @@ module _ (verified : TypedProgram) (inputs : List Input) (layout : ActorCounts) 
         let long = length-append told.events (e ∷ []) in
         grind (arith, nat_tests, full, long, room_now)
 
-  -- the instruction behind the steps
+  -- the instruction after the steps
   record IsBehind (i : Instr) : Type 0 where
     q : Procedure
     there_is : slice_get verified.program done.before.procedure ≡ Some q
@@ -229,7 +229,7 @@ module _ (verified : TypedProgram) (inputs : List Input) (layout : ActorCounts) 
         behind = it.is;
       }
 
-  -- where the instruction there takes memory
+  -- if the instruction there may allocate
   pub wanted : (o : Option Event) → HasCome o → (i : Instr) → instr_behind w.program.program done ≡ Some i
       → ((f : FrameView) → IsOwed old actor f done → InstrTakes i old.store.store (bare_frame (come f done))) → TakesMemory w (steps_of actor done) (Call actor)
   wanted o c i e takes =
@@ -260,7 +260,7 @@ module _ (verified : TypedProgram) (inputs : List Input) (layout : ActorCounts) 
   pub within_steps : (o : Option Event) (c : HasCome o) → length (told.events ++ steps_of actor done) ≤ told.limit
   within_steps o c = subst (λ es. length (told.events ++ es) ≤ told.limit) c.is (within_one o)
 
-  -- ---- with one event more behind them
+  -- ---- with one more event after them
 
   module _ (e : Event) (is_own : actor_of e ≡ actor) (o : Option Event) (c : HasCome o) (new : Parts) (makes : MakesBehind e old actor done new) where
     goes : Goes verified layout e came c.at.notices new
@@ -309,7 +309,7 @@ module _ (verified : TypedProgram) (inputs : List Input) (layout : ActorCounts) 
               let other : a ≢ actor = λ e. let yes : true ≡ false = sym (itself actor) ∙ ap (λ x. same_actor x actor) (sym e) ∙ is in cc in
               h.lent a f (sym (others_two (End actor) refl o c new makes a other) ∙ sits) ∙ sym (others_same a actor other told.events (steps_of actor done ++ End actor ∷ []) (by_two (End actor) refl o c new makes))
 
-  -- ---- lending again
+  -- ---- issuing again
 
   module _ (es : List Event) (by : AreBy actor es) (new : Parts) (at : AreAt verified inputs layout (told.events ++ es) new) (others : (a : Actor) → a ≢ actor → get new.seats a ≡ get old.seats a) (within : length (told.events ++ es) ≤ told.limit)
       (event_no : ℕ) (number : event_no ≡ length (events_of actor (told.events ++ es))) (job : JobView) (lent : IsLent new actor event_no job) where
@@ -338,7 +338,7 @@ module _ (verified : TypedProgram) (inputs : List Input) (layout : ActorCounts) 
       line_again : IsTurnBy (λ s. Lends w actor es) w (Run job) (viewed verified inputs layout stopped t)
       line_again = line_told verified inputs layout stopped told old h w seen (λ s. Lends w actor es) (Run job) es t t_is line_lent
 
-  -- behind the steps
+  -- after the steps
   module _ (o : Option Event) (c : HasCome o) (t : HistoryView) (t_is : t ≡ record told { events = told.events ++ option_to_list o }) (event_no : ℕ) (counted : event_no ≡ length (events_of actor t.events))
       (new : Parts) (is : (f : FrameView) → IsOwed old actor f done → new ≡ with_done old actor (lent_as event_no f) done) (job : JobView) (lent : IsLent new actor event_no job) where
     abbrev came_lent : Parts
@@ -363,7 +363,7 @@ module _ (verified : TypedProgram) (inputs : List Input) (layout : ActorCounts) 
     pub line_on : IsTurnBy (λ s. Lends w actor (steps_of actor done)) w (Run job) (viewed verified inputs layout stopped t)
     line_on = line_again (steps_of actor done) (steps_by actor done) new at_come others_at (within_steps o c) event_no number_is job lent t (told_one o c t t_is)
 
-  -- behind the steps and a call
+  -- after the steps and a call
   module _ (o : Option Event) (c : HasCome o) (less : length (told.events ++ option_to_list o) < told.limit) (t p : HistoryView) (one : t ≡ record told { events = told.events ++ option_to_list o }) (two : p ≡ record t { events = t.events ++ Call actor ∷ [] })
       (event_no : ℕ) (number : event_no ≡ length (events_of actor (told.events ++ (steps_of actor done ++ Call actor ∷ [])))) (new : Parts) (makes : MakesBehind (Call actor) old actor done new) (job : JobView) (lent : IsLent new actor event_no job) where
     abbrev es : List Event
@@ -375,10 +375,10 @@ module _ (verified : TypedProgram) (inputs : List Input) (layout : ActorCounts) 
     pub line_called : IsTurnBy (λ s. Lends w actor es) w (Run job) (viewed verified inputs layout stopped p)
     line_called = line_again es (by_two (Call actor) refl o c new makes) new (at_two (Call actor) refl o c new makes) (others_two (Call actor) refl o c new makes) (within_two (Call actor) refl o c new makes less) event_no number job lent p (told_two (Call actor) refl o c new makes t p one two)
 
--- what goes on to the last event
+-- a run that reaches the limit
 pub filled : (w v : PoolView) (actor : Actor) (es : List Event) (a : Turn) → IsTurnBy (λ s. Lends w actor es) w a v → IsTurnBy (λ s. Answers (Over Limit) es) w (Over Limit) v
 filled w v actor es a l = record { state = l.state; has_state = l.has_state; events = l.events; is = (refl, l.is.4.1); appended = l.appended }
 
--- a line, or want of memory
+-- a line, or a failed allocation
 pub or_memory : (p : PoolView) (line : Line) (given : Option DoneView) (before : List Event) (event : Event) (w v : PoolView) (a : Turn) → IsTurnBy (λ s. line) w a v → IsTurnBy (λ s. OrNoMemory p given before event line) w a v
 or_memory p line given before event w v a l = record { state = l.state; has_state = l.has_state; events = l.events; is = inl l.is; appended = l.appended }

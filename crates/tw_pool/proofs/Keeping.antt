@@ -1,4 +1,4 @@
--- A pool's parts stay what they are: with one event more, and where nothing was touched.
+-- The invariant of a pool's parts holds after one more event, and after no change.
 use Rattle.std.proofs.Common.{map as each, ◌≡◌, ◌≢◌, ◌<◌, ◌+◌, ℕ, Bool, true, false, cond, List, [], ◌∷◌, ◌++◌, length, length-append, Option, Some, None, refl, sym, ap, subst, ◌∙◌, arith, option_map}
 use Rattle.std.specs.FinMap.{get}
 use Rattle.tw_types.specs.declared.actor.Actor.{Actor}
@@ -55,7 +55,7 @@ nothing f (Some x) e = cc
 pub no_task : (p : Parts) (notices : Notices) (actor : Actor) → get (state_of p notices).frames actor ≡ None → get p.seats actor ≡ None
 no_task p notices actor e = nothing bare_frame (get p.seats actor) (sym (get_mapped bare_frame p.seats actor) ∙ e)
 
--- ---- what these events leave of the tasks that run
+-- ---- the running tasks after these events
 
 module _ (program : List Procedure) (layout : ActorCounts) (s t : State) where
   pub ask_frames : (engine rule parameter : ℕ) → step program layout (Ask engine rule parameter) s ≡ Went t → t.frames ≡ s.frames
@@ -87,7 +87,7 @@ module _ (verified : TypedProgram) (inputs : List Input) (layout : ActorCounts) 
         lent = lent;
       }
 
-  -- the others' tasks were lent before
+  -- the others' tasks were issued before
   others_lent : (event : Event) (new : Parts) → Goes verified layout event old h.notices new
       → ((f : FrameView) → get new.seats (actor_of event) ≡ Some f → f.event_no ≡ length (events_of (actor_of event) (history ++ event ∷ []))) → AreLent (history ++ event ∷ []) new.seats
   others_lent event new goes own actor f at = by (same_actor (actor_of event) actor) refl
@@ -107,7 +107,7 @@ module _ (verified : TypedProgram) (inputs : List Input) (layout : ActorCounts) 
       let none : get new.seats (actor_of event) ≡ None = no_task new goes.left (actor_of event) (ap (λ m. get m (actor_of event)) same ∙ free) in
       one_more event new goes room (others_lent event new goes (λ f at. let no : None ≡ Some f = sym none ∙ at in cc))
 
-  -- an event whose actor's task is lent by its number
+  -- an event whose actor's task is issued under its number
   pub made_lent : (event : Event) (new : Parts) (goes : Goes verified layout event old h.notices new) → length history < limit
       → ((f : FrameView) → get new.seats (actor_of event) ≡ Some f → f.event_no ≡ length (events_of (actor_of event) (history ++ event ∷ []))) → IsKept verified inputs layout limit (history ++ event ∷ []) new
   made_lent event new goes room own = one_more event new goes room (others_lent event new goes own)

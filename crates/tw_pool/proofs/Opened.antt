@@ -1,4 +1,4 @@
--- What holds of a pool before its first event.
+-- Invariants of a pool before its first event.
 use Rattle.std.proofs.Common.{◌≡◌, ℕ, List, [], sym, ap, ◌∙◌, arith, Some, None}
 use Rattle.std.specs.FinMap as fin
 use Rattle.std.specs.FinMap.{get, get-empty}

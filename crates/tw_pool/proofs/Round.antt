@@ -1,4 +1,4 @@
--- The word of an event that fits gives the event back.
+-- Decoding the word of an event returns the event.
 use Rattle.std.proofs.Common.{◌≡◌, ◌<◌, ◌+◌, ◌*◌, ◌-◌, ◌/◌, ◌%◌, ℕ, true, false, nat_lt, refl, ap, ◌∙◌, arith, List, [], ◌∷◌, ◌++◌}
 use Rattle.std.proofs.lemmas.Bool.Decides.{nat_tests}
 use Rattle.std.proofs.lemmas.List.{map-append}

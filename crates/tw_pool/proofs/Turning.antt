@@ -1,4 +1,4 @@
--- A turn takes the first line of the table that fits.
+-- A step takes the first line of the table that fits.
 use Rattle.std.proofs.Common.{IsSome, ◌≡◌, ◌<◌, ◌≤◌, ◌==◌, ℕ, Bool, true, false, if◌then◌else◌, List, [], ◌∷◌, ◌++◌, length, Option, Some, None, refl, sym, ap, subst, ◌∙◌, arith, inl, inr, option_map, slice_get}
 use Rattle.std.proofs.lemmas.Bool.Decides.{nat_tests}
 use Rattle.std.proofs.lemmas.Option.{same_Some}
@@ -35,7 +35,7 @@ use Rattle.tw_pool.proofs.Freely.{has_state, line_still, state, viewed}
 
 -- ---- why a run is over
 
--- where it isn't, there is room
+-- if the run isn't over, there is room
 pub room_left : (p : PoolView) (s : State) → length p.history ≤ p.limit → None ≡ closing_at p s → length p.history < p.limit
 room_left p s within goes_on = by (ending s) p.stopped (length p.history == p.limit) refl goes_on
   where
@@ -76,7 +76,7 @@ with_own w v actor done a owed l = record {
   appended = l.appended;
 }
 
--- ---- a Done of the job that is lent
+-- ---- a `Done` of the issued job
 
 pub back_short : (w v : PoolView) (actor : Actor) (done : DoneView) (a : Turn) → true ≡ done.short → IsTurnBy (λ s. Lends w actor (steps_of actor done)) w a v → IsTurnBy (λ s. TakesBack done.short (is_last w done) w actor done) w a v
 back_short w v actor done a is l = subst (λ b. IsTurnBy (λ s. TakesBack b (is_last w done) w actor done) w a v) is l
@@ -88,7 +88,7 @@ pub back_past : (w v : PoolView) (actor : Actor) (done : DoneView) (a : Turn) �
     → IsTurnBy (λ s. Makes w actor (Some done) (steps_of actor done) (event_of actor (instr_behind w.program.program done))) w a v → IsTurnBy (λ s. TakesBack done.short (is_last w done) w actor done) w a v
 back_past w v actor done a is last l = subst (λ b. IsTurnBy (λ s. TakesBack b (is_last w done) w actor done) w a v) is (subst (λ b. IsTurnBy (λ s. TakesBack false b w actor done) w a v) last l)
 
--- the instruction that is found behind the steps
+-- the instruction that is found after the steps
 pub behind_is : (w : PoolView) (program : List Procedure) (done : DoneView) (i : Instr) (m n : ℕ) → w.program.program ≡ program → m ≡ done.before.procedure → n ≡ done.after.place
     → option_and_then (λ (p : Procedure). slice_get p.code n) (slice_get program m) ≡ Some i → instr_behind w.program.program done ≡ Some i
 behind_is w program done i m n whose of at e =
@@ -160,7 +160,7 @@ module _ (verified : TypedProgram) (inputs : List Input) (layout : ActorCounts) 
       abbrev job_by : Frame → JobView
       job_by g = record { program = verified; task = g.task; procedure = g.procedure; actor = actor; event_no = length (events_of actor told.events); position = g.position }
 
-      -- the job that is lent
+      -- the issued job
       pub lent_is : lent_to w here actor ≡ Some (job_of f)
       lent_is =
           let fits = h.parts.stand.frames actor f sits in

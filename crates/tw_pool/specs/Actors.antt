@@ -1,4 +1,4 @@
--- The events of an actor, and how many each has made, by their places.
+-- The events of an actor, and how many each actor has made, by their places.
 use Rattle.std.specs.Prelude.{◌≡◌, ℕ, ◌==◌, Bool, false, List, filter, length, get_or}
 use Rattle.tw_types.specs.declared.actor.Actor.{Actor}
 use Rattle.tw_types.specs.declared.actor.Actor.TheVariants.{Engine, Server, Worker}
@@ -17,10 +17,10 @@ same_actor (Worker a) (Engine b) = false
 same_actor (Worker a) (Server b) = false
 same_actor (Worker a) (Worker b) = a == b
 
--- in order
+-- returns the events of an actor, in order
 abbrev pub events_of : Actor → List Event → List Event
 events_of actor history = filter (λ event. same_actor (actor_of event) actor) history
 
--- at the place of each actor stands the number of its events
+-- holds if the counts have the number of each actor's events at its place
 abbrev pub AreCounts : List ℕ → List Event → Type 0
 AreCounts counts history = (actor : Actor) → HasPlace actor → get_or counts (place_of actor) 0 ≡ length (events_of actor history)

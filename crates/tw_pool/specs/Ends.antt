@@ -1,4 +1,4 @@
--- What is left of a run that is shut.
+-- The results of a finished run.
 use Rattle.std.specs.Prelude.{◌≡◌, ℕ, List, Option}
 use Rattle.tw_types.specs.declared.pending.Pending.{Pending}
 use Rattle.tw_store.specs.Served.{Served}
@@ -10,21 +10,21 @@ use Rattle.tw_pool.specs.History.{HistoryView}
 use Rattle.tw_pool.specs.PoolView.{PoolView, HasState}
 use Rattle.tw_pool.specs.Turns.{closing_at}
 
--- The store; the ids of the outputs by the order of main's parameters; the rules that were pending, each with the data for which
--- it waits and those that it may write; and why the run was over.
+-- The store, the ids of the outputs by the order of main's parameters, the rules that were pending, and why the run is over. Each
+-- rule has the data for which it waits and those that it may write.
 pub record FinalView : Type 0 where
   pub store : Served
   pub outputs : List ℕ
   pub pending : List Pending
   pub closing : Option Closing
 
--- all that is told is so in this state of the program; the rules come by rising number, and their data by rising parameter
+-- the results are those of this state of the program; the rules are by rising number, and their data by rising parameter
 pub record IsLeftOf (program : List Procedure) (s : State) (final : FinalView) : Type 0 where
   pub store : final.store.store ≡ s.store
   pub outputs : final.outputs ≡ s.outputs
   pub pending : final.pending ≡ pending_rules program s
 
--- it is left of the state to which the history leads
+-- the results are those of the state that the events reach
 pub record IsShut (p : PoolView) (final : FinalView) (history : HistoryView) : Type 0 where
   pub state : State
   pub has_state : HasState p state

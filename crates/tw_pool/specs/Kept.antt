@@ -1,4 +1,4 @@
--- What is true of the parts of every pool, with its history.
+-- Invariants of the parts of every pool, with its events.
 use Rattle.std.specs.Prelude.{◌≡◌, ◌≤◌, ℕ, List, Some, None, length}
 use Rattle.std.specs.FinMap.{get}
 use Rattle.tw_types.specs.declared.actor.Actor.{Actor}
@@ -22,11 +22,11 @@ use Rattle.tw_pool.specs.Actors.{events_of}
 use Rattle.tw_pool.specs.PoolView.{PoolView, HasState}
 use Rattle.tw_pool.specs.Turns.{lent_to}
 
--- each task was lent last by the number of its actor's events
+-- holds if each task was issued last under the number of its actor's events
 abbrev pub AreLent : List Event → Seated → Type 0
 AreLent history seats = (actor : Actor) (f : FrameView) → get seats actor ≡ Some f → f.event_no ≡ length (events_of actor history)
 
--- the state that the parts stand for is the one to which the history leads
+-- the state of the parts is the one that the events reach
 pub record IsKept (verified : TypedProgram) (inputs : List Input) (layout : ActorCounts) (limit : ℕ) (history : List Event) (p : Parts) : Type 0 where
   pub given : AreInputsOf verified.program inputs
   pub few : limit ≤ 1000000
@@ -36,7 +36,7 @@ pub record IsKept (verified : TypedProgram) (inputs : List Input) (layout : Acto
   pub parts : AreParts verified layout p notices
   pub lent : AreLent history p.seats
 
--- what is so in the pool's state
+-- holds if this is so in the pool's state
 abbrev pub InState : PoolView → (State → Type 0) → Type 0
 InState p Holds = (s : State) → HasState p s → Holds s
 
@@ -49,12 +49,12 @@ AsksNone p engine = InState p (λ s. next_ask engine s.rules ≡ None)
 abbrev pub ReleasesNone : PoolView → ℕ → Type 0
 ReleasesNone p engine = InState p (λ s. next_release engine s.rules ≡ None)
 
--- nothing goes before its taking of a task
+-- holds if the actor has nothing to do before it takes a task
 abbrev pub MayTakeNow : PoolView → Actor → Type 0
 MayTakeNow p (Engine engine) = AsksNone p engine × ReleasesNone p engine
 MayTakeNow p (Server server) = ⊥
 MayTakeNow p (Worker worker) = Unit {0}
 
--- the Done is of the job that is lent to the actor
+-- holds if the `Done` is of the job that is issued to the actor
 abbrev pub IsOwedBy : PoolView → Actor → DoneView → Type 0
 IsOwedBy p actor done = InState p (λ s. lent_to p s actor ≡ Some done.before)

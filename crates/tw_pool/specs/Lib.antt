@@ -1,12 +1,13 @@
--- What a reader must believe of the pool: who makes events (Actors), as what pool and history are seen (PoolView, History),
--- how a run is opened (Openings), the table of turns (Turns), what is left of a run that is shut (Ends).
+-- The definitions that a reader has to trust for the pool: the actors of events (Actors), the models of a pool and of its events
+-- (PoolView, `History`), and openings (Openings).
+-- Turns is the table of scheduling steps, and Ends has the results of a finished run.
 pub mod Actors
 pub mod History
 pub mod PoolView
 pub mod Openings
 pub mod Turns
 pub mod Ends
--- What private functions speak of: how pending rules are told (Pendings), how an event is kept (Words), and what holds of pools (Kept).
+-- Definitions for private functions: reports of pending rules (Pendings), encoded events (Words), and invariants of pools (Kept).
 pub mod Pendings
 pub mod Words
 pub mod Kept

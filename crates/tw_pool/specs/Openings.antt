@@ -1,4 +1,4 @@
--- How a run is opened, or why it isn't.
+-- Openings of runs, and their errors.
 use Rattle.std.specs.Prelude.{◌≡◌, ◌≤◌, ℕ, true, false, List, []}
 use Rattle.tw_types.specs.declared.input.Input.{Input}
 use Rattle.tw_types.specs.Layout.{ActorCounts}
@@ -10,18 +10,18 @@ use Rattle.tw_pool.specs.PoolView.{PoolView}
 use Rattle.tw_pool.specs.declared.open.OpenRefusal.{OpenRefusal}
 use Rattle.tw_pool.specs.declared.open.OpenRefusal.TheVariants.{InputCount, InputType, MissingTarget, LimitRange, NoMemory}
 
--- so many events at most
+-- the limit is from 1 to 1,000,000
 pub record IsLimit (limit : ℕ) : Type 0 where
   pub some : 1 ≤ limit
   pub few : limit ≤ 1000000
 
--- nothing but want of memory refuses it
+-- only a failed allocation can prevent the opening
 pub record MayOpen (program : List Procedure) (inputs : List Input) (layout : ActorCounts) (limit : ℕ) : Type 0 where
   pub inputs_are : AreInputsOf program inputs
   pub targets : HasTargets program layout
   pub within : IsLimit limit
 
--- the first of these that holds is told; want of memory only where none of the others does
+-- holds for the first error whose condition holds; a failed allocation is reported only without any other error
 abbrev pub IsRefusal : List Procedure → List Input → ActorCounts → ℕ → OpenRefusal → Type 0
 IsRefusal program inputs layout limit InputCount = has_input_count program inputs ≡ false
 IsRefusal program inputs layout limit InputType = (has_input_count program inputs ≡ true) × (has_fitting_inputs program inputs ≡ false)
@@ -29,7 +29,7 @@ IsRefusal program inputs layout limit MissingTarget = AreInputsOf program inputs
 IsRefusal program inputs layout limit LimitRange = AreInputsOf program inputs × HasTargets program layout × (IsLimit limit → ⊥)
 IsRefusal program inputs layout limit NoMemory = MayOpen program inputs layout limit
 
--- the number behind the letter O
+-- returns the code without the letter O
 abbrev pub open_refusal_number : OpenRefusal → ℕ
 open_refusal_number InputCount = 1
 open_refusal_number InputType = 2
@@ -37,7 +37,7 @@ open_refusal_number MissingTarget = 3
 open_refusal_number LimitRange = 4
 open_refusal_number NoMemory = 5
 
--- before the first event
+-- returns the pool before the first event
 abbrev pub opened : TypedProgram → List Input → ActorCounts → ℕ → PoolView
 opened verified inputs layout limit =
     record { program = verified; inputs = inputs; layout = layout; limit = limit; stopped = false; history = [] }

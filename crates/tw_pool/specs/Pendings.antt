@@ -1,4 +1,4 @@
--- A pending rule, read off its plain arguments. That it is the definition's is in proofs/Pendings.
+-- A pending rule, made of its arguments without rights. proofs/Pendings shows that it is the machine's.
 use Rattle.std.specs.Prelude.{ℕ, if◌then◌else◌, List, [], ◌∷◌, ◌++◌}
 use Rattle.std.specs.List.{flat_map}
 use Rattle.tw_types.specs.declared.pending.Pending.{Pending}
@@ -8,7 +8,7 @@ use Rattle.tw_rules.specs.declared.plain.PlainArg.{PlainArg}
 use Rattle.tw_rules.specs.declared.plain.PlainArg.TheVariants as plain
 use Rattle.tw_rules.specs.declared.plain.PlainRule.{PlainRule}
 
--- the datum for which a parameter waits
+-- returns the datum for which a parameter waits
 abbrev pub waited_at : Stage → PlainArg → List ℕ
 waited_at stage plain.Val = []
 waited_at stage (plain.Read id) = if is_waiting stage then id ∷ [] else []
@@ -19,7 +19,7 @@ waits_in [] args = []
 waits_in (stage ∷ stages) [] = []
 waits_in (stage ∷ stages) (arg ∷ args) = waited_at stage arg ++ waits_in stages args
 
--- the datum of a right to write
+-- returns the datum of a write right
 abbrev pub written_at : PlainArg → List ℕ
 written_at plain.Val = []
 written_at (plain.Read id) = []

@@ -1,4 +1,4 @@
--- What a turn answers, and which events it appends: a table, of whose lines the first that fits is taken.
+-- The table of scheduling steps: the result of each, and the events that it appends. The first line that fits is taken.
 use Rattle.std.specs.Prelude.{◌≡◌, ◌≢◌, ◌⊎◌, ◌+◌, ◌≤◌, ◌==◌, Bool, true, false, not, ◌&&◌, if◌then◌else◌, List, [], ◌∷◌, ◌++◌, length, Option, Some, None, slice_get}
 use Rattle.std.specs.FinMap.{get}
 use Rattle.std.specs.Option.{option_and_then, option_map, option_or}
@@ -21,9 +21,9 @@ use Rattle.tw_pool.specs.declared.answer.Turn.TheVariants.{Over, Foreign, Owed, 
 use Rattle.tw_pool.specs.Actors.{events_of}
 use Rattle.tw_pool.specs.PoolView.{PoolView, HasState, with_events}
 
--- ---- what is so before
+-- ---- the state before a step
 
--- why no event is made any more: the run has ended by itself; else it was stopped; else there is room for no event
+-- returns why no event is made any more: the run has ended by itself, else it was stopped, else the limit is reached
 abbrev pub closing_of : Ending → Closing
 closing_of ending.Quiet = Quiet
 closing_of (ending.Stuck rules) = Stuck rules
@@ -31,12 +31,12 @@ closing_of (ending.Stuck rules) = Stuck rules
 abbrev pub closing_at : PoolView → State → Option Closing
 closing_at p s = option_or (option_map closing_of (ending s)) (if p.stopped then Some Stopped else if length p.history == p.limit then Some Limit else None)
 
--- the job that is lent to an actor: where its task stands, by the number of the actor's events
+-- returns the job that is issued to an actor: from its task's position, under the number of the actor's events
 abbrev pub lent_to : PoolView → State → Actor → Option JobView
 lent_to p s actor =
     option_map (λ (f : Frame). record { program = p.program; task = f.task; procedure = f.procedure; actor = actor; event_no = length (events_of actor p.history); position = f.position }) (get s.frames actor)
 
--- ---- what a line says of answer and events
+-- ---- the result and the events of a line
 
 abbrev pub Line : Type 1
 Line = Turn → List Event → Type 0
@@ -44,25 +44,25 @@ Line = Turn → List Event → Type 0
 abbrev pub Answers : Turn → List Event → Line
 Answers wanted appended answer events = (answer ≡ wanted) × (events ≡ appended)
 
--- the job that is lent to the actor when these events are appended
+-- holds for the job that is issued to the actor when these events are appended
 abbrev pub Lends : PoolView → Actor → List Event → Line
 Lends p actor appended answer events =
     (s : State) × HasState (with_events p appended) s × (job : JobView) × (lent_to (with_events p appended) s actor ≡ Some job) × Answers (Run job) appended answer events
 
--- an event that is made behind these takes memory
+-- an event that is made after these may allocate
 pub record TakesMemory (p : PoolView) (before : List Event) (event : Event) : Type 0 where
   pub state : State
   pub has_state : HasState (with_events p before) state
   pub takes : EventTakes p.program.program state event
 
--- or memory is refused for the event that is made behind others, and then nothing is appended and a Done comes back
+-- holds for the line; or an allocation fails in the event after `before`, nothing is appended, and a `Done` is returned
 abbrev pub OrNoMemory : PoolView → Option DoneView → List Event → Event → Line → Line
 OrNoMemory p given before event line answer events = line answer events ⊎ (TakesMemory p before event × Answers (NoMemory given) [] answer events)
 
 abbrev pub Never : Line
 Never answer events = ⊥
 
--- ---- the line of an event that is made behind others
+-- ---- the line of an event after others
 
 abbrev pub Makes : PoolView → Actor → Option DoneView → List Event → Event → Line
 Makes p actor given before (Take a) = OrNoMemory p given before (Take a) (Lends p actor (before ++ Take a ∷ []))
@@ -73,28 +73,28 @@ Makes p actor given before (Ask engine rule parameter) = OrNoMemory p given befo
 Makes p actor given before (Deliver server datum rule parameter) = Answers Went (before ++ Deliver server datum rule parameter ∷ [])
 Makes p actor given before (Release engine rule) = OrNoMemory p given before (Release engine rule) (Answers Went (before ++ Release engine rule ∷ []))
 
--- ---- a Done of the job that is lent
+-- ---- a `Done` of the issued job
 
--- its steps, if there are any
+-- returns the event of its steps, if there are any
 abbrev pub steps_of : Actor → DoneView → List Event
 steps_of actor done = if done.steps == 0 then [] else Local actor done.steps ∷ []
 
--- the instruction to which they lead
+-- returns the instruction to which they lead
 abbrev pub instr_behind : List Procedure → DoneView → Option Instr
 instr_behind program done = option_and_then (λ (p : Procedure). slice_get p.code done.after.place) (slice_get program done.before.procedure)
 
--- two events are wanted, and there is room for one
+-- returns whether two events are due, and only one fits the limit
 abbrev pub is_last : PoolView → DoneView → Bool
 is_last p done = not (done.steps == 0) && (length p.history + 1 == p.limit)
 
--- The job goes on where it is short: its Done has the values of the next one, so that no memory is taken. Else the
--- instruction behind the steps is done, if there is room for both.
+-- A short job is issued again: its `Done` has the values of the next one, so that nothing is allocated. Otherwise the
+-- instruction after the steps is executed, if both events fit the limit.
 abbrev pub TakesBack : Bool → Bool → PoolView → Actor → DoneView → Line
 TakesBack true last p actor done = Lends p actor (steps_of actor done)
 TakesBack false true p actor done = Answers (Over Limit) (steps_of actor done)
 TakesBack false false p actor done = Makes p actor (Some done) (steps_of actor done) (event_of actor (instr_behind p.program.program done))
 
--- ---- an actor without a job: an event that is due is made, or none is due
+-- ---- an actor without a job: a due event is made, or none is due
 
 abbrev pub GoesFree : PoolView → State → Actor → Line
 GoesFree p s actor answer events =
@@ -103,24 +103,24 @@ GoesFree p s actor answer events =
 
 -- ---- all lines
 
--- a Done of the job that is lent, or of another
+-- holds for a `Done` of the issued job, or of another
 abbrev pub HandsIn : PoolView → Actor → JobView → DoneView → Line
 HandsIn p actor job done answer events =
     ((done.before ≡ job) × TakesBack done.short (is_last p done) p actor done answer events) ⊎ ((done.before ≢ job) × Answers (Foreign done) [] answer events)
 
--- by the job that is lent, and the Done
+-- chooses the line by the issued job, and the `Done`
 abbrev pub Turns : PoolView → State → Actor → Option JobView → Option DoneView → Line
 Turns p s actor None None = GoesFree p s actor
 Turns p s actor None (Some done) = Answers (Foreign done) []
 Turns p s actor (Some job) None = Answers Owed []
 Turns p s actor (Some job) (Some done) = HandsIn p actor job done
 
--- where the run isn't over
+-- chooses the line, unless the run is over
 abbrev pub TurnsUnless : Option Closing → PoolView → State → Actor → Option DoneView → Line
 TurnsUnless (Some closing) p s actor given = Answers (Over closing) []
 TurnsUnless None p s actor given = Turns p s actor (lent_to p s actor) given
 
--- a line in the pool's state, and nothing but its events is new
+-- a line in the pool's state, and only its events are new
 pub record IsTurnBy (line : State → Line) (old : PoolView) (answer : Turn) (new : PoolView) : Type 0 where
   pub state : State
   pub has_state : HasState old state
@@ -128,11 +128,11 @@ pub record IsTurnBy (line : State → Line) (old : PoolView) (answer : Turn) (ne
   pub is : line state answer events
   pub appended : new ≡ with_events old events
 
--- one turn of an actor, with a Done or none
+-- holds for one scheduling step of an actor, with a `Done` or none
 abbrev pub IsTurn : PoolView → Actor → Option DoneView → Turn → PoolView → Type 0
 IsTurn old actor given answer new = IsTurnBy (λ s. TurnsUnless (closing_at old s) old s actor given) old answer new
 
--- what follows for every turn: one or two events at most, all of the actor
+-- a consequence for every step: one or two events at most, all of the actor
 pub record AreOwn (actor : Actor) (events : List Event) : Type 0 where
   pub few : length events ≤ 2
   pub own : events_of actor events ≡ events

@@ -1,4 +1,4 @@
--- Events in words of 64 bits: the kind in three bits, the place of who makes it in five, and its numbers above them.
+-- Events in words of 64 bits: the kind in three bits, the place of the actor in five, and the event's numbers above them.
 use Rattle.std.specs.Prelude.{◌≡◌, ℕ, ◌+◌, ◌*◌, ◌<◌, ◌^◌, ◌/◌, ◌%◌, ◌==◌, if◌then◌else◌, List, map}
 use Rattle.tw_types.specs.declared.actor.Actor.{Actor}
 use Rattle.tw_types.specs.declared.event.Event.{Event}
@@ -7,9 +7,9 @@ use Rattle.tw_types.specs.Actor.{number_in_kind}
 use Rattle.tw_code.specs.machine.History.{actor_of}
 use Rattle.tw_pool.specs.Actors.{HasPlace, actor_of_place, place_of}
 
--- ---- the events that have a word
+-- ---- events that can be encoded
 
--- rules and data have numbers below 2^24, of the parameters there are eight, and steps are below 2^56
+-- holds if rules and data have numbers below 2^24, parameters are below 8, and steps are below 2^56
 abbrev pub NumbersFit : Event → Type 0
 NumbersFit (Take actor) = Unit {0}
 NumbersFit (Local actor steps) = steps < 2 ^ 56
@@ -22,7 +22,7 @@ NumbersFit (Release engine rule) = rule < 2 ^ 24
 abbrev pub FitsWord : Event → Type 0
 FitsWord event = HasPlace (actor_of event) × NumbersFit event
 
--- ---- the word
+-- ---- encoding
 
 abbrev pub kind_of : Event → ℕ
 kind_of (Take actor) = 0
@@ -45,7 +45,7 @@ numbers_of (Release engine rule) = rule
 abbrev pub word_of : Event → ℕ
 word_of event = kind_of event + 8 * (place_of (actor_of event) + 32 * numbers_of event)
 
--- ---- and back
+-- ---- decoding
 
 abbrev pub unpack_by : ℕ → Actor → ℕ → Event
 unpack_by kind actor numbers =
@@ -60,7 +60,7 @@ unpack_by kind actor numbers =
 unfoldable pub unpack : ℕ → Event
 unpack word = unpack_by (word % 8) (actor_of_place (word / 8 % 32)) (word / 256)
 
--- a word that tells by the place in it who made its event
+-- holds if the word has the place of its event's actor
 abbrev pub IsPlaced : ℕ → Type 0
 IsPlaced word = HasPlace (actor_of (unpack word)) × (word / 8 % 32 ≡ place_of (actor_of (unpack word)))
 

@@ -1,37 +1,37 @@
-//! What a turn answers.
+//! Results of scheduling steps.
 
 use tw_frame::{Done, Job};
 
-/// Why no turn makes an event any more.
+/// The reason why no scheduling step makes an event any more.
 #[derive(Clone, Copy, PartialEq, Eq)]
 pub enum Closing {
-    /// Nothing is left to do, and no rule is pending.
+    /// No event is enabled, and no rule is pending.
     Quiet,
-    /// Nothing is left to do, and so many rules are pending, at least one.
+    /// No event is enabled, and this many rules are pending, at least one.
     Stuck(u64),
     /// The run was stopped.
     Stopped,
-    /// There are as many events as there may be.
+    /// The limit of events is reached.
     Limit,
 }
 
-/// The answer of a turn.
+/// The result of a scheduling step.
 #[derive(Drop)]
 pub enum Turn<'a> {
-    /// No turn makes an event any more; a Done is let go.
+    /// No step makes an event any more. A `Done` that was passed is dropped.
     Over(Closing),
-    /// A Done of another job than the one that is lent to the actor.
+    /// The `Done` isn't of the job that is issued to the actor, and is returned.
     Foreign(Done<'a>),
-    /// The actor's job is lent, and its Done is awaited.
+    /// The actor's job is issued, and its `Done` is required.
     Owed,
-    /// Memory was refused, and nothing has changed.
+    /// An allocation failed, and nothing has changed. A `Done` that was passed is returned.
     NoMemory(Option<Done<'a>>),
-    /// The actor's job.
+    /// The actor's job, to be run.
     Run(Job<'a>),
     /// The actor's task has ended.
     Ended,
-    /// An event was made that lends no job.
+    /// An event was made that issues no job.
     Went,
-    /// No event of the actor can be made.
+    /// No event of the actor is enabled.
     Idle,
 }

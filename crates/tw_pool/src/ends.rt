@@ -1,4 +1,4 @@
-//! What is left of a run.
+//! Results of finished runs.
 
 ghost use Rattle.std.specs.Prelude.{◌≡◌, IfOk, IfSome, option_map};
 ghost use Rattle.std.specs.FinMap.{get};
@@ -21,7 +21,7 @@ use tw_store::{Datum, ShownMember};
 use tw_types::{DatumId, Pending};
 use tw_verify::ends_well;
 
-/// What is left of a run for reading: its data, its outputs, the rules that were pending, and why it was over.
+/// A finished run, for reports: its data, its outputs, the rules that were pending, and the reason why it is over.
 #[derive(Drop)]
 pub struct Final {
     remains: Remains,
@@ -52,14 +52,14 @@ impl Model for Final {
 }
 
 impl Final {
-    /// The ids of the outputs, by the order of main's parameters.
+    /// Returns the ids of the outputs, by the order of main's parameters.
     pub fn outputs(&self) -> &[DatumId]
         ensures { result.now ≡ self.now.outputs }
     {
         &self.remains.outputs
     }
 
-    /// The datum of an id, if it is live; it is searched, so this is for the few outputs.
+    /// Returns the datum of an id, if it is live. Searches all places: use it for the few outputs.
     pub fn view(&self, id: DatumId) -> Option<&Datum>
         ensures datum { option_map (λ d. d.datum) (option_copied result) ≡ get self.now.store.store.live id }
         ensures members { IfSome result (λ datum. KnowsPlaces self.now.store datum.now) }
@@ -67,8 +67,8 @@ impl Final {
         self.remains.store.view(id)
     }
 
-    /// The member of a container with so many smaller subscripts. Its datum is looked up at its place. The container is
-    /// one that was shown here.
+    /// Returns the member of a container with `index` smaller subscripts, with its datum, which is found by its place. The container
+    /// must be one that this run returned.
     pub fn member<'a>(&'a self, container: &'a Datum, index: usize) -> Option<ShownMember<'a>>
         requires { KnowsPlaces self.now.store container.now }
         ensures { IsShown self.now.store container.now index result }
@@ -76,14 +76,14 @@ impl Final {
         self.remains.store.member(container, index)
     }
 
-    /// The rules that were pending, by rising number: each with the data for which it waits, and those of its rights to write.
+    /// Returns the rules that were pending, by rising number, each with the data for which it waits and those of its write rights.
     pub fn pending(&self, alloc: Global) -> Result<Vec<Pending>, AllocError>
         ensures { IfOk result (λ pending. pending.items ≡ self.now.pending) }
     {
         all_told(alloc, self.remains.pending.as_slice())
     }
 
-    /// Why the run was over, if it was.
+    /// Returns why the run is over, if it is.
     pub fn closing(&self) -> Option<Closing>
         ensures { result ≡ self.now.closing }
     {
@@ -92,8 +92,8 @@ impl Final {
 }
 
 impl<'a> Pool<'a> {
-    /// Ends the run: spends every right, and gives what is left for reading, and the history. Where the run has ended by
-    /// itself, it has ended as the law says.
+    /// Closes the run: spends every right, and returns the remains and the `History`. If the run has ended by itself, `ends_well`
+    /// states how.
     pub fn shut(self) -> (Final, History)
         ensures left { IsShut self.entry result.0 result.1 }
         ensures ends_well { (s : State) → HasState self.entry s → EndsWell self.entry.program.program s }

@@ -1,4 +1,4 @@
-//! Events of one actor, as the history keeps them.
+//! Lists of events of one actor.
 
 ghost use Rattle.std.specs.Prelude.{◌≡◌, ◌<◌, ◌≤◌, ◌+◌, ◌++◌, [], IsTrue, ◌↔◌, OnOk, Some, length, option_to_list, slice_get};
 
@@ -8,7 +8,7 @@ use std::alloc::{AllocError, Global};
 use std::marker::Model;
 use tw_types::Event;
 
-/// Events out of a history, each in the history's word.
+/// Events of a `History`, encoded like there.
 #[derive(Drop)]
 pub struct Events {
     words: Vec<u64>,
@@ -25,7 +25,7 @@ impl Model for Events {
 }
 
 impl Events {
-    /// None yet.
+    /// Makes an empty list.
     pub fn new(alloc: Global) -> Events
         ensures { result.items ≡ [] }
     {
@@ -34,14 +34,14 @@ impl Events {
         }
     }
 
-    /// How many there are.
+    /// Returns the number of events.
     pub fn len(&self) -> usize
         ensures { result ≡ length self.now.items }
     {
         self.words.len()
     }
 
-    /// The event before which there are so many.
+    /// Returns the event at an index.
     pub fn event(&self, index: usize) -> Event
         requires { index < length self.now.items }
         ensures { slice_get self.now.items index ≡ Some result }
@@ -49,7 +49,7 @@ impl Events {
         unpack(self.words[index])
     }
 
-    /// Makes room for so many more.
+    /// Reserves memory for `more` events.
     pub fn reserve(&mut self, more: usize) -> Result<(), AllocError>
         ensures items { self.new.items ≡ self.old.items }
         ensures room { OnOk result (length self.new.items + more ≤ self.new.capacity) }
@@ -57,7 +57,7 @@ impl Events {
         self.words.reserve(more)
     }
 
-    /// Adds the event of a history before which there are so many.
+    /// Appends the event of a `History` at an index. Needs reserved memory.
     pub fn push_from(&mut self, history: &History, index: usize)
         requires there { index < length history.now.events }
         requires room { length self.old.items < self.old.capacity }
@@ -67,7 +67,7 @@ impl Events {
         self.words.push_reserved(history.word(index));
     }
 
-    /// Whether an event is one of a history. Only where the words differ they are unpacked.
+    /// Returns whether an event equals one of a `History`. Decodes them only if their words differ.
     pub fn is_at(&self, index: usize, history: &History, place: usize) -> bool
         requires inside { index < length self.now.items }
         requires there { place < length history.now.events }

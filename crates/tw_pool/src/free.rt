@@ -1,4 +1,4 @@
-//! What an actor without a task does.
+//! Scheduling steps of actors without a task.
 
 ghost use Rattle.std.specs.Prelude.{◌≡◌, ◌<◌, MatchOption, length, true};
 ghost use Rattle.tw_types.specs.Actor.{is_in};
@@ -12,7 +12,7 @@ use std::alloc::Global;
 use tw_types::{Actor, Event};
 
 impl<'a> Pool<'a> {
-    /// A server delivers its oldest notice, if it has one.
+    /// Delivers the oldest notice of a server, if it has one.
     pub(crate) fn deliver(&mut self, server: u8) -> Turn<'a>
         requires server { server < self.old.layout.servers }
         requires room { length self.old.history < self.old.limit }
@@ -27,7 +27,7 @@ impl<'a> Pool<'a> {
         Turn::Went
     }
 
-    /// An engine asks for what it asks next, if there is something.
+    /// Lets an engine ask for its next parameter. Returns `None` if there is none.
     pub(crate) fn ask(&mut self, engine: u8) -> Option<Turn<'a>>
         requires engine { engine < self.old.layout.engines }
         requires room { length self.old.history < self.old.limit }
@@ -45,7 +45,7 @@ impl<'a> Pool<'a> {
         Some(Turn::Went)
     }
 
-    /// An engine that has nothing to ask releases the rule that it releases next, if there is one.
+    /// Lets an engine without an ask release its next rule. Returns `None` if none can be released.
     pub(crate) fn release(&mut self, engine: u8) -> Option<Turn<'a>>
         requires engine { engine < self.old.layout.engines }
         requires room { length self.old.history < self.old.limit }
@@ -63,7 +63,7 @@ impl<'a> Pool<'a> {
         Some(Turn::Went)
     }
 
-    /// An engine that has nothing to do with its rules, or a worker, takes its best task, if there is one.
+    /// Lets an engine without work on its rules, or a worker, take its best task, if there is one.
     pub(crate) fn take(&mut self, alloc: Global, actor: Actor) -> Turn<'a>
         requires actor { is_in self.old.layout actor ≡ true }
         requires room { length self.old.history < self.old.limit }
@@ -82,7 +82,7 @@ impl<'a> Pool<'a> {
         Turn::Run(job)
     }
 
-    /// One turn of an actor without a task and without a Done.
+    /// Makes one scheduling step of an actor without a task, without a `Done`.
     pub(crate) fn go_free(&mut self, alloc: Global, actor: Actor) -> Turn<'a>
         requires actor { is_in self.old.layout actor ≡ true }
         requires room { length self.old.history < self.old.limit }

@@ -1,4 +1,4 @@
-//! What comes of a Done.
+//! Scheduling steps of actors that submit a job's result.
 
 ghost use Rattle.std.specs.Prelude.{◌≡◌, ◌<◌, ◌≤◌, ◌++◌, ◌∷◌, [], IfErr, IfOk, IfSome, OnErr, OnOk, None, Some, true, false, length, option_to_list, slice_get};
 ghost use Rattle.tw_types.specs.Actor.{is_in};
@@ -30,7 +30,8 @@ use tw_parts::Parts;
 use tw_types::{Actor, Event};
 use tw_verify::Verified;
 
-/// Does the instruction at which the actor's task stands behind the Done, which is neither local nor RET, and lends it again.
+/// Completes the job, executes the instruction at which the actor's task then is, and issues the next job. The instruction is neither
+/// local nor RET.
 fn call_by<'a>(
     parts: &mut Parts<'a>,
     alloc: Global,
@@ -57,7 +58,7 @@ fn call_by<'a>(
     }
 }
 
-/// Tells an event, if there is one.
+/// Records an event, if there is one.
 fn tell(history: &mut History, event: Option<Event>)
     requires fits { IfSome event FitsWord }
     requires room { length history.old.events < history.old.limit }
@@ -68,7 +69,7 @@ fn tell(history: &mut History, event: Option<Event>)
     }
 }
 
-/// How many events of the actor there are with the steps of its Done, and a Call behind them.
+/// Returns how many events the actor has after those of its `Done` and a Call.
 fn count_behind(history: &History, actor: Actor, done: &Done<'_>) -> u64
     requires place { HasPlace actor }
     requires few { length history.now.events ≤ 1000000 }
@@ -91,7 +92,7 @@ fn is_ret(instr: &Instr) -> bool
     }
 }
 
-/// The instruction at a place of a procedure.
+/// Returns the instruction at a place of a procedure.
 fn instr_at(verified: &Verified, procedure: u8, place: usize) -> &Instr
     requires { (i : AnInstr) × (option_and_then (λ (p : Procedure). slice_get p.code place) (slice_get verified.now.program procedure) ≡ Some i) }
     ensures { option_and_then (λ (p : Procedure). slice_get p.code place) (slice_get verified.now.program procedure) ≡ Some result.now }
@@ -101,7 +102,7 @@ fn instr_at(verified: &Verified, procedure: u8, place: usize) -> &Instr
 }
 
 impl<'a> Pool<'a> {
-    /// The actor's task goes on by its steps, and its job is lent again.
+    /// Completes the actor's job, and issues the next one.
     pub(crate) fn go_on(&mut self, actor: Actor, done: Done<'a>) -> Turn<'a>
         requires actor { is_in self.old.layout actor ≡ true }
         requires room { length self.old.history < self.old.limit }
@@ -115,7 +116,7 @@ impl<'a> Pool<'a> {
         Turn::Run(self.parts.advance(actor, event_no, done))
     }
 
-    /// The actor's task goes on by its steps, which are the last event that there may be, and its job is let go.
+    /// Completes the actor's job, whose steps are the last event up to the limit. Drops the next job.
     fn fill_up(&mut self, actor: Actor, done: Done<'a>) -> Turn<'a>
         requires actor { is_in self.old.layout actor ≡ true }
         requires room { length self.old.history < self.old.limit }
@@ -126,7 +127,7 @@ impl<'a> Pool<'a> {
         Turn::Over(Closing::Limit)
     }
 
-    /// The actor's task goes on by its steps, and does the instruction behind them.
+    /// Completes the actor's job, and executes the instruction after it.
     fn call(&mut self, alloc: Global, actor: Actor, instr: &Instr, done: Done<'a>) -> Turn<'a>
         requires actor { is_in self.old.layout actor ≡ true }
         requires room { length self.old.history < self.old.limit }
@@ -149,7 +150,7 @@ impl<'a> Pool<'a> {
         Turn::Run(job)
     }
 
-    /// The actor's task goes on by its steps, and ends.
+    /// Completes the actor's job, and ends its task.
     fn end(&mut self, alloc: Global, actor: Actor, done: Done<'a>) -> Turn<'a>
         requires actor { is_in self.old.layout actor ≡ true }
         requires room { length self.old.history < self.old.limit }
@@ -166,7 +167,7 @@ impl<'a> Pool<'a> {
         Turn::Ended
     }
 
-    /// What comes of a Done that isn't short, with room for all its events.
+    /// Completes a job that isn't short, if all its events fit the limit.
     fn go_past(&mut self, alloc: Global, actor: Actor, done: Done<'a>) -> Turn<'a>
         requires actor { is_in self.old.layout actor ≡ true }
         requires room { length self.old.history < self.old.limit }
@@ -185,7 +186,7 @@ impl<'a> Pool<'a> {
         }
     }
 
-    /// Whether two events are wanted, and there is room for one.
+    /// Returns whether two events are due, and only one fits the limit.
     fn is_last(&self, done: &Done<'a>) -> bool
         requires { length self.now.history < self.now.limit }
         ensures { result ≡ is_last self.now done.now }
@@ -196,7 +197,7 @@ impl<'a> Pool<'a> {
         self.history.has_room_for_one()
     }
 
-    /// What comes of a Done of the job that is lent to the actor.
+    /// Completes the job that is issued to the actor.
     fn take_back(&mut self, alloc: Global, actor: Actor, done: Done<'a>) -> Turn<'a>
         requires actor { is_in self.old.layout actor ≡ true }
         requires room { length self.old.history < self.old.limit }
@@ -213,7 +214,7 @@ impl<'a> Pool<'a> {
         self.go_past(alloc, actor, done)
     }
 
-    /// What comes of a Done. It is handed back where no job is lent to the actor, or another one.
+    /// Handles a job's result. Returns it as foreign if no job is issued to the actor, or another one.
     pub(crate) fn hand_in(&mut self, alloc: Global, actor: Actor, done: Done<'a>) -> Turn<'a>
         requires actor { is_in self.old.layout actor ≡ true }
         requires room { length self.old.history < self.old.limit }

@@ -11,7 +11,7 @@ use std::alloc::{AllocError, Global};
 use std::marker::Model;
 use tw_types::{Actor, Event};
 
-/// Events in the order in which they were made, each kept in one word, with room for as many as there may be.
+/// Events in the order in which they were made, each encoded in one word. Its memory suffices for as many as the limit.
 #[derive(Drop)]
 pub struct History {
     words: Vec<u64>,
@@ -37,10 +37,10 @@ impl Model for History {
 }
 
 impl History {
-    /// The greatest number of events.
+    /// The greatest limit of events.
     pub const MOST_EVENTS: usize = 1_000_000;
 
-    /// No event, and room for so many.
+    /// Makes an empty list, with memory for `limit` events.
     pub fn with_capacity(alloc: Global, limit: usize) -> Result<History, AllocError>
         ensures { IfOk result (λ h. h ≡ record { events = []; limit = limit }) }
     {
@@ -51,21 +51,21 @@ impl History {
         })
     }
 
-    /// How many events there are.
+    /// Returns the number of events.
     pub fn len(&self) -> usize
         ensures { result ≡ length self.now.events }
     {
         self.words.len()
     }
 
-    /// Whether there are as many events as there may be.
+    /// Returns whether the limit is reached.
     pub fn is_full(&self) -> bool
         ensures { result ≡ (length self.now.events == self.now.limit) }
     {
         self.words.len() == self.limit
     }
 
-    /// Whether there may be just one event more.
+    /// Returns whether exactly one more event fits the limit.
     pub(crate) fn has_room_for_one(&self) -> bool
         requires { length self.now.events < self.now.limit }
         ensures { result ≡ (length self.now.events + 1 == self.now.limit) }
@@ -73,7 +73,7 @@ impl History {
         self.words.len() + 1 == self.limit
     }
 
-    /// How many events of an actor there are.
+    /// Returns the number of events of an actor.
     pub fn count(&self, actor: Actor) -> u64
         requires { HasPlace actor }
         ensures { result ≡ length (events_of actor self.now.events) }
@@ -81,7 +81,7 @@ impl History {
         self.counts[actor.place()]
     }
 
-    /// The event before which there are so many.
+    /// Returns the event at an index.
     pub fn event(&self, index: usize) -> Event
         requires { index < length self.now.events }
         ensures { slice_get self.now.events index ≡ Some result }
@@ -89,7 +89,7 @@ impl History {
         unpack(self.words[index])
     }
 
-    /// The word of the event before which there are so many.
+    /// Returns the word of the event at an index.
     pub(crate) fn word(&self, index: usize) -> u64
         requires { index < length self.now.events }
         ensures { slice_get self.now.events index ≡ Some (unpack result) }
@@ -97,7 +97,7 @@ impl History {
         self.words[index]
     }
 
-    /// Who made the event before which there are so many; the event isn't unpacked.
+    /// Returns the actor of the event at an index, without decoding the event.
     pub fn actor(&self, index: usize) -> Actor
         requires { index < length self.now.events }
         ensures { option_map actor_of (slice_get self.now.events index) ≡ Some result }
@@ -105,7 +105,7 @@ impl History {
         maker_of(self.words[index])
     }
 
-    /// Tells one event more.
+    /// Appends an event.
     #[inline(always)]
     pub fn push(&mut self, event: Event)
         requires fits { FitsWord event }

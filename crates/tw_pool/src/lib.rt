@@ -1,4 +1,4 @@
-//! A run under one lock: its parts, and the history of its events.
+//! A run under one lock: its state, and the list of its events.
 #![tactic(auto)]
 
 mod answer;

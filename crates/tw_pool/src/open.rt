@@ -1,4 +1,4 @@
-//! How a run is opened.
+//! Opens runs.
 
 ghost use Rattle.std.specs.Prelude.{◌≡◌, IfErr, IfOk, MatchOption};
 ghost use Rattle.tw_pool.specs.Openings.{IsRefusal, MayOpen, open_refusal_number, opened};
@@ -11,24 +11,24 @@ use tw_parts::Parts;
 use tw_types::{Input, Layout};
 use tw_verify::Verified;
 
-/// Why a run isn't opened.
+/// The error of a run that isn't opened.
 #[derive(Clone, Copy, PartialEq, Eq)]
 pub enum OpenRefusal {
-    /// O01: another number of inputs than main takes.
+    /// O01: the number of inputs isn't the number that main takes.
     InputCount,
-    /// O02: an input of another type than its parameter, with a text that is too long, or with members that are too many or
+    /// O02: an input is of another type than its parameter, has a text that is too long, or has members that are too many or
     /// don't rise.
     InputType,
     /// O03: the layout lacks an actor that the program names as a target.
     MissingTarget,
-    /// O04: the limit isn't one of 1 to 1,000,000.
+    /// O04: the limit isn't from 1 to 1,000,000.
     LimitRange,
-    /// O05.
+    /// O05: an allocation failed.
     NoMemory,
 }
 
 impl OpenRefusal {
-    /// The number behind the letter O.
+    /// Returns its code without the letter O.
     pub fn number(self) -> u8
         ensures { result ≡ open_refusal_number self }
     {
@@ -52,7 +52,7 @@ impl From<AllocError> for OpenRefusal {
     }
 }
 
-/// Why the run isn't opened, if it isn't for want of memory alone.
+/// Returns the error of an opening, apart from a failed allocation.
 fn refusal_of(
     verified: &Verified,
     inputs: &[Input],
@@ -79,7 +79,7 @@ fn refusal_of(
 }
 
 impl<'a> Pool<'a> {
-    /// A run before its first event, in which main waits. Room for all its events is made here.
+    /// Opens a run before its first event, in which main waits. Allocates the memory for all its events.
     pub fn open(
         alloc: Global,
         verified: &'a Verified,

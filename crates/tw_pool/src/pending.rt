@@ -1,4 +1,4 @@
-//! The rules that were pending when a run was shut.
+//! The rules that are pending when a run is closed.
 
 ghost use Rattle.std.specs.Prelude.{◌≡◌, ◌++◌, ◌∷◌, [], if◌then◌else◌, map, IfOk, OnOk};
 ghost use Rattle.std.specs.List.{flat_map};
@@ -9,7 +9,7 @@ use std::alloc::{AllocError, Global};
 use tw_rules::{PlainArg, PlainRule};
 use tw_types::{DatumId, Items, Pending, Stage};
 
-/// Adds a datum for which a parameter may wait.
+/// Adds the datum, if the stage is waiting.
 fn put_if_waiting(ids: &mut Vec<DatumId>, stage: Stage, id: DatumId) -> Result<(), AllocError>
     ensures { OnOk result (ids.new.items ≡ ids.old.items ++ (if is_waiting stage then id ∷ [] else [])) }
 {
@@ -30,7 +30,7 @@ fn put_waited(ids: &mut Vec<DatumId>, stage: Stage, arg: PlainArg) -> Result<(),
     }
 }
 
-/// The data for which parameters wait.
+/// Returns the data for which parameters wait.
 fn waits_in(alloc: Global, stages: &[Stage], args: &[PlainArg]) -> Result<Vec<DatumId>, AllocError>
     ensures { IfOk result (λ ids. ids.items ≡ waits_in stages.now args.now) }
 {
@@ -46,7 +46,7 @@ fn waits_in(alloc: Global, stages: &[Stage], args: &[PlainArg]) -> Result<Vec<Da
     Ok(ids)
 }
 
-/// Adds the datum of a right to write.
+/// Adds the datum of a write right.
 fn put_written(ids: &mut Vec<DatumId>, arg: PlainArg) -> Result<(), AllocError>
     ensures { OnOk result (ids.new.items ≡ ids.old.items ++ written_at arg) }
 {
@@ -57,7 +57,7 @@ fn put_written(ids: &mut Vec<DatumId>, arg: PlainArg) -> Result<(), AllocError>
     }
 }
 
-/// The data of rights to write.
+/// Returns the data of write rights.
 fn writes_in(alloc: Global, args: &[PlainArg]) -> Result<Vec<DatumId>, AllocError>
     ensures { IfOk result (λ ids. ids.items ≡ flat_map written_at args.now) }
 {
@@ -80,7 +80,7 @@ fn pending_told(alloc: Global, rule: &PlainRule) -> Result<Pending, AllocError>
     })
 }
 
-/// Rules with the data for which they wait, and those that they may write.
+/// Returns the rules with the data for which they wait, and those that they may write.
 pub(crate) fn all_told(alloc: Global, rules: &[PlainRule]) -> Result<Vec<Pending>, AllocError>
     ensures { IfOk result (λ pending. pending.items ≡ map pending_told rules.now) }
 {

@@ -1,4 +1,4 @@
-//! The pool.
+//! The pool: one run of a program.
 
 ghost use Rattle.std.specs.Prelude.{◌≡◌, ◌<◌, length, true};
 ghost use Rattle.tw_pool.specs.Actors.{HasPlace, events_of};
@@ -9,8 +9,8 @@ use tw_parts::Parts;
 use tw_types::{Actor, Input, Layout};
 use tw_verify::Verified;
 
-/// A run of a program: its parts, and the history of its events. Contracts see what is run, and the history; the state is
-/// the machine's, to which the history leads.
+/// A run of a program: its state, and the list of its events. Its model has the program and the events; the state is the one that
+/// the machine reaches by these events.
 pub struct Pool<'a> {
     pub(crate) verified: &'a Verified,
     pub(crate) inputs: &'a [Input],
@@ -40,14 +40,14 @@ impl<'a> Model for Pool<'a> {
 }
 
 impl<'a> Pool<'a> {
-    /// Stops the run: no turn makes an event any more.
+    /// Stops the run: no scheduling step makes an event any more.
     pub fn stop(&mut self)
         ensures { self.new ≡ record self.old { stopped = true } }
     {
         self.stopped = true;
     }
 
-    /// The events that were made, in order.
+    /// Returns the events that were made, in order.
     pub fn history(&self) -> &History
         ensures events { result.now.events ≡ self.now.history }
         ensures limit { result.now.limit ≡ self.now.limit }
@@ -55,7 +55,7 @@ impl<'a> Pool<'a> {
         &self.history
     }
 
-    /// How many events of an actor there are.
+    /// Returns the number of events of an actor.
     pub fn count(&self, actor: Actor) -> u64
         requires { HasPlace actor }
         ensures { result ≡ length (events_of actor self.now.history) }
@@ -63,14 +63,14 @@ impl<'a> Pool<'a> {
         self.history.count(actor)
     }
 
-    /// The program that is run.
+    /// Returns the program that is run.
     pub fn program(&self) -> &'a Verified
         ensures { result.now ≡ self.now.program }
     {
         self.verified
     }
 
-    /// The actors.
+    /// Returns the layout.
     pub fn layout(&self) -> Layout
         ensures { result ≡ self.now.layout }
     {

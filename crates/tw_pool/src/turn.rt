@@ -1,4 +1,4 @@
-//! Turns.
+//! Scheduling steps.
 
 ghost use Rattle.std.specs.Prelude.{◌≡◌, IfSome, MatchBool, IsSome, None, true};
 ghost use Rattle.std.specs.FinMap.{get};
@@ -25,7 +25,7 @@ fn closing_of(ending: Ending) -> Closing
     }
 }
 
-/// Whether the actor has a task.
+/// Returns whether the actor has a task.
 fn has_task(parts: &Parts<'_>, actor: Actor) -> bool
     requires { HasSeat actor }
     ensures { MatchBool result (IsSome (get parts.now.seats actor)) (get parts.now.seats actor ≡ None) }
@@ -37,7 +37,7 @@ fn has_task(parts: &Parts<'_>, actor: Actor) -> bool
 }
 
 impl<'a> Pool<'a> {
-    /// The end of the run, if it has ended by itself.
+    /// Returns the end of the run, if it has ended by itself.
     #[inline(always)]
     pub fn ending(&self) -> Option<Ending>
         ensures { (s : State) → HasState self.now s → result ≡ ending s }
@@ -45,7 +45,7 @@ impl<'a> Pool<'a> {
         self.parts.ending(self.layout)
     }
 
-    /// Why no turn makes an event any more, if none does.
+    /// Returns why no scheduling step makes an event any more, if none does.
     #[inline(always)]
     pub fn closing(&self) -> Option<Closing>
         ensures { (s : State) → HasState self.now s → result ≡ closing_at self.now s }
@@ -62,8 +62,8 @@ impl<'a> Pool<'a> {
         None
     }
 
-    /// One turn of an actor of the layout, with a Done of the pool's program or none. Its events are one or two at most, all
-    /// of the actor. Where memory is refused nothing has changed, and a Done comes back.
+    /// Makes one scheduling step of an actor of the layout, with a `Done` of the pool's program or none. It makes at most two events,
+    /// all of the actor. If an allocation fails, nothing changes and the `Done` is returned.
     pub fn turn(&mut self, alloc: Global, actor: Actor, given: Option<Done<'a>>) -> Turn<'a>
         requires actor { is_in self.old.layout actor ≡ true }
         requires program { IfSome given (λ d. d.before.program ≡ self.old.program) }

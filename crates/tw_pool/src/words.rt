@@ -1,4 +1,4 @@
-//! An event in one word.
+//! The encoding of an event in one word.
 
 ghost use Rattle.std.specs.Prelude.{◌≡◌, ◌<◌, ◌+◌, ◌*◌, ◌%◌, ◌/◌, ◌^◌};
 ghost use Rattle.tw_code.specs.machine.History.{actor_of};
@@ -7,7 +7,7 @@ ghost use Rattle.tw_pool.specs.Words.{FitsWord, IsPlaced, unpack, word_of};
 
 use tw_types::{Actor, DatumId, Event, RuleNo};
 
-/// The actor of a place.
+/// Returns the actor at a place.
 fn actor_of_place(place: u64) -> Actor
     requires { place < 32 }
     ensures { result ≡ actor_of_place place }
@@ -21,14 +21,14 @@ fn actor_of_place(place: u64) -> Actor
     }
 }
 
-/// The place of who made the event of a word.
+/// Returns the place of the actor of a word's event.
 pub(crate) fn maker(word: u64) -> usize
     ensures { result ≡ word / 8 % 32 }
 {
     (word / 8 % 32) as usize
 }
 
-/// Who made the event of a word.
+/// Returns the actor of a word's event.
 pub(crate) fn maker_of(word: u64) -> Actor
     requires { IsPlaced word }
     ensures { result ≡ actor_of (unpack word) }
@@ -36,7 +36,7 @@ pub(crate) fn maker_of(word: u64) -> Actor
     actor_of_place(word / 8 % 32)
 }
 
-/// A word with this kind, for an actor.
+/// Returns a word of this kind, for an actor.
 fn word(kind: u64, actor: Actor, numbers: u64) -> u64
     requires actor { HasPlace actor }
     requires kind { kind < 8 }
@@ -46,7 +46,7 @@ fn word(kind: u64, actor: Actor, numbers: u64) -> u64
     kind + 8 * (actor.place() as u64 + 32 * numbers)
 }
 
-/// The word of an event.
+/// Encodes an event.
 #[inline(always)]
 pub(crate) fn pack(event: Event) -> u64
     requires { FitsWord event }
@@ -69,7 +69,7 @@ pub(crate) fn pack(event: Event) -> u64
     }
 }
 
-/// The event of a word.
+/// Decodes an event.
 #[tactic(auto, unfolding(crate::specs::Words::unpack))]
 pub(crate) fn unpack(word: u64) -> Event
     ensures { result ≡ unpack word }

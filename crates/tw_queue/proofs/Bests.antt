@@ -1,4 +1,4 @@
--- The best of the tasks, told by what the map of them answers.
+-- The best of the tasks, by look-ups in their map.
 use Rattle.std.proofs.Common.{[], ◌≡◌, ℕ, Bool, true, false, cond, T, List, ◌∷◌, refl, sym, ap, subst, ◌∙◌}
 use Rattle.std.specs.Prelude.{int_lt}
 use Rattle.std.specs.declared.cmp.Ordering.{Ordering}
@@ -27,7 +27,7 @@ greater false true e = refl
 greater false false e = cc
 
 module _ {A : Type 0} where
-  -- ---- what `best_of` answers
+  -- ---- the result of `best_of`
 
   module _ (actor : Actor) where
     best_in : (es : List (ℕ × TaskOf A)) (e : ℕ × TaskOf A) → T (is_sorted nat_cmp es) → best_of actor es ≡ Some e → IsIn e es × (is_eligible actor e.1 ≡ true)
@@ -95,7 +95,7 @@ module _ {A : Type 0} where
     none_of None h = refl
     none_of (Some e) h = absurd (h e refl)
 
-    -- ---- what `best` answers
+    -- ---- the result of `best`
 
     pub best_is : (tasks : TasksOf A) (e : ℕ × TaskOf A) → get tasks e.0 ≡ Some e.1 → is_eligible actor e.1 ≡ true
         → ((q : ℕ) (other : TaskOf A) → get tasks q ≡ Some other → is_eligible actor other ≡ true → IsAhead e (q, other)) → best actor tasks ≡ Some e

@@ -24,7 +24,7 @@ same_entry v w h = cc
 no_entry : (w : Waiting) → None ≡ Some w → ⊥
 no_entry w h = cc
 
--- ---- what is found at a number
+-- ---- looking up a number
 
 -- the task in a slot, the first with its number
 find_here : (slots : Slots) (p : ℕ) (w : Waiting) → get_or slots p None ≡ Some w
@@ -120,7 +120,7 @@ fresh slots apart q none p w h i = no_task (task_in w) (sym none ∙ ap (get (ta
 pub updated : (slot : ℕ) (w : Option Waiting) (old new : Slots) → IsChangedAt slot w old new → IsUpdated slot w (slot_at old) (slot_at new)
 updated slot w old new h = record { here = h.here; others = λ q apart. h.others q (λ e. apart (sym e)) }
 
--- ---- a task comes or goes
+-- ---- a task is added or removed
 
 pub apart_put : (p : ℕ) (w : Waiting) (old new : Slots) → AreApart (slot_at old) → IsNowhere w.task.no old → IsChangedAt p (Some w) old new → AreApart (slot_at new)
 apart_put p w old new was free changed a b x y ha hb i = elim (eqb_tells a p) as (λ _. a ≡ b) [
@@ -134,7 +134,7 @@ apart_put p w old new was free changed a b x y ha hb i = elim (eqb_tells a p) as
   ]
 ]
 
--- what is left was there
+-- a task that is left was there before
 still_there : (p : ℕ) (old new : Slots) → IsChangedAt p None old new → (q : ℕ) (v : Waiting) → slot_at new q ≡ Some v → slot_at old q ≡ Some v
 still_there p old new changed q v e = sym (changed.others q (λ i. no_entry v (sym changed.here ∙ ap (slot_at new) (sym i) ∙ e))) ∙ e
 

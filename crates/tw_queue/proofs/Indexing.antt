@@ -1,4 +1,4 @@
--- How the index of the ranks is kept where a task comes or goes.
+-- The index of the ranks stays right when a task is added or removed.
 use Rattle.std.proofs.Common.{[], ◌≡◌, ◌⊎◌, inl, inr, ℕ, ℤ, Bool, true, false, ◌∷◌, refl, sym, subst, ◌∙◌, map, nat_eq}
 use Rattle.std.specs.declared.option.Option.{Option}
 use Rattle.std.specs.declared.option.Option.TheVariants.{None, Some}
@@ -132,7 +132,7 @@ module _ (old new : Entries) (less more : Ranking) (is : IsIndex old less) (kind
     apart = apart;
   }
 
--- ---- a task goes
+-- ---- a task is removed
 
 module _ (old new : Entries) (less more : Ranking) (is : IsIndex old more) (kind : Kind) (lane : ℕ) (rank : Rank)
     (gone_others : IsHereOrSame kind lane less more) (added : IsPermutation (rank ∷ less kind lane) (more kind lane)) (updated : IsUpdated rank.slot None old new) where

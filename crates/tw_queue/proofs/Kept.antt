@@ -1,4 +1,4 @@
--- How the slots are kept where one is filled or left.
+-- The slots stay right when one is filled or emptied.
 use Rattle.std.proofs.Common.{[], ◌≡◌, ◌≢◌, ◌⊎◌, ℕ, zero, suc, ◌+◌, ◌-◌, ◌<◌, List, ◌∷◌, ◌++◌, map, length, get_or, set, Some, None, is_some, IsSome, count_by, cond, slice_get, refl, sym, ap, subst, ◌∙◌, inl, inr, arith, length-set, true≢false}
 use Rattle.std.proofs.lemmas.List.{map-set, map_push, length-map, length_push, get_or-map, get_or-set_same, get_or-set_other, get_or_past}
 use Rattle.std.proofs.lemmas.List.Sums.{sum_by-set, sum_by_push}
@@ -35,7 +35,7 @@ free_set slots at s (suc n) first off p =
 full_not_free : (slots : List Slot) (at : ℕ) (w : Waiting) → slice_get slots at ≡ Some (Full w) → (m : ℕ) → IsFreeList slots (suc m) at → ⊥
 full_not_free slots at w found m p = let listed = p.1 in cc
 
--- ---- what stands in a slot
+-- ---- the content of a slot
 
 count_set : (slots : List Slot) (at : ℕ) (old new : Slot) → slice_get slots at ≡ Some old
     → count_by is_some (map waiting_in (set slots at new)) + cond (is_some (waiting_in old)) 1 0 ≡ count_by is_some (map waiting_in slots) + cond (is_some (waiting_in new)) 1 0
@@ -80,7 +80,7 @@ module _ (slots : List Slot) (len first : ℕ) (are : AreSlots slots len first) 
     | inr found ↦ get_or-map waiting_in slots first (Free 0) None (slice_get_within slots first _ found.1) ∙ ap waiting_in (get_or_from_slice_get slots first _ (Free 0) found.1)
   ]
 
-  -- where no slot is free, all are full
+  -- if no slot is free, all are full
   pub all_full : first ≡ length slots → len ≡ length slots
   all_full at_end = elim first_cases [ inl end ↦ end.1 | inr found ↦ omega (arith, slice_get_within slots first _ found.1) ]
 

@@ -1,4 +1,4 @@
--- The ranks of one kind, where one lane changes.
+-- The ranks of one kind, if one run queue changes.
 use Rattle.std.proofs.Common.{[], ◌≡◌, ◌⊎◌, inl, inr, nat_eq, ℕ, zero, suc, ◌<◌, Bool, true, false, List, ◌∷◌, ◌++◌, map, refl, sym, ap, subst, ◌∙◌, length, get_or, slice_set, arith}
 use Rattle.std.specs.declared.result.Result.{Result}
 use Rattle.std.specs.declared.result.Result.TheVariants.{Ok, Err}
@@ -91,7 +91,7 @@ module _ (ps : List LaneSeen) (lane : ℕ) (low : lane < length ps) (p w : LaneS
   taken_at None moved = tt
   taken_at (Some rank) moved = (lane, popped_at rank moved, changed_at)
 
-  -- what is first of all where the best is, is the best
+  -- the first rank of the run queue with the best one is the best one
   pub best_at : (number : ℕ) (best : Rank) → IsOwnLane number lane → Contains (ranks_at (ranks_in ps) lane) best → IsAheadOfAll best number (ranks_at (ranks_in ps)) → (r : Option Rank) → IsFirst p.ranks r
       → IsBest number (ranks_at (ranks_in ps)) r
   best_at number best own there ahead None none = absurd (contains_none best (subst (λ xs. Contains xs best) (was_at ∙ none) there))

@@ -27,7 +27,7 @@ not_itself x = by (is_lt (rank_cmp x x)) refl
 pub not_behind : (x y z : Rank) → is_lt (rank_cmp x y) ≡ false → is_lt (rank_cmp y z) ≡ false → is_lt (rank_cmp x z) ≡ false
 not_behind x y z h k = weak.chain x y z h k
 
--- what isn't behind an upper bound is one
+-- a rank that isn't below an upper bound is one
 pub upper_over : (x y : Rank) (ranks : List Rank) → is_lt (rank_cmp x y) ≡ false → IsUpperBound rank_cmp y ranks → IsUpperBound rank_cmp x ranks
 upper_over x y [] h upper = tt
 upper_over x y (z ∷ ranks) h upper = (weak.chain x y z h upper.0, upper_over x y ranks h upper.1)

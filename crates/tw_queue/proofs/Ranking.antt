@@ -1,4 +1,4 @@
--- The ranks of each kind, where those of one kind change.
+-- The ranks of each kind, if those of one kind change.
 use Rattle.std.proofs.Common.{◌≡◌, ◌⊎◌, inl, inr, ℕ, refl, sym}
 use Rattle.std.specs.declared.option.Option.{Option}
 use Rattle.std.specs.declared.option.Option.TheVariants.{None, Some}

@@ -1,4 +1,4 @@
--- Whether a task can be put for sure.
+-- When a task can be added without an allocation.
 use Rattle.std.proofs.Common.{◌≡◌, ℕ, zero, suc, Bool, true, false, List, [], ◌∷◌, Option, refl, sym, ◌∙◌, ◌&&◌}
 use Rattle.std.proofs.lemmas.Bool.{and_from, and_parts}
 use Rattle.tw_types.specs.declared.actor.Kind.{Kind}

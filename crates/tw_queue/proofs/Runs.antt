@@ -1,4 +1,4 @@
--- Ranks in order, beside a heap of others.
+-- Sorted ranks, next to a heap of others.
 use Rattle.std.proofs.Common.{◌≡◌, ℕ, zero, suc, ◌<◌, ◌≤◌, false, List, [], ◌∷◌, ◌++◌, Bor, append_assoc, refl, sym, subst, length, get_or, arith}
 use Rattle.std.specs.declared.option.Option.{Option}
 use Rattle.std.specs.declared.option.Option.TheVariants.{None, Some}
@@ -16,9 +16,9 @@ use Rattle.tw_queue.specs.Lanes.{IsFirst, IsInFront, IsInOrder}
 use Rattle.tw_queue.proofs.Lanes.{each_at, each_push}
 use Rattle.tw_queue.proofs.Order.{not_behind, not_itself}
 
--- ---- what comes behind a run
+-- ---- ranks after a run
 
--- what goes after the last one goes after all
+-- a rank below the last one is below all
 behind_all : (x : Rank) (ranks : List Rank) (y : Rank) → IsUpperBound rank_cmp x ranks → is_lt (rank_cmp x y) ≡ false → IsUpperBound rank_cmp x (ranks ++ y ∷ [])
 behind_all x ranks y upper low = each_push (λ z. is_lt (rank_cmp x z) ≡ false) ranks y upper low
 

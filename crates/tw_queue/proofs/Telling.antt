@@ -1,4 +1,4 @@
--- The index tells the best task.
+-- The index has the best task.
 use Rattle.std.proofs.Common.{◌≡◌, ◌⊎◌, inl, inr, ℕ, Bool, true, false, ◌&&◌, refl, sym, ap, subst, ◌∙◌, option_map, nat_eq, arith}
 use Rattle.std.specs.declared.option.Option.{Option}
 use Rattle.std.specs.declared.option.Option.TheVariants.{None, Some}
@@ -42,7 +42,7 @@ own_lane : (target : Option ℕ) (number : ℕ) → is_for target number ≡ tru
 own_lane None number e = inl refl
 own_lane (Some t) number e = inr (nat_same t number e)
 
--- what the slots decide last
+-- slots decide last
 but_for_slots : (o p q : Ordering) → is_lt (ordering_then o (ordering_then p q)) ≡ false → is_lt (ordering_then o p) ≡ false
 but_for_slots Less p q e = e
 but_for_slots Equal Less q e = e
@@ -132,7 +132,7 @@ module _ (entry : Entries) (ranks : Ranking) (is : IsIndex entry ranks) (tasks :
   index_none (Server number) empty = best_none (Server number) tasks (λ q other e. server_takes number other)
   index_none (Worker number) empty = none_eligible (Worker number) Leaf number (worker_takes number) refl refl empty
 
--- ---- what is handed out
+-- ---- the task that is taken
 
 -- the task of the best rank is handed out
 pub handed_best : (entry : Entries) (tasks : TasksOf Arg) (actor : Actor) (rank : Rank) → (t : Tells actor entry tasks rank)

@@ -1,4 +1,4 @@
--- How the ranks are an index of the tasks.
+-- The ranks as an index of the tasks.
 use Rattle.std.specs.Prelude.{◌≡◌, ℕ, List, [], ◌∷◌, map, Option, Some, None, nat_eq}
 use Rattle.std.specs.List.{Contains, IsDistinct}
 use Rattle.std.specs.FinMap.{from_entries}
@@ -10,11 +10,11 @@ use Rattle.tw_queue.specs.declared.waiting.Waiting.{Waiting}
 use Rattle.tw_queue.specs.Index.{Ranking}
 use Rattle.tw_queue.specs.Queues.{IsTarget, lane_of, waiting}
 
--- a task as it waits in a slot
+-- returns the waiting task in a slot
 abbrev pub task_in : Waiting → TaskOf Arg
 task_in w = waiting w.kind w.priority w.target w.task
 
--- the tasks in the slots, with their numbers
+-- returns the tasks in the slots, with their numbers
 abbrev pub numbered : List (Option Waiting) → List (ℕ × TaskOf Arg)
 numbered [] = []
 numbered (None ∷ slots) = numbered slots
@@ -23,21 +23,21 @@ numbered (Some w ∷ slots) = (w.task.no, task_in w) ∷ numbered slots
 abbrev pub tasks_in : List (Option Waiting) → TasksOf Arg
 tasks_in slots = from_entries (numbered slots)
 
--- the rank of the task in a slot
+-- returns the rank of the task in a slot
 abbrev pub rank_of : ℕ → Waiting → Rank
 rank_of slot w = record { priority = w.priority; number = w.task.no; slot = slot }
 
--- the task in the rank's slot has this kind, this lane, and its priority and number
+-- holds if the task in the rank's slot has this kind, this run queue, and the rank's priority and number
 abbrev pub IsEntryAt : Kind → ℕ → Rank → Option Waiting → Type 0
 IsEntryAt kind lane rank None = ⊥
 IsEntryAt kind lane rank (Some w) =
     (w.kind ≡ kind) × (lane_of w.target ≡ lane) × (w.priority ≡ rank.priority) × (w.task.no ≡ rank.number)
 
--- no number stands in two slots
+-- holds if no number is in two slots
 abbrev pub AreApart : (ℕ → Option Waiting) → Type 0
 AreApart entry = (p q : ℕ) (v w : Waiting) → entry p ≡ Some v → entry q ≡ Some w → v.task.no ≡ w.task.no → p ≡ q
 
--- each rank is that of the task in its slot, each task has its rank, and no slot and no number stands twice
+-- each rank is that of the task in its slot, each task has its rank, and no slot and no number is there twice
 pub record IsIndex (entry : ℕ → Option Waiting) (ranks : Ranking) : Type 0 where
   pub sound : (kind : Kind) (lane : ℕ) (rank : Rank) → Contains (ranks kind lane) rank
       → IsEntryAt kind lane rank (entry rank.slot)

@@ -1,5 +1,5 @@
--- What a reader must believe for tw_queue is Queues: what contracts see of the queues and of a task. The rest is said
--- in the words of tw_types: Task. The other files are for the clauses and the invariant inside.
+-- The definition that a reader has to trust for tw_queue is Queues: the model of the queues and of a task. The rest is in
+-- tw_types: Task. The other files are for private clauses and the invariant.
 pub mod Ranks
 pub mod Lanes
 pub mod Lists

@@ -1,4 +1,4 @@
--- What contracts see of the queues.
+-- The model of the queues.
 use Rattle.std.specs.Prelude.{◌≡◌, ℕ, ◌<◌, ℤ, Bool, true, false, List, Option, Some, None, IfSome, slice_index_or}
 use Rattle.std.specs.FinMap as map
 use Rattle.tw_types.specs.declared.actor.Kind.{Kind}
@@ -7,13 +7,13 @@ use Rattle.tw_types.specs.Task.{TaskOf, TasksOf}
 use Rattle.tw_rights.specs.declared.arg.Arg.{Arg}
 use Rattle.tw_rights.specs.declared.task.Task.{Task}
 
--- the tasks that wait, by their numbers; and for each kind, lane by lane, whether one can be put there for sure
+-- the waiting tasks, by their numbers; and for each kind and run queue, whether a task can be added without an allocation
 pub record Queues : Type 0 where
   pub tasks : TasksOf Arg
   pub control_rooms : List Bool
   pub leaf_rooms : List Bool
 
--- the lane of the tasks for any actor is behind those of the targets
+-- returns the run queue of a target; the one for any actor is after those
 abbrev pub lane_of : Option ℕ → ℕ
 lane_of None = 16
 lane_of (Some target) = target
@@ -21,29 +21,29 @@ lane_of (Some target) = target
 abbrev pub room_at : List Bool → ℕ → Bool
 room_at rooms lane = slice_index_or rooms lane false
 
--- whether a task of this kind for this target can be put without memory
+-- returns whether a task of this kind for this target can be added without an allocation
 abbrev pub room_for : Kind → Option ℕ → Queues → Bool
 room_for Control target queues = room_at queues.control_rooms (lane_of target)
 room_for Leaf target queues = room_at queues.leaf_rooms (lane_of target)
 
--- what could be put for sure still can
+-- holds if reserved memory is still there
 abbrev pub IsRoomKept : Queues → Queues → Type 0
 IsRoomKept old new = (kind : Kind) (target : Option ℕ) → room_for kind target old ≡ true → room_for kind target new ≡ true
 
--- a task as it waits
+-- returns the waiting task
 abbrev pub waiting : Kind → ℤ → Option ℕ → Task → TaskOf Arg
 waiting kind priority target task =
     record { kind = kind; procedure = task.procedure; priority = priority; target = target; args = task.args }
 
--- a task that waits, with its number, as it is handed out
+-- returns a waiting task, with its number, as it is taken
 abbrev pub handed_out : ℕ × TaskOf Arg → Task
 handed_out e = record { no = e.0; procedure = e.1.procedure; args = e.1.args }
 
--- the tasks without this one
+-- returns the tasks without this one
 abbrev pub without : {A : Type 0} → Option (ℕ × TaskOf A) → TasksOf A → TasksOf A
 without None tasks = tasks
 without (Some e) tasks = map.remove tasks e.0
 
--- an actor that is in some layout
+-- holds for the number of an actor of some layout, or none
 abbrev pub IsTarget : Option ℕ → Type 0
 IsTarget target = IfSome target (λ number. number < 16)

@@ -1,10 +1,10 @@
--- What is seen of the slots in which tasks wait.
+-- The model of the slots in which tasks wait.
 use Rattle.std.specs.Prelude.{◌≡◌, ◌≢◌, ℕ, zero, suc, ◌+◌, Bool, List, map, length, Option, Some, None, is_some, count_by, slice_get, slice_index_or}
 use Rattle.tw_queue.specs.declared.slots.Slot.{Slot}
 use Rattle.tw_queue.specs.declared.slots.Slot.TheVariants.{Free, Full}
 use Rattle.tw_queue.specs.declared.waiting.Waiting.{Waiting}
 
--- a task or nothing in each slot, the slot that is filled next, and whether there is room for one more
+-- a task or nothing in each slot, the slot that is filled next, and whether there is memory for one more
 pub record Slotted : Type 0 where
   pub slots : List (Option Waiting)
   pub next : ℕ
@@ -13,23 +13,23 @@ pub record Slotted : Type 0 where
 abbrev pub slot_at : List (Option Waiting) → ℕ → Option Waiting
 slot_at slots slot = slice_index_or slots slot None
 
--- now this in the slot, and all else as it was
+-- the slot has this content now, and all others are unchanged
 pub record IsChangedAt (slot : ℕ) (w : Option Waiting) (old new : List (Option Waiting)) : Type 0 where
   pub here : slot_at new slot ≡ w
   pub others : (other : ℕ) → other ≢ slot → slot_at new other ≡ slot_at old other
 
--- ---- how they are kept
+-- ---- the code's slots
 
 abbrev pub waiting_in : Slot → Option Waiting
 waiting_in (Free next) = None
 waiting_in (Full w) = Some w
 
--- from this slot on so many free ones name each the next, and the last one the end
+-- holds if from this slot on so many free ones refer to each other in a chain, and the last one to the end
 abbrev pub IsFreeList : List Slot → ℕ → ℕ → Type 0
 IsFreeList slots zero first = first ≡ length slots
 IsFreeList slots (suc count) first = (next : ℕ) × (slice_get slots first ≡ Some (Free next)) × IsFreeList slots count next
 
--- so many tasks, and all other slots in a list from the first free one
+-- there are `len` tasks, and all other slots are in the chain of free ones
 pub record AreSlots (slots : List Slot) (len first : ℕ) : Type 0 where
   pub counted : len ≡ count_by is_some (map waiting_in slots)
   pub free : ℕ

@@ -1,4 +1,4 @@
-//! The ranks of all tasks that wait.
+//! The ranks of all waiting tasks.
 
 ghost use Rattle.std.specs.Prelude.{◌≡◌, ℕ, [], IfNone, IfOk, IfSome, IsOk, OnErr, OnOk, true};
 ghost use Rattle.tw_types.specs.declared.actor.Kind.{Kind};
@@ -18,7 +18,7 @@ pub struct Index {
 }
 
 impl Index {
-    /// No ranks.
+    /// Makes an index without ranks.
     pub fn new(alloc: Global) -> Result<Index, AllocError>
         ensures { IfOk result (λ index. (kind : Kind) (lane : ℕ) → ranks_of index kind lane ≡ []) }
     {
@@ -27,7 +27,7 @@ impl Index {
         Ok(Index { control, leaf })
     }
 
-    /// Makes room for the rank of one task of this kind and this target.
+    /// Reserves memory for the rank of one task of this kind and target.
     pub fn reserve(&mut self, kind: Kind, target: Option<u8>) -> Result<(), AllocError>
         requires { IsTarget target }
         ensures same { ranks_of self.new ≡ ranks_of self.old }
@@ -55,7 +55,7 @@ impl Index {
         }
     }
 
-    /// The first of the ranks that an actor may take.
+    /// Returns the first of the ranks that an actor may take.
     pub fn best(&self, actor: Actor) -> Option<Rank>
         ensures { IsRankBest actor (ranks_of self.now) result }
     {
@@ -66,7 +66,7 @@ impl Index {
         }
     }
 
-    /// Takes it.
+    /// Takes the first of the ranks that an actor may take.
     pub fn take(&mut self, actor: Actor) -> Option<Rank>
         ensures best { IsRankBest actor (ranks_of self.old) result }
         ensures taken { IfSome result (λ rank. IsRankGone rank (ranks_of self.old) (ranks_of self.new)) }

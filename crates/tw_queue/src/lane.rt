@@ -11,13 +11,13 @@ use std::alloc::{AllocError, Global};
 use std::collections::{BinaryHeap, VecDeque};
 use std::marker::Model;
 
-/// Ranks with the first of them at hand. Where tasks of one priority come in order, all ranks stand in the run, and each
-/// comes and goes in constant time.
+/// The ranks of one run queue. If tasks of one priority come in order, all ranks are in `run`, and each is added and taken in
+/// constant time.
 #[derive(Drop)]
 pub struct Lane {
-    /// The first one in front, and none goes before one that stands in front of it.
+    /// Sorted: the first rank is the greatest.
     run: VecDeque<Rank>,
-    /// Those that went before the last of the run when they came.
+    /// The ranks that were greater than the last of `run` when they were added.
     rest: BinaryHeap<Rank>,
 }
 
@@ -39,7 +39,7 @@ impl Model for Lane {
 }
 
 impl Lane {
-    /// No ranks.
+    /// Makes a run queue without ranks.
     pub fn new(alloc: Global) -> Lane
         ensures { result.ranks ≡ [] }
     {
@@ -49,7 +49,7 @@ impl Lane {
         }
     }
 
-    /// Makes room for one rank.
+    /// Reserves memory for one rank.
     pub fn reserve(&mut self) -> Result<(), AllocError>
         ensures same { self.new.ranks ≡ self.old.ranks }
         ensures room { OnOk result (self.new.has_room ≡ true) }
@@ -60,7 +60,7 @@ impl Lane {
         self.rest.reserve(1)
     }
 
-    /// Puts a rank.
+    /// Adds a rank.
     pub fn push(&mut self, rank: Rank) -> Result<(), AllocError>
         ensures pushed { OnOk result (IsPermutation (rank ∷ self.old.ranks) self.new.ranks) }
         ensures refused { OnErr result (self.new.ranks ≡ self.old.ranks) }
@@ -75,7 +75,7 @@ impl Lane {
         Ok(())
     }
 
-    /// The first rank.
+    /// Returns the first rank: the greatest.
     pub fn first(&self) -> Option<Rank>
         ensures { IsFirst self.now.ranks result }
     {
@@ -101,7 +101,7 @@ impl Lane {
     }
 }
 
-/// Whether a rank goes after all ranks of a run.
+/// Returns whether a rank is after all ranks of a run.
 fn is_next(run: &VecDeque<Rank>, rank: Rank) -> bool
     requires { IsInOrder run.now.items }
     ensures { result ≡ true → IsInOrder (run.now.items ++ rank ∷ []) }
@@ -112,7 +112,7 @@ fn is_next(run: &VecDeque<Rank>, rank: Rank) -> bool
     }
 }
 
-/// Whether the first rank of a run goes before all of the rest.
+/// Returns whether the first rank of a run is greater than all of the rest.
 fn is_in_front(run: &VecDeque<Rank>, rest: &BinaryHeap<Rank>) -> bool
     requires run { IsInOrder run.now.items }
     requires rest { IsHeap rank_cmp (heap_items rest.now) }

@@ -1,4 +1,4 @@
-//! The tasks that wait for an actor, with the best one for each at hand.
+//! Waiting tasks. Finds the best task of each actor without a search.
 #![tactic(auto)]
 
 mod index;

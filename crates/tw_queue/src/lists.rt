@@ -9,7 +9,7 @@ use crate::rank::Rank;
 use std::alloc::{AllocError, Global};
 use std::marker::Model;
 
-/// For each target the ranks of its tasks, and behind them those for any actor.
+/// A run queue for each target, and a last one for tasks that any actor may take.
 #[derive(Drop)]
 pub struct Lists {
     lanes: Vec<Lane>,
@@ -27,12 +27,12 @@ impl Model for Lists {
 }
 
 impl Lists {
-    /// The lane of the tasks for any actor.
+    /// The index of the run queue for any actor.
     const ANY: usize = 16;
 
     const COUNT: usize = 17;
 
-    /// Seventeen lanes without ranks.
+    /// Makes seventeen run queues without ranks.
     pub fn new(alloc: Global) -> Result<Lists, AllocError>
         ensures { IfOk result (λ lists. lists.lanes ≡ replicate 17 []) }
     {
@@ -43,7 +43,7 @@ impl Lists {
         Ok(Lists { lanes })
     }
 
-    /// Makes room for the rank of one task for this target.
+    /// Reserves memory for the rank of one task for this target.
     #[inline(always)]
     pub fn reserve(&mut self, target: Option<u8>) -> Result<(), AllocError>
         requires { lane_of target < 17 }
@@ -56,7 +56,7 @@ impl Lists {
         lane.reserve()
     }
 
-    /// Puts the rank of a task for this target.
+    /// Adds the rank of a task for this target.
     #[inline(always)]
     pub fn push(&mut self, target: Option<u8>, rank: Rank) -> Result<(), AllocError>
         requires { lane_of target < 17 }
@@ -69,7 +69,7 @@ impl Lists {
         lane.push(rank)
     }
 
-    /// The first of the ranks that an actor of this number may take.
+    /// Returns the first of the ranks that an actor of this number may take.
     pub fn best(&self, number: u8) -> Option<Rank>
         ensures { IsBest number (ranks_at self.now.lanes) result }
     {
@@ -99,7 +99,7 @@ impl Lists {
         self.first(Lists::ANY).is_some()
     }
 
-    /// The lane of that rank, with the rank.
+    /// Returns the index of the run queue with the best rank for the actor, and the rank.
     #[inline(always)]
     fn best_lane(&self, number: u8) -> Option<(usize, Rank)>
         ensures { IsBestLane number self.now.lanes result }
@@ -119,7 +119,7 @@ impl Lists {
         }
     }
 
-    /// The first rank at a lane.
+    /// Returns the first rank of a run queue.
     fn first(&self, index: usize) -> Option<Rank>
         ensures { IsFirstAt index self.now.lanes result }
     {

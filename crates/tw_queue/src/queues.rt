@@ -1,4 +1,4 @@
-//! The queues.
+//! The task queues.
 
 ghost use Rattle.std.specs.Prelude.{◌≡◌, IsOk, IfOk, IfErr, OnOk, OnErr, None, true, option_map};
 ghost use Rattle.std.specs.FinMap as map;
@@ -16,7 +16,7 @@ use std::marker::Model;
 use tw_rights::Task;
 use tw_types::{Actor, Kind};
 
-/// The tasks that wait, each in a slot, and an index of them by kind, target and rank.
+/// The waiting tasks, each in a slot, and an index of them by kind, target and rank.
 pub struct TaskQueues {
     tasks: Slots,
     index: Index,
@@ -48,7 +48,7 @@ impl Model for TaskQueues {
 }
 
 impl TaskQueues {
-    /// No tasks.
+    /// Makes queues without tasks.
     pub fn new(alloc: Global) -> Result<TaskQueues, AllocError>
         ensures { IfOk result (λ queues. queues.tasks ≡ map.empty) }
     {
@@ -59,14 +59,14 @@ impl TaskQueues {
         })
     }
 
-    /// The number of tasks.
+    /// Returns the number of tasks.
     pub fn len(&self) -> usize
         ensures { result ≡ map.len self.now.tasks }
     {
         self.tasks.len()
     }
 
-    /// Makes room for one task of this kind and this target.
+    /// Reserves memory for one task of this kind and target.
     #[inline(always)]
     pub fn reserve(&mut self, kind: Kind, target: Option<u8>) -> Result<(), AllocError>
         requires { IsTarget target }
@@ -79,7 +79,7 @@ impl TaskQueues {
         self.index.reserve(kind, target)
     }
 
-    /// Puts a task, or hands it back where memory is refused.
+    /// Adds a task. Returns it if an allocation fails.
     #[inline(always)]
     pub fn put(
         &mut self,
@@ -118,7 +118,7 @@ impl TaskQueues {
         Ok(())
     }
 
-    /// The task that the actor takes next, if there is one.
+    /// Returns the task that the actor takes next, if there is one.
     pub fn best(&self, actor: Actor) -> Option<&Task>
         ensures { option_copied result ≡ option_map handed_out (best actor self.now.tasks) }
     {
@@ -129,7 +129,7 @@ impl TaskQueues {
         Some(&waiting.task)
     }
 
-    /// Takes it.
+    /// Takes the task that `best` returns.
     pub fn take(&mut self, actor: Actor) -> Option<Task>
         ensures taken { result ≡ option_map handed_out (best actor self.old.tasks) }
         ensures rest { self.new.tasks ≡ without (best actor self.old.tasks) self.old.tasks }

@@ -1,9 +1,9 @@
-//! Which of two tasks goes first.
+//! Ranks, which order the tasks.
 
 use std::cmp::Ordering;
 
-/// The greater rank goes first: that of the greater priority, then that of the lower number. The slot is where the task
-/// waits. It decides between no two tasks, since their numbers differ.
+/// The rank of a task. The greatest is taken first: the one of the greatest priority, then the one of the lowest number. `slot` is the
+/// slot of the task; it never decides, since numbers differ.
 #[derive(Clone, Copy, PartialEq, Eq)]
 pub struct Rank {
     pub priority: i64,

@@ -1,4 +1,4 @@
-//! Where the tasks wait.
+//! Slots of waiting tasks.
 
 ghost use Rattle.std.specs.Prelude.{◌≡◌, [], IsOk, IsSome, OnOk, Some, None, count_by, is_some, true, slice_set};
 ghost use Rattle.std.specs.Option.{option_copied};
@@ -9,13 +9,13 @@ use std::alloc::{AllocError, Global};
 use std::marker::Model;
 use std::mem;
 
-/// Where a task waits, or the number of the next free slot: that of all slots if there is none.
+/// A slot: a waiting task, or the index of the next free slot, which is the number of slots if there is none.
 pub enum Slot {
     Free(usize),
     Full(Waiting),
 }
 
-/// Tasks, each of which stays in its slot until it is taken. The slot that was left last is filled first.
+/// Tasks, each of which stays in its slot until it is taken. The slot that was emptied last is filled first.
 pub struct Slots {
     slots: Vec<Slot>,
     len: usize,
@@ -38,7 +38,7 @@ impl Model for Slots {
 }
 
 impl Slots {
-    /// No tasks.
+    /// Makes slots without tasks.
     pub fn new(alloc: Global) -> Slots
         ensures { result.slots ≡ [] }
     {
@@ -49,14 +49,14 @@ impl Slots {
         }
     }
 
-    /// The number of tasks.
+    /// Returns the number of tasks.
     pub fn len(&self) -> usize
         ensures { result ≡ count_by is_some self.now.slots }
     {
         self.len
     }
 
-    /// Makes room for one task.
+    /// Reserves memory for one task.
     pub fn reserve(&mut self) -> Result<(), AllocError>
         ensures same { self.new.slots ≡ self.old.slots }
         ensures next { self.new.next ≡ self.old.next }
@@ -71,7 +71,7 @@ impl Slots {
         }
     }
 
-    /// The slot that is filled next.
+    /// Returns the index of the slot that is filled next.
     pub fn next(&self) -> usize
         ensures next { result ≡ self.now.next }
         ensures free { slot_at self.now.slots result ≡ None }
@@ -79,7 +79,7 @@ impl Slots {
         self.free
     }
 
-    /// Fills that slot.
+    /// Fills the slot that `next` returns.
     pub fn fill(&mut self, waiting: Waiting)
         requires { self.old.has_room ≡ true }
         ensures { IsChangedAt self.old.next (Some waiting) self.old.slots self.new.slots }
@@ -97,7 +97,7 @@ impl Slots {
         }
     }
 
-    /// The task in a slot, if there is one.
+    /// Returns the task in a slot, if there is one.
     pub fn get(&self, slot: usize) -> Option<&Waiting>
         ensures { option_copied result ≡ slot_at self.now.slots slot }
     {
@@ -107,7 +107,7 @@ impl Slots {
         }
     }
 
-    /// Takes the task out of a slot, which is filled next.
+    /// Takes the task out of a slot, which is then the next to be filled.
     pub fn take(&mut self, slot: usize) -> Waiting
         requires { IsSome (slot_at self.old.slots slot) }
         ensures taken { slot_at self.old.slots slot ≡ Some result }

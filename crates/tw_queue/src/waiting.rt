@@ -1,9 +1,9 @@
-//! Tasks as they wait.
+//! Waiting tasks.
 
 use tw_rights::Task;
 use tw_types::Kind;
 
-/// A task that waits, and what it waits by.
+/// A waiting task, with its priority, kind and target.
 pub struct Waiting {
     pub priority: i64,
     pub task: Task,

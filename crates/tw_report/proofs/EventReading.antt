@@ -1,4 +1,4 @@
--- The words that are read as an event are those that spell it.
+-- The words that are read as an event are those that write it.
 use Rattle.std.proofs.Common.{[], ◌≡◌, ◌==◌, ℕ, Bool, true, false, cond, List, ◌∷◌, codes, Option, Some, None, refl, sym, ap, subst, ◌∙◌, arith}
 use Rattle.std.specs.Prelude.{min}
 use Rattle.std.proofs.Math.Nat.{min-le_right}
@@ -77,7 +77,7 @@ actor_spelled actor word e = by (behind 101 word) (behind 115 word) (behind 119 
     by None None (Some n) _ _ is f = let same : Worker n ≡ actor = cc in subst (λ a. IsByte (number_in_kind a) × SpellsPart (actor_part a) word) same (behind_spelled 119 n word is)
     by None None None _ _ _ f = cc
 
--- ---- what is spelled is read
+-- ---- a written event is read
 
 -- a part more
 step_read : {A B : Type 0} (read : List ℕ → Option A) (next : A × List (List ℕ) → Option B) (part : Part) (parts : List Part) (words : List (List ℕ)) (a : A) (b : B)
@@ -118,7 +118,7 @@ event_read (Release e r) words may =
     (λ rest. step_read (behind 101) _ (actor_part (Engine e)) (Number [] r ∷ []) rest e (Release e r) (λ w. behind_read 101 e w refl may.0)
     (λ rest. step_read words_64 _ (Number [] r) [] rest r (Release e r) (λ w. plain_read 0 0xFFFFFFFFFFFFFFFF r w may.1) (alone_read (Release e r))))
 
--- ---- what is read is spelled
+-- ---- an event that is read was written so
 
 -- the first word, what it says, and what the others do
 record Stepped {A B : Type 0} (read : List ℕ → Option A) (next : A × List (List ℕ) → Option B) (words : List (List ℕ)) (b : B) : Type 0 where
@@ -147,7 +147,7 @@ one_more part parts words word rest is one others = subst (SpellParts (part ∷ 
 no_more : (words : List (List ℕ)) → words ≡ [] → SpellParts [] words
 no_more words is = subst (SpellParts []) (sym is) tt
 
--- the event, within its limits, and its parts behind the name
+-- the event, within its limits, and its parts after the name
 abbrev Told : List ℕ → Event → List (List ℕ) → Type 0
 Told name event words = IsEvent event × SpellParts (event_parts event) (name ∷ words)
 

@@ -1,4 +1,4 @@
--- Histories, line by line; and that no lines tell two.
+-- Traces, line by line; no lines are two traces.
 use Rattle.std.proofs.Common.{◌≡◌, ◌⊎◌, ◌==◌, ◌+◌, ◌≤◌, ℕ, List, [], ◌∷◌, length, codes, Result, Ok, Err, inl, inr, sym, ap, subst, ◌∙◌, arith}
 use Rattle.std.specs.List.{AllByRecursion}
 use Rattle.std.proofs.lemmas.List.Splits.{length-slice_split}
@@ -9,7 +9,7 @@ use Rattle.tw_report.specs.Events.{IsEvent, SpellParts, SpellsEvent, event_parts
 use Rattle.tw_report.specs.History.{IsBlank, IsEnd, OneHistory, Tell, behind_blank, behind_event, lines_in}
 use Rattle.tw_report.proofs.Written.{one_event}
 
--- ---- one history
+-- ---- only one trace
 
 -- an event has two words at least
 two_words : (event : Event) (words : List (List ℕ)) (word : List ℕ) → SpellParts (event_parts event) words → (words ≡ []) ⊎ (words ≡ word ∷ []) → ⊥

@@ -1,4 +1,4 @@
--- A history as it is read, line by line.
+-- Reading a trace, line by line.
 use Rattle.std.proofs.Common.{[], ◌≡◌, ◌⊎◌, ◌==◌, ◌+◌, ◌-◌, ◌<◌, ◌≤◌, ℕ, suc, Bool, true, false, List, ◌∷◌, ◌++◌, codes, length, get_or, take, drop, Option, Some, None, Result, Ok, Err, inl, inr, refl, sym, ap, subst, ◌∙◌, append_assoc, arith}
 use Rattle.std.specs.List.{AllByRecursion, onto_first}
 use Rattle.std.proofs.lemmas.Bool.{eqb-true}
@@ -71,7 +71,7 @@ read_last text rest line events after count read first takes =
     let more = told_more events after count line [] (Ok []) takes refl in
     subst (Tell (lines_in text)) (more.2 ∙ ap Ok (append-nil after)) (read more.0 (subst (λ ls. Tell ls more.0) (sym first.1.0) more.1))
 
--- the first line, whatever follows it
+-- the first line, with any text after it
 line_of : (rest line : List ℕ) (after : Option (List ℕ)) → IsFirstLine rest line after → (others : List (List ℕ)) × (lines_in rest ≡ line ∷ others)
 line_of rest line None first = ([], first.1.0)
 line_of rest line (Some others) first = (lines_in others, first.1.0)
@@ -101,7 +101,7 @@ never e = cc
 
 -- ---- the line `events`
 
--- so many bytes stand before what is left, in lines of which none is `events`
+-- this many bytes are before the rest, in lines of which none is `events`
 pub record CutTo (text : List ℕ) (count : ℕ) (rest : List ℕ) : Type 0 where
   pub lines : List (List ℕ)
   pub whole : AllByRecursion HasNoLineFeed lines

@@ -1,4 +1,4 @@
--- Rules that are pending, one by one; and when there may be a circle.
+-- Pending rules, one by one; and when there may be a circle.
 use Rattle.std.proofs.Common.{[], ◌≡◌, ◌==◌, ◌+◌, ◌<◌, ℕ, Bool, true, false, cond, arith, List, ◌∷◌, ◌++◌, length, map, get_or, drop, Some, None, refl, sym, ap, ◌∙◌, append_assoc, add-one, drop-cons}
 use Rattle.std.proofs.lemmas.List.{append-nil}
 use Rattle.std.specs.Cmp.{nat_cmp_total}

@@ -9,7 +9,7 @@ use Rattle.tw_words.specs.Digits.{are_digits, is_within}
 use Rattle.tw_words.proofs.Decided.{digits_decide, within_decide}
 use Rattle.tw_report.specs.reading.Event.{number_in}
 
--- the number that digits spell is read, where it is within the limits
+-- the number that digits write is read, if it is within the limits
 pub number_read : (low high n : ℕ) (text : List ℕ) → SpellsDigits n text → IsInRange low high n → number_in low high text ≡ Some n
 unfolding number_in
 number_read low high n text spells inside =

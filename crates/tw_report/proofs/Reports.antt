@@ -1,4 +1,4 @@
--- One output more, and one member more.
+-- Appending one more output, and one more member.
 use Rattle.std.proofs.Common.{◌≡◌, ◌<◌, ◌+◌, ℕ, suc, List, [], ◌∷◌, ◌++◌, length, take, get_or, sym, ap, ◌∙◌, arith, append_assoc, Option, Some, None, ◌≤◌, refl, option_map}
 use Rattle.std.specs.Prelude.{slice_get}
 use Rattle.std.proofs.lemmas.List.{append-nil, flat_map_more, length-take, take_all, take_more}
@@ -20,7 +20,7 @@ append_text live k (x ∷ ids) id =
     ∙ sym (append_assoc (output_text live k (fin.get live x)) (output_texts live (suc k) ids) (output_text live (suc k + length ids) (fin.get live id)))
     ∙ ap (λ (n : ℕ). (output_text live k (fin.get live x) ++ output_texts live (suc k) ids) ++ output_text live n (fin.get live id)) same
 
--- the text with output n added, where the outputs before it stand
+-- the text with output n appended, if the outputs before it are there
 pub one_output_more : (live : Data) (ids : List ℕ) (n id : ℕ) (old out new : List ℕ) → n < length ids → id ≡ get_or ids n id
     → out ≡ old ++ output_texts live 0 (take n ids) → new ≡ out ++ output_text live n (fin.get live id) → new ≡ old ++ output_texts live 0 (take (n + 1) ids)
 one_output_more live ids n id old out new lt is before made =
@@ -42,12 +42,12 @@ some_entry x y e = cc
 abbrev pub told_of : Data → Subscript × ℕ → Subscript × Option Datum
 told_of live e = (e.0, fin.get live e.1)
 
--- what stands at an index, by what is told of it
+-- the entry at an index, by the member that is returned for it
 entry_told : (live : Data) (m : Subscript × Option Datum) (found : Option (Subscript × ℕ)) → ◌≡◌ {A = Option (Subscript × Option Datum)} (Some m) (option_map (told_of live) found) → (e : Subscript × ℕ) × (found ≡ Some e) × (m ≡ told_of live e)
 entry_told live m None is = absurd (cc)
 entry_told live m (Some e) is = (e, refl, cc)
 
--- the text with the line of member i added, where the lines before it stand
+-- the text with the line of member i appended, if the lines before it are there
 pub one_member_more : (live : Data) (es : List (Subscript × ℕ)) (i : ℕ) (m : Subscript × Option Datum) (old out new : List ℕ) → Some m ≡ option_map (told_of live) (slice_get es i) → out ≡ old ++ member_lines live (take i es)
     → new ≡ out ++ member_line m.0 m.1 → new ≡ old ++ member_lines live (take (i + 1) es)
 one_member_more live es i m old out new at before made = by (entry_told live m (slice_get es i) at)
@@ -66,7 +66,7 @@ one_member_more live es i m old out new at before made = by (entry_told live m (
 never_none : (live : Data) (x : Subscript × ℕ) → ◌≡◌ {A = Option (Subscript × Option Datum)} None (option_map (told_of live) (Some x)) → ⊥
 never_none live x e = cc
 
--- a member stands at each index below their number
+-- there is a member at each index below their number
 pub is_there : (live : Data) (members : Members) (i count : ℕ) → count ≡ fin.len members → i < count → None ≡ option_map (told_of live) (slice_get (fin.entries members) i) → ⊥
 is_there live members i count all lt none = by (fin.entries members) (omega (arith, lt, all, fin.len-entries members)) none
   where

@@ -1,4 +1,4 @@
--- The first writers of data, put from the last rule to the first.
+-- The first writers of data, added from the last rule to the first.
 use Rattle.std.proofs.Common.{◌≡◌, ◌<◌, ℕ, suc, Bool, true, false, if◌then◌else◌, List, ◌∷◌, Option, Some, drop, drop-cons, get_or, length, slice_get, refl, sym, ap, ◌∙◌}
 use Rattle.std.proofs.lemmas.Option.{slice_get_read}
 use Rattle.std.specs.Option.{option_and_then}
@@ -6,7 +6,7 @@ use Rattle.tw_types.specs.declared.pending.Pending.{Pending}
 use Rattle.tw_types.specs.Circle.{writer_of}
 use Rattle.tw_types.specs.Distinct.{is_among}
 
--- what is found once the rule at the index is put, where it is found by the index
+-- a look-up after the rule at the index was added, if that finds the index
 pub put_first : (rules : List Pending) (i : ℕ) (r : Pending) (n : ℕ) (old new : Option ℕ) → i < length rules → r ≡ get_or rules i r
     → new ≡ (if is_among n r.writes then Some i else old) → option_and_then (slice_get rules) old ≡ writer_of n (drop (suc i) rules) → option_and_then (slice_get rules) new ≡ writer_of n (drop i rules)
 put_first rules i r n old new low is put before =

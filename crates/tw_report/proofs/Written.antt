@@ -1,4 +1,4 @@
--- What is written of an event is read back.
+-- The text written of an event is read back.
 use Rattle.std.proofs.Common.{◌≡◌, ◌<◌, ◌^◌, ℕ, true, false, List, [], ◌∷◌, ◌++◌, map, Some, refl, sym, ap, subst, ◌∙◌, arith}
 use Rattle.std.specs.Fmt.{decimal}
 use Rattle.std.proofs.Math.Nat.{min-eq_left}
@@ -54,7 +54,7 @@ joined_words (t ∷ u ∷ texts) are =
 byte_word : (n : ℕ) → IsByte n → IsWord n
 byte_word n h = (omega arith, omega (arith, h.1))
 
--- a word, or a number of 64 bits behind letters
+-- a word, or a number of 64 bits after letters
 abbrev IsFine : Part → Type 0
 IsFine (Name name) = IsOne name
 IsFine (Number front number) = IsWhole front × IsWord number

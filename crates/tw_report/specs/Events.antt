@@ -1,4 +1,4 @@
--- The lines of events: which text is which event, and the line that is written of one.
+-- The lines of events: which event a text is, and the line that is written of an event.
 use Rattle.std.specs.Prelude.{◌≡◌, ℕ, Bool, true, false, List, [], ◌∷◌, ◌++◌, codes, decimal, map, filter, min}
 use Rattle.std.specs.Int.{IsInRange}
 use Rattle.std.specs.List.{join_with_byte, slice_split}
@@ -16,18 +16,18 @@ abbrev pub has_bytes : List ℕ → Bool
 has_bytes [] = false
 has_bytes (b ∷ bytes) = true
 
--- what stands between spaces, tabs and carriage returns
+-- returns the words between spaces, tabs and carriage returns
 abbrev pub words_in : List ℕ → List (List ℕ)
 words_in line = filter has_bytes (slice_split is_parting line)
 
 -- ---- the words of an event
 
--- what one word says
+-- one word of an event
 pub data Part : Type 0 where
   Name : List ℕ → Part
-  -- a number, behind the letter of an actor's kind or behind nothing
+  -- a number, after the letter of an actor's kind or after nothing
   Number : List ℕ → ℕ → Part
-  -- the number of a parameter; 255 stands for every greater one, since no rule has so many
+  -- the number of a parameter; 255 is also read for every greater one, since no rule has that many
   Parameter : ℕ → Part
 
 abbrev pub actor_part : Actor → Part
@@ -52,8 +52,8 @@ IsByte n = IsInRange 0 255 n
 abbrev pub IsWord : ℕ → Type 0
 IsWord n = IsInRange 0 0xFFFFFFFFFFFFFFFF n
 
--- numbers of actors fit a byte, and those by which parameters are told; others 64 bits; at least one local instruction is
--- done, and no more than a task may do in all
+-- holds if numbers of actors and parameters fit a byte, and others 64 bits; at least one local instruction is executed, and no more
+-- than the greatest budget
 abbrev pub IsEvent : Event → Type 0
 IsEvent (Take actor) = IsByte (number_in_kind actor)
 IsEvent (Local actor n) = IsByte (number_in_kind actor) × IsInRange 1 1000000000 n
@@ -63,14 +63,14 @@ IsEvent (Ask engine rule parameter) = IsByte engine × IsWord rule × IsByte par
 IsEvent (Deliver server datum rule parameter) = IsByte server × IsWord datum × IsWord rule × IsByte parameter
 IsEvent (Release engine rule) = IsByte engine × IsWord rule
 
--- ---- which text is which event
+-- ---- which event a text is
 
 abbrev pub SpellsPart : Part → List ℕ → Type 0
 SpellsPart (Name name) word = word ≡ name
 SpellsPart (Number front number) word = (digits : List ℕ) × SpellsDigits number digits × (word ≡ front ++ digits)
 SpellsPart (Parameter parameter) word = (number : ℕ) × SpellsDigits number word × IsWord number × (parameter ≡ min number 255)
 
--- a word each
+-- holds if each part is one word
 abbrev pub SpellParts : List Part → List (List ℕ) → Type 0
 SpellParts [] [] = Unit {0}
 SpellParts [] (word ∷ words) = ⊥
@@ -81,26 +81,26 @@ pub record SpellsEvent (event : Event) (line : List ℕ) : Type 0 where
   pub limits : IsEvent event
   pub parts : SpellParts (event_parts event) (words_in line)
 
--- ---- what is written
+-- ---- written events
 
 abbrev pub part_text : Part → List ℕ
 part_text (Name name) = name
 part_text (Number front number) = front ++ decimal number
 part_text (Parameter parameter) = decimal parameter
 
--- the words, with one space between two
+-- returns the words, with one space between two
 abbrev pub event_text : Event → List ℕ
 event_text event = join_with_byte 32 (map part_text (event_parts event))
 
 abbrev pub event_line : Event → List ℕ
 event_line event = event_text event ++ codes "\n"
 
--- ---- the laws
+-- ---- the theorems
 
 -- no line is two events
 abbrev pub OneEvent : Type 0
 OneEvent = (line : List ℕ) (event other : Event) → SpellsEvent event line → SpellsEvent other line → other ≡ event
 
--- what is written of an event is this event
+-- the text written of an event is this event
 abbrev pub EventsAreReadBack : Type 0
 EventsAreReadBack = (event : Event) → IsEvent event → SpellsEvent event (event_text event)

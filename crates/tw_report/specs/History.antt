@@ -1,4 +1,4 @@
--- The text of a history: a line an event.
+-- The trace format: one line for each event.
 use Rattle.std.specs.Prelude.{◌≡◌, ◌⊎◌, ◌==◌, false, ℕ, suc, List, [], ◌∷◌, ◌++◌, codes, Result, Ok, Err}
 use Rattle.std.specs.List.{AllByRecursion, flat_map, slice_split}
 use Rattle.tw_types.specs.declared.event.Event.{Event}
@@ -17,20 +17,20 @@ HasNoLineFeed line = AllByRecursion (λ b. (b == 10) ≡ false) line
 abbrev pub IsBlank : List ℕ → Type 0
 IsBlank line = words_in line ≡ []
 
--- this word alone
+-- holds if the line has only this word
 abbrev pub IsWord : List ℕ → List ℕ → Type 0
 IsWord word line = words_in line ≡ word ∷ []
 
 abbrev pub IsEnd : List ℕ → Type 0
 IsEnd line = IsWord (codes "end") line
 
--- neither blank, nor `end`, nor an event
+-- holds if the line isn't blank, nor `end`, nor an event
 abbrev pub IsUnknown : List ℕ → Type 0
 IsUnknown line = (IsBlank line → ⊥) × (IsEnd line → ⊥) × ((event : Event) → SpellsEvent event line → ⊥)
 
--- ---- histories
+-- ---- traces
 
--- behind a line that is no event
+-- returns the result for lines after one that isn't an event
 abbrev pub behind_blank : Result (List Event) ℕ → Result (List Event) ℕ
 behind_blank (Ok events) = Ok events
 behind_blank (Err line) = Err (suc line)
@@ -39,8 +39,8 @@ abbrev pub behind_event : Event → Result (List Event) ℕ → Result (List Eve
 behind_event event (Ok events) = Ok (event ∷ events)
 behind_event event (Err line) = Err (suc line)
 
--- What lines tell, up to `end` or all of them: events in their order; or the number, from 1, of the first line that isn't
--- known.
+-- Holds for the events of lines, up to `end` or all of them, in their order; or for the number, from 1, of the first unknown
+-- line.
 abbrev pub Tell : List (List ℕ) → Result (List Event) ℕ → Type 0
 Tell [] r = r ≡ Ok []
 Tell (line ∷ others) r =
@@ -49,18 +49,18 @@ Tell (line ∷ others) r =
     ⊎ (((event : Event) × SpellsEvent event line × ((q : Result (List Event) ℕ) × Tell others q × (r ≡ behind_event event q)))
     ⊎ (IsUnknown line × (r ≡ Err 1))))
 
--- what a refusal says of lines
+-- holds for the error of lines
 abbrev pub IsNoHistory : List (List ℕ) → HistoryFault → Type 0
 IsNoHistory lines (UnknownLine line) = Tell lines (Err line)
 IsNoHistory lines NoMemory = Unit {0}
 
--- ---- the part behind `events`
+-- ---- the text after `events`
 
--- lines, each with a line feed
+-- returns lines, each with a line feed
 abbrev pub text_of : List (List ℕ) → List ℕ
 text_of lines = flat_map (λ l. l ++ 10 ∷ []) lines
 
--- The text is cut at its first line that is `events`: what stands before that line, and what follows it.
+-- The text is cut at its first line that is `events`: into the text before that line, and the text after it.
 pub record IsCut (text before after : List ℕ) : Type 0 where
   pub lines : List (List ℕ)
   pub line : List ℕ
@@ -70,16 +70,16 @@ pub record IsCut (text before after : List ℕ) : Type 0 where
   pub first : AllByRecursion (λ l. IsWord (codes "events") l → ⊥) lines
   pub parts : (text ≡ before ++ (line ++ 10 ∷ after)) ⊎ ((text ≡ before ++ line) × (after ≡ []))
 
--- or it has no such line
+-- holds if it has no such line
 abbrev pub HasNoHistory : List ℕ → Type 0
 HasNoHistory text = AllByRecursion (λ l. IsWord (codes "events") l → ⊥) (lines_in text)
 
--- the program's text and the history's
+-- holds for the program's text and the trace
 abbrev pub AreParts : List ℕ → List ℕ → List ℕ → Type 0
 AreParts text before after = IsCut text before after ⊎ (HasNoHistory text × (before ≡ text) × (after ≡ []))
 
--- ---- the law
+-- ---- the theorem
 
--- no lines tell two histories
+-- no lines are two traces
 abbrev pub OneHistory : Type 0
 OneHistory = (lines : List (List ℕ)) (r q : Result (List Event) ℕ) → Tell lines r → Tell lines q → r ≡ q

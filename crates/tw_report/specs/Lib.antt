@@ -1,5 +1,5 @@
--- Which text is which event, and which a history: Events and History. What is written: Lines and Report.
--- What the readers keep is in reading, what is kept of pending rules in Arguments.
+-- Texts of events and of traces (Events, `History`), and texts that are written (Lines, Report).
+-- The folder reading is private to the readers, and Arguments to the walk through pending rules.
 pub mod Events
 pub mod History
 pub mod Lines

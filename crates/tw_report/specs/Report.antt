@@ -1,4 +1,4 @@
--- The report of a state: a line for each output, with lines for the members of a container behind it, and a line that says
+-- The report of a state: a line for each output, followed by lines for the members of a container, and a line that says
 -- how the run ended.
 use Rattle.std.specs.Prelude.{ℕ, suc, Bool, true, false, if◌then◌else◌, List, [], ◌∷◌, ◌++◌, codes, decimal, Option, Some, None, option_map, slice_get}
 use Rattle.std.specs.FinMap as fin
@@ -30,11 +30,11 @@ abbrev pub closed_text : Bool → List ℕ
 closed_text true = codes " closed "
 closed_text false = codes " open "
 
--- by the type of its subscripts
+-- returns the kind of a container, by the type of its subscripts
 abbrev pub container_text : NestedScalar → List ℕ
 container_text ty = if is_container_by scalar.Text ty then codes "tcont " else codes "cont "
 
--- a container of scalars, and whether it is closed
+-- returns the type of a container of scalars, and whether it is closed
 abbrev pub container_head : Datum → List ℕ
 container_head x = container_text x.ty ++ (scalar_text x.ty.scalar ++ closed_text (is_closed x))
 
@@ -43,7 +43,7 @@ content_text x Unset = codes "unset"
 content_text x (Set value) = value_text value
 content_text x (Contains members) = container_head x ++ decimal (fin.len members)
 
--- what is in a datum, or that it was freed
+-- returns the content of a datum, or that it was freed
 abbrev pub datum_text : Option Datum → List ℕ
 datum_text None = codes "gone"
 datum_text (Some x) = content_text x x.content
@@ -51,59 +51,59 @@ datum_text (Some x) = content_text x x.content
 abbrev pub output_line : ℕ → Option Datum → List ℕ
 output_line k x = codes "out " ++ (decimal k ++ (codes " " ++ (datum_text x ++ codes "\n")))
 
--- a text between quotes
+-- returns a subscript; a text is quoted
 abbrev pub subscript_text : Subscript → List ℕ
 subscript_text (value.Int n) = signed_decimal n
 subscript_text (value.Text text) = quoted text
 
--- a member of a container; it is a scalar, since main's containers are containers of scalars
+-- returns the line of a container's member; that is a scalar, since main's containers are containers of scalars
 abbrev pub member_line : Subscript → Option Datum → List ℕ
 member_line subscript x = codes "  at " ++ (subscript_text subscript ++ (codes " " ++ (datum_text x ++ codes "\n")))
 
 abbrev pub member_lines : Data → List (Subscript × ℕ) → List ℕ
 member_lines live members = flat_map (λ e. member_line e.0 (fin.get live e.1)) members
 
--- what stands in a datum, by rising subscripts
+-- returns the members of a datum, by rising subscripts
 abbrev pub entries_in : Option Datum → List (Subscript × ℕ)
 entries_in None = []
 entries_in (Some x) = fin.entries (members_in x.content)
 
--- of the member of a container with so many smaller subscripts: its own, and its datum if that is live
+-- returns the member of a container with `index` smaller subscripts: its subscript, and its datum if that is live
 abbrev pub member_told : Data → Datum → ℕ → Option (Subscript × Option Datum)
 member_told live container index = option_map (λ e. (e.0, fin.get live e.1)) (slice_get (entries_in (Some container)) index)
 
--- the line of an output, and those of its members
+-- returns the line of an output, and those of its members
 abbrev pub output_text : Data → ℕ → Option Datum → List ℕ
 output_text live k x = output_line k x ++ member_lines live (entries_in x)
 
--- the outputs from number k on
+-- returns the outputs from number k on
 abbrev pub output_texts : Data → ℕ → List ℕ → List ℕ
 output_texts live k [] = []
 output_texts live k (id ∷ ids) = output_text live k (fin.get live id) ++ output_texts live (suc k) ids
 
--- of the live data and the outputs' ids: the outputs from 0, and the text that closes it
+-- returns the report of outputs, from number 0 on, with its last lines
 abbrev pub report : Data → List ℕ → List ℕ → List ℕ
 report live outputs closing = output_texts live 0 outputs ++ closing
 
--- ---- how it closes
+-- ---- the last lines
 
--- a rule, a datum that it waits for, and a rule that may write that
+-- returns the line of a link: a rule, a datum for which it waits, and a rule that may write that
 abbrev pub link_line : Link → List ℕ
 link_line l = codes "waits " ++ (decimal l.rule ++ (codes " " ++ (decimal l.datum ++ (codes " " ++ (decimal l.next ++ codes "\n")))))
 
 abbrev pub link_lines : List Link → List ℕ
 link_lines links = flat_map link_line links
 
--- a circle among them, if there is one
+-- returns the lines of a circle, if there is one
 abbrev pub circle_lines : Option (List Link) → List ℕ
 circle_lines None = []
 circle_lines (Some links) = link_lines links
 
--- so many rules are pending
+-- returns the lines on pending rules
 abbrev pub stuck_lines : ℕ → Option (List Link) → List ℕ
 stuck_lines rules found = codes "stuck " ++ (decimal rules ++ (codes "\n" ++ circle_lines found))
 
--- how a run has ended in this state, or that it is still running
+-- returns the lines on how a run has ended, or that it is still running
 abbrev pub ending_lines : Option Ending → Option (List Link) → List ℕ
 ending_lines (Some Quiet) found = codes "quiet\n"
 ending_lines (Some (Stuck rules)) found = stuck_lines rules found

@@ -1,4 +1,4 @@
--- What the readers keep to themselves: no public clause reaches this folder.
+-- Definitions for the readers' own contracts: no public clause uses this folder.
 pub mod Words
 pub mod Event
 pub mod History

@@ -7,7 +7,7 @@ ghost use Rattle.tw_report.specs.Arguments.{right_of};
 use tw_machine::Arg;
 use tw_types::DatumId;
 
-/// The id of its datum, if it is a right.
+/// Returns the id of its datum, if it is a right.
 pub(crate) fn right_of(arg: &Arg) -> Option<DatumId>
     ensures { result ≡ right_of (arg_of arg.now) }
 {

@@ -1,4 +1,4 @@
-//! The text that closes a report.
+//! The last lines of a report.
 
 ghost use Rattle.std.specs.Prelude.{◌≡◌, ◌++◌, IfOk, OnOk, option_map};
 ghost use Rattle.tw_report.specs.Report.{ending_lines, link_line, link_lines, stuck_lines};
@@ -25,7 +25,7 @@ fn put_link_lines(alloc: Global, out: &mut Vec<u8>, links: &[Link]) -> Result<()
     Ok(())
 }
 
-/// How many rules are pending, and the circle among them, if there is one.
+/// Returns the lines on pending rules: how many they are, and the circle among them, if there is one.
 fn stuck_text(alloc: Global, rules: u64, found: Option<Vec<Link>>) -> Result<Vec<u8>, AllocError>
     ensures { IfOk result (λ text. text.items ≡ stuck_lines rules (option_map (λ v. v.items) found)) }
 {
@@ -39,7 +39,7 @@ fn stuck_text(alloc: Global, rules: u64, found: Option<Vec<Link>>) -> Result<Vec
     Ok(text)
 }
 
-/// These words, as a text of their own.
+/// Returns a text with these words.
 pub fn text_of(alloc: Global, words: &str) -> Result<Vec<u8>, AllocError>
     ensures { IfOk result (λ text. text.items ≡ words.now) }
 {
@@ -48,7 +48,7 @@ pub fn text_of(alloc: Global, words: &str) -> Result<Vec<u8>, AllocError>
     Ok(text)
 }
 
-/// How a run has ended, with the circle that was found, or that it is still running.
+/// Returns the lines on how a run has ended, with the circle that was found, or that it is still running.
 pub fn ending_text(
     alloc: Global,
     ending: Option<Ending>,

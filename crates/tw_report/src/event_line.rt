@@ -1,4 +1,4 @@
-//! The lines of events.
+//! Writes the lines of events.
 
 ghost use Rattle.std.specs.Prelude.{◌≡◌, ◌++◌, OnOk, codes};
 ghost use Rattle.tw_report.specs.Events.{actor_part, event_line, part_text};
@@ -7,7 +7,7 @@ use crate::lines::{put, put_numbered};
 use std::alloc::{AllocError, Global};
 use tw_types::{Actor, Event};
 
-/// Adds a name, and the actor behind it.
+/// Appends a name, and the actor after it.
 fn put_actor(alloc: Global, out: &mut Vec<u8>, name: &str, actor: Actor) -> Result<(), AllocError>
     ensures { OnOk result (out.new.items ≡ out.old.items ++ (name.now ++ (codes " " ++ part_text (actor_part actor)))) }
 {
@@ -19,7 +19,7 @@ fn put_actor(alloc: Global, out: &mut Vec<u8>, name: &str, actor: Actor) -> Resu
     }
 }
 
-/// Adds the line of an event, its line feed included.
+/// Appends the line of an event, with its line feed.
 pub fn put_event_line(alloc: Global, out: &mut Vec<u8>, event: &Event) -> Result<(), AllocError>
     ensures { OnOk result (out.new.items ≡ out.old.items ++ event_line event.now) }
 {

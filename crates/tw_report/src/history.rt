@@ -1,4 +1,4 @@
-//! The events that a text tells.
+//! Reads the events of a trace.
 
 ghost use Rattle.std.specs.Prelude.{◌≡◌, ◌↔◌, ◌+◌, ◌<◌, ◌≤◌, IfOk, IsTrue, MatchResult, Ok, length};
 ghost use Rattle.std.specs.Option.{option_map};
@@ -12,15 +12,15 @@ use crate::words::{first_word, is_blank};
 use std::alloc::Global;
 use tw_types::Event;
 
-/// Why a text tells no history.
+/// The error of a text that isn't a trace.
 #[derive(Clone, Copy)]
 pub enum HistoryFault {
-    /// E01: the line of this number, from 1, is the first that is no event.
+    /// E01: the line of this number, from 1, is the first that isn't an event.
     UnknownLine(usize),
     NoMemory,
 }
 
-/// Whether a line has this word alone.
+/// Returns whether a line has only this word.
 fn is_word(word: &[u8], line: &[u8]) -> bool
     requires { 0 < length word.now }
     ensures { IsTrue result ↔ IsWord word.now line.now }
@@ -29,7 +29,7 @@ fn is_word(word: &[u8], line: &[u8]) -> bool
     first == word && is_blank(rest)
 }
 
-/// The first line, and what stands behind its line feed, if it has one.
+/// Returns the first line, and the text after its line feed, if it has one.
 fn first_line(text: &[u8]) -> (&[u8], Option<&[u8]>)
     ensures { IsFirstLine text.now result.0.now (option_map (λ r. r.now) result.1) }
 {
@@ -43,7 +43,7 @@ fn first_line(text: &[u8]) -> (&[u8], Option<&[u8]>)
     (text, None)
 }
 
-/// Adds the event of a line, if it has one; `false` where the line is `end`.
+/// Appends the event of a line, if it has one. Returns `false` if the line is `end`.
 fn take_line(events: &mut Vec<Event>, line: &[u8], number: usize) -> Result<bool, HistoryFault>
     ensures { Takes events.old.items line.now number result events.new.items }
 {
@@ -62,9 +62,9 @@ fn take_line(events: &mut Vec<Event>, line: &[u8], number: usize) -> Result<bool
     }
 }
 
-/// The events of a text, a line each, up to the line `end` or to the text's end.
+/// Returns the events of a trace, one for each line, up to the line `end` or to the text's end.
 ///
-/// Blank lines are skipped, and counted. What stands behind `end` isn't looked at.
+/// Blank lines are skipped, and counted. Anything after `end` is ignored.
 pub fn read_history(alloc: Global, text: &[u8]) -> Result<Vec<Event>, HistoryFault>
     ensures told { MatchResult result (λ events. Tell (lines_in text.now) (Ok events.items)) (λ fault. IsNoHistory (lines_in text.now) fault) }
     ensures sizes { IfOk result (λ events. AllByRecursion IsEvent events.items) }
@@ -86,8 +86,8 @@ pub fn read_history(alloc: Global, text: &[u8]) -> Result<Vec<Event>, HistoryFau
     }
 }
 
-/// What stands before the first line that is `events`, and what follows that line; all of a text and nothing where there
-/// is no such line.
+/// Returns the text before the first line that is `events`, and the text after that line. Without such a line, returns the whole
+/// text and an empty one.
 pub fn cut_history(text: &[u8]) -> (&[u8], &[u8])
     ensures { AreParts text.now result.0.now result.1.now }
 {

@@ -1,4 +1,4 @@
-//! Texts of reports, refusals and events, and the readers of events and histories.
+//! Writes reports, errors and events, and reads events and traces.
 #![tactic(auto)]
 
 mod argument;

@@ -1,4 +1,4 @@
-//! The lines that are written, added to the end of a text.
+//! Writes single lines.
 
 ghost use Rattle.std.specs.Prelude.{◌≡◌, ◌++◌, OnOk};
 ghost use Rattle.tw_report.specs.Lines.{history_line, not_enabled_line, trap_line, value_text};
@@ -8,7 +8,7 @@ use tw_types::Value;
 use tw_words::{put_quoted, put_signed};
 pub use tw_words::{put, put_numbered};
 
-/// Adds a value with its type.
+/// Appends a value with its type.
 pub fn put_value(alloc: Global, out: &mut Vec<u8>, value: &Value) -> Result<(), AllocError>
     ensures { OnOk result (out.new.items ≡ out.old.items ++ value_text value.now) }
 {
@@ -24,7 +24,7 @@ pub fn put_value(alloc: Global, out: &mut Vec<u8>, value: &Value) -> Result<(), 
     }
 }
 
-/// Adds the line of a run that met a trap at an event, counted from 1.
+/// Appends the line of a run that trapped at an event, counted from 1.
 pub fn put_trap_line(
     alloc: Global,
     out: &mut Vec<u8>,
@@ -38,7 +38,7 @@ pub fn put_trap_line(
     put(out, "\n")
 }
 
-/// Adds the line of a history whose line of this number is no event; lines count from 1, behind `events`.
+/// Appends the error of a trace with a line that isn't an event. Lines count from 1 after `events`.
 pub fn put_history_line(alloc: Global, out: &mut Vec<u8>, line: usize) -> Result<(), AllocError>
     ensures { OnOk result (out.new.items ≡ out.old.items ++ history_line line) }
 {
@@ -46,7 +46,7 @@ pub fn put_history_line(alloc: Global, out: &mut Vec<u8>, line: usize) -> Result
     put(out, "\n")
 }
 
-/// Adds the line of a history whose event of this number isn't enabled; events count from 1.
+/// Appends the error of a trace with an event that isn't enabled. Events count from 1.
 pub fn put_not_enabled_line(
     alloc: Global,
     out: &mut Vec<u8>,

@@ -1,4 +1,4 @@
-//! Outputs, with the members of those that are containers.
+//! Writes outputs, with the members of containers.
 
 ghost use Rattle.std.specs.Prelude.{◌≡◌, ◌++◌, OnOk, option_map};
 ghost use Rattle.std.specs.Option.{option_copied};
@@ -38,7 +38,7 @@ fn closed_text(closed: bool) -> &'static str
     if closed { " closed " } else { " open " }
 }
 
-/// Adds what a container holds, and whether it is closed.
+/// Appends the type of a container, and whether it is closed.
 fn put_container_head<M: Member>(out: &mut Vec<u8>, datum: &Datum<M>) -> Result<(), AllocError>
     ensures { OnOk result (out.new.items ≡ out.old.items ++ container_head datum.now.datum) }
 {
@@ -47,7 +47,7 @@ fn put_container_head<M: Member>(out: &mut Vec<u8>, datum: &Datum<M>) -> Result<
     put(out, closed_text(datum.closed()))
 }
 
-/// Adds what is in a datum, or that it was freed.
+/// Appends the content of a datum, or that it was freed.
 fn put_datum<M: Member>(
     alloc: Global,
     out: &mut Vec<u8>,
@@ -68,7 +68,7 @@ fn put_datum<M: Member>(
     put_decimal(alloc, out, datum.len())
 }
 
-/// Adds the line of an output.
+/// Appends the line of an output.
 fn put_output_line<M: Member>(
     alloc: Global,
     out: &mut Vec<u8>,
@@ -83,7 +83,7 @@ fn put_output_line<M: Member>(
     put(out, "\n")
 }
 
-/// Adds a subscript as it is written: a text between quotes.
+/// Appends a subscript; a text is quoted.
 fn put_subscript(alloc: Global, out: &mut Vec<u8>, subscript: &Value) -> Result<(), AllocError>
     ensures { OnOk result (out.new.items ≡ out.old.items ++ subscript_text subscript.now) }
 {
@@ -93,7 +93,7 @@ fn put_subscript(alloc: Global, out: &mut Vec<u8>, subscript: &Value) -> Result<
     }
 }
 
-/// Adds the line of a container's member: its subscript, and its datum.
+/// Appends the line of a container's member: its subscript, and its datum.
 fn put_member_line<M: Member>(
     alloc: Global,
     out: &mut Vec<u8>,
@@ -108,7 +108,7 @@ fn put_member_line<M: Member>(
     put(out, "\n")
 }
 
-/// Adds the lines of a container's members, by rising subscripts.
+/// Appends the lines of a container's members, by rising subscripts.
 fn put_member_lines<T: Told>(
     alloc: Global,
     out: &mut Vec<u8>,
@@ -128,7 +128,7 @@ fn put_member_lines<T: Told>(
     Ok(())
 }
 
-/// Adds the line of an output, and those of its members.
+/// Appends the line of an output, and those of its members.
 fn put_output<T: Told>(
     alloc: Global,
     out: &mut Vec<u8>,
@@ -147,7 +147,7 @@ fn put_output<T: Told>(
     }
 }
 
-/// Adds the report of what is told: the outputs, and the text that closes it.
+/// Appends a report: the outputs, and its last lines.
 pub fn put_report<T: Told>(
     alloc: Global,
     out: &mut Vec<u8>,

@@ -1,4 +1,4 @@
-//! The rules that are pending in a state of the reference machine.
+//! The pending rules of a state of the reference machine.
 
 ghost use Rattle.std.specs.Prelude.{◌≡◌, ◌++◌, ◌∷◌, [], map, IfOk, OnOk};
 ghost use Rattle.std.specs.List.Sorted.{IsStrictlySortedBy};
@@ -26,7 +26,7 @@ fn put_waited(ids: &mut Vec<DatumId>, stage: Stage, arg: &Arg) -> Result<(), All
     }
 }
 
-/// The data for which parameters wait.
+/// Returns the data for which parameters wait.
 fn waited_for(alloc: Global, stages: &[Stage], args: &[Arg]) -> Result<Vec<DatumId>, AllocError>
     ensures { IfOk result (λ ids. ids.items ≡ waited_for stages.now (map arg_of args.now)) }
 {
@@ -57,7 +57,7 @@ fn put_written(ids: &mut Vec<DatumId>, param: Param, arg: &Arg) -> Result<(), Al
     }
 }
 
-/// The data of `write` arguments.
+/// Returns the data of `write` arguments.
 fn written_by(alloc: Global, params: &[Param], args: &[Arg]) -> Result<Vec<DatumId>, AllocError>
     ensures { IfOk result (λ ids. ids.items ≡ written_by params.now (map arg_of args.now)) }
 {
@@ -73,7 +73,7 @@ fn written_by(alloc: Global, params: &[Param], args: &[Arg]) -> Result<Vec<Datum
     Ok(ids)
 }
 
-/// The parameters of a procedure, or none where it isn't known.
+/// Returns the parameters of a procedure, or none if it isn't known.
 fn params_of(program: &[Procedure], procedure: u8) -> &[Param]
     ensures { result.now ≡ params_of program.now procedure }
 {
@@ -83,7 +83,7 @@ fn params_of(program: &[Procedure], procedure: u8) -> &[Param]
     }
 }
 
-/// A rule with this number, with these stages and arguments for the parameters.
+/// Returns a pending rule with this number, and with these stages and arguments of the parameters.
 fn pending_from(
     alloc: Global,
     number: RuleNo,
@@ -102,7 +102,7 @@ fn pending_from(
     })
 }
 
-/// A rule of the reference machine.
+/// Returns a pending rule of the reference machine.
 fn pending_of(
     alloc: Global,
     program: &[Procedure],
@@ -121,7 +121,7 @@ fn pending_of(
     )
 }
 
-/// The rules of a table, by rising number.
+/// Returns the pending rules of a table, by rising number.
 pub fn pending_rules(
     alloc: Global,
     program: &[Procedure],

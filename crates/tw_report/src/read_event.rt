@@ -1,4 +1,4 @@
-//! Events that lines tell.
+//! Reads the events of lines.
 
 ghost use Rattle.std.specs.Prelude.{◌≡◌, ◌≤◌, IfSome, MatchOption};
 ghost use Rattle.std.specs.Option.{option_map};
@@ -28,7 +28,7 @@ fn byte_in(word: &[u8]) -> Option<u8>
     Some(number as u8)
 }
 
-/// The number of a parameter, or 255 where it is greater.
+/// Returns the number of a parameter, or 255 if it is greater.
 #[tactic(auto, unfolding(crate::specs::reading::Event::parameter_in))]
 fn parameter_in(word: &[u8]) -> Option<u8>
     ensures { result ≡ parameter_in word.now }
@@ -37,7 +37,7 @@ fn parameter_in(word: &[u8]) -> Option<u8>
     Some(number.min(255) as u8)
 }
 
-/// The number behind a letter.
+/// Returns the number after a letter.
 #[tactic(auto, unfolding(crate::specs::reading::Event::behind))]
 fn behind(letter: u8, word: &[u8]) -> Option<u8>
     ensures { result ≡ behind letter word.now }
@@ -96,7 +96,7 @@ fn first_actor(line: &[u8]) -> Option<(Actor, &[u8])>
     Some((actor, rest))
 }
 
-/// The event, where no word is left.
+/// Returns the event, if no word is left.
 fn alone(event: Event, line: &[u8]) -> Option<Event>
     ensures { result ≡ alone event (words_in line.now) }
 {
@@ -162,7 +162,7 @@ fn release_in(line: &[u8]) -> Option<Event>
     alone(Event::Release(engine, RuleNo::new(rule)), rest)
 }
 
-/// The event of this name that the words behind it make whole.
+/// Returns the event of this name, if the other words complete it.
 #[tactic(auto, unfolding(crate::specs::reading::Event::named))]
 fn named(name: &[u8], rest: &[u8]) -> Option<Event>
     ensures { result ≡ named name.now (words_in rest.now) }
@@ -186,10 +186,10 @@ fn named(name: &[u8], rest: &[u8]) -> Option<Event>
     }
 }
 
-/// The event that a line tells, if it tells one.
+/// Returns the event of a line, if it is one.
 ///
-/// A line is the event's name, its actor and its numbers, parted by spaces, tabs and carriage returns. Numbers are decimal
-/// digits, in which zeros may stand first. A parameter's number over 255 is told as 255: no rule has so many.
+/// A line is the event's name, its actor and its numbers, separated by spaces, tabs and carriage returns. Numbers are decimal
+/// digits, and leading zeros are allowed. A parameter's number over 255 is read as 255: no rule has that many.
 pub fn event_of(line: &[u8]) -> Option<Event>
     ensures { MatchOption result ((event : AnEvent) → SpellsEvent event line.now → ⊥) (λ event. SpellsEvent event line.now) }
 {

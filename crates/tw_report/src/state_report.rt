@@ -1,4 +1,4 @@
-//! The report of a state of the reference machine, and the circle where it is stuck.
+//! Reports of states of the reference machine, and the deadlock circle if one is stuck.
 
 ghost use Rattle.std.specs.Prelude.{◌≡◌, IfOk, None, option_map};
 ghost use Rattle.tw_code.specs.machine.Ending.{ending};
@@ -13,8 +13,8 @@ use std::alloc::{AllocError, Global};
 use tw_machine::Plain;
 use tw_types::Link;
 
-/// The circle of rules that wait for one another, where the state is stuck; each link has a rule, a datum for which it
-/// waits, and the rule that may write that.
+/// Returns the circle of rules that wait for one another, if the state is stuck. Each link has a rule, a datum for which it
+/// waits, and the rule that may write that datum.
 pub fn circle_state(alloc: Global, plain: &Plain) -> Result<Option<Vec<Link>>, AllocError>
     ensures { IfOk result (λ found. option_map (λ v. v.items) found ≡ circle plain.now.program plain.now.state) }
 {
@@ -25,14 +25,14 @@ pub fn circle_state(alloc: Global, plain: &Plain) -> Result<Option<Vec<Link>>, A
     circle_of(alloc, &rules)
 }
 
-/// The line that tells how a run has ended in this state, or that it is still running.
+/// Returns the line on how a run has ended in this state, or that it is still running.
 pub fn ending_line(alloc: Global, plain: &Plain) -> Result<Vec<u8>, AllocError>
     ensures { IfOk result (λ text. text.items ≡ ending_lines (ending plain.now.state) None) }
 {
     ending_text(alloc, plain.ending(), None)
 }
 
-/// The report of a state, which need not be an end.
+/// Returns the report of any state, whether the run has ended or not.
 pub fn report_state(alloc: Global, plain: &Plain) -> Result<Vec<u8>, AllocError>
     ensures { IfOk result (λ text. text.items ≡ state_report plain.now.program plain.now.state) }
 {

@@ -1,4 +1,4 @@
-//! What reports are made of.
+//! Sources of reports.
 
 ghost use Rattle.std.specs.Prelude.{◌≡◌, ℕ, List, IfSome, option_map};
 ghost use Rattle.std.specs.FinMap.{get};
@@ -11,28 +11,28 @@ use tw_datum::{Datum, Member};
 use tw_machine::State;
 use tw_types::{DatumId, Value};
 
-/// What has outputs, and the live data that stand in them.
+/// A source of a report: outputs, and the live data.
 pub trait Told {
-    /// What its containers keep of a member.
+    /// A member, as its containers store it.
     type Kept: Member;
 
     ghost live: { Self → Data };
 
     ghost ids: { Self → List ℕ };
 
-    /// What is true of a container that was shown, so that its members are found without a search.
+    /// The property of a container that the source returned, so that its members are found without a search.
     ghost IsShown: { Self → KeptDatum Self.Kept → Type 0 };
 
-    /// The ids of the outputs, from number 0 on.
+    /// Returns the ids of the outputs, from number 0 on.
     fn outputs(&self) -> &[DatumId]
         ensures { result.now ≡ ids self.now };
 
-    /// The datum of an output, if it is live.
+    /// Returns the datum of an output, if it is live.
     fn datum(&self, id: DatumId) -> Option<&Datum<Self::Kept>>
         ensures datum { option_map (λ d. d.datum) (option_copied result) ≡ get (live self.now) id }
         ensures shown { IfSome result (λ d. IsShown self.now d.now) };
 
-    /// The subscript of a container with so many smaller ones, and the datum that stands there, if it is live.
+    /// Returns the subscript of a container with `index` smaller ones, and the datum of that member, if it is live.
     fn member<'a>(
         &'a self,
         container: &'a Datum<Self::Kept>,
@@ -42,7 +42,7 @@ pub trait Told {
         ensures { option_map (λ m. (m.0.now, option_map (λ d. d.datum) (option_copied m.1))) result ≡ member_told (live self.now) container.now.datum index };
 }
 
-/// A state of the reference machine, which looks a member up by its id.
+/// A state of the reference machine looks up a member by its id.
 impl Told for State {
     type Kept = DatumId;
 

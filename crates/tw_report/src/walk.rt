@@ -11,7 +11,7 @@ use std::alloc::{AllocError, Global};
 use std::collections::{BTreeMap, BTreeSet};
 use tw_types::{DatumId, Link, Pending, RuleNo};
 
-/// The rule of this index comes to be the one that is found at each of the data.
+/// Makes this rule the writer of each of these data, in place of a later one.
 fn put_writer(
     found: &mut BTreeMap<u64, usize>,
     ids: &[DatumId],
@@ -25,7 +25,7 @@ fn put_writer(
     Ok(())
 }
 
-/// The index of the first rule that may write a datum, by the datum's number. The rules are put from the last to the first, so
+/// Returns the index of the first rule that may write a datum, by the datum's number. Adds the rules from the last to the first, so
 /// that the first stays.
 fn first_writers(alloc: Global, rules: &[Pending]) -> Result<BTreeMap<u64, usize>, AllocError>
     ensures { IfOk result (λ found. (n : ℕ) → option_and_then (slice_get rules.now) (get nat_cmp found n) ≡ writer_of n rules.now) }
@@ -38,7 +38,7 @@ fn first_writers(alloc: Global, rules: &[Pending]) -> Result<BTreeMap<u64, usize
     Ok(found)
 }
 
-/// The first of the rules that may write the datum.
+/// Returns the first of the rules that may write the datum.
 fn writer_of<'a>(
     datum: DatumId,
     rules: &'a [Pending],
@@ -53,7 +53,7 @@ fn writer_of<'a>(
     }
 }
 
-/// The link by which the walk goes on from a rule, and the rule to which it leads.
+/// Returns the link by which the walk continues from a rule, and the rule to which it leads.
 fn step_from<'a>(
     at: &Pending,
     rules: &'a [Pending],
@@ -73,7 +73,7 @@ fn step_from<'a>(
     Some((link, next))
 }
 
-/// The trail from the first link of the rule on.
+/// Returns the trail from the first link of the rule on.
 fn since(rule: RuleNo, trail: &[Link]) -> &[Link]
     ensures { result.now ≡ since rule trail.now }
 {
@@ -85,7 +85,7 @@ fn since(rule: RuleNo, trail: &[Link]) -> &[Link]
     &[]
 }
 
-/// The circle of a walk that has made this trail and is at a rule that was met.
+/// Returns the circle of a walk that has made this trail and is at a rule that was met.
 fn closed(alloc: Global, rule: RuleNo, trail: &[Link]) -> Result<Option<Vec<Link>>, AllocError>
     ensures { IfOk result (λ found. option_map (λ v. v.items) found ≡ Some (since rule trail.now)) }
 {
@@ -94,7 +94,7 @@ fn closed(alloc: Global, rule: RuleNo, trail: &[Link]) -> Result<Option<Vec<Link
     Ok(Some(circle))
 }
 
-/// The circle that the walk from the first rule comes to, if it comes to one.
+/// Returns the circle at the end of the walk from the first rule, if there is one.
 pub fn circle_of(alloc: Global, rules: &[Pending]) -> Result<Option<Vec<Link>>, AllocError>
     ensures { IfOk result (λ found. option_map (λ v. v.items) found ≡ circle_of rules.now) }
 {

@@ -1,4 +1,4 @@
-//! Words of a line.
+//! Splits a line into words.
 
 ghost use Rattle.std.specs.Prelude.{◌≡◌, ◌↔◌, [], IsTrue};
 ghost use Rattle.tw_words.specs.Words.{is_parting};
@@ -11,7 +11,7 @@ fn parts_words(byte: u8) -> bool
     byte == b' ' || byte == b'\t' || byte == b'\r'
 }
 
-/// What follows the gap that stands first.
+/// Returns the bytes after the gap at the start.
 fn without_gap(bytes: &[u8]) -> &[u8]
     ensures words { words_in result.now ≡ words_in bytes.now }
     ensures here { IsAtWord result.now }
@@ -26,7 +26,7 @@ fn without_gap(bytes: &[u8]) -> &[u8]
     rest
 }
 
-/// How many bytes stand before the first gap.
+/// Returns how many bytes are before the first gap.
 fn word_length(bytes: &[u8]) -> usize
     ensures { result ≡ word_length bytes.now }
 {
@@ -40,7 +40,7 @@ fn word_length(bytes: &[u8]) -> usize
     count
 }
 
-/// The first word, and what follows it; an empty one where there is none.
+/// Returns the first word, and the bytes after it. The word is empty if there is none.
 pub fn first_word(line: &[u8]) -> (&[u8], &[u8])
     ensures { words_in line.now ≡ with_word result.0.now (words_in result.1.now) }
 {
@@ -48,7 +48,7 @@ pub fn first_word(line: &[u8]) -> (&[u8], &[u8])
     rest.split_at(word_length(rest))
 }
 
-/// Whether there is no word.
+/// Returns whether there is no word.
 pub fn is_blank(line: &[u8]) -> bool
     ensures { IsTrue result ↔ (words_in line.now ≡ []) }
 {

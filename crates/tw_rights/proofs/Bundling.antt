@@ -1,4 +1,4 @@
--- How arguments leave the right registers one by one.
+-- Arguments leave the right registers one by one.
 use Rattle.std.proofs.Common.{◌≡◌, ◌<◌, ◌≤◌, ◌+◌, ℕ, true, false, List, [], ◌∷◌, ◌++◌, refl, sym, ap, subst, ◌∙◌, arith, get_or, length, drop, IsSome}
 use Rattle.std.proofs.lemmas.List.{drop_more, drop_all, append_assoc}
 use Rattle.std.specs.declared.option.Option.{Option}

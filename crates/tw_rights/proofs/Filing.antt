@@ -1,4 +1,4 @@
--- How the rights of a bundle come into the first registers of a file.
+-- The rights of a bundle are moved to the first registers of a file.
 use Rattle.std.proofs.Common.{[], ◌≡◌, ◌<◌, ◌≤◌, ◌-◌, ◌∙◌, ℕ, suc, List, ◌∷◌, ◌++◌, Option, Some, None, refl, sym, ap, arith, map as each, set, length, length-append, replicate, append-nil}
 use Rattle.tw_types.specs.declared.value.Value.{Value}
 use Rattle.tw_rights.specs.declared.arg.Arg.{Arg}

@@ -1,4 +1,4 @@
--- Arguments, tasks, rules and right registers as the machine's definitions have them: a right is the bare id of its datum.
+-- Arguments, tasks, rules and right registers in the machine's definitions: a right is the bare id of its datum.
 use Rattle.std.specs.Prelude.{ℕ, List, Option, map as each, option_map}
 use Rattle.tw_types.specs.Mapped.{rule_by, task_by}
 use Rattle.tw_types.specs.Rule.{Rule, RuleOf}

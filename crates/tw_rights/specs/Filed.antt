@@ -11,6 +11,6 @@ rights_in (arg.Val value ∷ args) = rights_in args
 rights_in (arg.Read right ∷ args) = held.Read right ∷ rights_in args
 rights_in (arg.Write right ∷ args) = held.Write right ∷ rights_in args
 
--- the first of the sixteen registers have these, the others are empty
+-- puts these into the first of the sixteen registers, and leaves the others empty
 abbrev pub filed : List Held → List (Option Held)
 filed rights = each Some rights ++ replicate (16 - length rights) None

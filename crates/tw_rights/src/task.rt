@@ -1,4 +1,4 @@
-//! Tasks.
+//! Tasks whose arguments are rights.
 
 use crate::bundle::Bundle;
 use tw_types::TaskNo;

@@ -1,4 +1,4 @@
--- How the agendas stay right where the rules change at one number.
+-- The agendas stay right if the rules change at one number.
 use Rattle.std.proofs.Common.{[], ◌≡◌, ◌≤◌, ◌<◌, ◌⊎◌, inl, inr, ℕ, ◌+◌, Bool, true, false, ◌&&◌, cond, not, is_some, List, ◌∷◌, ◌++◌, length, refl, sym, ap, subst, ◌∙◌, slice_set, arith}
 use Rattle.std.specs.Prelude.{Option, Some, None, slice_get}
 use Rattle.std.specs.FinMap.{get, insert, remove, nat_cmp-IsAntisymmetric}
@@ -251,7 +251,7 @@ module _ (n : ℕ) (was now : Option R) (old new : Rules) (changed : Changed n w
       | inr same ↦ ap wants (ap (get new) (sym same) ∙ changed.here ∙ is) ∙ has
     ]
 
-    -- a new rule is to be asked for
+    -- a new rule with an unasked parameter
     pub added_asked : was ≡ None → n ≡ next → n < more → has_unasked rule ≡ true → is_releasable rule ≡ false → HasAsked n agenda after → IsAgenda engine new more after
     added_asked none at low has cannot does = record {
       asks = subst (AreAsks engine new more) (sym does.asks) pushed;

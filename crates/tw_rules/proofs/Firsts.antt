@@ -1,4 +1,4 @@
--- What an engine asks for and releases next, told by what the map of the rules answers.
+-- The next ask and the next release of an engine, by look-ups in the map of the rules.
 use Rattle.std.proofs.Common.{[], ◌≡◌, ◌≤◌, ◌<◌, ℕ, ◌+◌, Bool, true, false, ◌&&◌, ◌||◌, cond, T, List, ◌∷◌, refl, sym, ap, ◌∙◌, nat_eq, nat_lt, option_map, arith}
 use Rattle.std.specs.Prelude.{option_and_then}
 use Rattle.std.proofs.lemmas.Bool.{and_from, and_parts}

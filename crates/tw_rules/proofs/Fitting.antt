@@ -99,7 +99,7 @@ fitting_gone rules number rule there all q other e =
       | inr apart ↦ all q other (sym (gone.others q apart) ∙ e)
     ]
 
--- ---- what is asked for is a right to read
+-- ---- a parameter that is asked for is a read right
 
 unasked_right : (a : Arg) (s : Stage) → is_unasked s ≡ true → SuitsStage a s → IsSome (read_right a)
 unasked_right a Free e h = cc

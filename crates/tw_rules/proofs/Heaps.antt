@@ -22,7 +22,7 @@ Item = Reverse ℕ
 abbrev number_of : Item → ℕ
 number_of r = r.0
 
--- the least number goes first
+-- the least number is first
 abbrev order : Item → Item → Ordering
 order x y = nat_cmp y.0 x.0
 
@@ -39,7 +39,7 @@ least_of items x there upper = record {
   below = λ n c. let from = mapped_from number_of items n c in subst (λ k. x.0 ≤ k) from.2 (not_under from.0.0 x.0 (all_at (λ (y : Item). is_lt (nat_cmp y.0 x.0) ≡ false) items from.0 upper from.1));
 }
 
--- what is seen of the first item
+-- the first item of a heap
 pub peeked : (items : List Item) (o : Option (Bor Item)) (y : Item) → option_copied o ≡ Some y → IsItemAt items 0 o → IfSome o (λ x. IsHeap order items → IsUpperBound order x.now items)
     → IsHeap order items → IsLeast (map number_of items) y.0
 peeked items None y e item upper heap = cc

@@ -1,4 +1,4 @@
--- Where a rule of an engine can be added for sure.
+-- When a rule of an engine can be added without an allocation.
 use Rattle.std.proofs.Common.{[], ◌≡◌, ◌≤◌, ◌<◌, inl, inr, ℕ, zero, suc, Bool, true, false, List, ◌∷◌, get_or, refl, sym, subst, ◌∙◌, slice_set, nat_lt, arith}
 use Rattle.std.specs.Prelude.{Some, slice_get}
 use Rattle.std.proofs.lemmas.Bool.{and_from, and_parts}
@@ -27,7 +27,7 @@ room_is has [] engine agenda at place room = cc
 room_is has (a ∷ agendas) zero agenda at place room = let same : a ≡ agenda = cc in and_from _ _ place (subst (λ x. agenda_room x ≡ true) (sym same) room)
 room_is has (a ∷ agendas) (suc engine) agenda at place room = room_is has agendas engine agenda at place room
 
--- the same agendas
+-- if the agendas are the same
 pub room_same : (old new : Bool) (agendas : List Agenda) → (old ≡ true → new ≡ true) → (engine : ℕ) → get_or (rooms_of old agendas) engine false ≡ true → get_or (rooms_of new agendas) engine false ≡ true
 room_same old new agendas kept engine h = let is = has_room old agendas engine h in room_is new agendas engine is.agenda is.at (kept is.place) is.room
 

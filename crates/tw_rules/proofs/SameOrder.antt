@@ -1,4 +1,4 @@
--- Two lists that have the same elements and rise by a number, of which none comes twice, are one.
+-- Two lists with the same elements, which rise by a number and have no duplicates, are equal.
 use Rattle.std.proofs.Common.{◌≡◌, ◌<◌, ◌≤◌, ◌-◌, ℕ, suc, List, [], ◌∷◌, length, map, slice_index_or, refl, sym, ap, ◌∙◌, arith}
 use Rattle.std.specs.List.{AllByRecursion, sum_by}
 use Rattle.std.specs.List.Sorted.{IsNonDecreasingBy, IsPermutation}
@@ -48,7 +48,7 @@ same_numbers (a ∷ ns) (b ∷ bs) up ups same =
     let is : b ≡ a = omega (arith, not_above a b ns bs ups.0 (same (λ x. b - x)), not_above b a bs ns up.0 (sym (same (λ x. a - x)))) in
     ap (λ (x : ℕ). x ∷ bs) is ∙ ap (λ (xs : List ℕ). a ∷ xs) (same_numbers ns bs up.1 ups.1 (same_rest a b ns bs is same))
 
--- ---- what has numbers
+-- ---- items with numbers
 
 module _ {X : Type 0} (number : X → ℕ) where
   low : (m : ℕ) (ys : List X) → ((k : ℕ) (d : X) → k < length ys → m ≤ number (slice_index_or ys k d)) → AllByRecursion (λ b. m ≤ b) (map number ys)

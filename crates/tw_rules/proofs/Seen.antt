@@ -112,7 +112,7 @@ module _ {V X : Type 0} (f : V → X) where
 -- ---- a finite map without one of its entries
 
 module _ {X : Type 0} where
-  -- what a new key puts in stands first in some order
+  -- a new entry is the first in some order
   put_first : (k : ℕ) (v : X) (es : List (ℕ × X)) → find nat_cmp k es ≡ None → IsPermutation ((k, v) ∷ es) (put nat_cmp k v es)
   put_first k v [] e = IsPermutation-refl ((k, v) ∷ [])
   put_first k v (x ∷ es) e = by (nat_cmp k x.0) e (put_first k v es)
@@ -130,7 +130,7 @@ module _ {X : Type 0} where
       | inr apart ↦ insert_other nat_cmp nat_cmp_total nat_cmp-IsAntisymmetric (remove m n) n x q apart ∙ remove_other nat_cmp nat_cmp_total nat_cmp-IsAntisymmetric m n q apart
     ])
 
-    -- it stands first, in some order
+    -- it is the first in some order
     pub entry_out : IsPermutation (entries m) ((n, x) ∷ entries (remove m n))
     entry_out =
         let gone : find nat_cmp n (entries (remove m n)) ≡ None = sym (get-entries (remove m n) n) ∙ get-remove_same nat_cmp nat_cmp_total m n in

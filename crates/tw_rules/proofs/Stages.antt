@@ -14,7 +14,7 @@ settled_or_not Unasked h = cc
 settled_or_not Waiting h = cc
 settled_or_not Ready h = refl
 
--- where all is settled nothing is unasked
+-- if all parameters are settled none is unasked
 pub settled_idle : (stages : List Stage) → list_all is_settled stages ≡ true → list_any is_unasked stages ≡ false
 settled_idle [] h = refl
 settled_idle (s ∷ stages) h = by (is_settled s) refl h (settled_idle stages)
@@ -24,7 +24,7 @@ settled_idle (s ∷ stages) h = by (is_settled s) refl h (settled_idle stages)
     by true e h rest = rw (settled_or_not s e) (rest h)
     by false e h rest = cc
 
--- a new rule that isn't settled has something unasked
+-- a new rule that isn't settled has an unasked parameter
 pub fresh_unasked : (params : List Param) → list_all is_settled (map (λ p. first_stage p.mode) params) ≡ false → list_any is_unasked (map (λ p. first_stage p.mode) params) ≡ true
 fresh_unasked [] h = cc
 fresh_unasked (p ∷ params) h = by (is_closed_mode p.mode) h (fresh_unasked params)
@@ -35,7 +35,7 @@ fresh_unasked (p ∷ params) h = by (is_closed_mode p.mode) h (fresh_unasked par
     by true h rest = refl
     by false h rest = rest h
 
--- a stage that isn't `Unasked` makes nothing unasked
+-- a stage other than `Unasked` makes no parameter unasked
 pub staged_unasked : (stages : List Stage) (k : ℕ) (s : Stage) → is_unasked s ≡ false → list_any is_unasked (slice_set stages k s) ≡ true → list_any is_unasked stages ≡ true
 staged_unasked [] k s e h = h
 staged_unasked (t ∷ stages) zero s e h = by (is_unasked t)
@@ -53,7 +53,7 @@ staged_unasked (t ∷ stages) (suc k) s e h = by (is_unasked t) h (staged_unaske
     by true h rest = refl
     by false h rest = rest h
 
--- what isn't settled holds the rule
+-- a parameter that isn't settled keeps the rule from being released
 pub unsettled_holds : (stages : List Stage) (k : ℕ) → option_map is_settled (slice_get stages k) ≡ Some false → list_all is_settled stages ≡ false
 unsettled_holds [] k h = cc
 unsettled_holds (s ∷ stages) zero h = let e : is_settled s ≡ false = cc in rw e refl

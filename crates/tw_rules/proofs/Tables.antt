@@ -1,4 +1,4 @@
--- What each call of the table asks of the index and leaves of it.
+-- Requirements and effects of each call of the table, on the index.
 use Rattle.std.proofs.Common.{[], ◌≡◌, ◌≤◌, ◌<◌, inl, inr, ℕ, zero, suc, ◌+◌, Bool, true, false, is_some, List, ◌∷◌, map, length, refl, sym, ap, subst, ◌∙◌, slice_set, get_or, nat_lt, arith}
 use Rattle.std.specs.Prelude.{Option, Some, None, slice_get, option_map, option_and_then}
 use Rattle.std.specs.FinMap.{get, insert, remove, empty, get-empty}
@@ -27,7 +27,7 @@ use Rattle.tw_rules.proofs.Changes.{Changed, changed_insert, changed_remove, oth
 abbrev R : Type 0
 R = RuleOf Arg
 
--- ---- what is asked for and released next
+-- ---- the next ask and the next release
 
 first_least : (xs : List ℕ) (x y : ℕ) → Rises xs → slice_get xs 0 ≡ Some x → Contains xs y → x ≤ y
 first_least [] x y h e c = cc
@@ -243,7 +243,7 @@ module _ (rules : Rules) (next : ℕ) (agendas : List Agenda) (is : IsIndexed ru
         by false is_can = staged_held number (Some was) (Some now) rules new changes engine next next (omega arith) now refl own agenda after (is.each_engine engine agenda at) was refl own held less trimmed
             (can_be ∙ is_can) (stays is_can)
 
--- the same, where the engine's agenda stands at a place that is told
+-- like that, if the engine's agenda is at a given place
 module _ (rules : Rules) (next : ℕ) (agendas : List Agenda) (is : IsIndexed rules next agendas) (number parameter : ℕ) (stage : Stage) (asked : is_unasked stage ≡ false)
     (unsettled : option_map is_settled (stage_at rules number parameter) ≡ Some false) (after : Rules) (is_staged : after ≡ staged rules number parameter stage) (k engine : ℕ) (same : k ≡ engine) (can : Bool)
     (engine_is : option_map (λ (rule : R). rule.engine) (get after number) ≡ Some engine) (can_is : option_map is_releasable (get after number) ≡ Some can) where

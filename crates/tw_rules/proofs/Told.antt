@@ -1,4 +1,4 @@
--- The rules of a table, as they are told, rise by their numbers.
+-- The rules that a table returns at the end rise by their numbers.
 use Rattle.std.proofs.Common.{◌<◌, ℕ, T, List, [], ◌∷◌, map, sym}
 use Rattle.std.specs.FinMap.{entries, entries_sorted}
 use Rattle.std.specs.FinMap.Entries.{below_all, is_sorted}

@@ -6,7 +6,7 @@ use Rattle.tw_types.specs.Rule.{RuleOf, RulesOf}
 use Rattle.tw_rights.specs.declared.arg.Arg.{Arg}
 use Rattle.tw_rules.specs.declared.pending.Pending.{Pending}
 
--- the rule that an entry keeps
+-- returns the rule of an entry
 abbrev pub rule_in : Pending → RuleOf Arg
 rule_in p = record {
   engine = p.engine;
@@ -20,6 +20,6 @@ rule_in p = record {
 abbrev pub rules_in : List (ℕ × Pending) → RulesOf Arg
 rules_in entries = from_entries (map (λ e. (e.0, rule_in e.1)) entries)
 
--- the entry of a number
+-- returns the entry of a number
 abbrev pub entry_of : List (ℕ × Pending) → ℕ → Option Pending
 entry_of entries number = lookup (nat_eq number) entries

@@ -1,4 +1,4 @@
--- How the agendas of the engines tell what there is to do.
+-- The engines' agendas as an index of the rules.
 use Rattle.std.specs.Prelude.{◌≡◌, ℕ, ◌==◌, ◌<◌, ◌≤◌, Bool, true, false, not, nat_lt, ◌&&◌, if◌then◌else◌, List, [], map as each, length, Option, Some, None, slice_get, is_some}
 use Rattle.std.specs.List.{Contains}
 use Rattle.std.specs.FinMap as map
@@ -21,41 +21,41 @@ abbrev pub wants : Option (RuleOf Arg) → Bool
 wants None = false
 wants (Some rule) = has_unasked rule
 
--- the rule of the number has something unasked
+-- returns whether the rule of the number has an unasked parameter
 abbrev pub is_wanting : Rules → ℕ → Bool
 is_wanting rules number = wants (map.get rules number)
 
--- in order, each rule of the engine that has something unasked, and none of another engine
+-- each rule of the engine with an unasked parameter, in order, and no rule of another engine
 pub record AreAsks (engine : ℕ) (rules : Rules) (next : ℕ) (asks : List ℕ) : Type 0 where
   pub rises : Rises asks
   pub below : (number : ℕ) → Contains asks number → number < next
   pub complete : (number : ℕ) (rule : RuleOf Arg) → map.get rules number ≡ Some rule → rule.engine ≡ engine → has_unasked rule ≡ true → Contains asks number
   pub own : (number : ℕ) (rule : RuleOf Arg) → map.get rules number ≡ Some rule → Contains asks number → rule.engine ≡ engine
 
--- the first one has something unasked
+-- holds if the first one has an unasked parameter
 abbrev pub IsFirstWanting : Rules → List ℕ → Type 0
 IsFirstWanting rules asks = (number : ℕ) → slice_get asks 0 ≡ Some number → is_wanting rules number ≡ true
 
 -- ---- releasing
 
--- just the rules of the engine that can be released, and perhaps some that aren't pending
+-- all releasable rules of the engine, and perhaps numbers that aren't pending
 pub record AreReleases (engine : ℕ) (rules : Rules) (next : ℕ) (releases : List ℕ) : Type 0 where
   pub below : (number : ℕ) → Contains releases number → number < next
   pub complete : (number : ℕ) (rule : RuleOf Arg) → map.get rules number ≡ Some rule → rule.engine ≡ engine → is_releasable rule ≡ true → Contains releases number
   pub own : (number : ℕ) (rule : RuleOf Arg) → map.get rules number ≡ Some rule → Contains releases number → (rule.engine ≡ engine) × (is_releasable rule ≡ true)
 
--- the least one is pending
+-- holds if the least one is pending
 abbrev pub IsLeastPending : Rules → List ℕ → Type 0
 IsLeastPending rules releases = (number : ℕ) → IsLeast releases number → is_some (map.get rules number) ≡ true
 
--- a rule of the engine that can't be released yet
+-- returns whether it is a rule of the engine that can't be released yet
 abbrev pub is_open : ℕ → RuleOf Arg → Bool
 is_open engine rule = (rule.engine == engine) && not (is_releasable rule)
 
 abbrev pub open_count : ℕ → RuleOf Arg → ℕ
 open_count engine rule = if is_open engine rule then 1 else 0
 
--- numbers that aren't pending may have left, so that the least one is pending
+-- numbers that aren't pending may be dropped, so that the least one is pending
 pub record IsTrimmed (rules : Rules) (old new : List ℕ) : Type 0 where
   pub sound : (number : ℕ) → Contains new number → Contains old number
   pub kept : (number : ℕ) → Contains old number → is_some (map.get rules number) ≡ true → Contains new number
@@ -75,7 +75,7 @@ pub record IsIndexed (rules : Rules) (next : ℕ) (agendas : List Agenda) : Type
   pub each_engine : (engine : ℕ) (agenda : Agenda) → slice_get agendas engine ≡ Some agenda → IsAgenda engine rules next agenda
   pub known : (number : ℕ) (rule : RuleOf Arg) → map.get rules number ≡ Some rule → (number < next) × (rule.engine < 4)
 
--- ---- room
+-- ---- reserved memory
 
 abbrev pub agenda_room : Agenda → Bool
 agenda_room agenda = agenda.asks.has_room && agenda.releases.has_room
@@ -83,13 +83,13 @@ agenda_room agenda = agenda.asks.has_room && agenda.releases.has_room
 abbrev pub rooms_of : Bool → List Agenda → List Bool
 rooms_of has_room agendas = each (λ agenda. has_room && agenda_room agenda) agendas
 
--- a place in the hash map, and one among the rules that are told at the end
+-- returns whether there is memory for one more in the hash map, and in the list that is returned at the end
 abbrev pub has_place : ℕ → ℕ → ℕ → Bool
 has_place spare len capacity = nat_lt 0 spare && nat_lt len capacity
 
 -- ---- the table
 
--- each rule has a stage for each argument, which suits it
+-- holds if each rule has a stage for each argument, which suits it
 abbrev pub AreFitting : Rules → Type 0
 AreFitting rules = (number : ℕ) (rule : RuleOf Arg) → map.get rules number ≡ Some rule → FitsStages rule
 

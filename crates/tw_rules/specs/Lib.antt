@@ -1,5 +1,5 @@
--- What a reader must believe for tw_rules is Table: what contracts see of the table of rules. The rest is said in the
--- words of tw_types: Rule. The other files are for the clauses and the invariant inside.
+-- The definition that a reader has to trust for tw_rules is Table: the model of the table of rules. The rest is in tw_types: Rule.
+-- The other files are for private clauses and the invariant.
 pub mod Numbers
 pub mod Table
 pub mod Entries

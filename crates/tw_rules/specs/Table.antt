@@ -1,4 +1,4 @@
--- What contracts see of the table of rules.
+-- The model of the table of rules.
 use Rattle.std.specs.Prelude.{ℕ, Bool, false, List, map as each, Option, Some, None, IsSome, slice_get, slice_index_or}
 use Rattle.std.specs.List.{AllZip}
 use Rattle.std.specs.Option.{option_and_then}
@@ -17,20 +17,20 @@ use Rattle.tw_rules.specs.declared.plain.PlainArg.{PlainArg}
 use Rattle.tw_rules.specs.declared.plain.PlainArg.TheVariants as plain
 use Rattle.tw_rules.specs.declared.plain.PlainRule.{PlainRule}
 
--- the rules that are pending, by their numbers; the number of the next one; and for each engine whether a rule of it can
--- be added for sure
+-- the pending rules, by their numbers; the number of the next one; and for each engine whether a rule of it can be added without an
+-- allocation
 pub record Table : Type 0 where
   pub rules : RulesOf Arg
   pub next : ℕ
   pub rooms : List Bool
 
--- whether a rule of this engine can be added without memory
+-- returns whether a rule of this engine can be added without an allocation
 abbrev pub room_for : ℕ → Table → Bool
 room_for engine table = slice_index_or table.rooms engine false
 
 -- ---- one rule
 
--- a rule of an engine for such a task, with every `closed` parameter unasked
+-- returns a rule of an engine for such a task, with every `closed` parameter unasked
 abbrev pub new_rule : ℕ → List Param → PlannedTask → List Arg → RuleOf Arg
 new_rule engine params action args = record {
   engine = engine;
@@ -44,7 +44,7 @@ new_rule engine params action args = record {
 abbrev pub action_of : RuleOf Arg → PlannedTask
 action_of rule = record { procedure = rule.procedure; priority = rule.priority; target = rule.target }
 
--- the right of an argument, if it is one to read
+-- returns the right of an argument, if it is a read right
 abbrev pub read_right : Arg → Option Right
 read_right (Val value) = None
 read_right (Read right) = Some right
@@ -62,43 +62,43 @@ IsWrite (Val value) = ⊥
 IsWrite (Read right) = ⊥
 IsWrite (Write right) = Unit {0}
 
--- an argument such as a mode asks for
+-- holds if an argument suits the mode
 abbrev pub SuitsMode : Mode → Arg → Type 0
 SuitsMode mode.Val arg = IsValue arg
 SuitsMode mode.Closed arg = IsSome (read_right arg)
 SuitsMode mode.Ref arg = IsSome (read_right arg)
 SuitsMode mode.Write arg = IsWrite arg
 
--- an argument of its mode for each parameter
+-- holds if each parameter has an argument of its mode
 abbrev pub AreArgsOf : List Param → List Arg → Type 0
 AreArgsOf params args = AllZip (λ p arg. SuitsMode p.mode arg) params args
 
--- only of a right to read is there something to be known
+-- holds if the argument is a read right, or the parameter isn't asked for
 abbrev pub SuitsStage : Arg → Stage → Type 0
 SuitsStage arg Free = Unit {0}
 SuitsStage arg Unasked = IsSome (read_right arg)
 SuitsStage arg Waiting = IsSome (read_right arg)
 SuitsStage arg Ready = IsSome (read_right arg)
 
--- a stage for each argument, which suits it
+-- holds if each argument has a stage, which suits it
 abbrev pub FitsStages : RuleOf Arg → Type 0
 FitsStages rule = AllZip SuitsStage rule.args rule.stages
 
 -- ---- one of the rules
 
--- the stage of a parameter, if both are there
+-- returns the stage of a parameter, if the rule and the parameter are there
 abbrev pub stage_at : RulesOf Arg → ℕ → ℕ → Option Stage
 stage_at rules number parameter = option_and_then (λ rule. slice_get rule.stages parameter) (map.get rules number)
 
--- the argument for a parameter, if both are there
+-- returns the argument of a parameter, if the rule and the parameter are there
 abbrev pub arg_at : RulesOf Arg → ℕ → ℕ → Option Arg
 arg_at rules number parameter = option_and_then (λ rule. slice_get rule.args parameter) (map.get rules number)
 
--- the right that stands for a parameter, if it is one to read
+-- returns the right that is the argument of a parameter, if it is a read right
 abbrev pub right_at : RulesOf Arg → ℕ → ℕ → Option Right
 right_at rules number parameter = option_and_then read_right (arg_at rules number parameter)
 
--- the rules where the parameter is at this stage
+-- changes the stage of the parameter
 abbrev pub staged : RulesOf Arg → ℕ → ℕ → Stage → RulesOf Arg
 staged rules number parameter stage = staged_by (map.get rules number)
   where
@@ -113,6 +113,6 @@ plain_arg (Val value) = plain.Val
 plain_arg (Read right) = plain.Read right.id
 plain_arg (Write right) = plain.Write right.id
 
--- a rule with its number, as it is told at the end
+-- returns a rule with its number, without rights
 abbrev pub told : ℕ × RuleOf Arg → PlainRule
 told e = record { number = e.0; engine = e.1.engine; action = action_of e.1; args = each plain_arg e.1.args; stages = e.1.stages }

@@ -1,4 +1,4 @@
-//! What one engine has to do with its rules.
+//! The work of one engine on its rules.
 
 ghost use Rattle.std.specs.Prelude.{◌≡◌, ◌<◌, ◌+◌, ◌∷◌, ◌++◌, [], IsOk, OnOk, true, false, if◌then◌else◌};
 ghost use Rattle.tw_rules.specs.Numbers.{from_first};
@@ -13,7 +13,7 @@ use crate::releases::Releases;
 use std::alloc::{AllocError, Global};
 use std::collections::HashMap;
 
-/// The rules that an engine asks for, and those that it releases.
+/// The rules for which an engine asks, and those that it releases.
 #[derive(Drop)]
 pub struct Agenda {
     pub asks: Asks,
@@ -32,7 +32,7 @@ impl Agenda {
         }
     }
 
-    /// Makes room for one rule.
+    /// Reserves memory for one rule.
     pub fn reserve(&mut self) -> Result<(), AllocError>
         ensures same { IsSameAgenda self.old self.new }
         ensures room { OnOk result (agenda_room self.new ≡ true) }
@@ -43,7 +43,7 @@ impl Agenda {
         self.releases.reserve()
     }
 
-    /// Adds a rule: to be released, or to be asked for.
+    /// Adds a rule: to the releases if it is releasable, else to the asks.
     pub fn add(&mut self, number: u64, is_releasable: bool)
         requires { agenda_room self.old ≡ true }
         ensures released { is_releasable ≡ true → HasReleased number self.old self.new }
@@ -57,7 +57,7 @@ impl Agenda {
         }
     }
 
-    /// Moves a rule that can be released now, and drops from the front what has nothing unasked.
+    /// Moves a rule that has become releasable, and drops the leading asks without an unasked parameter.
     pub fn advance(&mut self, rules: &HashMap<u64, Pending>, number: u64, is_releasable: bool)
         requires { is_releasable ≡ true → 0 < self.old.releases.promised }
         ensures asks { self.new.asks.numbers ≡ from_first (is_wanting (rules_in rules.now.entries)) self.old.asks.numbers }
@@ -71,7 +71,7 @@ impl Agenda {
         trim_asks(&mut self.asks, rules);
     }
 
-    /// Drops from the front what isn't pending any more.
+    /// Drops the leading releases that aren't pending any more.
     pub fn trim_releases(&mut self, rules: &HashMap<u64, Pending>)
         ensures asks { self.new.asks ≡ self.old.asks }
         ensures releases { IsTrimmed (rules_in rules.now.entries) self.old.releases.numbers self.new.releases.numbers }

@@ -1,4 +1,4 @@
-//! Rules by their numbers, the least first.
+//! Rules by rising number.
 
 ghost use Rattle.std.specs.Prelude.{◌≡◌, ◌++◌, ◌∷◌, [], IsOk, OnOk, true, slice_get, drop};
 
@@ -6,7 +6,7 @@ use std::alloc::{AllocError, Global};
 use std::collections::VecDeque;
 use std::marker::Model;
 
-/// The numbers of the rules of an engine that had something unasked when they were added, in the order of adding.
+/// The numbers of an engine's rules that had an unasked parameter when they were added, in the order of adding.
 #[derive(Drop)]
 pub struct Asks {
     numbers: VecDeque<u64>,
@@ -34,7 +34,7 @@ impl Asks {
         }
     }
 
-    /// Makes room for one number.
+    /// Reserves memory for one number.
     pub fn reserve(&mut self) -> Result<(), AllocError>
         ensures same { self.new.numbers ≡ self.old.numbers }
         ensures room { OnOk result (self.new.has_room ≡ true) }
@@ -55,14 +55,14 @@ impl Asks {
         }
     }
 
-    /// The first number.
+    /// Returns the first number.
     pub fn first(&self) -> Option<u64>
         ensures { result ≡ slice_get self.now.numbers 0 }
     {
         self.numbers.front().copied()
     }
 
-    /// Takes the first number out.
+    /// Drops the first number.
     pub fn drop_first(&mut self)
         ensures rest { self.new.numbers ≡ drop 1 self.old.numbers }
         ensures room { self.old.has_room ≡ true → self.new.has_room ≡ true }

@@ -13,7 +13,7 @@ use crate::pending::Pending;
 use std::collections::HashMap;
 use tw_types::Stage;
 
-/// Whether the rule is there and has something unasked.
+/// Returns whether the rule is in the map and has an unasked parameter.
 pub fn has_unasked(rules: &HashMap<u64, Pending>, number: u64) -> bool
     ensures { result ≡ is_wanting (rules_in rules.now.entries) number }
 {
@@ -35,7 +35,7 @@ pub fn find(rules: &HashMap<u64, Pending>, number: u64) -> Option<&Pending>
     rules.get(&number)
 }
 
-/// A rule that is there.
+/// Returns a rule that is in the map.
 pub fn pending(rules: &HashMap<u64, Pending>, number: u64) -> &Pending
     requires { IsSome (get (rules_in rules.now.entries) number) }
     ensures { get (rules_in rules.now.entries) number ≡ Some (rule_in result.now) }
@@ -46,7 +46,7 @@ pub fn pending(rules: &HashMap<u64, Pending>, number: u64) -> &Pending
     }
 }
 
-/// Puts a parameter of a rule at a stage, and tells the rule's engine and whether it can be released now.
+/// Changes the stage of a rule's parameter. Returns the rule's engine, and whether the rule is releasable now.
 pub fn set_stage(
     rules: &mut HashMap<u64, Pending>,
     number: u64,
@@ -69,14 +69,14 @@ pub fn set_stage(
     }
 }
 
-/// A number that is there, if there is one.
+/// Returns any number of the map, if it isn't empty.
 pub fn first_number(rules: &HashMap<u64, Pending>) -> Option<u64>
     ensures { MatchOption result (rules.now.entries ≡ []) (λ number. IsSome (entry_of rules.now.entries number)) }
 {
     rules.keys().next().copied()
 }
 
-/// A number that is there, if there is one: from this one on the least below the next, where there is such a one.
+/// Returns a number of the map, if it isn't empty: the least one from `from` on below `next`, else any.
 pub fn number_from(rules: &HashMap<u64, Pending>, from: u64, next: u64) -> Option<u64>
     ensures { MatchOption result (rules.now.entries ≡ []) (λ number. IsSome (entry_of rules.now.entries number)) }
 {
@@ -89,7 +89,7 @@ pub fn number_from(rules: &HashMap<u64, Pending>, from: u64, next: u64) -> Optio
     Some(first)
 }
 
-/// Adds a rule for which there is room.
+/// Adds a rule for which memory is reserved.
 pub fn put(rules: &mut HashMap<u64, Pending>, number: u64, rule: Pending)
     requires room { 0 < spare rules.old }
     requires new { get (rules_in rules.old.entries) number ≡ None }
@@ -103,7 +103,7 @@ pub fn put(rules: &mut HashMap<u64, Pending>, number: u64, rule: Pending)
     }
 }
 
-/// Takes a rule out that is there.
+/// Takes out a rule that is in the map.
 pub fn take(rules: &mut HashMap<u64, Pending>, number: u64) -> Pending
     requires { IsSome (get (rules_in rules.old.entries) number) }
     ensures taken { get (rules_in rules.old.entries) number ≡ Some (rule_in result) }

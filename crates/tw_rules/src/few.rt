@@ -1,4 +1,4 @@
-//! Short lists that take no memory of their own.
+//! Short lists without memory of their own.
 
 ghost use Rattle.std.specs.Prelude.{◌≡◌, ◌<◌, ◌≤◌, [], ◌∷◌, ◌++◌, length, slice_set};
 
@@ -22,7 +22,7 @@ impl<T> Model for Few<T> {
 }
 
 impl<T: Copy> Few<T> {
-    /// No items. What is given fills the places that aren't taken.
+    /// Makes an empty list. `blank` fills the free slots.
     pub fn new(blank: T) -> Few<T>
         ensures { result ≡ [] }
     {
@@ -32,7 +32,7 @@ impl<T: Copy> Few<T> {
         }
     }
 
-    /// The items in order.
+    /// Returns the items in order.
     pub fn as_slice(&self) -> &[T]
         ensures items { result.now ≡ self.now }
         ensures few { length result.now ≤ 8 }
@@ -49,7 +49,7 @@ impl<T: Copy> Few<T> {
         self.len += 1;
     }
 
-    /// Puts another item in the place of one; past the last one it changes nothing.
+    /// Replaces the item at an index. Does nothing past the last one.
     pub fn set(&mut self, place: usize, item: T)
         ensures { self.new ≡ slice_set self.old place item }
     {

@@ -1,4 +1,4 @@
-//! The rules that are pending, with what each engine asks for and releases next at hand.
+//! The table of pending rules. For each engine it has the rule that is asked for next, and the one that is released next.
 #![tactic(auto)]
 
 mod agenda;

@@ -11,7 +11,7 @@ use crate::planned::PlannedTask;
 use tw_rights::{Arg, Bundle};
 use tw_types::{Param, RuleNo, Stage};
 
-/// A rule that is pending.
+/// A pending rule.
 pub struct Pending {
     pub engine: u8,
     pub action: PlannedTask,
@@ -20,7 +20,7 @@ pub struct Pending {
 }
 
 impl Pending {
-    /// The first parameter that is unasked.
+    /// Returns the first unasked parameter.
     pub fn first_unasked(&self) -> Option<u8>
         ensures { result ≡ first_unasked 0 self.now.stages }
     {
@@ -33,14 +33,14 @@ impl Pending {
         Stage::any_unasked(self.stages.as_slice())
     }
 
-    /// Whether nothing is left to be known of any parameter.
+    /// Returns whether all parameters are settled.
     pub fn is_releasable(&self) -> bool
         ensures { result ≡ is_releasable (rule_in self.now) }
     {
         Stage::all_settled(self.stages.as_slice())
     }
 
-    /// Ends the rule with its rights, and tells it.
+    /// Ends the rule with its rights, and returns it without rights.
     pub fn spend(self, number: u64) -> PlainRule
         ensures { result ≡ told (number, rule_in self) }
     {
@@ -62,7 +62,7 @@ impl Pending {
     }
 }
 
-/// The stage of each parameter when a rule is made.
+/// Returns the stage of each parameter in a new rule.
 pub fn first_stages(params: &[Param]) -> Few<Stage>
     requires { length params.now ≤ 8 }
     ensures { result ≡ map (λ p. first_stage p.mode) params.now }

@@ -8,13 +8,13 @@ use tw_types::{DatumId, RuleNo, Stage};
 #[derive(Clone, Copy, PartialEq, Eq)]
 pub enum PlainArg {
     Val,
-    /// A right to read the datum of this id.
+    /// A read right on the datum of this id.
     Read(DatumId),
-    /// A right to write the datum of this id.
+    /// A write right on the datum of this id.
     Write(DatumId),
 }
 
-/// A rule that was pending, as plain numbers and ids.
+/// A rule that was pending, without rights: numbers and ids.
 #[derive(Drop)]
 pub struct PlainRule {
     pub number: RuleNo,
@@ -22,6 +22,6 @@ pub struct PlainRule {
     pub engine: u8,
     pub action: PlannedTask,
     pub args: Few<PlainArg>,
-    /// What was known of each parameter.
+    /// The stage of each parameter.
     pub stages: Few<Stage>,
 }

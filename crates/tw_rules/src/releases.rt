@@ -1,4 +1,4 @@
-//! Rules that can be released.
+//! Releasable rules.
 
 ghost use Rattle.std.specs.Prelude.{◌≡◌, ◌<◌, ◌+◌, ◌∷◌, [], IsOk, OnOk, MatchOption, true};
 ghost use Rattle.std.specs.List.Sorted.{IsPermutation};
@@ -9,7 +9,7 @@ use std::cmp::Reverse;
 use std::collections::BinaryHeap;
 use std::marker::Model;
 
-/// The numbers of the rules of an engine that can be released, and room for so many more as are promised.
+/// The numbers of an engine's rules that can be released, with reserved memory for `promised` more.
 #[derive(Drop)]
 pub struct Releases {
     heap: BinaryHeap<Reverse<u64>>,
@@ -43,7 +43,7 @@ impl Releases {
         }
     }
 
-    /// Makes room for one number more than are promised.
+    /// Reserves memory for one number more than are promised.
     pub fn reserve(&mut self) -> Result<(), AllocError>
         ensures numbers { self.new.numbers ≡ self.old.numbers }
         ensures promised { self.new.promised ≡ self.old.promised }
@@ -60,7 +60,7 @@ impl Releases {
         self.heap.reserve(wanted)
     }
 
-    /// Promises the room that was made.
+    /// Promises the memory that was reserved.
     pub fn promise(&mut self)
         requires { self.old.has_room ≡ true }
         ensures numbers { self.new.numbers ≡ self.old.numbers }
@@ -70,7 +70,7 @@ impl Releases {
         self.promised += 1;
     }
 
-    /// Adds a number for which room was made.
+    /// Adds a number for which memory was reserved.
     pub fn push(&mut self, number: u64)
         requires { self.old.has_room ≡ true }
         ensures numbers { IsPermutation (number ∷ self.old.numbers) self.new.numbers }
@@ -82,7 +82,7 @@ impl Releases {
         }
     }
 
-    /// Adds a number for which room was promised.
+    /// Adds a number for which memory was promised.
     pub fn push_promised(&mut self, number: u64)
         requires { 0 < self.old.promised }
         ensures numbers { IsPermutation (number ∷ self.old.numbers) self.new.numbers }
@@ -96,7 +96,7 @@ impl Releases {
         }
     }
 
-    /// The least number.
+    /// Returns the least number.
     pub fn first(&self) -> Option<u64>
         ensures { MatchOption result (self.now.numbers ≡ []) (IsLeast self.now.numbers) }
     {
@@ -104,7 +104,7 @@ impl Releases {
         Some(least)
     }
 
-    /// Takes the least number out.
+    /// Drops the least number.
     pub fn drop_first(&mut self)
         ensures rest { IsWithoutLeast self.old.numbers self.new.numbers }
         ensures none { self.old.numbers ≡ [] → self.new.numbers ≡ [] }

@@ -1,4 +1,4 @@
-//! The table.
+//! The table of pending rules.
 
 ghost use Rattle.std.specs.Prelude.{◌≡◌, ◌<◌, ◌≤◌, ◌+◌, ◌^◌, ℕ, length, map as each, IfOk, IfErr, IfSome, IsOk, IsSome, OnOk, OnErr, Some, true, false, option_map};
 ghost use Rattle.std.specs.FinMap as map;
@@ -20,13 +20,12 @@ use std::marker::Model;
 use tw_rights::{Arg, Bundle, ReadRight};
 use tw_types::{Param, RuleNo, Stage};
 
-/// The rules that are pending, by their numbers, and for each of the engines 0 to 3 what it has to do with its own. No
-/// number is used again.
+/// The pending rules by their numbers, and an agenda for each of the engines 0 to 3. No number is reused.
 pub struct RuleTable {
     rules: HashMap<u64, Pending>,
     next: u64,
     agendas: [Agenda; 4],
-    /// Empty, with room for all that `shut` tells.
+    /// Empty, with capacity for all rules that `shut` returns.
     told: Vec<PlainRule>,
 }
 
@@ -57,7 +56,7 @@ impl Model for RuleTable {
 }
 
 impl RuleTable {
-    /// No rules; the first is rule 1.
+    /// Makes a table without rules; the first will be rule 1.
     pub fn new(alloc: Global) -> RuleTable
         ensures rules { result.rules ≡ map.empty }
         ensures next { result.next ≡ 1 }
@@ -75,14 +74,14 @@ impl RuleTable {
         }
     }
 
-    /// The number of rules that are pending.
+    /// Returns the number of pending rules.
     pub fn pending(&self) -> usize
         ensures { result ≡ map.len self.now.rules }
     {
         self.rules.len()
     }
 
-    /// Makes room for one rule of an engine, for whatever procedure.
+    /// Reserves memory for one rule of an engine, for any procedure.
     pub fn reserve(&mut self, engine: u8) -> Result<(), AllocError>
         requires { engine < 4 }
         ensures rules { self.new.rules ≡ self.old.rules }
@@ -97,8 +96,8 @@ impl RuleTable {
         agenda.reserve()
     }
 
-    /// Adds a rule of an engine for a procedure of these parameters, each with an argument of its mode, or hands the
-    /// arguments back where memory is refused.
+    /// Adds a rule of an engine for a procedure of these parameters, each with an argument of its mode. Returns the arguments if an
+    /// allocation fails.
     pub fn add(
         &mut self,
         engine: u8,
@@ -135,8 +134,8 @@ impl RuleTable {
         Ok(RuleNo::new(number))
     }
 
-    /// The rule and the parameter that the engine asks for next: of its rules the least, and of that the least parameter
-    /// that is unasked. Its argument is a right to read.
+    /// Returns the rule and the parameter for which the engine asks next: the lowest of its rules with an unasked parameter, and the
+    /// lowest such parameter. The argument is a read right.
     pub fn next_ask(&self, engine: u8) -> Option<(RuleNo, u8)>
         ensures ask { result ≡ next_ask engine self.now.rules }
         ensures right { IfSome result (λ ask. IsSome (right_at self.now.rules ask.0 ask.1)) }
@@ -150,7 +149,7 @@ impl RuleTable {
         Some((RuleNo::new(number), parameter))
     }
 
-    /// The argument for a parameter of a rule.
+    /// Returns the argument of a rule's parameter.
     pub fn arg(&self, rule: RuleNo, parameter: u8) -> Option<&Arg>
         ensures { option_copied result ≡ arg_at self.now.rules rule parameter }
     {
@@ -158,7 +157,7 @@ impl RuleTable {
         rule.args.get(usize::from(parameter))
     }
 
-    /// The right that stands for a parameter of a rule.
+    /// Returns the read right that is the argument of a rule's parameter.
     pub fn asked_right(&self, rule: RuleNo, parameter: u8) -> &ReadRight
         requires { IsSome (right_at self.now.rules rule parameter) }
         ensures { right_at self.now.rules rule parameter ≡ Some result.now }
@@ -172,7 +171,7 @@ impl RuleTable {
         right
     }
 
-    /// What is known of a parameter of a rule.
+    /// Returns the stage of a rule's parameter.
     pub fn stage(&self, rule: RuleNo, parameter: u8) -> Option<Stage>
         ensures { result ≡ stage_at self.now.rules rule parameter }
     {
@@ -181,7 +180,7 @@ impl RuleTable {
         stages.get(usize::from(parameter)).copied()
     }
 
-    /// Whether a rule that is pending can be released.
+    /// Returns whether a pending rule can be released, or `None` if it isn't pending.
     pub fn is_releasable(&self, rule: RuleNo) -> Option<bool>
         ensures { result ≡ option_map is_releasable (get self.now.rules rule) }
     {
@@ -189,14 +188,14 @@ impl RuleTable {
         Some(rule.is_releasable())
     }
 
-    /// The number of the rule that is added next.
+    /// Returns the number of the rule that is added next.
     pub fn next(&self) -> RuleNo
         ensures { result ≡ self.now.next }
     {
         RuleNo::new(self.next)
     }
 
-    /// The datum of a parameter was open when it was asked: the parameter waits for a notice.
+    /// Makes a parameter wait for a notice. Call it when its datum was open when it was asked for.
     pub fn mark_asked(&mut self, rule: RuleNo, parameter: u8)
         requires { stage_at self.old.rules rule parameter ≡ Some Unasked }
         ensures rules { self.new.rules ≡ staged self.old.rules rule parameter Waiting }
@@ -206,7 +205,7 @@ impl RuleTable {
         self.set_stage(rule, parameter, Stage::Waiting);
     }
 
-    /// The datum of a parameter that was unasked, or waited, is closed.
+    /// Makes an unasked or waiting parameter ready. Call it when its datum is closed.
     pub fn mark_ready(&mut self, rule: RuleNo, parameter: u8)
         requires { option_map is_settled (stage_at self.old.rules rule parameter) ≡ Some false }
         ensures rules { self.new.rules ≡ staged self.old.rules rule parameter Ready }
@@ -216,7 +215,7 @@ impl RuleTable {
         self.set_stage(rule, parameter, Stage::Ready);
     }
 
-    /// The rule that the engine releases next: of its rules the least that can be.
+    /// Returns the rule that the engine releases next: the lowest of its rules that can be released.
     pub fn next_release(&self, engine: u8) -> Option<RuleNo>
         ensures { result ≡ next_release engine self.now.rules }
     {
@@ -225,7 +224,7 @@ impl RuleTable {
         Some(RuleNo::new(number))
     }
 
-    /// The task that a rule becomes.
+    /// Returns the task that a rule becomes.
     pub fn action(&self, rule: RuleNo) -> PlannedTask
         requires { IsSome (get self.now.rules rule) }
         ensures { option_map action_of (get self.now.rules rule) ≡ Some result }
@@ -233,7 +232,7 @@ impl RuleTable {
         pending(&self.rules, rule.number()).action
     }
 
-    /// Takes a rule out that can be released, and gives its arguments.
+    /// Takes out a rule that can be released, and returns its arguments.
     pub fn release(&mut self, rule: RuleNo) -> Bundle
         requires { option_map is_releasable (get self.old.rules rule) ≡ Some true }
         ensures args { option_map (λ rule. rule.args) (get self.old.rules rule) ≡ Some result }
@@ -252,8 +251,8 @@ impl RuleTable {
         args
     }
 
-    /// Spends every right, and tells the rules that were pending. They are taken by rising number, so that who sorts them finds them
-    /// sorted; nothing rests on that.
+    /// Spends every right, and returns the rules that were pending. Takes them by rising number, so that sorting them finds them
+    /// sorted; no proof depends on that.
     fn spend_all(self) -> Vec<PlainRule>
         ensures { IsPermutation (each told (map.entries self.rules)) result.items }
     {
@@ -273,7 +272,7 @@ impl RuleTable {
         told
     }
 
-    /// Spends every right, and tells the rules that were pending, by rising number. No memory is taken.
+    /// Spends every right, and returns the rules that were pending, by rising number. Allocates nothing.
     pub fn shut(self) -> Vec<PlainRule>
         ensures { result.items ≡ each told (map.entries self.rules) }
     {
@@ -282,7 +281,7 @@ impl RuleTable {
         told
     }
 
-    /// Puts a parameter at a stage past `Unasked`.
+    /// Changes the stage of a parameter to one after `Unasked`.
     fn set_stage(&mut self, rule: RuleNo, parameter: u8, stage: Stage)
         requires open { option_map is_settled (stage_at self.old.rules rule parameter) ≡ Some false }
         requires asked { is_unasked stage ≡ false }
@@ -297,7 +296,7 @@ impl RuleTable {
     }
 }
 
-/// The right of an argument, if it is one to read.
+/// Returns the right of an argument, if it is a read right.
 fn read_right(arg: &Arg) -> Option<&ReadRight>
     ensures { option_copied result ≡ read_right arg.now }
 {

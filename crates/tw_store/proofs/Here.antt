@@ -45,7 +45,7 @@ module _ (slots : Slots) (s : Served) (right : Right) (place : ℕ) (x : Seat sl
   pub is_there : IsSome (get_or slots place None)
   is_there = some_is _ x.slot x.there
 
-  -- what is read there
+  -- the datum that is read there
   pub read_is : (d : PlacedDatum) → IfSome (get_or slots place None) (λ e. d ≡ e.datum) → get s.store.live right.id ≡ Some d.datum
   read_is d h = x.live ∙ ap (λ (y : PlacedDatum). Some y.datum) (sym (of_some (λ (e : Slot). d ≡ e.datum) _ x.slot x.there h))
 
@@ -58,7 +58,7 @@ value_is s id x e = rw e refl
 pub member_is : (s : Served) (id : ℕ) (k : Subscript) (x : Datum) → get s.store.live id ≡ Some x → get (members_in x.content) k ≡ member_at s.store id k
 member_is s id k x e = rw e refl
 
--- ---- what a call leaves
+-- ---- the effect of a call
 
 module _ (slab : Slab Slot) (next : ℕ) (queues : Queues) (s : Served) (view : served_of slab next queues ≡ s) (seated : AreSeated slab.slots next) where
   pub keeps : (slab2 : Slab Slot) (next2 : ℕ) (queues2 : Queues) → Remains slab.slots slab2.slots → KeepsPlaces s (served_of slab2 next2 queues2)
@@ -166,7 +166,7 @@ abbrev pub right_on : Member → Right
 right_on m = record { id = m.id; place = m.place }
 
 module _ (slab : Slab Slot) (next : ℕ) (queues : Queues) (s : Served) (view : served_of slab next queues ≡ s) (seated : AreSeated slab.slots next) (right : Right) (place : ℕ) (x : Seat slab.slots s right place) (d : PlacedDatum) (at : IfSome (get_or slab.slots place None) (λ e. d ≡ e.datum)) (k : Subscript) (m : Member) (has : get d.members k ≡ Some m) (kept : is_some (get s.store.live m.id) ≡ true) where
-  -- it stands where the container says
+  -- it is at the place that the container has for it
   pub member_here : IsHere s (right_on m)
   member_here = by (search_slots slab.slots m.id)
     where
@@ -200,7 +200,7 @@ here_of slab next queues s right id place view here is at = ap (get (places_of s
 pub member_room : (s : Store) (id : ℕ) (k : Subscript) (m : ℕ) → member_at s id k ≡ Some m → HasMemberRoom s id k → HasReadRoom (get s.live m)
 member_room s id k m e h = rw e at h
 
--- where the queue of its server has room for so many notices as wait
+-- if the queue of its server has room for as many notices as parameters wait
 pub notice_room : (slab : Slab Slot) (next : ℕ) (queues : Queues) (s : Served) → served_of slab next queues ≡ s → AreSeated slab.slots next → (id : ℕ) (x : Datum) → get s.store.live id ≡ Some x → (queues2 : Queues) (count : ℕ) → count ≡ length x.subscribers
     → length queues2 ≡ length queues → count ≤ get_or (rooms_in queues2) (id % length queues) 0 → HasNoticeRoom (served_of slab next queues2) id
 notice_room slab next queues s view seated id x live queues2 count all servers room =
@@ -215,7 +215,7 @@ pub place_is : (slab : Slab Slot) (next : ℕ) (queues : Queues) (s : Served) �
 place_is slab next queues s view seated id None found absent = sym (ap (λ (y : Served). get y.places id) (sym view) ∙ get_nowhere place_in slab.slots id absent)
 place_is slab next queues s view seated id (Some place) found absent = sym (ap (λ (y : Served). get y.places id) (sym view) ∙ ap (get (places_of slab.slots)) (sym found.id_is) ∙ place_at slab.slots next place found.slot seated found.there)
 
--- what stands nowhere isn't live
+-- a datum without a place isn't live
 pub gone_is : (slab : Slab Slot) (next : ℕ) (queues : Queues) (s : Served) → served_of slab next queues ≡ s → AreSeated slab.slots next → (id : ℕ) → get s.places id ≡ None → get s.store.live id ≡ None
 gone_is slab next queues s view seated id none = ap (λ (y : Served). get y.store.live id) (sym view) ∙ by (search_slots slab.slots id)
   where

@@ -1,4 +1,4 @@
--- Members of a container that the store has shown, and where their data stand.
+-- Members of a container that the store returned, and the places of their data.
 use Rattle.std.proofs.Common.{◌≡◌, ◌≢◌, ℕ, sym, ap, subst, ◌∙◌, get_or, inl, inr, ◌⊎◌, IfSome, IfNone, Some, None}
 use Rattle.std.specs.declared.option.Option.{Option}
 use Rattle.std.specs.Borrow.{Bor}
@@ -22,7 +22,7 @@ module _ (slab : Slab Slot) (next : ℕ) (queues : Queues) (s : Served) (view : 
       let found = seat_of slab.slots p member.id seated.apart (ap (λ (x : Served). get x.places member.id) view ∙ live) in
       (seated.members place slot there subscript member has).1.only p found.slot found.there found.id_is
 
-  -- what is read at a place
+  -- the datum that is read at a place
   pub read_knows : (place : ℕ) (d : PlacedDatum) (slot : Slot) → get_or slab.slots place None ≡ Some slot → IfSome (get_or slab.slots place None) (λ e. d ≡ e.datum) → KnowsPlaces s d
   read_knows place d slot there at = subst (KnowsPlaces s) (sym (of_some (λ (e : Slot). d ≡ e.datum) _ slot there at)) (slot_knows place slot there)
 
@@ -30,7 +30,7 @@ module _ (slab : Slab Slot) (next : ℕ) (queues : Queues) (s : Served) (view : 
     live_is : get (live_of slab.slots) member.id ≡ get s.store.live member.id
     live_is = ap (λ (y : Served). get y.store.live member.id) view
 
-    -- its datum, where it is looked up
+    -- its datum, if it is looked up
     pub member_is : (r : Option (Bor PlacedDatum)) → IfSome r (λ datum. IsSlotOf slab.slots member datum.now) → IfNone r ((e : Slot) → get_or slab.slots member.place None ≡ Some e → e.id ≢ member.id)
         → datum_if (option_copied r) ≡ get s.store.live member.id
     member_is (Some datum) found absent = sym (live_at slab.slots next member.place (record { id = member.id; datum = datum.now }) seated found.there) ∙ live_is

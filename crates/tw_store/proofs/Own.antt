@@ -1,4 +1,4 @@
--- Each notice stands in the queue of its datum's server.
+-- Each notice is in the queue of its datum's server.
 use Rattle.std.proofs.Common.{◌≡◌, ◌<◌, ◌%◌, ◌++◌, ℕ, zero, List, [], ◌∷◌, sym, ap, subst, ◌∙◌, arith, get_or, set, drop, length, map, inl, inr, Contains, IfSome, slice_get}
 use Rattle.std.specs.declared.option.Option.{Option}
 use Rattle.std.specs.declared.option.Option.TheVariants.{None, Some}

@@ -1,4 +1,4 @@
--- Slots of which some are left, with what was known of them.
+-- Slots of which some are left, and facts on them that stay true.
 use Rattle.std.proofs.Common.{[], ◌≡◌, ◌≢◌, ◌<◌, ◌+◌, ◌-◌, ℕ, suc, zero, Bool, true, false, cond, List, ◌∷◌, refl, sym, ap, subst, ◌∙◌, arith, get_or, set, inl, inr, fold, IfSome, IsSome, Result, Ok, Err}
 use Rattle.std.specs.declared.option.Option.{Option}
 use Rattle.std.specs.declared.option.Option.TheVariants.{None, Some}
@@ -20,7 +20,7 @@ use Rattle.tw_types.proofs.Settled.{changed_is, same, settled_gone, settled_held
 use Rattle.tw_store.proofs.Live.{after_is}
 use Rattle.tw_types.proofs.Drops.{drop_absent, drop_unread, drop_held, drop_lowest, drop_last}
 
--- ---- what is left
+-- ---- data that are left
 
 pub remains_then : (a b c : Slots) → Remains a b → Remains b c → Remains a c
 remains_then a b c r s = record {
@@ -83,7 +83,7 @@ module _ (old new : Slots) (r : Remains old new) where
     | inr n ↦ absurd (no_datum x (sym (get_nowhere datum_in new id n) ∙ live))
   ]
 
--- and what is gone stands nowhere
+-- and a datum that was freed has no place
 pub place_leaves : (slots : Slots) → AreApart slots → (id : ℕ) → get (live_of slots) id ≡ None → get (places_of slots) id ≡ None
 place_leaves slots apart id gone = elim (search_slots slots id) as (λ _. get (places_of slots) id ≡ None) [
   | inl t ↦ absurd (no_datum t.slot.datum.datum (sym gone ∙ ap (get (live_of slots)) (sym t.id_is) ∙ get_shown datum_in slots apart t.place t.slot t.there))
@@ -241,13 +241,13 @@ module _ (old new : Slots) (next p : ℕ) (e : Slot) (seated : AreSeated old nex
   pub add_shown : {Y : Type 0} (g : ℕ → Slot → Y) → map_of g new ≡ insert (map_of g old) e.id (g p e)
   add_shown g = shown_put g old new p e seated.apart add_apart is others (λ f h. absurd (no_slot f (sym vacant ∙ h)))
 
-  -- no datum stood at its place
+  -- no datum was at its place
   pub add_vacant : (id : ℕ) → get (places_of old) id ≢ Some p
   add_vacant id h = let s : IsSeat old p id = seat_of old p id seated.apart h in no_slot s.slot (sym vacant ∙ s.there)
 
 -- ---- a container with another member
 
--- what is left has the ids that stood there
+-- data that are left have the ids that were there
 record SameIds (old new : Slots) : Type 0 where
   pub each : (q : ℕ) (f : Slot) → get_or new q None ≡ Some f → (x : Slot) × (get_or old q None ≡ Some x) × (f.id ≡ x.id)
 
@@ -332,7 +332,7 @@ joined_at slots p x d k m at is placed next e seated there =
     subst (λ (y : Slot). IsChanged next y.id (with_member k m.id) slots (set slots p (Some (record { id = x.id; datum = d })))) (same_slot x e (sym at ∙ there))
     (joined_changed slots next p x seated at d k m (with_member k m.id) (ap (λ (y : PlacedDatum). y.members) is) (ap (λ (y : PlacedDatum). y.datum) is) placed)
 
--- a member came to the datum at a place, was there, or was refused
+-- a member was inserted into the datum at a place, was there before, or an allocation failed
 pub inserted_at : {E : Type 0} (r : Result Bool E) (slots : Slots) (p : ℕ) (x : Slot) (d : PlacedDatum) (k : Subscript) (m : Member) → get_or slots p None ≡ Some x → IsMemberAdded id_of r k m x.datum d → get (places_of slots) m.id ≡ Some m.place
     → IsInsertedAt p k m.id r slots (set slots p (Some (record { id = x.id; datum = d })))
 inserted_at (Ok true) slots p x d k m at h placed =

@@ -1,4 +1,4 @@
--- What the slots show as maps, by what stands at each place.
+-- The slots seen as maps, by what is at each place.
 use Rattle.std.proofs.Common.{[], ◌≡◌, ◌≢◌, ◌<◌, ◌+◌, ℕ, suc, zero, true, false, cond, List, ◌∷◌, refl, sym, ap, ◌∙◌, arith, get_or, set, inl, inr, ◌⊎◌}
 use Rattle.std.specs.declared.option.Option.{Option}
 use Rattle.std.specs.declared.option.Option.TheVariants.{None, Some}
@@ -16,7 +16,7 @@ same_slot e f h = cc
 pub no_slot : (e : Slot) → None ≡ Some e → ⊥
 no_slot e h = cc
 
--- what stands at place p, the first with its id, is shown
+-- the first slot with its id, at place p, is in the map
 find_shown : {Y : Type 0} (g : ℕ → Slot → Y) (slots : List (Option Slot)) (k p : ℕ) (e : Slot) → get_or slots p None ≡ Some e
     → ((j : ℕ) (f : Slot) → j < p → get_or slots j None ≡ Some f → f.id ≢ e.id) → find nat_cmp e.id (shown g k slots) ≡ Some (g (k + p) e)
 find_shown g [] k p e h u = absurd (no_slot e h)
@@ -35,7 +35,7 @@ find_shown g (Some a ∷ slots) k (suc p) e h u =
     ap (λ b. cond b (Some (g k a)) (find nat_cmp e.id (shown g (suc k) slots))) not_here
     ∙ find_shown g slots (suc k) p e h (λ j f l q. u (suc j) f (omega (arith, l)) q) ∙ ap (λ n. Some (g n e)) next
 
--- an id that stands nowhere isn't shown
+-- an id that is in no slot isn't in the map
 find_none : {Y : Type 0} (g : ℕ → Slot → Y) (slots : List (Option Slot)) (k q : ℕ) → ((p : ℕ) (e : Slot) → get_or slots p None ≡ Some e → e.id ≢ q) → find nat_cmp q (shown g k slots) ≡ None
 find_none g [] k q h = refl
 find_none g (None ∷ slots) k q h = find_none g slots (suc k) q (λ p e i. h (suc p) e i)
@@ -80,7 +80,7 @@ module _ {Y : Type 0} (g : ℕ → Slot → Y) where
   abbrev pub map_of : List (Option Slot) → FinMap nat_cmp Y
   map_of slots = from_entries {R = nat_cmp} (shown g 0 slots)
 
-  -- what stands at a place is what the map has at its id
+  -- the map has the slot at its id
   pub get_shown : (slots : List (Option Slot)) → AreApart slots → (p : ℕ) (e : Slot) → get_or slots p None ≡ Some e → get (map_of slots) e.id ≡ Some (g p e)
   get_shown slots apart p e h =
       let first : 0 + p ≡ p = omega arith in
@@ -91,7 +91,7 @@ module _ {Y : Type 0} (g : ℕ → Slot → Y) where
   pub get_nowhere : (slots : List (Option Slot)) (q : ℕ) → StandsNowhere slots q → get (map_of slots) q ≡ None
   get_nowhere slots q h = get-from_entries nat_cmp_total (shown g 0 slots) q ∙ find_none g slots 0 q h
 
-  -- e at place p, where nothing or a slot of the same id stood
+  -- e at place p, if there was nothing or a slot of the same id
   pub shown_put : (old new : List (Option Slot)) (p : ℕ) (e : Slot) → AreApart old → AreApart new → get_or new p None ≡ Some e
       → ((j : ℕ) → j ≢ p → get_or new j None ≡ get_or old j None) → ((f : Slot) → get_or old p None ≡ Some f → f.id ≡ e.id)
       → map_of new ≡ insert (map_of old) e.id (g p e)
@@ -117,7 +117,7 @@ module _ {Y : Type 0} (g : ℕ → Slot → Y) where
         ]
       ]
 
-  -- nothing at place p, where e stood
+  -- nothing at place p, where e was
   pub shown_gone : (old new : List (Option Slot)) (p : ℕ) (e : Slot) → AreApart old → AreApart new → get_or old p None ≡ Some e → get_or new p None ≡ None
       → ((j : ℕ) → j ≢ p → get_or new j None ≡ get_or old j None) → map_of new ≡ remove (map_of old) e.id
   shown_gone old new p e was is there gone others = same_map nat_cmp_total nat_cmp-IsAntisymmetric _ _ (λ q. at q ∙ sym (get-remove nat_cmp_total (map_of old) e.id q))
@@ -140,7 +140,7 @@ module _ {Y : Type 0} (g : ℕ → Slot → Y) where
         ]
       ]
 
--- what a right's place holds is the datum of its id
+-- the datum at a right's place is that of its id
 pub record IsSeat (slots : List (Option Slot)) (p id : ℕ) : Type 0 where
   pub slot : Slot
   pub there : get_or slots p None ≡ Some slot

@@ -1,9 +1,9 @@
--- A datum as the store keeps it: beside the id of each member stands its place.
+-- A datum as the store has it: next to the id of each member is its place.
 use Rattle.std.specs.Prelude.{ℕ, List, map as each}
 use Rattle.tw_datum.specs.Kept.{KeptDatum, KeptMembers}
 use Rattle.tw_store.specs.declared.member.Member.{Member}
 
--- the member at each subscript
+-- the members, by their subscripts
 abbrev pub PlacedMembers : Type 0
 PlacedMembers = KeptMembers Member
 

@@ -15,7 +15,7 @@ Slots = List (Option Slot)
 abbrev pub slot_at : Slots → ℕ → Option Slot
 slot_at slots place = slice_index_or slots place None
 
--- what g reads of each slot that is taken, with its id, where the first has this place
+-- returns g of each slot that is taken, with its id; the first slot has place k
 abbrev pub shown : {Y : Type 0} → (ℕ → Slot → Y) → ℕ → Slots → List (ℕ × Y)
 shown g k [] = []
 shown g k (None ∷ slots) = shown g (suc k) slots
@@ -27,7 +27,7 @@ datum_in place slot = slot.datum.datum
 abbrev pub live_of : Slots → Data
 live_of slots = from_entries (shown datum_in 0 slots)
 
--- the place of each datum
+-- the places of data, by their ids
 abbrev pub Places : Type 0
 Places = FinMap nat_cmp ℕ
 
@@ -37,17 +37,17 @@ place_in place slot = place
 abbrev pub places_of : Slots → Places
 places_of slots = from_entries (shown place_in 0 slots)
 
--- ---- what holds of the slots
+-- ---- properties of the slots
 
--- no id stands in two slots
+-- holds if no id is in two slots
 abbrev pub AreApart : Slots → Type 0
 AreApart slots = (p q : ℕ) (e f : Slot) → slot_at slots p ≡ Some e → slot_at slots q ≡ Some f → e.id ≡ f.id → p ≡ q
 
--- the datum of the id stands at no other place
+-- the datum of the id is at no other place
 pub record IsAt (slots : Slots) (id place : ℕ) : Type 0 where
   pub only : (q : ℕ) (e : Slot) → slot_at slots q ≡ Some e → e.id ≡ id → q ≡ place
 
--- each member has its place, and an id below next
+-- holds if each member has its place, and an id below `next`
 abbrev pub AllAt : Slots → ℕ → PlacedMembers → Type 0
 AllAt slots next members = (k : Subscript) (m : Member) → get members k ≡ Some m → (m.id < next) × IsAt slots m.id m.place
 
@@ -56,53 +56,53 @@ pub record AreSeated (slots : Slots) (next : ℕ) : Type 0 where
   pub below : (p : ℕ) (e : Slot) → slot_at slots p ≡ Some e → e.id < next
   pub members : (p : ℕ) (e : Slot) → slot_at slots p ≡ Some e → AllAt slots next e.datum.members
 
--- the datum of the id stands at the place
+-- the datum of the id is at the place
 pub record StandsAs (slots : Slots) (id place : ℕ) : Type 0 where
   pub slot : Slot
   pub there : slot_at slots place ≡ Some slot
   pub id_is : slot.id ≡ id
 
--- the datum of the member stands at its place
+-- the datum of the member is at its place
 pub record IsSlotOf (slots : Slots) (member : Member) (datum : PlacedDatum) : Type 0 where
   pub there : slot_at slots member.place ≡ Some (record { id = member.id; datum = datum })
 
--- ---- what a call does to them
+-- ---- effects of a call
 
--- what stood at a place, with the same id and members
+-- the slot had a datum before, with the same id and members
 pub record Stood (old : Slots) (q : ℕ) (f : Slot) : Type 0 where
   pub slot : Slot
   pub there : slot_at old q ≡ Some slot
   pub id_is : f.id ≡ slot.id
   pub members : f.datum.members ≡ slot.datum.members
 
--- what is left stood there before
+-- data that are left were there before
 pub record Remains (old new : Slots) : Type 0 where
   pub each : (q : ℕ) (f : Slot) → slot_at new q ≡ Some f → Stood old q f
 
--- the datum of the id is what f makes of it; all else stays as it is, and where it is
+-- the datum of the id is f of it; all others, and all places, are unchanged
 pub record IsChanged (next id : ℕ) (f : Datum → Datum) (old new : Slots) : Type 0 where
   pub live : (s : Store) → s.live ≡ live_of old → record s { live = live_of new } ≡ changed s id f
   pub places : places_of new ≡ places_of old
   pub seated : AreSeated new next
 
--- the datum at the place, if there is one
+-- like `IsChanged`, for the datum at the place, if there is one
 abbrev pub IsChangedAt : ℕ → (Datum → Datum) → Slots → Slots → Type 0
 IsChangedAt place f old new = (next : ℕ) (e : Slot) → AreSeated old next → slot_at old place ≡ Some e → IsChanged next e.id f old new
 
--- the datum at the place has no member at the subscript, or has one
+-- hold if the datum at the place has no member at the subscript, or has one
 abbrev pub HasNoneAt : ℕ → Subscript → Slots → Type 0
 HasNoneAt place k slots = (e : Slot) → slot_at slots place ≡ Some e → get (members_in e.datum.datum.content) k ≡ None
 
 abbrev pub HasOneAt : ℕ → Subscript → Slots → Type 0
 HasOneAt place k slots = (e : Slot) → slot_at slots place ≡ Some e → IsSome (get (members_in e.datum.datum.content) k)
 
--- the member came under the subscript; or all stays, since there is one or memory is refused
+-- holds if the member was inserted at the subscript; or nothing changed, because it is taken or an allocation failed
 abbrev pub IsInsertedAt : {E : Type 0} → ℕ → Subscript → ℕ → Result Bool E → Slots → Slots → Type 0
 IsInsertedAt place k id (Ok true) old new = HasNoneAt place k old × IsChangedAt place (with_member k id) old new
 IsInsertedAt place k id (Ok false) old new = HasOneAt place k old × (new ≡ old)
 IsInsertedAt place k id (Err e) old new = HasNoneAt place k old × (new ≡ old)
 
--- the datum of the id is what f makes of it, and may be freed by that; what is left stays where it is
+-- the datum of the id is f of it, and may be freed by that; data that are left keep their places
 pub record IsSettled (id : ℕ) (f : Datum → Datum) (old new : Slots) : Type 0 where
   pub live : (s : Store) → s.live ≡ live_of old → record s { live = live_of new } ≡ store_after s id f
   pub remains : Remains old new

@@ -1,4 +1,4 @@
-//! The calls that change one datum, over the slots.
+//! The calls that change one datum, on the slots.
 
 ghost use Rattle.std.specs.Prelude.{◌≡◌, ◌<◌, ◌≤◌, ◌^◌, ℕ, OnOk, OnErr, IfSome, IsSome, true};
 ghost use Rattle.std.specs.FinMap.{get, insert};
@@ -47,7 +47,7 @@ pub fn drop_write_at(slab: &mut Slab<Slot>, place: usize)
     settle(slab, place);
 }
 
-/// Puts a member into the container at a place, under a copy of the subscript, if that is not there. Answers whether it was not.
+/// Inserts a member into the container at a place, at a copy of the subscript, unless that is taken. Returns whether it inserted it.
 pub fn insert_at(
     slab: &mut Slab<Slot>,
     alloc: Global,
@@ -94,7 +94,7 @@ pub fn add_write_at(slab: &mut Slab<Slot>, place: usize)
     slot.datum.add_write();
 }
 
-/// Adds one who waits.
+/// Adds a subscriber.
 pub fn subscribe_at(
     slab: &mut Slab<Slot>,
     place: usize,

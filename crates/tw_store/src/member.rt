@@ -2,7 +2,7 @@
 
 use tw_types::{DatumId, Value};
 
-/// The id of a member, and the place where its datum stands.
+/// The id of a member, and the place of its datum.
 #[derive(Clone, Copy)]
 pub struct Member {
     pub id: DatumId,
@@ -20,7 +20,7 @@ impl tw_datum::Member for Member {
 /// A datum of the store.
 pub type Datum = tw_datum::Datum<Member>;
 
-/// A member of a container, as the store shows it.
+/// A member of a container, for reports.
 #[derive(Clone, Copy)]
 pub struct ShownMember<'a> {
     pub subscript: &'a Value,

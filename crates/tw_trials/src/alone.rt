@@ -1,4 +1,4 @@
-//! A program's main by itself, once or again and again, for `bench/loops` to measure.
+//! Runs a program's main alone, once or repeatedly, for `bench/loops` to measure.
 
 use crate::jobs::stretch_of;
 use std::alloc::{AllocError, Global};
@@ -7,7 +7,7 @@ use std::{env, io};
 use tw_bytes::decode;
 use tw_verify::{Verified, verify};
 
-/// The bytes that the word behind `steps` spells in hex digits, and the number that the word behind that one spells: 1 where there is none.
+/// Returns the bytes that the argument after `steps` has in hex digits, and the number in the argument after that, or 1 without one.
 fn asked_of(rt: &(impl Env + AllocGlobal)) -> io::Result<(Vec<u8>, u32)> {
     let mut words = env::args(rt)?.skip(2);
     let bytes = match words.next() {
@@ -20,7 +20,7 @@ fn asked_of(rt: &(impl Env + AllocGlobal)) -> io::Result<(Vec<u8>, u32)> {
     Ok((bytes.unwrap_or(Vec::new(rt.alloc())), count))
 }
 
-/// Main's local instructions, so many times, each with a task, a frame and a job of its own.
+/// Runs main's local instructions `count` times, each with its own task, frame and job. Returns the sum of the steps.
 fn rounds_alone(alloc: Global, verified: &Verified, count: u32) -> Result<u64, AllocError> {
     let mut steps: u64 = 0;
     for _round in 0..count {
@@ -32,7 +32,7 @@ fn rounds_alone(alloc: Global, verified: &Verified, count: u32) -> Result<u64, A
     Ok(steps)
 }
 
-/// Tells how many local instructions main does, of the program and as many times as the words say.
+/// Prints how many local instructions main executes, for the program and the number of times in the arguments.
 pub fn print_steps(rt: &HostRuntime) -> io::Result<()> {
     let (bytes, count) = asked_of(rt)?;
     let Ok(program) = decode(rt.alloc(), &bytes) else {

@@ -1,4 +1,4 @@
-//! What a call of the store answers, in plain words.
+//! Results of the store's calls, as plain data.
 
 ghost use Rattle.tw_types.specs.Text.{IsText};
 
@@ -7,7 +7,7 @@ use tw_rights::ReadRight;
 use tw_store::Inserted;
 use tw_types::{DatumId, Text, Value};
 
-/// A text of the calls. They rise in this order.
+/// A text of the calls. The variants are in the order of their bytes.
 #[derive(Clone, Copy, PartialEq, Eq)]
 pub enum Word {
     Empty,
@@ -28,7 +28,7 @@ impl Word {
         }
     }
 
-    /// The word that is this text.
+    /// Returns the word that is this text.
     fn of(text: &Text) -> Option<Word> {
         match text.as_str() {
             "" => Some(Word::Empty),
@@ -47,7 +47,7 @@ pub enum Plain {
     Word(Word),
 }
 
-/// What a call answers.
+/// The result of a call.
 #[derive(Clone, Copy, PartialEq, Eq)]
 pub enum Answer {
     Done,
@@ -59,15 +59,15 @@ pub enum Answer {
     Closed,
     Noted,
     Notice(u64, u64, u8),
-    /// What the call asks isn't so, and it wasn't made.
+    /// A requirement of the call isn't met, and it wasn't made.
     Barred,
-    /// Memory was refused, and what was moved in came back.
+    /// An allocation failed, and the arguments were returned.
     Refused,
-    /// Something else came back, or a number is too large.
+    /// Something else was returned, or a number is too large.
     Strange,
 }
 
-/// The answer, where the right that came back is on this datum.
+/// Returns the result, if the right that was returned is on this datum.
 pub fn if_back(id: u64, back: DatumId, answer: Answer) -> Answer {
     if back.number() == id {
         answer
@@ -83,7 +83,7 @@ pub fn done_or_refused(done: Result<(), AllocError>) -> Answer {
     }
 }
 
-/// The value, where memory isn't refused.
+/// Returns the value, unless an allocation fails.
 pub fn value_of(alloc: Global, plain: Plain) -> Option<Value> {
     match plain {
         Plain::Number(number) => Some(Value::Int(number)),
@@ -105,7 +105,7 @@ pub fn answer_of(value: &Value) -> Answer {
     }
 }
 
-/// The id of a member that was looked up.
+/// Returns the id of a member that was looked up.
 pub fn id_of(found: Option<ReadRight>) -> Answer {
     match found {
         Some(member) => Answer::Id(member.spend().number()),

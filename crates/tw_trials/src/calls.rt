@@ -1,4 +1,4 @@
-//! The calls of the store by ids, and what it answers to each.
+//! Calls of the store by ids, and its results.
 
 ghost use Rattle.std.specs.Prelude.{◌≡◌, IfSome};
 ghost use Rattle.std.specs.FinMap.{get};
@@ -19,12 +19,12 @@ use tw_rights::{ReadRight, WriteRight};
 use tw_store::{Asked, Store};
 use tw_types::{DataType, RuleNo, Scalar, Text, Value, ValueRef};
 
-/// What is to be called: the first number is the id of the datum.
+/// A call. The first number is the id of the datum.
 #[derive(Clone, Copy)]
 pub enum Call {
-    /// So many containers by integers around an int, or around a text.
+    /// Makes this many containers, with integers as subscripts, around an int or around a text.
     Create(u8, bool),
-    /// A container by texts around that.
+    /// Makes a container with texts as subscripts around that.
     CreateByText(u8, bool),
     Set(u64, Plain),
     Retrieve(u64),
@@ -161,7 +161,7 @@ fn ask(store: &mut Store, right: &ReadRight, rule: u64, parameter: u8) -> Answer
     }
 }
 
-/// A read right on the datum of an id, if it may be a member by such subscripts.
+/// Returns a read right on the datum of an id, if it may be a member at such subscripts.
 fn member_given(store: &Store, right: &WriteRight, by: Scalar, member: u64) -> Option<ReadRight>
     ensures here { IfSome result (λ given. IsHere store.now given) }
     ensures allowed { IfSome result (λ given. may_insert by (get store.now.store.live right.now.id) (get store.now.store.live given.id) ≡ Ok tt) }
@@ -229,7 +229,7 @@ fn store_value(store: &mut Store, right: WriteRight, value: Value) -> Answer
     }
 }
 
-/// Where the value has no memory, the right goes as nothing happened.
+/// Sets a scalar. If allocating the value fails, drops the right and doesn't change the store.
 fn store_plain(store: &mut Store, alloc: Global, right: WriteRight, plain: Plain) -> Answer
     requires { IsHere store.old right }
 {
@@ -279,7 +279,7 @@ fn take_note(store: &mut Store, server: u8) -> Answer {
 
 // ---- by ids
 
-/// A call by a read right.
+/// Makes a call with a read right.
 fn by_read(store: &mut Store, alloc: Global, id: u64, call: Call) -> Answer {
     let Some(right) = read_of(store, id) else {
         return Answer::Barred;
@@ -300,7 +300,7 @@ fn by_read(store: &mut Store, alloc: Global, id: u64, call: Call) -> Answer {
     answer
 }
 
-/// A call by a write right.
+/// Makes a call with a write right.
 fn by_write(store: &mut Store, alloc: Global, id: u64, call: Call) -> Answer {
     let Some(right) = write_of(store, id) else {
         return Answer::Barred;
@@ -320,7 +320,7 @@ fn by_write(store: &mut Store, alloc: Global, id: u64, call: Call) -> Answer {
     answer
 }
 
-/// What the store answers to a call.
+/// Makes a call of the store, and returns its result.
 pub fn answered(store: &mut Store, alloc: Global, call: Call) -> Answer {
     match call {
         Call::Create(depth, of_text) => create(store, alloc, type_of(depth, of_text)),

@@ -1,4 +1,4 @@
-//! Accepted programs by chance, with all that their runs depend on but the order of events.
+//! Random accepted programs, with everything on which their runs depend, except the order of events.
 
 ghost use Rattle.std.specs.Prelude.{IfSome};
 ghost use Rattle.tw_code.specs.machine.Bounds.{AreBelow, opening_bound};
@@ -13,7 +13,7 @@ use tw_machine::Plain;
 use tw_types::{Input, Layout};
 use tw_verify::{Verified, verify};
 
-/// An accepted program with its text, what it is given, and the most events of its run.
+/// An accepted program with its text, its inputs, and the limit of events of its run.
 #[derive(Drop)]
 pub struct Case {
     text: Vec<u8>,
@@ -21,7 +21,7 @@ pub struct Case {
     pub inputs: Vec<Input>,
     pub layout: Layout,
     pub limit: usize,
-    /// From which the order of turns is drawn.
+    /// The seed for the order of scheduling steps.
     pub seed: u64,
 }
 
@@ -33,7 +33,7 @@ fn program_of(alloc: Global, text: &[u8]) -> Option<Program> {
 }
 
 impl Case {
-    /// The reference machine before its first event.
+    /// Makes the reference machine before its first event.
     pub fn machine(&self, alloc: Global) -> Option<Plain>
         ensures { IfSome result (λ plain. AreBelow opening_bound plain.state) }
     {
@@ -45,7 +45,7 @@ impl Case {
     }
 }
 
-/// The program of a text with a layout for it, where it is accepted.
+/// Returns the program of a text with a layout for it, if it is accepted.
 fn accepted(alloc: Global, seed: &mut u64, text: &[u8]) -> Option<(Verified, Layout)> {
     let program = program_of(alloc, text)?;
     let verified = verify(alloc, program).ok()?;
@@ -53,7 +53,7 @@ fn accepted(alloc: Global, seed: &mut u64, text: &[u8]) -> Option<(Verified, Lay
     Some((verified, layout))
 }
 
-/// The program of this number; nothing where it isn't accepted.
+/// Returns the program of this number, or `None` if it isn't accepted.
 pub fn case_of(alloc: Global, number: u64) -> Option<Case> {
     let mut seed = seed_of(number);
     let Drawn { text, main } = next_program(alloc, &mut seed)?;

@@ -1,25 +1,25 @@
-//! The text of a procedure that grows, and what its right registers hold where it ends so far.
+//! The text of a procedure while it is made, and the content of its right registers at its current end.
 
 use crate::draw::draw;
 use crate::rights::{Right, Want, fits};
 use std::alloc::Global;
 use tw_report::put_numbered;
 
-/// The text of a program so far, and what the right registers of its last procedure hold there.
+/// The text of a program so far, and the content of its last procedure's right registers there.
 #[derive(Drop)]
 pub struct Code {
     text: Vec<u8>,
     alloc: Global,
-    /// Whether all that was added had memory.
+    /// Whether all allocations succeeded.
     is_whole: bool,
     held: [Option<Right>; 16],
-    /// Those that stay as they are: of a block, what was held before it.
+    /// The registers that must not change: in a block, those that were filled before it.
     kept: [bool; 16],
     labels: usize,
 }
 
 impl Code {
-    /// No text, and nothing held.
+    /// Makes an empty text, with empty registers.
     pub fn new(alloc: Global) -> Code {
         Code {
             text: Vec::new(alloc),
@@ -31,7 +31,7 @@ impl Code {
         }
     }
 
-    /// The text, if all that was added had memory.
+    /// Returns the text, if all allocations succeeded.
     pub fn into_text(self) -> Option<Vec<u8>> {
         if self.is_whole { Some(self.text) } else { None }
     }
@@ -42,7 +42,7 @@ impl Code {
         self.kept = [false; 16];
     }
 
-    /// Adds words.
+    /// Appends words.
     pub fn put(&mut self, words: &str) {
         self.is_whole &= self.text.extend_from_slice(words.as_bytes()).is_ok();
     }
@@ -51,7 +51,7 @@ impl Code {
         self.is_whole &= put_numbered(self.alloc, &mut self.text, "", number).is_ok();
     }
 
-    /// Adds words in which the next register's number stands for each `#`, and the next label's for each `@`.
+    /// Appends words. Replaces each `#` by the number of the next register, and each `@` by that of the next label.
     pub fn line(&mut self, words: &str, registers: &[u8], labels: &[usize]) {
         let (mut registers, mut labels) = (registers.iter(), labels.iter());
         for byte in words.bytes() {
@@ -63,33 +63,33 @@ impl Code {
         }
     }
 
-    /// A label that no line has.
+    /// Returns a label that no line has.
     pub fn next_label(&mut self) -> usize {
         self.labels = self.labels.wrapping_add(1);
         self.labels
     }
 
-    /// What a register holds.
+    /// Returns the content of a register.
     pub fn at(&self, register: u8) -> Option<Right> {
         self.held[usize::from(register) % 16]
     }
 
-    /// From now on a register holds this.
+    /// Changes the content of a register.
     pub fn set(&mut self, register: u8, held: Option<Right>) {
         self.held[usize::from(register) % 16] = held;
     }
 
-    /// Whether what a register holds stays.
+    /// Returns whether a register must not change.
     pub fn is_kept(&self, register: u8) -> bool {
         self.kept[usize::from(register) % 16]
     }
 
-    /// What a register holds stays from now on, or may go.
+    /// Decides whether a register must not change from now on.
     pub fn keep(&mut self, register: u8, kept: bool) {
         self.kept[usize::from(register) % 16] = kept;
     }
 
-    /// A register by chance of those that have what is wanted; none that is kept, where what it holds is to go.
+    /// Returns a random register with the right that is sought; if `goes`, only one that may change.
     fn search(&self, seed: &mut u64, want: Want, goes: bool) -> Option<u8> {
         let start = draw(seed, 16);
         for step in 0..16_u8 {
@@ -101,17 +101,17 @@ impl Code {
         None
     }
 
-    /// A register that has what is wanted.
+    /// Returns a register with the right that is sought.
     pub fn find(&self, seed: &mut u64, want: Want) -> Option<u8> {
         self.search(seed, want, false)
     }
 
-    /// A register that has what is wanted, and may lose it.
+    /// Returns a register with the right that is sought and that may change.
     pub fn find_free(&self, seed: &mut u64, want: Want) -> Option<u8> {
         self.search(seed, want, true)
     }
 
-    /// How many registers hold nothing.
+    /// Returns how many registers are empty.
     pub fn room(&self) -> u8 {
         let mut count: u8 = 0;
         for register in 0..16_u8 {
@@ -122,7 +122,7 @@ impl Code {
         count
     }
 
-    /// Keeps all that is held now; what was kept before.
+    /// Keeps all registers that are filled now. Returns which ones were kept before.
     pub fn begin_block(&mut self) -> [bool; 16] {
         let before = self.kept;
         for register in 0..16_u8 {
@@ -132,7 +132,7 @@ impl Code {
         before
     }
 
-    /// What was kept before a block is kept again.
+    /// Restores what was kept before a block.
     pub fn end_block(&mut self, before: [bool; 16]) {
         self.kept = before;
     }

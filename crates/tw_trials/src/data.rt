@@ -1,11 +1,11 @@
-//! Instructions on data, by chance. One for which nothing fits isn't written.
+//! Random instructions on data. One that fits nowhere isn't written.
 
 use crate::code::Code;
 use crate::draw::draw;
 use crate::local::{int, text};
 use crate::rights::{Mode, Right, Ty, Want};
 
-/// A value register of the type's scalar.
+/// Returns a value register of the type's scalar.
 fn value(seed: &mut u64, ty: Ty) -> u8 {
     match ty {
         Ty::Text | Ty::Texts | Ty::Names => text(seed),
@@ -13,7 +13,7 @@ fn value(seed: &mut u64, ty: Ty) -> u8 {
     }
 }
 
-/// A value register of the type that a container's subscripts have.
+/// Returns a value register of the type of a container's subscripts.
 fn subscript(seed: &mut u64, container: Ty) -> u8 {
     if container.is_by_text() {
         text(seed)
@@ -22,14 +22,14 @@ fn subscript(seed: &mut u64, container: Ty) -> u8 {
     }
 }
 
-/// Adds what stands before the name of an instruction on a container.
+/// Appends the prefix of the name of an instruction on a container.
 fn put_letter(code: &mut Code, container: Ty) {
     if container.is_by_text() {
         code.put("T");
     }
 }
 
-/// Makes a datum; the registers with the rights to write and to read it.
+/// Makes a datum. Returns the registers of its write and its read right.
 pub fn put_new(code: &mut Code, seed: &mut u64, ty: Ty) -> Option<(u8, u8)> {
     let writer = code.find(seed, Want::Empty)?;
     code.set(writer, Some(Right::new(Mode::Write, ty)));
@@ -44,7 +44,7 @@ pub fn put_new(code: &mut Code, seed: &mut u64, ty: Ty) -> Option<(u8, u8)> {
     Some((writer, reader))
 }
 
-/// A second right; its register.
+/// Copies a right. Returns the register of the copy.
 pub fn put_double(code: &mut Code, seed: &mut u64, register: u8) -> Option<u8> {
     let right = code.at(register)?;
     let second = code.find(seed, Want::Empty)?;
@@ -78,14 +78,14 @@ pub fn put_all_spent(code: &mut Code, seed: &mut u64) {
     }
 }
 
-/// A right of those that are wanted is spent.
+/// Spends one of the rights that are sought.
 fn put_one_spent(code: &mut Code, seed: &mut u64, want: Want) {
     if let Some(register) = code.find_free(seed, want) {
         put_spent(code, seed, register);
     }
 }
 
-/// A register with such a right, and the right's type.
+/// Returns a register with such a right, and the right's type.
 fn found(code: &Code, seed: &mut u64, want: Want) -> Option<(u8, Ty)> {
     let register = code.find(seed, want)?;
     Some((register, code.at(register)?.ty))
@@ -97,7 +97,7 @@ fn put_get(code: &mut Code, seed: &mut u64) {
     }
 }
 
-/// An INS of this member, and what is done where it is refused.
+/// Inserts this member by INS, and handles the case that INS is refused.
 fn put_insert_of(code: &mut Code, seed: &mut u64, container: u8, ty: Ty, member: u8) {
     let (there, done) = (code.next_label(), code.next_label());
     code.set(member, None);
@@ -123,7 +123,7 @@ fn put_insert(code: &mut Code, seed: &mut u64) {
     }
 }
 
-/// A LOOK, whose right is dropped again.
+/// Looks up a member by LOOK, and drops the right again.
 fn put_look_at(code: &mut Code, seed: &mut u64, member: u8, container: u8, ty: Ty) {
     let missing = code.next_label();
     put_letter(code, ty);
@@ -135,7 +135,8 @@ fn put_look_at(code: &mut Code, seed: &mut u64, member: u8, container: u8, ty: T
     );
 }
 
-/// A LOOK, and where nothing stands there a new datum that is read in its place; its writer stands behind the member.
+/// Looks up a member by LOOK. If there is none, makes a new datum and reads it instead. Its write right is spent at
+/// once.
 fn put_look_or_new(
     code: &mut Code,
     seed: &mut u64,
@@ -176,7 +177,7 @@ fn put_look(code: &mut Code, seed: &mut u64) {
     }
 }
 
-/// An empty register for a member, with the types of the container and of the member.
+/// Returns an empty register for a member, with the types of the container and of the member.
 fn room_for_look(code: &Code, seed: &mut u64, container: u8) -> Option<(u8, Ty, Ty)> {
     let member = code.find(seed, Want::Empty)?;
     let ty = code.at(container)?.ty;
@@ -209,7 +210,7 @@ fn put_made(code: &mut Code, seed: &mut u64) {
     }
 }
 
-/// An instruction on data.
+/// Writes an instruction on data.
 pub fn put_data(code: &mut Code, seed: &mut u64) {
     match draw(seed, 14) {
         0 | 1 => put_made(code, seed),

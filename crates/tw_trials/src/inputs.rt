@@ -1,4 +1,4 @@
-//! Inputs and layouts, by chance.
+//! Random inputs and layouts.
 
 use crate::draw::draw;
 use crate::rights::Ty;
@@ -38,7 +38,7 @@ fn next_texts(alloc: Global, seed: &mut u64) -> Result<Items<(i64, InputText)>, 
     Ok(Items::from(pairs))
 }
 
-/// Texts that rise by their bytes; the programs have them too.
+/// Texts that rise by their bytes; the programs use them too.
 const SUBSCRIPTS: [&str; 4] = ["", "-12", "7", "ab\n"];
 
 fn next_words(alloc: Global, seed: &mut u64) -> Result<Items<(InputText, i64)>, AllocError> {
@@ -75,7 +75,7 @@ fn next_input(alloc: Global, seed: &mut u64, ty: Ty) -> Result<Input, AllocError
     }
 }
 
-/// Inputs for main.
+/// Returns inputs for main.
 pub fn next_inputs(
     alloc: Global,
     seed: &mut u64,
@@ -91,7 +91,7 @@ pub fn next_inputs(
     Ok(inputs)
 }
 
-/// A layout in which the program's targets are.
+/// Returns a layout with all targets of the program.
 pub fn next_layout(seed: &mut u64, verified: &Verified) -> Option<Layout> {
     let (engines, workers) = verified.needs();
     let engines = engines.max(draw(seed, 4).wrapping_add(1));

@@ -14,14 +14,14 @@ use tw_rights::Bundle;
 use tw_types::{Actor, TaskNo, Value, ValueRef};
 use tw_verify::{Verified, verify};
 
-/// What was done of main, in one job, or in two where the first was short.
+/// The result of main, in one job, or in two if the first was short.
 #[derive(Drop)]
 pub struct Stretch<'a> {
     done: Done<'a>,
     pub steps: u64,
 }
 
-/// Runs a job, and where it is short the next one.
+/// Runs a job, and the next one if it is short.
 fn run_on<'a>(alloc: Global, frame: &mut Frame<'a>, job: Job<'a>) -> Option<Stretch<'a>>
     requires lent { job ≡ job_of frame.old }
     requires spent { frame.old.spent ≡ 0 }
@@ -87,7 +87,7 @@ fn is_same(value: &Value, other: ValueRef<'_>) -> bool {
     }
 }
 
-/// Whether a Done came to a position.
+/// Returns whether the `Done` has this position after the job.
 fn came_to(done: &Done<'_>, position: &Position) -> bool {
     if done.after_place() != position.place() {
         return false;
@@ -106,7 +106,7 @@ fn came_to(done: &Done<'_>, position: &Position) -> bool {
     true
 }
 
-/// The position at the beginning of a procedure, all registers blank.
+/// Returns the position at the start of a procedure, with all registers blank.
 fn beginning(alloc: Global, procedure: &Procedure) -> Result<Position, AllocError> {
     let mut values = Vec::new(alloc);
     for ty in procedure.registers.as_slice() {
@@ -115,14 +115,14 @@ fn beginning(alloc: Global, procedure: &Procedure) -> Result<Position, AllocErro
     Ok(Position::first(alloc, values))
 }
 
-/// Where the reference machine comes to in a procedure, by at most so many steps, and after how many.
+/// Runs the reference machine in a procedure, for at most `most` steps. Returns the position and the number of steps.
 fn walked(alloc: Global, main: &Procedure, most: u64) -> Result<(Position, u64), AllocError> {
     let mut position = beginning(alloc, main)?;
     let steps = count_local(alloc, main.code.as_slice(), &mut position, most)?;
     Ok((position, steps))
 }
 
-/// Whether the job of main comes to the same after as many steps.
+/// Returns whether main's job reaches the reference machine's position, after as many steps.
 fn agrees_of(alloc: Global, verified: &Verified, most: u64) -> Result<Option<bool>, AllocError> {
     let Some(main) = verified.program().procedures().first() else {
         return Ok(None);
@@ -134,8 +134,8 @@ fn agrees_of(alloc: Global, verified: &Verified, most: u64) -> Result<Option<boo
     }
 }
 
-/// Whether the job of main, and at most so many steps of the reference machine, come to the same after as many steps.
-/// Nothing where the program is refused.
+/// Returns whether main's job, and the reference machine with at most `most` steps, reach the same position after as many steps.
+/// Returns `None` if the program isn't accepted.
 fn agrees(alloc: Global, bytes: &[u8], most: u64) -> Result<Option<bool>, AllocError> {
     let Ok(program) = decode(alloc, bytes) else {
         return Ok(None);
@@ -146,7 +146,7 @@ fn agrees(alloc: Global, bytes: &[u8], most: u64) -> Result<Option<bool>, AllocE
     }
 }
 
-/// The same, once more where memory may have been refused.
+/// Like `agrees`, but tries again if an allocation may have failed.
 fn agrees_again(alloc: Global, bytes: &[u8], most: u64) -> Result<Option<bool>, AllocError> {
     match agrees(alloc, bytes, most) {
         Ok(Some(agrees)) => Ok(Some(agrees)),
@@ -154,8 +154,8 @@ fn agrees_again(alloc: Global, bytes: &[u8], most: u64) -> Result<Option<bool>, 
     }
 }
 
-/// Of so many programs by chance that are accepted, each job goes as the reference machine does, which makes at most so
-/// many steps. The first at which they differ, or at which memory ran out.
+/// Compares jobs of `count` random accepted programs with the reference machine, which makes at most `most` steps. Returns the first
+/// one that differs, or for which memory ran out.
 pub fn first_stretch(alloc: Global, count: u64, most: u64) -> Option<(&'static str, u64)> {
     let mut seed = 29;
     let mut agreeing: u64 = 0;

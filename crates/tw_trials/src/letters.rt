@@ -1,11 +1,11 @@
-//! Code of small instructions, and whether its loops and skips are in order.
+//! Code of small instructions, and a test of its loops and skips.
 
 use std::alloc::{AllocError, Global};
 
 /// The magic bytes, the version, and one procedure: control, without parameters, with one int register.
 const HEAD: [u8; 9] = [0x54, 0x57, 0x42, 0x01, 0x01, 0x00, 0x00, 0x01, 0x01];
 
-/// A small instruction: INT, ADD and JMP with their skips, REPEAT with its turns, END and RET.
+/// A small instruction: INT, ADD and JMP with their skips, REPEAT with its iterations, END and RET.
 #[derive(Clone, Copy, PartialEq, Eq)]
 pub enum Letter {
     Int,
@@ -16,7 +16,7 @@ pub enum Letter {
     Ret,
 }
 
-/// The letter of a digit below 11.
+/// Returns the letter of a digit below 11.
 fn letter_of(digit: u32) -> Letter {
     match digit {
         0 => Letter::Int,
@@ -33,7 +33,7 @@ fn letter_of(digit: u32) -> Letter {
     }
 }
 
-/// A program of one control procedure with one int register and this code.
+/// Returns a program of one control procedure with one int register and this code.
 pub fn spelled(alloc: Global, code: &[Letter]) -> Result<Vec<u8>, AllocError> {
     let length = u8::try_from(code.len()).unwrap_or(0);
     let mut bytes = Vec::new(alloc);
@@ -56,7 +56,7 @@ fn spell(bytes: &mut Vec<u8>, letter: Letter) -> Result<(), AllocError> {
     }
 }
 
-/// The code that a number spells in so many digits of base 11.
+/// Returns the code that a number writes in `digits` digits of base 11.
 pub fn code_of(alloc: Global, digits: u32, number: u32) -> Result<Vec<Letter>, AllocError> {
     let mut code = Vec::new(alloc);
     let mut rest = number;
@@ -67,7 +67,7 @@ pub fn code_of(alloc: Global, digits: u32, number: u32) -> Result<Vec<Letter>, A
     Ok(code)
 }
 
-/// The END of a REPEAT: as many END as REPEAT stand between them.
+/// Returns the END of a REPEAT: as many END as REPEAT are between them.
 fn partner_of(code: &[Letter], repeat: usize) -> Option<usize> {
     let mut open = 0_u32;
     for (place, letter) in code.iter().enumerate() {
@@ -83,7 +83,7 @@ fn partner_of(code: &[Letter], repeat: usize) -> Option<usize> {
     None
 }
 
-/// The last REPEAT whose loop has the place.
+/// Returns the last REPEAT whose loop has the place.
 fn loop_round(code: &[Letter], place: usize) -> Option<usize> {
     let mut found = None;
     for (repeat, letter) in code.iter().enumerate() {
@@ -101,8 +101,8 @@ fn stays_in_loop(code: &[Letter], place: usize, skip: u8) -> bool {
     goal < code.len() && loop_round(code, goal) == loop_round(code, place)
 }
 
-/// Skips stay in their loops, REPEAT and END are paired, and RET is in no loop and last. Loops of at most six
-/// instructions are never five deep.
+/// Returns whether skips stay in their loops, REPEAT and END are paired, and RET is in no loop and last. Loops of at most six
+/// instructions are never nested five deep.
 pub fn is_structured_code(code: &[Letter]) -> bool {
     for (place, letter) in code.iter().enumerate() {
         let fine = match *letter {

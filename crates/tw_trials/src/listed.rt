@@ -1,4 +1,4 @@
-//! Rules in a plain list that is searched whole, and what stands for their arguments.
+//! Rules in a plain list that is searched linearly, and their arguments.
 
 ghost use Rattle.std.specs.Prelude.{[], ◌∷◌};
 ghost use Rattle.std.specs.List.{AllZip};
@@ -57,7 +57,7 @@ pub fn least_release(list: &[Listed], engine: u8) -> Option<u64> {
     least
 }
 
-/// Puts a parameter of a rule of the list at a stage, where it may come to it; whether it does.
+/// Changes the stage of a parameter in the list, if it may have that one. Returns whether it may.
 pub fn restage(list: &mut [Listed], number: u64, parameter: u8, stage: Stage) -> bool {
     let mut may = false;
     for rule in list {
@@ -73,7 +73,7 @@ pub fn restage(list: &mut [Listed], number: u64, parameter: u8, stage: Stage) ->
     may
 }
 
-/// A mode, twice as often `Closed` as another.
+/// Returns a random mode, `Closed` twice as often as another.
 pub fn mode_of(seed: &mut u64) -> Mode {
     match draw(seed, 5) {
         0 | 1 => Mode::Closed,
@@ -90,7 +90,7 @@ pub fn stage_of(mode: Mode) -> Stage {
     }
 }
 
-/// The datum of a parameter of a rule.
+/// Returns the datum of a parameter of a rule.
 fn datum_of(number: u64, parameter: u64) -> DatumId {
     DatumId::new(number.wrapping_mul(3).wrapping_add(parameter))
 }
@@ -105,7 +105,7 @@ fn arg_of(mode: Mode, id: DatumId) -> Arg
     }
 }
 
-/// Three arguments of these modes.
+/// Returns three arguments of these modes.
 pub fn args_of(mut room: Vec<Arg>, number: u64, first: Mode, second: Mode, third: Mode) -> Bundle
     requires { IsRoom 3 room }
     ensures { AllZip SuitsMode (first ∷ second ∷ third ∷ []) result }
@@ -132,7 +132,7 @@ pub fn plain_of(arg: Option<&Arg>) -> Option<PlainArg> {
     })
 }
 
-/// The argument of a parameter of a rule.
+/// Returns the argument of a parameter of a rule.
 fn plain_arg(number: u64, parameter: u64, mode: Mode) -> PlainArg {
     let id = datum_of(number, parameter);
     match mode {

@@ -1,4 +1,4 @@
-//! Local instructions by chance. Value registers 0, 2 and 3 are ints, 1 and 4 are texts.
+//! Random local instructions. Value registers 0, 2 and 3 are ints, 1 and 4 are texts.
 
 use crate::code::Code;
 use crate::draw::draw;
@@ -14,12 +14,12 @@ const NUMBERS: [&str; 6] = ["0", "1", "2", "-3", "7", "9223372036854775807"];
 
 const WORDS: [&str; 4] = ["\"\"", "\"7\"", "\"-12\"", "\"ab\\n\""];
 
-/// A value register of an int.
+/// Returns a value register of type int.
 pub fn int(seed: &mut u64) -> u8 {
     INTS[usize::from(draw(seed, 3)) % 3]
 }
 
-/// A value register of a text.
+/// Returns a value register of type text.
 pub fn text(seed: &mut u64) -> u8 {
     TEXTS[usize::from(draw(seed, 2)) % 2]
 }
@@ -36,7 +36,7 @@ fn put_text(code: &mut Code, seed: &mut u64) {
     code.put("\n");
 }
 
-/// A skip of the next instruction, and that.
+/// Writes an instruction that may skip the next one, and that one.
 fn put_choice(code: &mut Code, seed: &mut u64) {
     match draw(seed, 3) {
         0 => code.line("JLT v# v#", &[int(seed), int(seed)], &[]),
@@ -47,7 +47,7 @@ fn put_choice(code: &mut Code, seed: &mut u64) {
     put_int(code, seed);
 }
 
-/// One local instruction, or two.
+/// Writes one or two local instructions.
 pub fn put_local(code: &mut Code, seed: &mut u64) {
     match draw(seed, 10) {
         0 | 1 => put_int(code, seed),

@@ -1,4 +1,4 @@
-//! A run of many events in threads, whose outputs don't depend on the order.
+//! Long runs in threads, whose outputs don't depend on the order of events.
 
 use crate::replay::Ended;
 use crate::threads::run_in_threads;
@@ -11,8 +11,8 @@ use tw_report::{put, put_numbered};
 use tw_types::Layout;
 use tw_verify::{Verified, verify};
 
-/// Puts 80 control tasks, each of which makes 80 rules and tasks: the square of each number below 6,400 comes to stand in the
-/// output, at itself.
+/// A program that puts 80 control tasks, each of which makes 80 rules and tasks. The output gets the square of each number below
+/// 6,400, at the number.
 const PROGRAM: &str = "proc control write cont int
 regs int int
 INT v1 1
@@ -57,7 +57,7 @@ DROPW d0
 RET
 ";
 
-/// The report that is wanted.
+/// Returns the expected report.
 fn wanted(alloc: Global) -> Result<Vec<u8>, AllocError> {
     let mut text = Vec::new(alloc);
     put(&mut text, "out 0 cont int closed 6400\n")?;
@@ -77,7 +77,7 @@ fn program(alloc: Global) -> Option<Verified> {
     verify(alloc, program).ok()
 }
 
-/// One run with all actors that there may be.
+/// Makes one run with the greatest layout.
 fn run_of<R: Threads + Wait + Clock + Sync>(
     rt: &R,
     alloc: Global,
@@ -87,7 +87,7 @@ fn run_of<R: Threads + Wait + Clock + Sync>(
     run_in_threads(rt, alloc, verified, &[], layout, 1_000_000)
 }
 
-/// Whether so many runs come to the report that is wanted, each of 100,000 events at least.
+/// Returns whether `runs` runs have the expected report, each with at least 100,000 events.
 pub fn runs_agree<R: Threads + Wait + Clock + Sync>(rt: &R, alloc: Global, runs: u8) -> bool {
     let Some(verified) = program(alloc) else {
         return false;

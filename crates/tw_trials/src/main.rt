@@ -1,6 +1,6 @@
-//! Trials that run long: each prints its first difference, if there is one, and a last line tells how many agree. With a number
-//! behind the name only whole runs are tried, of so many programs; with another word only those trials run in which memory may be
-//! refused, which are the first, and they are short; with the word `steps` a program's main runs by itself, to be measured.
+//! Long-running tests. Each prints its first difference, if there is one, and a last line says how many agree. With a number
+//! as the argument, only whole runs of that many programs are tested. With any other argument, only the first tests run, which are
+//! short, and in which an allocation may fail. With the argument `steps` a program's main runs alone, to be measured.
 #![tactic(auto)]
 
 mod alone;
@@ -42,19 +42,19 @@ use std::thread::Threads;
 use std::time::Clock;
 use std::{env, io};
 
-/// More steps than a stretch has.
+/// More steps than any job has.
 const MOST: u64 = 1_000_000;
 
-/// How many programs are drawn and run, where no word says it.
+/// How many programs are made and run, if no argument says it.
 const PROGRAMS: u64 = 2_000;
 
-/// The most events of a run that is tried at each number of them.
+/// The greatest number of events of a run that is tested at each number of them.
 const FEW: usize = 60;
 
-/// What differs first, if something does, as a number of its kind.
+/// The first difference, if there is one, as a number of its kind.
 type Difference = Option<(&'static str, u64)>;
 
-/// How many trials agree, and whether each that differs could be told.
+/// How many tests agree, and whether each difference could be printed.
 #[derive(Drop)]
 struct Verdicts<'r, R> {
     rt: &'r R,
@@ -63,7 +63,7 @@ struct Verdicts<'r, R> {
 }
 
 impl<R: Print + Threads + Wait + Clock + Sync> Verdicts<'_, R> {
-    /// Tells what differs in a trial; counts one that agrees.
+    /// Prints the difference that a test found, or counts the test as one that agrees.
     fn add(&mut self, name: &str, difference: Difference) {
         match difference {
             Some((what, number)) => {
@@ -73,12 +73,12 @@ impl<R: Print + Threads + Wait + Clock + Sync> Verdicts<'_, R> {
         }
     }
 
-    /// The same of a trial that has one answer only.
+    /// Like `add`, for a test with only one result.
     fn whole(&mut self, name: &str, agrees: bool) {
         self.add(name, if agrees { None } else { Some(("its end", 0)) });
     }
 
-    /// The trials in which memory may be refused, of so many calls.
+    /// Runs the tests in which an allocation may fail, with `calls` calls, or a tenth as many jobs.
     fn refusal_trials(&mut self, alloc: Global, calls: u16) {
         self.add("calls of the store", stores::calls_go(alloc));
         self.add("puts and takes", puts::calls_are_the_searchs(alloc, calls));
@@ -95,7 +95,7 @@ impl<R: Print + Threads + Wait + Clock + Sync> Verdicts<'_, R> {
         self.add("jobs, a control of five steps that is to differ", short);
     }
 
-    /// The trials of the host's parts in which all memory is had.
+    /// Runs the tests of the host's parts in which no allocation fails.
     fn whole_trials(&mut self, alloc: Global) {
         self.add(
             "10,000 puts and takes",
@@ -120,7 +120,7 @@ impl<R: Print + Threads + Wait + Clock + Sync> Verdicts<'_, R> {
         self.whole("worked calls of the rules", rules::worked_calls_go(alloc));
     }
 
-    /// Tells how many programs came to what.
+    /// Prints how many programs ended in which way.
     fn tell_tally(&mut self, programs: u64, tally: &Tally) {
         let Tally {
             refused,
@@ -142,8 +142,8 @@ impl<R: Print + Threads + Wait + Clock + Sync> Verdicts<'_, R> {
         self.are_told &= println!(self.rt; "{threads} programs in threads").is_ok();
     }
 
-    /// So many programs in rounds, at each number of their events and in threads, and whether each end came often enough; a long run; and
-    /// two controls.
+    /// Tests `programs` programs: in one thread, at each number of their events, and in threads, and whether each end came often
+    /// enough. Also tests a long run, and two controls.
     fn run_trials(&mut self, alloc: Global, programs: u64) {
         let tally = tried(self.rt, alloc, programs, FEW);
         self.tell_tally(programs, &tally);
@@ -164,7 +164,7 @@ impl<R: Print + Threads + Wait + Clock + Sync> Verdicts<'_, R> {
         );
     }
 
-    /// The verifier against all walks.
+    /// Compares the verifier with all walks.
     fn verifier_trials(&mut self, alloc: Global) {
         for (name, digits, count, is_structured) in [
             ("1 instruction", 1, 11, false),
@@ -186,7 +186,7 @@ fn of_program(number: Option<u64>) -> Difference {
     Some(("program", number?))
 }
 
-/// Which trials run.
+/// Which tests run.
 #[derive(Clone, Copy, PartialEq, Eq)]
 enum Asked {
     All,

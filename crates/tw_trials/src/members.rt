@@ -1,4 +1,4 @@
-//! A container of a thousand members, and data one after the other.
+//! A container of a thousand members, and many data one after the other.
 
 ghost use Rattle.tw_store.specs.Served.{KnowsPlaces};
 
@@ -8,13 +8,13 @@ use std::alloc::Global;
 use tw_store::{Datum, Store};
 use tw_types::{DatumId, Value, ValueRef};
 
-/// Whether a call answers this.
+/// Returns whether a call has this result.
 fn answers(alloc: Global, store: &mut Store, call: Call, answer: Answer) -> bool {
     answered(store, alloc, call) == answer
 }
 
-/// Makes a container of ints, datum 1, and data 2 to 1,001, at the multiples of the factor below 1,000; whether all
-/// that went.
+/// Makes a container of ints, datum 1, and data 2 to 1,001, at the multiples of the factor modulo 1,000. Returns whether all calls
+/// succeeded.
 fn filled(alloc: Global, store: &mut Store, factor: i64) -> bool {
     let mut went = answers(alloc, store, Call::Create(1, false), Answer::Id(1));
     for turn in 0..1_000_i64 {
@@ -23,7 +23,7 @@ fn filled(alloc: Global, store: &mut Store, factor: i64) -> bool {
     went
 }
 
-/// Makes the next datum, sets it to the turn, and adds it there.
+/// Makes the next datum, sets it to the iteration's number, and inserts it at the subscript.
 fn member_added(alloc: Global, store: &mut Store, turn: i64, subscript: i64) -> bool {
     let id = store.next().number();
     let set = Call::Set(id, Plain::Number(turn));
@@ -39,7 +39,7 @@ fn is_int(value: &Value, wanted: i64) -> bool {
     }
 }
 
-/// Whether the container has its members at their subscripts, and at indices that are the subscripts.
+/// Returns whether the container has its members at their subscripts, and at indices that equal the subscripts.
 fn has_thousand(container: &Datum) -> bool {
     let mut are_there = container.len() == 1_000 && container.member(1_000).is_none();
     for subscript in 0..1_000_i64 {
@@ -59,7 +59,7 @@ fn is_at(container: &Datum, subscript: i64) -> bool {
     }
 }
 
-/// Whether the store shows the member at its index, with the datum that was set to the turn of its subscript.
+/// Returns whether the store has the member at its index, with the datum that was set to the iteration of its subscript.
 fn is_shown(store: &Store, container: &Datum, subscript: i64) -> bool
     requires { KnowsPlaces store.now container.now }
 {
@@ -78,7 +78,7 @@ fn is_shown(store: &Store, container: &Datum, subscript: i64) -> bool
     }
 }
 
-/// Whether the store shows the members of its container.
+/// Returns whether the store has the members of its container.
 fn shows_thousand(store: &Store) -> bool {
     let Some(container) = store.view(DatumId::new(1)) else {
         return false;
@@ -90,7 +90,7 @@ fn shows_thousand(store: &Store) -> bool {
     are_there
 }
 
-/// A thousand members, added in mixed order, are found at their indices and subscripts, and shown with their data. Since 7
+/// Tests that a thousand members, added in mixed order, are found by their indices and subscripts, with their data. Since 7
 /// and 1,000 have no divisor in common, each subscript below 1,000 comes once.
 pub fn thousand_are_found(alloc: Global) -> bool {
     match Store::new(alloc, 1) {
@@ -99,7 +99,7 @@ pub fn thousand_are_found(alloc: Global) -> bool {
     }
 }
 
-/// How many of the container and its members are live.
+/// Counts how many of the container and its members are live.
 fn live(store: &Store) -> u64 {
     let mut count = 0_u64;
     for id in 1..1_002_u64 {
@@ -110,7 +110,7 @@ fn live(store: &Store) -> u64 {
     count
 }
 
-/// A thousand members are freed at once with their container.
+/// Tests that a thousand members are freed at once with their container.
 pub fn thousand_are_freed(alloc: Global) -> bool {
     match Store::new(alloc, 1) {
         Ok(mut store) => are_filled_and_freed(alloc, &mut store),
@@ -126,7 +126,7 @@ fn are_filled_and_freed(alloc: Global, store: &mut Store) -> bool {
         && live(store) == 0
 }
 
-/// Makes the next datum, lets its read go and sets it, which frees it; whether all that went, and it is gone.
+/// Makes the next datum, drops its read and sets it, which frees it. Returns whether all that succeeded, and it is gone.
 fn is_made_and_freed(alloc: Global, store: &mut Store) -> bool {
     let id = store.next().number();
     let set = Call::Set(id, Plain::Number(0));
@@ -136,7 +136,7 @@ fn is_made_and_freed(alloc: Global, store: &mut Store) -> bool {
         && store.view(DatumId::new(id)).is_none()
 }
 
-/// A thousand data, made and freed one after the other: the last has id 1,000.
+/// Tests that of a thousand data, made and freed one after the other, the last has id 1,000.
 pub fn thousand_in_turn(alloc: Global) -> bool {
     let Ok(mut store) = Store::new(alloc, 1) else {
         return false;
@@ -148,7 +148,7 @@ pub fn thousand_in_turn(alloc: Global) -> bool {
     went && store.next().number() == 1_001
 }
 
-/// Makes the next datum, sets it to the number, reads it and lets its read go; whether it was read as it was set, and is gone.
+/// Makes the next datum, sets it to the number, reads it and drops its read. Returns whether it was read as it was set, and is gone.
 fn is_read_and_freed(alloc: Global, store: &mut Store, number: i64) -> bool {
     let id = store.next().number();
     let set = Call::Set(id, Plain::Number(number));
@@ -159,7 +159,7 @@ fn is_read_and_freed(alloc: Global, store: &mut Store, number: i64) -> bool {
         && store.view(DatumId::new(id)).is_none()
 }
 
-/// Ten thousand ints, one after the other, are read as they were set, beside a hundred that stay.
+/// Tests that ten thousand ints, one after the other, are read as they were set, while a hundred others stay.
 pub fn lives_are_read(alloc: Global) -> bool {
     let Ok(mut store) = Store::new(alloc, 1) else {
         return false;

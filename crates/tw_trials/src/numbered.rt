@@ -10,27 +10,27 @@ use tw_queue::{Task, TaskQueues};
 use tw_rights::{Arg, Bundle, ReadRight, WriteRight};
 use tw_types::{Actor, DatumId, Kind, TaskNo, Value};
 
-/// What an actor takes.
+/// The result of a take.
 #[derive(Clone, Copy, PartialEq, Eq)]
 pub enum Taken {
     Nothing,
     Task(u64),
-    /// A task that isn't as it was put, or not what `best` says.
+    /// A task that isn't as it was put, or isn't the one that `best` returned.
     Strange,
 }
 
-/// What a put of a task, or an `add` of a rule, comes to.
+/// The result of putting a task, or of adding a rule.
 #[derive(Clone, Copy, PartialEq, Eq)]
 pub enum Put {
-    /// That of this number waits.
+    /// The one of this number waits.
     Done(u64),
-    /// Memory is refused, and what was moved in has come back as it was.
+    /// An allocation failed, and the arguments were returned unchanged.
     Refused,
-    /// What has come back isn't as it was, or no number is left.
+    /// The arguments were returned changed, or no number is left.
     Strange,
 }
 
-/// Room for so many arguments, asked for again where it is refused once.
+/// Allocates memory for `count` arguments, and tries again if that fails once.
 pub(crate) fn room(alloc: Global, count: usize) -> Result<Vec<Arg>, AllocError>
     ensures { IfOk result (λ room. IsRoom count room) }
 {
@@ -62,7 +62,7 @@ impl Numbered {
         self.queues.len()
     }
 
-    /// Makes room for one task of this kind and this target.
+    /// Reserves memory for one task of this kind and this target.
     pub fn reserve(&mut self, kind: Kind, target: Option<u8>) -> Result<(), AllocError>
         requires { IsTarget target }
     {
@@ -109,12 +109,12 @@ impl Numbered {
         }
     }
 
-    /// What the actor takes next.
+    /// Returns what the actor takes next.
     pub fn best(&self, actor: Actor) -> Taken {
         seen(self.queues.best(actor))
     }
 
-    /// What the actor takes, if `best` says the same before.
+    /// Returns what the actor takes, if `best` returned the same before.
     pub fn take(&mut self, actor: Actor) -> Taken {
         let best = self.best(actor);
         let task = self.queues.take(actor);
@@ -136,7 +136,7 @@ impl Numbered {
     }
 }
 
-/// A task of this number. One in three has a read right on the datum of its number, and one in three a write right.
+/// Returns a task of this number. One in three has a read right on the datum of its number, and one in three a write right.
 fn task_of(mut room: Vec<Arg>, number: u64) -> Task
     requires { IsRoom 1 room }
     ensures { result.no ≡ number }
@@ -158,7 +158,7 @@ fn procedure_of(number: u64) -> u8 {
     u8::try_from(number % 64).unwrap_or(0)
 }
 
-/// Whether the task is that of its number.
+/// Returns whether the task is that of its number.
 fn is_as_put(task: &Task) -> bool {
     let number = task.no.number();
     task.procedure == procedure_of(number)

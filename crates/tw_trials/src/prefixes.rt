@@ -1,4 +1,4 @@
-//! Runs with each smaller number of events, beside the reference machine after so many.
+//! Runs with each smaller limit, compared with the reference machine after as many events.
 
 ghost use Rattle.std.specs.Prelude.{◌≤◌, length};
 ghost use Rattle.tw_code.specs.machine.Bounds.{AreBelow, opening_bound};
@@ -10,7 +10,7 @@ use std::alloc::Global;
 use tw_machine::Plain;
 use tw_types::Event;
 
-/// Whether the run makes these events, where there may be no more, and then tells what the machine tells.
+/// Returns whether a run with this limit makes exactly these events, and has the machine's report.
 fn agrees_at(alloc: Global, case: &Case, plain: &Plain, events: &[Event]) -> bool {
     match run_in_rounds(alloc, case, events.len()) {
         Some(run) => run.events.as_slice() == events && tells(alloc, plain, &run),
@@ -18,7 +18,7 @@ fn agrees_at(alloc: Global, case: &Case, plain: &Plain, events: &[Event]) -> boo
     }
 }
 
-/// Whether the run agrees at each number of these events.
+/// Returns whether the run agrees at each number of these events.
 fn all_agree(alloc: Global, case: &Case, first: Plain, events: &[Event]) -> bool
     requires few { length events.now ≤ 1000000 }
     requires low { AreBelow opening_bound first.state }
@@ -35,7 +35,7 @@ fn all_agree(alloc: Global, case: &Case, first: Plain, events: &[Event]) -> bool
     true
 }
 
-/// Whether a run agrees at each number of its events.
+/// Returns whether a run agrees at each number of its events.
 pub fn agree_at_each(alloc: Global, case: &Case, events: &[Event]) -> bool {
     if events.len() > 1_000_000 {
         return false;

@@ -1,4 +1,4 @@
-//! Programs by chance, as text.
+//! Random programs, as text.
 
 use crate::code::Code;
 use crate::data::{put_all_spent, put_data};
@@ -15,7 +15,7 @@ pub struct Drawn {
     pub main: Signature,
 }
 
-/// The procedure that one calls: mostly one behind it.
+/// Returns the number of a procedure to call, mostly a later one.
 fn callee(seed: &mut u64, signatures: &[Signature], caller: u8) -> u8 {
     let count = signatures.len() as u64;
     let behind = count.saturating_sub(u64::from(caller)).saturating_sub(1);
@@ -27,7 +27,7 @@ fn callee(seed: &mut u64, signatures: &[Signature], caller: u8) -> u8 {
         .wrapping_add(draw(seed, behind.max(1)))
 }
 
-/// A RULE or PUT of some procedure.
+/// Writes a RULE or PUT of some procedure.
 fn put_next_call(code: &mut Code, seed: &mut u64, signatures: &[Signature], caller: u8) {
     let number = callee(seed, signatures, caller);
     if let Some(callee) = signatures.get(usize::from(number)) {
@@ -35,7 +35,7 @@ fn put_next_call(code: &mut Code, seed: &mut u64, signatures: &[Signature], call
     }
 }
 
-/// One instruction or a few, that may call where the procedure may.
+/// Writes one or a few instructions. They may be calls if the procedure may call.
 fn put_next(code: &mut Code, seed: &mut u64, signatures: &[Signature], caller: u8, may_call: bool) {
     match draw(seed, 9) {
         0 | 1 => put_local(code, seed),
@@ -44,7 +44,7 @@ fn put_next(code: &mut Code, seed: &mut u64, signatures: &[Signature], caller: u
     }
 }
 
-/// Some instructions in a loop or behind a skip, that leave as they were the rights which are held before.
+/// Writes some instructions in a loop or after a skip, which don't change the rights held before.
 fn put_block(
     code: &mut Code,
     seed: &mut u64,
@@ -60,7 +60,7 @@ fn put_block(
     code.end_block(before);
 }
 
-/// Some instructions, in a loop, behind a skip, or one by itself.
+/// Writes some instructions, in a loop, after a skip, or one alone.
 fn put_step(code: &mut Code, seed: &mut u64, signatures: &[Signature], caller: u8, may_call: bool) {
     match draw(seed, 8) {
         0 => {
@@ -78,7 +78,7 @@ fn put_step(code: &mut Code, seed: &mut u64, signatures: &[Signature], caller: u
     }
 }
 
-/// One procedure. Now and then rights are left, and the program is refused.
+/// Writes one procedure. Now and then rights are left, and the program is rejected.
 fn put_procedure(
     code: &mut Code,
     seed: &mut u64,
@@ -96,7 +96,7 @@ fn put_procedure(
     code.put("RET\n");
 }
 
-/// Main, and one to six procedures more.
+/// Returns main, and one to six other procedures.
 fn next_signatures(
     alloc: Global,
     seed: &mut u64,
@@ -110,7 +110,7 @@ fn next_signatures(
     Ok(signatures)
 }
 
-/// The next program of the sequence, if there is memory for it.
+/// Returns the next program of the sequence, unless an allocation fails.
 pub fn next_program(alloc: Global, seed: &mut u64) -> Option<Drawn> {
     let main = Signature::next_main(seed);
     let signatures = next_signatures(alloc, seed, main).ok()?;

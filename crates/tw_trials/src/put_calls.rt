@@ -1,4 +1,4 @@
-//! RULE and PUT, by chance.
+//! Random RULE and PUT.
 
 use crate::code::Code;
 use crate::data::{put_double, put_new};
@@ -16,7 +16,7 @@ const PRIORITIES: [&str; 6] = [
     " -9223372036854775808",
 ];
 
-/// What may stand for a parameter.
+/// Returns what a parameter's argument must be.
 fn wanted(right: Right, is_rule: bool) -> Want {
     match right.mode {
         Mode::Write => Want::Write(right.ty),
@@ -26,7 +26,7 @@ fn wanted(right: Right, is_rule: bool) -> Want {
     }
 }
 
-/// Makes a right for a parameter, of another one or of a new datum; its register.
+/// Makes a right for a parameter, from another one or from a new datum. Returns its register.
 fn made(code: &mut Code, seed: &mut u64, right: Right, want: Want) -> Option<u8> {
     if !right.is_write() || right.is_container() {
         if let Some(other) = code.find(seed, want) {
@@ -40,7 +40,7 @@ fn made(code: &mut Code, seed: &mut u64, right: Right, want: Want) -> Option<u8>
     Some(if right.is_write() { writer } else { reader })
 }
 
-/// A register for a parameter, which is kept from then on.
+/// Returns a register for a parameter, which is kept from then on.
 fn chosen(code: &mut Code, seed: &mut u64, right: Right, is_rule: bool) -> Option<u8> {
     let want = wanted(right, is_rule);
     let mut register = None;
@@ -54,7 +54,7 @@ fn chosen(code: &mut Code, seed: &mut u64, right: Right, is_rule: bool) -> Optio
     register
 }
 
-/// The registers of the rights that are handed over, and how many there are.
+/// The registers of the arguments that are rights, and how many there are.
 #[derive(Clone, Copy)]
 struct Arguments {
     registers: [u8; 3],
@@ -67,7 +67,7 @@ impl Arguments {
     }
 }
 
-/// Chooses registers for the parameters, up to the first for which there is none.
+/// Chooses registers for the parameters, up to the first without one.
 fn choose(code: &mut Code, seed: &mut u64, callee: &Signature, is_rule: bool) -> Arguments {
     let mut arguments = Arguments {
         registers: [0; 3],
@@ -83,7 +83,7 @@ fn choose(code: &mut Code, seed: &mut u64, callee: &Signature, is_rule: bool) ->
     arguments
 }
 
-/// A name with a procedure's number, and a priority: one in three is computed.
+/// Writes a name with a procedure's number, and a priority: one in three is computed.
 fn put_name(code: &mut Code, seed: &mut u64, number: u8, is_rule: bool) {
     let is_computed = draw(seed, 3) == 0;
     code.put(if is_rule { "RULE" } else { "PUT" });
@@ -95,7 +95,7 @@ fn put_name(code: &mut Code, seed: &mut u64, number: u8, is_rule: bool) {
     }
 }
 
-/// The target and the values.
+/// Writes the target and the values.
 fn put_values(code: &mut Code, seed: &mut u64, callee: &Signature) {
     if draw(seed, 3) > 0 {
         code.put(" any");
@@ -111,7 +111,7 @@ fn put_values(code: &mut Code, seed: &mut u64, callee: &Signature) {
     }
 }
 
-/// Makes a rule or a task, where there are rights for its parameters or may be made.
+/// Makes a rule or a task, if there are rights for its parameters or some can be made.
 pub fn put_call(code: &mut Code, seed: &mut u64, number: u8, callee: &Signature) {
     let is_rule = draw(seed, 3) > 0;
     let arguments = choose(code, seed, callee, is_rule);

@@ -1,5 +1,5 @@
-//! Puts and takes of tasks with rights: worked ones, and others by chance, compared with a search over a plain list of the
-//! tasks that wait. Where memory is refused nothing has changed, and the call goes when it is made again.
+//! Puts and takes of tasks with rights: fixed calls, and random ones that are compared with a search in a plain list of the
+//! waiting tasks. If an allocation fails nothing has changed, and the call succeeds when it is made again.
 
 ghost use Rattle.tw_queue.specs.Queues.{IsTarget};
 
@@ -8,7 +8,7 @@ use crate::numbered::{Numbered, Put, Taken};
 use std::alloc::{AllocError, Global};
 use tw_types::{Actor, Kind};
 
-/// A task that waits.
+/// A waiting task.
 #[derive(Clone, Copy)]
 struct Plain {
     number: u64,
@@ -33,7 +33,7 @@ impl Plain {
     }
 }
 
-/// Of the tasks that the actor may take the one that goes before the others, with its place.
+/// Returns the best of the tasks that the actor may take, with its index.
 fn first_of(plains: &[Plain], actor: Actor) -> Option<(usize, Plain)> {
     let mut first: Option<(usize, Plain)> = None;
     for (place, plain) in plains.iter().enumerate() {
@@ -44,7 +44,7 @@ fn first_of(plains: &[Plain], actor: Actor) -> Option<(usize, Plain)> {
     first
 }
 
-/// Takes it out of the list.
+/// Takes that task out of the list.
 fn taken_of(plains: &mut Vec<Plain>, actor: Actor) -> Taken {
     match first_of(plains, actor) {
         None => Taken::Nothing,
@@ -56,7 +56,7 @@ fn taken_of(plains: &mut Vec<Plain>, actor: Actor) -> Taken {
     }
 }
 
-/// Whether just the tasks of the list wait, as far as actors see.
+/// Returns whether exactly the tasks of the list wait, as far as actors see.
 fn are_listed(queues: &Numbered, plains: &[Plain]) -> bool {
     let mut is_so = queues.len() == plains.len();
     for number in 0..17_u8 {
@@ -69,12 +69,12 @@ fn are_listed(queues: &Numbered, plains: &[Plain]) -> bool {
     is_so
 }
 
-// ---- the worked calls
+// ---- fixed calls
 
-/// The numbers of those who take, one after the other, and what each takes.
+/// The numbers of the actors that take, one after the other, and what each takes.
 type Takes = [(u8, Taken); 5];
 
-/// Actor 0 goes first.
+/// Actor 0 takes first.
 const FIRST: Takes = [
     (0, Taken::Task(2)),
     (0, Taken::Task(1)),
@@ -83,8 +83,8 @@ const FIRST: Takes = [
     (1, Taken::Nothing),
 ];
 
-/// Actor 1 goes first. Of two tasks with the same priority it takes that with the lower number, though the other is for
-/// itself alone.
+/// Actor 1 takes first. Of two tasks with the same priority it takes the one with the lower number, though the other is for
+/// it alone.
 const SECOND: Takes = [
     (1, Taken::Task(2)),
     (1, Taken::Task(1)),
@@ -100,8 +100,8 @@ fn actor_of(kind: Kind, number: u8) -> Actor {
     }
 }
 
-/// Puts task 1 of priority 5 and task 2 of priority 9, for any actor, and task 3 of priority 5 for actor 1. Whether they
-/// are taken so.
+/// Puts task 1 of priority 5 and task 2 of priority 9, for any actor, and task 3 of priority 5 for actor 1. Returns whether they
+/// are taken in this order.
 fn three_go(queues: &mut Numbered, kind: Kind, takes: &Takes) -> bool {
     let mut is_so = queues.put(kind, 5, None) == Put::Done(1)
         && queues.put(kind, 9, None) == Put::Done(2)
@@ -113,7 +113,7 @@ fn three_go(queues: &mut Numbered, kind: Kind, takes: &Takes) -> bool {
     is_so && queues.len() == 0
 }
 
-/// The best task goes first, for workers and for engines.
+/// Tests that the best task is taken first, by workers and by engines.
 pub fn best_goes_first(alloc: Global) -> bool {
     let mut is_so = true;
     for kind in [Kind::Control, Kind::Leaf] {
@@ -129,7 +129,7 @@ pub fn best_goes_first(alloc: Global) -> bool {
     is_so
 }
 
-// ---- calls by chance
+// ---- random calls
 
 fn kind_of(seed: &mut u64) -> Kind {
     if draw(seed, 2) == 0 {
@@ -147,7 +147,7 @@ fn priority_of(seed: &mut u64) -> i64 {
     }
 }
 
-/// One of sixteen targets, or none.
+/// Returns one of sixteen targets, or none.
 fn target_of(seed: &mut u64) -> Option<u8>
     ensures { IsTarget result }
 {
@@ -155,7 +155,7 @@ fn target_of(seed: &mut u64) -> Option<u8>
     if number < 16 { Some(number) } else { None }
 }
 
-/// Makes room for a task, at the second time if memory is refused at the first; whether that went, and a refusal
+/// Reserves memory for a task, again if the first allocation fails. Returns whether that succeeded, and a failure
 /// changed nothing.
 fn reserve_agrees(queues: &mut Numbered, plains: &[Plain], kind: Kind, target: Option<u8>) -> bool
     requires { IsTarget target }
@@ -164,7 +164,7 @@ fn reserve_agrees(queues: &mut Numbered, plains: &[Plain], kind: Kind, target: O
         || are_listed(queues, plains) && queues.reserve(kind, target).is_ok()
 }
 
-/// Puts a task into both, with room made before or in the same way; whether that went.
+/// Puts a task into both, with memory reserved before or in the same way. Returns whether that succeeded.
 fn put_agrees(queues: &mut Numbered, plains: &mut Vec<Plain>, seed: &mut u64) -> bool {
     let (kind, priority, target) = (kind_of(seed), priority_of(seed), target_of(seed));
     let has_room = draw(seed, 2) == 0;
@@ -187,7 +187,7 @@ fn put_agrees(queues: &mut Numbered, plains: &mut Vec<Plain>, seed: &mut u64) ->
     plains.push(plain).is_ok()
 }
 
-/// An actor takes a task out of both, whose number is a target or one of two greater ones; whether that is the same.
+/// Takes a task out of both, by an actor whose number is a target or one of two greater ones. Returns whether the tasks are equal.
 fn take_agrees(queues: &mut Numbered, plains: &mut Vec<Plain>, seed: &mut u64) -> bool {
     let number = draw(seed, 18);
     let actor = match draw(seed, 9) {
@@ -198,7 +198,7 @@ fn take_agrees(queues: &mut Numbered, plains: &mut Vec<Plain>, seed: &mut u64) -
     queues.take(actor) == taken_of(plains, actor)
 }
 
-/// The number of the first call that differs, if one does.
+/// Returns the number of the first call that differs, if one does.
 fn first_difference(queues: &mut Numbered, plains: &mut Vec<Plain>, calls: u16) -> Option<u64> {
     let mut seed = 20_251_123;
     for number in 0..calls {
@@ -218,8 +218,8 @@ fn list_of(alloc: Global, calls: u16) -> Result<Vec<Plain>, AllocError> {
     Vec::with_capacity(alloc, usize::from(calls))
 }
 
-/// So many puts and takes give what the search gives, whichever one piece of memory is refused to them, and what is left
-/// is shut.
+/// Compares `calls` puts and takes with the search, whichever single allocation fails, and closes the queues with what is
+/// left.
 pub fn calls_are_the_searchs(alloc: Global, calls: u16) -> Option<(&'static str, u64)> {
     let Ok(mut plains) = list_of(alloc, calls).or_else(|_| list_of(alloc, calls)) else {
         return Some(("memory ran out at list", 0));

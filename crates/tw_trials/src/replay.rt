@@ -1,4 +1,4 @@
-//! Events on the reference machine, and what it tells behind them.
+//! Events on the reference machine, and its report after them.
 
 ghost use Rattle.std.specs.Prelude.{◌+◌, ◌*◌, ◌≤◌, ◌↔◌, length, IsTrue};
 ghost use Rattle.tw_code.specs.machine.Bounds.{AreBelow, opening_bound, size_of};
@@ -10,7 +10,7 @@ use tw_report::{put_report, report_state};
 use tw_run_report::report;
 use tw_types::Event;
 
-/// Whether an event does at most a thousand million instructions.
+/// Returns whether an event executes at most a thousand million instructions.
 fn is_short(event: Event) -> bool
     ensures { IsTrue result ↔ (size_of event ≤ 1000000000) }
 {
@@ -21,7 +21,7 @@ fn is_short(event: Event) -> bool
     }
 }
 
-/// Makes an event behind so many others. False where it doesn't go.
+/// Makes an event after `before` others. Returns whether it succeeded.
 pub fn goes(alloc: Global, plain: &mut Plain, event: &Event, before: usize) -> bool
     requires few { before ≤ 1000000 }
     requires low { AreBelow (opening_bound + 1000000000 * before) plain.old.state }
@@ -33,7 +33,7 @@ pub fn goes(alloc: Global, plain: &mut Plain, event: &Event, before: usize) -> b
     plain.step(alloc, *event).is_ok()
 }
 
-/// The machine after the events; nothing where one doesn't go.
+/// Returns the machine after the events, or `None` if one doesn't succeed.
 fn play(alloc: Global, first: Plain, events: &[Event]) -> Option<Plain>
     requires few { length events.now ≤ 1000000 }
     requires low { AreBelow opening_bound first.state }
@@ -47,7 +47,7 @@ fn play(alloc: Global, first: Plain, events: &[Event]) -> Option<Plain>
     Some(plain)
 }
 
-/// The report of a state, with the line that closes that of the run.
+/// Returns the report of a state, with the run's last line.
 fn text_of(alloc: Global, plain: &Plain, closing: Closing) -> Result<Vec<u8>, AllocError> {
     if closing != Closing::Limit || plain.ending().is_some() {
         return report_state(alloc, plain);
@@ -57,7 +57,7 @@ fn text_of(alloc: Global, plain: &Plain, closing: Closing) -> Result<Vec<u8>, Al
     Ok(text)
 }
 
-/// A run that is over: why, its report, and its events.
+/// A finished run: why it is over, its report, and its events.
 #[derive(Drop)]
 pub struct Ended {
     pub closing: Closing,
@@ -65,7 +65,7 @@ pub struct Ended {
     pub events: Vec<Event>,
 }
 
-/// What is told of a run that is over.
+/// Returns the results of a finished run.
 pub fn end_of(alloc: Global, left: &Final, history: &History) -> Option<Ended> {
     let closing = left.closing()?;
     let text = report(alloc, left).ok()?;
@@ -77,7 +77,7 @@ pub fn end_of(alloc: Global, left: &Final, history: &History) -> Option<Ended> {
     })
 }
 
-/// The events of a history.
+/// Returns the events of a `History`.
 fn events_of(alloc: Global, history: &History) -> Result<Vec<Event>, AllocError> {
     let mut events = Vec::new(alloc);
     for index in 0..history.len() {
@@ -86,7 +86,7 @@ fn events_of(alloc: Global, history: &History) -> Result<Vec<Event>, AllocError>
     Ok(events)
 }
 
-/// Whether a machine tells the same.
+/// Returns whether a machine has the same report.
 pub fn tells(alloc: Global, plain: &Plain, wanted: &Ended) -> bool {
     match text_of(alloc, plain, wanted.closing) {
         Ok(text) => text.as_slice() == wanted.text.as_slice(),
@@ -94,7 +94,7 @@ pub fn tells(alloc: Global, plain: &Plain, wanted: &Ended) -> bool {
     }
 }
 
-/// Whether the machine makes the events, and then tells the same.
+/// Returns whether the machine makes the events, and then has the same report.
 pub fn agrees(alloc: Global, first: Plain, events: &[Event], wanted: &Ended) -> bool
     requires { AreBelow opening_bound first.state }
 {

@@ -1,8 +1,8 @@
-//! What right registers hold, and what is looked for among them.
+//! Content of right registers, and searches for it.
 
 use crate::draw::draw;
 
-/// The types that the programs have.
+/// The types of the programs.
 #[derive(Clone, Copy, PartialEq, Eq)]
 pub enum Ty {
     Int,
@@ -10,14 +10,14 @@ pub enum Ty {
     Ints,
     Texts,
     Rows,
-    /// Under texts, as the next two.
+    /// With texts as subscripts, like the next two.
     Words,
     Names,
     Tables,
 }
 
 impl Ty {
-    /// How the type is spelled.
+    /// Returns the type in assembly.
     pub fn words(self) -> &'static str {
         match self {
             Ty::Int => "int",
@@ -31,12 +31,12 @@ impl Ty {
         }
     }
 
-    /// Whether it is a container whose subscripts are texts.
+    /// Returns whether it is a container with texts as subscripts.
     pub fn is_by_text(self) -> bool {
         matches!(self, Ty::Words | Ty::Names | Ty::Tables)
     }
 
-    /// The type of a container's members.
+    /// Returns the type of a container's members.
     pub fn element(self) -> Option<Ty> {
         match self {
             Ty::Int | Ty::Text => None,
@@ -46,7 +46,7 @@ impl Ty {
         }
     }
 
-    /// A type by chance, of those that main may have.
+    /// Returns a random type that main may have.
     pub fn next_of_main(seed: &mut u64) -> Ty {
         match draw(seed, 9) {
             0 | 1 => Ty::Int,
@@ -58,7 +58,7 @@ impl Ty {
         }
     }
 
-    /// A type by chance.
+    /// Returns a random type.
     pub fn next(seed: &mut u64) -> Ty {
         match draw(seed, 10) {
             0 => Ty::Rows,
@@ -77,7 +77,7 @@ pub enum Mode {
 }
 
 impl Mode {
-    /// How the mode is spelled, with a space behind it.
+    /// Returns the mode in assembly, with a space after it.
     pub fn word(self) -> &'static str {
         match self {
             Mode::Closed => "closed ",
@@ -86,7 +86,7 @@ impl Mode {
         }
     }
 
-    /// A mode by chance.
+    /// Returns a random mode.
     pub fn next(seed: &mut u64) -> Mode {
         match draw(seed, 5) {
             0 | 1 => Mode::Closed,
@@ -96,7 +96,7 @@ impl Mode {
     }
 }
 
-/// What a right register may hold, and what a parameter asks.
+/// The right in a right register, or that of a parameter.
 #[derive(Clone, Copy, PartialEq, Eq)]
 pub struct Right {
     pub mode: Mode,
@@ -104,37 +104,37 @@ pub struct Right {
 }
 
 impl Right {
-    /// A right of this mode on a datum of this type.
+    /// Returns a right of this mode on a datum of this type.
     pub fn new(mode: Mode, ty: Ty) -> Right {
         Right { mode, ty }
     }
 
-    /// Whether it is a right to write.
+    /// Returns whether it is a write right.
     pub fn is_write(self) -> bool {
         self.mode == Mode::Write
     }
 
-    /// Whether its datum is a container.
+    /// Returns whether its datum is a container.
     pub fn is_container(self) -> bool {
         self.ty.element().is_some()
     }
 }
 
-/// What is looked for among the registers.
+/// The content that is sought among the registers.
 #[derive(Clone, Copy)]
 pub enum Want {
     Empty,
-    /// A right to write a datum of the type.
+    /// A write right on a datum of the type.
     Write(Ty),
-    /// A right to read a datum of the type.
+    /// A read right on a datum of the type.
     Read(Ty),
     /// A right on a closed datum of the type.
     Closed(Ty),
-    /// Any right to read.
+    /// Any read right.
     AnyRead,
-    /// A right to write any scalar.
+    /// A write right on any scalar.
     WriteScalar,
-    /// A right to write any container.
+    /// A write right on any container.
     WriteContainer,
     /// A right on any closed container.
     ClosedContainer,
@@ -142,7 +142,7 @@ pub enum Want {
     ClosedScalar,
 }
 
-/// Whether a right is one that is looked for.
+/// Returns whether a right is one that is sought.
 fn suits(right: Right, want: Want) -> bool {
     match want {
         Want::Empty => false,
@@ -157,7 +157,7 @@ fn suits(right: Right, want: Want) -> bool {
     }
 }
 
-/// Whether a register with this in it is one that is looked for.
+/// Returns whether a register with this content is one that is sought.
 pub fn fits(held: Option<Right>, want: Want) -> bool {
     match held {
         Some(right) => suits(right, want),

@@ -12,16 +12,16 @@ use tw_frame::Done;
 use tw_pool::{Pool, Turn};
 use tw_types::{Actor, Layout};
 
-/// What a turn comes to for who turns.
+/// The result of a scheduling step for its caller.
 #[derive(Clone, Copy, PartialEq, Eq)]
 enum Came {
     On,
     Over,
-    /// An answer that no such turn has.
+    /// A result that no such step has.
     Astray,
 }
 
-/// The actor of a place, if there is one.
+/// Returns the actor of a place, if there is one.
 fn actor_at(layout: Layout, place: u8) -> Option<Actor>
     ensures { IfSome result (λ actor. is_in layout actor ≡ true) }
 {
@@ -33,7 +33,7 @@ fn actor_at(layout: Layout, place: u8) -> Option<Actor>
     if layout.has(actor) { Some(actor) } else { None }
 }
 
-/// One turn of an actor, with the Done that it kept. A job that it is lent is run at once, and its Done is kept.
+/// Makes one step of an actor, with the `Done` that it kept. Runs a job that it is issued at once, and keeps its `Done`.
 fn turn_one<'a>(
     alloc: Global,
     pool: &mut Pool<'a>,
@@ -56,7 +56,7 @@ fn turn_one<'a>(
     }
 }
 
-/// One turn for each actor, from the first on; some are left out by chance.
+/// Makes one step for each actor, from the first on. Some are left out at random.
 fn turn_round<'a>(
     alloc: Global,
     pool: &mut Pool<'a>,
@@ -83,7 +83,7 @@ fn turn_round<'a>(
     Came::On
 }
 
-/// Turns until the run is over. False where an answer is none that may come, or the run doesn't end.
+/// Makes steps until the run is over. Returns false if a result isn't one that may come, or if the run doesn't end.
 fn turn_all<'a>(alloc: Global, pool: &mut Pool<'a>, seed: &mut u64) -> bool {
     let mut kept: Vec<Option<Done<'a>>> = Vec::new(alloc);
     for _place in 0..24_u8 {
@@ -101,7 +101,7 @@ fn turn_all<'a>(alloc: Global, pool: &mut Pool<'a>, seed: &mut u64) -> bool {
     false
 }
 
-/// A run in one thread with so many events at most; nothing where it isn't opened, or comes to no end.
+/// Makes a run in one thread with at most `limit` events. Returns `None` if it can't be opened, or doesn't end.
 pub fn run_in_rounds(alloc: Global, case: &Case, limit: usize) -> Option<Ended> {
     let opened = Pool::open(alloc, &case.verified, &case.inputs, case.layout, limit);
     let Ok(mut pool) = opened else {

@@ -1,5 +1,5 @@
-//! Rules: worked calls of their table, and calls by chance compared with a plain list that is searched whole. Where memory
-//! is refused the arguments come back, nothing has changed, and the call goes when it is made again.
+//! Rules: fixed calls of their table, and random calls compared with a plain list that is searched linearly. If an allocation
+//! fails the arguments are returned, nothing has changed, and the call succeeds when it is made again.
 
 use crate::draw::draw;
 use crate::listed::{
@@ -12,9 +12,9 @@ use tw_rights::Bundle;
 use tw_rules::{PlainRule, RuleTable};
 use tw_types::{DataType, Mode, Param, RuleNo, Stage};
 
-// ---- the calls of the table
+// ---- calls of the table
 
-/// Whether these are the arguments of a rule.
+/// Returns whether these are the arguments of a rule.
 fn are_args(args: &Bundle, number: u64, modes: [Mode; 3]) -> bool {
     let wanted = plain_args(number, modes);
     args.len() == 3
@@ -23,7 +23,7 @@ fn are_args(args: &Bundle, number: u64, modes: [Mode; 3]) -> bool {
         && plain_of(args.get(2)) == Some(wanted[2])
 }
 
-/// What has come back from an `add`.
+/// Returns what an `add` returned.
 fn come_back(args: Bundle, number: u64, modes: [Mode; 3]) -> Put {
     let is_back = are_args(&args, number, modes);
     args.shut();
@@ -57,7 +57,7 @@ fn reserve(table: &mut RuleTable, engine: u8) -> bool {
     engine < 4 && table.reserve(engine).is_ok()
 }
 
-/// Asks for a parameter whose datum is open; whether it was unasked.
+/// Asks for a parameter whose datum is open. Returns whether it was unasked.
 fn mark_asked(table: &mut RuleTable, number: u64, parameter: u8) -> bool {
     let rule = RuleNo::new(number);
     match table.stage(rule, parameter) {
@@ -69,7 +69,7 @@ fn mark_asked(table: &mut RuleTable, number: u64, parameter: u8) -> bool {
     }
 }
 
-/// Makes a parameter ready; whether it was unasked or waited.
+/// Makes a parameter ready. Returns whether it was unasked or waited.
 fn mark_ready(table: &mut RuleTable, number: u64, parameter: u8) -> bool {
     let rule = RuleNo::new(number);
     match table.stage(rule, parameter) {
@@ -85,7 +85,7 @@ fn mark_ready(table: &mut RuleTable, number: u64, parameter: u8) -> bool {
     }
 }
 
-/// Releases a rule; whether it could be, and became the task that it was added for.
+/// Releases a rule. Returns whether it could be released, and became the task for which it was added.
 fn release(table: &mut RuleTable, number: u64) -> bool {
     let rule = RuleNo::new(number);
     match table.is_releasable(rule) {
@@ -109,7 +109,7 @@ fn released_of(table: &RuleTable, engine: u8) -> Option<u64> {
     Some(rule.number())
 }
 
-// ---- whether the table is as the list
+// ---- the table against the list
 
 fn is_action(table: &RuleTable, rule: RuleNo) -> bool {
     match table.is_releasable(rule) {
@@ -118,7 +118,7 @@ fn is_action(table: &RuleTable, rule: RuleNo) -> bool {
     }
 }
 
-/// Whether a rule is pending as it stands in the list.
+/// Returns whether a rule is pending as in the list.
 fn is_pending(table: &RuleTable, listed: &Listed) -> bool {
     let rule = RuleNo::new(listed.number);
     let wanted = plain_args(listed.number, listed.modes);
@@ -131,13 +131,13 @@ fn is_pending(table: &RuleTable, listed: &Listed) -> bool {
     is_so
 }
 
-/// Whether the table tells an engine what the list tells.
+/// Returns whether an engine's next ask and next release are those of the list.
 fn tells_engine(table: &RuleTable, list: &[Listed], engine: u8) -> bool {
     asked_of(table, engine) == least_ask(list, engine)
         && released_of(table, engine) == least_release(list, engine)
 }
 
-/// Whether just the rules of the list are pending, and the next number is this.
+/// Returns whether exactly the rules of the list are pending, and this is the next number.
 fn are_listed(table: &RuleTable, list: &[Listed], next: u64) -> bool {
     let mut is_so = table.pending() == list.len() && table.next().number() == next;
     for rule in list {
@@ -149,7 +149,7 @@ fn are_listed(table: &RuleTable, list: &[Listed], next: u64) -> bool {
     is_so
 }
 
-/// Whether a rule that is told stands in the list.
+/// Returns whether a rule that was returned at the end is in the list.
 fn is_told_of(list: &[Listed], told: &PlainRule) -> bool {
     let number = told.number.number();
     let mut is_there = false;
@@ -163,9 +163,9 @@ fn is_told_of(list: &[Listed], told: &PlainRule) -> bool {
     is_there
 }
 
-// ---- the worked calls
+// ---- fixed calls
 
-/// Whether rule 1 of engine 0 over (`closed`, `write`, `closed`) is asked for and released in order.
+/// Returns whether rule 1 of engine 0 with (`closed`, `write`, `closed`) is asked for and released in order.
 fn one_rule_goes(alloc: Global, table: &mut RuleTable) -> bool {
     let modes = [Mode::Closed, Mode::Write, Mode::Closed];
     add(alloc, table, 0, modes) == Put::Done(1)
@@ -182,23 +182,23 @@ fn one_rule_goes(alloc: Global, table: &mut RuleTable) -> bool {
         && table.pending() == 0
 }
 
-/// The worked calls go, and nothing is left that is told.
+/// Tests that the fixed calls succeed, and that no rule is left.
 pub fn worked_calls_go(alloc: Global) -> bool {
     let mut table = RuleTable::new(alloc);
     let goes = one_rule_goes(alloc, &mut table);
     table.shut().is_empty() && goes
 }
 
-// ---- calls by chance
+// ---- random calls
 
-/// Makes room for a rule, at the second time if memory is refused at the first; whether that went, and a refusal changed
+/// Reserves memory for a rule, again if the first allocation fails. Returns whether that succeeded, and a failure changed
 /// nothing.
 fn reserve_agrees(table: &mut RuleTable, list: &[Listed], engine: u8) -> bool {
     let next = table.next().number();
     reserve(table, engine) || are_listed(table, list, next) && reserve(table, engine)
 }
 
-/// Adds a rule to both, with room made before or in the same way; whether that went.
+/// Adds a rule to both, with memory reserved before or in the same way. Returns whether that succeeded.
 fn add_both(alloc: Global, table: &mut RuleTable, list: &mut Vec<Listed>, seed: &mut u64) -> bool {
     let engine = draw(seed, 4);
     let modes = [mode_of(seed), mode_of(seed), mode_of(seed)];
@@ -230,7 +230,7 @@ fn ask_both(table: &mut RuleTable, list: &mut [Listed], seed: &mut u64) -> bool 
     }
 }
 
-/// Marks a parameter in both as asked, or as ready; whether it is marked in both or in neither.
+/// Marks a parameter in both as asked, or as ready. Returns whether it is marked in both or in neither.
 fn mark_one(
     table: &mut RuleTable,
     list: &mut [Listed],
@@ -246,7 +246,7 @@ fn mark_one(
     }
 }
 
-/// A rule of the list, by chance.
+/// Returns a random rule of the list.
 fn some_rule(list: &[Listed], seed: &mut u64) -> Option<Listed> {
     let place = usize::from(draw(seed, 256)).wrapping_mul(usize::from(draw(seed, 256)));
     let count = list.len();
@@ -256,7 +256,7 @@ fn some_rule(list: &[Listed], seed: &mut u64) -> Option<Listed> {
     list.get(place % count).copied()
 }
 
-/// Marks a parameter of some rule, where it can be.
+/// Marks a parameter of some rule, if that is possible.
 fn mark_both(table: &mut RuleTable, list: &mut [Listed], seed: &mut u64) -> bool {
     let parameter = draw(seed, 3);
     let is_open = draw(seed, 4) == 0;
@@ -266,7 +266,7 @@ fn mark_both(table: &mut RuleTable, list: &mut [Listed], seed: &mut u64) -> bool
     }
 }
 
-/// Releases a rule in both, if it can be.
+/// Releases a rule in both, if that is possible.
 fn release_both(table: &mut RuleTable, list: &mut Vec<Listed>, number: u64) -> bool {
     match list
         .iter()
@@ -280,7 +280,7 @@ fn release_both(table: &mut RuleTable, list: &mut Vec<Listed>, number: u64) -> b
     }
 }
 
-/// The next rule that an engine releases, or now and then some other.
+/// Returns the next rule that an engine releases, or now and then some other.
 fn rule_to_release(list: &[Listed], seed: &mut u64) -> Option<u64> {
     if draw(seed, 4) == 0 {
         let rule = some_rule(list, seed)?;
@@ -290,7 +290,7 @@ fn rule_to_release(list: &[Listed], seed: &mut u64) -> Option<u64> {
     }
 }
 
-/// One call of both; whether they agree after it.
+/// Makes one call of both. Returns whether they agree after it.
 fn call_agrees(
     alloc: Global,
     table: &mut RuleTable,
@@ -309,7 +309,7 @@ fn call_agrees(
     goes && tells_engine(table, list, draw(seed, 4)) && table.pending() == list.len()
 }
 
-/// The number of the first call that differs, if one does.
+/// Returns the number of the first call that differs, if one does.
 fn first_difference(
     alloc: Global,
     table: &mut RuleTable,
@@ -329,7 +329,7 @@ fn list_of(alloc: Global, calls: u16) -> Result<Vec<Listed>, AllocError> {
     Vec::with_capacity(alloc, usize::from(calls))
 }
 
-/// So many calls give what the list gives, whichever one piece of memory is refused to them, and what is left is told.
+/// Compares `calls` calls with the list, whichever single allocation fails, and the rules that are left at the end.
 pub fn calls_are_the_lists(alloc: Global, calls: u16) -> Option<(&'static str, u64)> {
     let Ok(mut list) = list_of(alloc, calls).or_else(|_| list_of(alloc, calls)) else {
         return Some(("memory ran out at list", 0));

@@ -1,4 +1,4 @@
-//! The verifier, compared with the search over all walks.
+//! The verifier, compared with a search through all walks.
 
 use crate::letters::{Letter, code_of, is_structured_code, spelled};
 use crate::walks::longest_walk;
@@ -6,7 +6,7 @@ use std::alloc::{AllocError, Global};
 use tw_bytes::decode;
 use tw_verify::{Verified, verify};
 
-/// The budget of main.
+/// Returns the budget of main.
 pub fn budget_of(verified: &Verified) -> Option<u64> {
     if verified.program().procedures().is_empty() {
         None
@@ -15,7 +15,7 @@ pub fn budget_of(verified: &Verified) -> Option<u64> {
     }
 }
 
-/// Whether the verifier says of the code what the search and the test of its structure say.
+/// Returns whether the verifier agrees with the search and the structure test on this code.
 fn agrees(alloc: Global, code: &[Letter]) -> Result<bool, AllocError> {
     let bytes = spelled(alloc, code)?;
     let longest = longest_walk(alloc, code)?;
@@ -27,7 +27,7 @@ fn agrees(alloc: Global, code: &[Letter]) -> Result<bool, AllocError> {
     })
 }
 
-/// What the verifier says of a program: the budget of main, or the number of the refusal.
+/// Verifies a program. Returns the budget of main, or the code of the error.
 fn verified(alloc: Global, bytes: &[u8]) -> Option<Result<Option<u64>, u8>> {
     let program = decode(alloc, bytes).ok()?;
     Some(match verify(alloc, program) {
@@ -36,14 +36,14 @@ fn verified(alloc: Global, bytes: &[u8]) -> Option<Result<Option<u64>, u8>> {
     })
 }
 
-/// V05, V06 and V11 are of the structure. A place that no other leads to is the one thing else that such code may be
-/// refused for.
+/// Returns whether an error is right. V05, V06 and V11 are of the structure. A place to which no other leads is the only other error
+/// that such code may have.
 fn is_rightly_refused(is_structured: bool, number: u8) -> bool {
     let is_loose = matches!(number, 5 | 6 | 11);
     is_loose != is_structured && (is_loose || number == 9)
 }
 
-/// Whether they agree on the code of a number; on code with RET behind it only where that is structured.
+/// Returns whether they agree on the code of a number. With RET appended, only structured code is compared.
 fn agrees_on(
     alloc: Global,
     digits: u32,
@@ -60,8 +60,8 @@ fn agrees_on(
     agrees(alloc, &code)
 }
 
-/// Of all code of so many instructions, `count` in number, the verifier says what the search says; or it does of all
-/// structured code of so many and RET. The first number at which they differ, or at which memory ran out.
+/// Compares the verifier with the search on all code of `digits` instructions, `count` in number, or on all structured code of so many
+/// and RET. Returns the first number at which they differ, or for which memory ran out.
 pub fn first_code(
     alloc: Global,
     digits: u32,

@@ -1,11 +1,11 @@
-//! The heads of procedures, by chance.
+//! Random heads of procedures.
 
 use crate::code::Code;
 use crate::draw::draw;
 use crate::local::REGISTERS;
 use crate::rights::{Mode, Right, Ty};
 
-/// A procedure's kind and parameters: at first none, an int, or an int and a text by value; and behind them up to three rights.
+/// A procedure's kind and parameters: first no value, an int, or an int and a text; then up to three rights.
 #[derive(Clone, Copy)]
 pub struct Signature {
     pub is_leaf: bool,
@@ -15,12 +15,12 @@ pub struct Signature {
 }
 
 impl Signature {
-    /// The rights that are asked, in order.
+    /// Returns the rights of the parameters, in order.
     pub fn rights(&self) -> &[Right] {
         &self.rights[..usize::from(self.count) % 4]
     }
 
-    /// Main, whose first parameter is an output.
+    /// Returns main, whose first parameter is an output.
     pub fn next_main(seed: &mut u64) -> Signature {
         let mut rights = [Right::new(Mode::Write, Ty::next_of_main(seed)); 3];
         for k in 1..3_usize {
@@ -34,7 +34,7 @@ impl Signature {
         }
     }
 
-    /// Another procedure. One in four waits for a datum of the type that it writes.
+    /// Returns another procedure. One in four waits for a datum of the type that it writes.
     pub fn next(seed: &mut u64) -> Signature {
         let mut rights = [Right::new(Mode::Write, Ty::Int); 3];
         for k in 0..3_usize {
@@ -52,7 +52,7 @@ impl Signature {
         }
     }
 
-    /// Adds the lines with which its procedure begins; the registers hold what is handed in.
+    /// Appends the lines with which its procedure begins. The registers hold the arguments then.
     pub fn put_head(&self, code: &mut Code) {
         code.clear();
         code.put(if self.is_leaf {

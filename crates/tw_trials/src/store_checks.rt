@@ -1,4 +1,4 @@
-//! What the calls of the store ask, by ids.
+//! Requirements of the store's calls, by ids.
 
 ghost use Rattle.std.specs.Prelude.{◌≡◌, IfSome, IsTrue, option_map, true};
 ghost use Rattle.std.specs.FinMap.{contains_key, get};
@@ -17,10 +17,10 @@ use tw_rights::{ReadRight, WriteRight};
 use tw_store::{Datum, Store};
 use tw_types::{DataType, DatumId, Scalar, Text, Value, ValueRef};
 
-/// No count comes near this one.
+/// A bound that no count reaches.
 pub const FAR: u64 = 1 << 40;
 
-/// A read right on the datum of an id, if it is live.
+/// Returns a read right on the datum of an id, if it is live.
 pub fn read_of(store: &Store, id: u64) -> Option<ReadRight>
     ensures here { IfSome result (λ right. IsHere store.now right) }
 {
@@ -29,7 +29,7 @@ pub fn read_of(store: &Store, id: u64) -> Option<ReadRight>
     Some(ReadRight::of(datum, place))
 }
 
-/// A write right on the datum of an id, if it is live.
+/// Returns a write right on the datum of an id, if it is live.
 pub fn write_of(store: &Store, id: u64) -> Option<WriteRight>
     ensures here { IfSome result (λ right. IsHere store.now right) }
 {
@@ -88,7 +88,7 @@ pub fn may_read_members(datum: Option<&Datum>) -> bool
     }
 }
 
-/// The same, by subscripts of this type.
+/// Like `may_read_members`, by subscripts of this type.
 pub fn may_read_by(by: Scalar, datum: Option<&Datum>) -> bool
     ensures { IsTrue result → may_read_members_by by (option_map (λ d. d.datum) (option_copied datum.entry)) ≡ Ok tt }
 {
@@ -126,7 +126,7 @@ pub fn may_drop_write(datum: Option<&Datum>) -> bool
     }
 }
 
-/// It is live, and may have one read more.
+/// Returns whether it is live, and one more read can be counted.
 pub fn has_read_room(store: &Store, id: DatumId) -> bool
     ensures live { IsTrue result → contains_key store.now.store.live id ≡ true }
     ensures room { IsTrue result → HasReadRoom (get store.now.store.live id) }
@@ -155,7 +155,7 @@ fn scalar_of(subscript: ValueRef<'_>) -> Scalar
     }
 }
 
-/// A member that is there is live, and may have one read more.
+/// Returns whether a member that is there is live, and one more read of it can be counted.
 pub fn may_look(store: &Store, container: DatumId, subscript: ValueRef<'_>) -> bool
     ensures allowed { IsTrue result → may_look store.now.store container (named subscript.entry) ≡ Ok tt }
     ensures room { IsTrue result → HasMemberRoom store.now.store container (named subscript.entry) }

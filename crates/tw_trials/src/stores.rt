@@ -1,5 +1,5 @@
-//! Worked calls of the store, with memory refused once at whatever call: what was moved in comes back, nothing has changed,
-//! and made again the call goes. The answers are the same whether an allocation fails or none does.
+//! Fixed calls of the store, in each of which one allocation fails: the arguments are returned, nothing has changed,
+//! and the call succeeds when it is made again. The results are the same whether an allocation fails or none does.
 
 use crate::answers::Answer::{
     Barred, Closed, Done, Id, Noted, Nothing, Notice, Number, Present, Refused, Word,
@@ -15,34 +15,34 @@ use std::alloc::Global;
 use tw_store::{Datum, Store};
 use tw_types::{DatumId, Value};
 
-/// Calls of one store of two servers, each with its answer: each call that takes memory, where its part of the store
-/// grows first and where it grows again.
+/// Calls of one store of two servers, each with its result. Each call that allocates is made when its part of the store
+/// grows for the first time and when it grows again.
 #[rattlefmt::skip]
 const CALLS: [(Call, Answer); 133] = [
     (Create(0, false), Id(1)), (Create(0, true), Id(2)), (Create(1, false), Id(3)), (Create(0, false), Id(4)),
-    // Room for the fifth datum.
+    // Memory for the fifth datum.
     (ReserveDatum, Done), (Create(2, false), Id(5)),
-    // Three wait for datum 1, whose server is told when it is set. Asking a closed datum leaves no notice.
+    // Three parameters wait for datum 1, whose server gets notices when it is set. Asking for a closed datum makes no notice.
     (Ask(1, 1, 0), Noted), (Ask(1, 2, 1), Noted), (Ask(1, 3, 2), Noted), (Retrieve(1), Barred),
     (Set(1, Plain::Number(7)), Done), (Ask(1, 4, 3), Closed), (TakeNote(0), Nothing),
     (TakeNote(1), Notice(1, 1, 0)), (TakeNote(1), Notice(1, 2, 1)), (TakeNote(1), Notice(1, 3, 2)),
     (TakeNote(1), Nothing), (Retrieve(1), Number(7)), (Set(1, Plain::Number(7)), Barred),
-    // Room for the notices of datum 4.
+    // Memory for the notices of datum 4.
     (Ask(4, 5, 0), Noted), (Ask(4, 6, 1), Noted), (ReserveNotices(4), Done), (Set(4, Plain::Number(7)), Done),
     (TakeNote(0), Notice(4, 5, 0)), (TakeNote(0), Notice(4, 6, 1)), (TakeNote(0), Nothing),
     // A text.
     (Set(2, Plain::Number(7)), Barred), (Set(2, Plain::Word(A)), Done), (Retrieve(2), Word(A)), (Retrieve(2), Word(A)),
-    // Members. The second at one subscript comes back, and keeps its counts.
+    // Members. A second one at a subscript is returned, and keeps its counts.
     (Insert(3, 5, 2), Barred), (Insert(3, 5, 1), Done), (Insert(3, 5, 4), Present), (Insert(3, 6, 4), Done),
     (Insert(5, -1, 3), Done),
-    // Seven wait for datum 3, which closes: the notices come in the order of asking.
+    // Seven parameters wait for datum 3, which closes: the notices come in the order of asking.
     (Ask(3, 1, 2), Noted), (Ask(3, 1, 0), Noted), (Ask(3, 3, 0), Noted), (Ask(3, 4, 0), Noted),
     (Ask(3, 5, 0), Noted), (Ask(3, 6, 0), Noted), (Ask(3, 1, 1), Noted), (CopyWrite(3), Id(3)), (DropWrite(3), Done),
     (TakeNote(1), Nothing), (Size(3), Barred), (DropWrite(3), Done), (TakeNote(1), Notice(3, 1, 2)),
     (TakeNote(1), Notice(3, 1, 0)), (TakeNote(1), Notice(3, 3, 0)), (TakeNote(1), Notice(3, 4, 0)),
     (TakeNote(1), Notice(3, 5, 0)), (TakeNote(1), Notice(3, 6, 0)), (TakeNote(1), Notice(3, 1, 1)),
     (TakeNote(1), Nothing), (Insert(3, 7, 4), Barred), (DropWrite(3), Barred),
-    // Room for the notices of datum 6, which closes.
+    // Memory for the notices of datum 6, which closes.
     (Create(1, true), Id(6)), (Ask(6, 1, 1), Noted), (Ask(6, 2, 2), Noted), (Ask(6, 3, 3), Noted),
     (Ask(6, 4, 4), Noted), (Ask(6, 5, 5), Noted), (Insert(6, 0, 2), Done), (ReserveNotices(6), Done),
     (DropWrite(6), Done), (TakeNote(0), Notice(6, 1, 1)),
@@ -53,11 +53,11 @@ const CALLS: [(Call, Answer); 133] = [
     (Look(5, -1), Id(3)), (Look(5, 0), Nothing), (DropRead(5), Done), (Size(5), Barred), (Size(3), Number(2)),
     (Look(3, 6), Id(4)), (CopyRead(4), Id(4)), (DropRead(3), Done), (Size(3), Barred), (Retrieve(1), Barred),
     (DropRead(4), Done), (Retrieve(4), Number(7)), (DropRead(4), Done), (Retrieve(4), Barred),
-    // No number is used again. An int without reads is freed when it is set, and not before.
+    // No number is reused. An int without reads is freed when it is set, and not before.
     (Create(0, false), Id(10)), (DropRead(10), Done), (DropRead(10), Barred), (Ask(10, 1, 0), Noted),
     (Set(10, Plain::Number(7)), Done), (Ask(10, 1, 0), Barred), (TakeNote(0), Notice(6, 2, 2)),
     (Create(0, true), Id(11)),
-    // Members by texts, which come in the order of their bytes.
+    // Members with texts as subscripts, which come in the order of their bytes.
     (CreateByText(0, false), Id(12)), (Insert(12, 5, 7), Barred), (InsertText(12, B, 11), Barred),
     (InsertText(12, B, 7), Done), (InsertText(12, B, 8), Present), (InsertText(12, Empty, 8), Done),
     (InsertText(12, Ab, 9), Done), (LookText(12, Ab), Barred), (TextAt(12, 0), Barred), (DropWrite(12), Done),
@@ -65,7 +65,7 @@ const CALLS: [(Call, Answer); 133] = [
     (TextAt(12, 1), Word(Ab)), (TextAt(12, 2), Word(B)), (TextAt(12, 3), Nothing), (SubscriptAt(12, 0), Barred),
     (Look(12, 0), Barred), (LookText(12, A), Nothing), (LookText(12, Ab), Id(9)), (LookText(12, B), Id(7)),
     (TextAt(6, 0), Barred), (LookText(6, A), Barred), (SubscriptAt(6, 0), Number(0)),
-    // A container in one by texts. Where one is freed, each member loses a read.
+    // A container inside one with texts as subscripts. When one is freed, each member loses a read.
     (CreateByText(1, true), Id(13)), (InsertText(13, A, 12), Barred), (InsertText(13, A, 6), Done),
     (InsertText(13, A, 6), Present), (DropRead(12), Done), (Size(12), Barred), (LookText(12, B), Barred),
     (DropRead(8), Barred), (DropRead(9), Done), (DropRead(9), Barred), (DropRead(7), Done), (DropRead(7), Barred),
@@ -113,7 +113,7 @@ fn is_same_datum(one: Option<&Datum>, other: Option<&Datum>) -> bool {
     }
 }
 
-/// Whether two stores hold the same data at the same places, and give the same id next.
+/// Returns whether two stores have the same data at the same places, and give the same id next.
 fn are_same(one: &Store, other: &Store) -> bool {
     let mut are_same = one.next() == other.next();
     for number in 0..one.next().number() {
@@ -125,8 +125,8 @@ fn are_same(one: &Store, other: &Store) -> bool {
     are_same
 }
 
-/// Makes a call of the store, and then of its twin. Where memory is refused, the store is as its twin is, and the call is
-/// made again, unless its room was made. Whether both answer this at last, and are the same.
+/// Makes a call of the store, and then of its twin. If an allocation fails, compares the store with its twin, and makes the call
+/// again, unless its memory was reserved. Returns whether both have this result in the end, and are the same.
 fn both_answer(
     store: &mut Store,
     twin: &mut Store,
@@ -145,7 +145,7 @@ fn both_answer(
     answer == wanted && second == wanted && are_same(store, twin)
 }
 
-/// The place of the first call that the store or its twin answers otherwise, or that leaves them apart.
+/// Returns the index of the first call with another result, or after which the store and its twin differ.
 fn first_other(store: &mut Store, twin: &mut Store, alloc: Global) -> Option<u64> {
     let mut place = 0_u64;
     let mut has_room = false;
@@ -159,7 +159,7 @@ fn first_other(store: &mut Store, twin: &mut Store, alloc: Global) -> Option<u64
     None
 }
 
-/// The calls answer what is wanted, those that were refused when they are made again.
+/// Tests that the calls have the expected results, those that failed when they are made again.
 pub fn calls_go(alloc: Global) -> Option<(&'static str, u64)> {
     let store = Store::new(alloc, 2).or_else(|_| Store::new(alloc, 2));
     let twin = Store::new(alloc, 2).or_else(|_| Store::new(alloc, 2));

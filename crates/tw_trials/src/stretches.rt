@@ -1,4 +1,4 @@
-//! Programs of local instructions, by chance.
+//! Random programs of local instructions.
 
 ghost use Rattle.std.specs.Prelude.{◌<◌};
 
@@ -10,7 +10,7 @@ const HEAD: [u8; 14] = [
     0x54, 0x57, 0x42, 0x01, 0x01, 0x00, 0x00, 0x06, 1, 1, 1, 2, 2, 2,
 ];
 
-/// Numbers to begin with: small ones, and some at the ends of 64 bits.
+/// Numbers to begin with: small ones, and some at the limits of 64 bits.
 const NUMBERS: [[u8; 8]; 5] = [
     [0, 0, 0, 0, 0, 0, 0, 2],
     [0, 0, 0, 0, 0, 0, 0, 0],
@@ -19,15 +19,15 @@ const NUMBERS: [[u8; 8]; 5] = [
     [128, 0, 0, 0, 0, 0, 0, 0],
 ];
 
-/// Texts to begin with: some are numbers in decimal, and some nearly.
+/// Texts to begin with: some are decimal numbers, and some almost.
 const TEXTS: [&str; 6] = ["", "7", "-12", "007", "\u{fc}b", "9223372036854775808"];
 
-/// Code that grows, by instructions.
+/// Code while it is made, by instructions.
 #[derive(Drop)]
 struct Code {
     bytes: Vec<u8>,
     count: u8,
-    /// Whether all that was added had memory.
+    /// Whether all allocations succeeded.
     is_whole: bool,
 }
 
@@ -65,7 +65,7 @@ fn add_text(code: &mut Code, seed: &mut u64, to: u8) {
     code.put(text.as_bytes());
 }
 
-/// A local instruction with a skip, or COPY, LEN or SHOW; those behind it in its block are so many.
+/// Adds a local instruction with a skip, or COPY, LEN or SHOW. `behind` instructions follow it in its block.
 fn add_other(code: &mut Code, seed: &mut u64, behind: u8) {
     let skip = draw(seed, u64::from(behind).saturating_add(1));
     let (int, left, right) = (int_register(seed), int_register(seed), int_register(seed));
@@ -92,7 +92,7 @@ fn add_other(code: &mut Code, seed: &mut u64, behind: u8) {
     }
 }
 
-/// Fewer instructions than the bound, one after the other.
+/// Adds fewer instructions than the bound, one after the other.
 fn add_block(code: &mut Code, seed: &mut u64, bound: u64)
     requires { 0 < bound }
 {
@@ -109,7 +109,7 @@ fn add_block(code: &mut Code, seed: &mut u64, bound: u64)
     }
 }
 
-/// A loop in a loop, with instructions before, between and behind them, and RET.
+/// Adds a loop in a loop, with instructions before, between and after them, and RET.
 fn add_loops(code: &mut Code, seed: &mut u64) {
     add_block(code, seed, 4);
     code.add(&[0x23, 0, draw(seed, 3).saturating_add(1)]);
@@ -123,8 +123,8 @@ fn add_loops(code: &mut Code, seed: &mut u64) {
     code.add(&[0x42]);
 }
 
-/// The bytes of the next program of the sequence, if there is memory for them. Its one procedure has so many instructions, which stands
-/// before them.
+/// Returns the bytes of the next program of the sequence, unless an allocation fails. Its one procedure has the number of
+/// instructions that is written before them.
 pub fn next_program(alloc: Global, seed: &mut u64) -> Option<Vec<u8>> {
     let mut code = Code {
         bytes: Vec::new(alloc),

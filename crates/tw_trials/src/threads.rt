@@ -12,7 +12,7 @@ use tw_types::{Input, Layout};
 use tw_verify::Verified;
 use tw_workers::{NoGate, run};
 
-/// A run in threads, one an actor; nothing where it isn't opened, or comes to no end.
+/// Makes a run in threads, one for each actor. Returns `None` if it can't be opened, or doesn't end.
 pub fn run_in_threads<R: Threads + Wait + Clock + Sync>(
     rt: &R,
     alloc: Global,
@@ -38,7 +38,7 @@ fn ended_of(alloc: Global, closed: &Closed) -> Option<Ended> {
     }
 }
 
-/// Whether the history of a run in threads is replayed to the same end.
+/// Returns whether the trace of a run in threads is replayed to the same end.
 pub fn agrees_in_threads<R: Threads + Wait + Clock + Sync>(
     rt: &R,
     alloc: Global,

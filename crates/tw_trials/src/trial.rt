@@ -1,4 +1,4 @@
-//! Programs by chance, run, and their histories on the reference machine.
+//! Random programs, their runs, and their traces on the reference machine.
 
 use crate::case::{Case, case_of};
 use crate::prefixes::agree_at_each;
@@ -12,18 +12,18 @@ use std::time::Clock;
 use tw_pool::Closing;
 use tw_types::{Actor, Event};
 
-/// What is done to a history before it is replayed.
+/// A change of a trace before it is replayed.
 #[derive(Clone, Copy, PartialEq, Eq)]
 pub enum Change {
     None,
     /// The last event is missing.
     Shorter,
-    /// The first job has a step less.
+    /// The first job has one step less.
     Slower,
 }
 
-/// How many programs came to what, the events of their runs, how many were tried at each number of events and how often, how many ran in
-/// threads; and the first program that differs in each.
+/// How many programs ended in which way, the events of their runs, how many were tested at each number of events and how often, and how
+/// many ran in threads. Also the first program that differs in each.
 #[derive(Clone, Copy)]
 pub struct Tally {
     pub refused: u64,
@@ -39,7 +39,7 @@ pub struct Tally {
     pub in_threads: Option<u64>,
 }
 
-/// The actor and the steps of an event that has steps.
+/// Returns the actor and the steps of an event with steps.
 fn steps_of(event: Event) -> Option<(Actor, u64)> {
     match event {
         Event::Local(actor, steps) => Some((actor, steps)),
@@ -48,7 +48,7 @@ fn steps_of(event: Event) -> Option<(Actor, u64)> {
     }
 }
 
-/// Takes a step from the first event that has steps.
+/// Removes one step from the first event with steps.
 fn slow(events: &mut [Event]) {
     for event in events.iter_mut() {
         if let Some((actor, steps)) = steps_of(*event) {
@@ -68,7 +68,7 @@ fn make_change(events: &mut Vec<Event>, change: Change) {
     }
 }
 
-/// Whether the reference machine makes the events of a run, and then tells what is left of it.
+/// Returns whether the reference machine makes the events of a run, and then has its report.
 pub fn replays(alloc: Global, case: &Case, run: &Ended) -> bool {
     match case.machine(alloc) {
         Some(plain) => agrees(alloc, plain, run.events.as_slice(), run),
@@ -76,7 +76,7 @@ pub fn replays(alloc: Global, case: &Case, run: &Ended) -> bool {
     }
 }
 
-/// Runs a program in rounds, and replays its history, changed: the run so changed, where the replay comes to the same end.
+/// Runs a program in one thread, changes its trace, and replays it. Returns the changed run if the replay reaches the same end.
 fn run_changed(alloc: Global, case: &Case, by: Change) -> Option<Ended> {
     let mut run = run_in_rounds(alloc, case, case.limit)?;
     make_change(&mut run.events, by);
@@ -87,7 +87,7 @@ fn run_changed(alloc: Global, case: &Case, by: Change) -> Option<Ended> {
     }
 }
 
-/// The first of so many programs whose run differs from its history, where that is changed.
+/// Returns the first of `programs` programs whose run differs from its changed trace.
 pub fn first_changed(alloc: Global, programs: u64, by: Change) -> Option<u64> {
     for number in 0..programs {
         if let Some(case) = case_of(alloc, number) {
@@ -114,7 +114,7 @@ fn count_closing(tally: &mut Tally, closing: Closing) {
     }
 }
 
-/// Tries the run at each number of its events, where these are few enough.
+/// Tests the run at each number of its events, if there are few enough.
 fn try_each(alloc: Global, case: &Case, events: &[Event], most: usize, tally: &mut Tally) -> bool {
     if events.len() > most {
         return true;
@@ -124,7 +124,7 @@ fn try_each(alloc: Global, case: &Case, events: &[Event], most: usize, tally: &m
     agree_at_each(alloc, case, events)
 }
 
-/// One program in rounds, at each number of events, and in threads.
+/// Tests one program in one thread, at each number of events, and in threads.
 fn try_case<R: Threads + Wait + Clock + Sync>(
     rt: &R,
     alloc: Global,
@@ -155,7 +155,7 @@ fn try_case<R: Threads + Wait + Clock + Sync>(
     tally.threads = tally.threads.wrapping_add(1);
 }
 
-/// Tries so many programs.
+/// Tests `programs` programs.
 pub fn tried<R: Threads + Wait + Clock + Sync>(
     rt: &R,
     alloc: Global,
@@ -184,7 +184,7 @@ pub fn tried<R: Threads + Wait + Clock + Sync>(
     tally
 }
 
-/// What came too seldom among so many programs, if something did, and how often it came.
+/// Returns an end that came too seldom among the programs, if there is one, and how often it came.
 pub fn too_few(tally: &Tally, programs: u64) -> Option<(&'static str, u64)> {
     for (end, count, part) in [
         ("quiet", tally.quiet, 10),

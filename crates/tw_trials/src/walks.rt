@@ -3,8 +3,8 @@
 use crate::letters::Letter;
 use std::alloc::{AllocError, Global};
 
-/// Where a walk has come to, after so many places, with the first place of each loop that is begun, and the turns left,
-/// 0 where there is none. Code of six instructions has at most two loops in one another.
+/// The position of a walk after some places, with the first place of each loop that is begun, and the iterations left,
+/// 0 without one. Code of six instructions has at most two nested loops.
 #[derive(Clone, Copy)]
 struct Walker {
     place: usize,
@@ -37,7 +37,7 @@ impl Walker {
         self.at(first, (first, turns), self.inner)
     }
 
-    /// After the END of the innermost loop.
+    /// Moves on after the END of the innermost loop.
     fn turning(self) -> Walker {
         let (first, left) = self.inner;
         if left > 1 {
@@ -48,7 +48,7 @@ impl Walker {
     }
 }
 
-/// How a walk goes on: nowhere behind a RET, to two places at an ADD.
+/// The ways in which a walk continues: none after a RET, two at an ADD.
 #[derive(Clone, Copy)]
 struct Ways {
     first: Option<Walker>,
@@ -64,7 +64,7 @@ impl Ways {
     }
 }
 
-/// The ways on from a walk's place, unless it leaves the code, begins a third loop, or ends none.
+/// Returns the ways on from a walk's place, or `None` if it leaves the code, begins a third loop, or ends none.
 fn ways_on(code: &[Letter], walker: Walker) -> Option<Ways> {
     Some(match *code.get(walker.place)? {
         Letter::Int => Ways::one(walker.next()),
@@ -91,7 +91,7 @@ fn push_if(walkers: &mut Vec<Walker>, walker: Option<Walker>) -> Result<(), Allo
     }
 }
 
-/// The number of places of the longest walk, unless one can't go on or there are too many.
+/// Returns the number of places of the longest walk, or `None` if one can't continue or there are too many.
 pub fn longest_walk(alloc: Global, code: &[Letter]) -> Result<Option<u64>, AllocError> {
     let mut longest = 0;
     let mut walkers = Vec::new(alloc);

@@ -1,4 +1,4 @@
--- The best task, and what an engine does next, don't look at the arguments.
+-- The best task, and what an engine does next, don't depend on the arguments.
 use Rattle.std.proofs.Common.{◌≡◌, ℕ, ◌==◌, ◌&&◌, Bool, true, false, if◌then◌else◌, int_lt, List, [], ◌∷◌, Option, Some, None, refl, ap, ◌∙◌, map as each, option_map}
 use Rattle.std.specs.FinMap.{entries}
 use Rattle.tw_types.specs.declared.actor.Actor.{Actor}

@@ -7,7 +7,7 @@ use Rattle.tw_types.specs.declared.pending.Pending.{Pending}
 use Rattle.tw_types.specs.Circle.{circle_of, has_rule, is_met, rules_of, since, step_from, walk, writer_of, IsCircle, IsLink, Leads}
 use Rattle.tw_types.specs.Distinct.{is_among, AreDistinct}
 
--- ---- where each rule is blocked
+-- ---- rules that are blocked
 
 -- numbers are distinct
 abbrev pub AreNumbered : List Pending → Type 0
@@ -18,7 +18,7 @@ abbrev pub IsIn : Pending → List Pending → Type 0
 IsIn r [] = ⊥
 IsIn r (x ∷ rules) = (r ≡ x) ⊎ IsIn r rules
 
--- it waits for something, and one of the rules may write what it waits for first
+-- it waits for something, and one of the rules may write the first datum for which it waits
 pub record IsBlocked (rules : List Pending) (r : Pending) : Type 0 where
   pub datum : ℕ
   pub waits : slice_get r.waits 0 ≡ Some datum
@@ -26,7 +26,7 @@ pub record IsBlocked (rules : List Pending) (r : Pending) : Type 0 where
   pub there : IsIn writer rules
   pub writes : is_among datum writer.writes ≡ true
 
--- where each of them is so, there is a circle
+-- if each of them is blocked, there is a circle
 abbrev pub CircleFound : List Pending → Type 0
 CircleFound [] = Unit {0}
 CircleFound (first ∷ others) = AreNumbered (first ∷ others) → ((r : Pending) → IsIn r (first ∷ others) → IsBlocked (first ∷ others) r)
@@ -89,7 +89,7 @@ distinct_on (x ∷ trail) l d h = by (x.rule == l.rule) refl h (λ h'. distinct_
     by true same h later = cc
     by false other h later = (met_or x.rule trail l d.0 (λ e. eqb-false x.rule l.rule other (sym e)), later h)
 
--- from the first place of a rule that was met, the trail is a circle
+-- from the first link of a rule that was met, the trail is a circle
 circle_since : (rules : List Pending) (rule from : ℕ) (trail : List Link) → Leads rules from trail rule → AreDistinct (rules_of trail) → is_met rule trail ≡ true → IsCircle rules (since rule trail)
 circle_since rules rule from [] h d met = cc
 circle_since rules rule from (l ∷ trail) h d met = by (l.rule == rule) refl met (λ met'. circle_since rules rule l.next trail h.2 d.1 met')
@@ -145,7 +145,7 @@ unfolding unmet
 unmet_no_more trail l [] = omega arith
 unmet_no_more trail l (r ∷ rules) = let one = one_no_more r.number trail l in let rest = unmet_no_more trail l rules in omega arith
 
--- one fewer after a link from one that wasn't met
+-- there is one unmet rule less after a link from one that wasn't met
 unmet_less : (trail : List Link) (l : Link) (r : Pending) (rules : List Pending) → IsIn r rules → l.rule ≡ r.number → is_met r.number trail ≡ false → unmet (trail ++ l ∷ []) rules + 1 ≤ unmet trail rules
 unfolding unmet
 unmet_less trail l r [] i is h = absurd i

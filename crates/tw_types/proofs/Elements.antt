@@ -20,13 +20,13 @@ module _ {X : Type 0} where
   get_set_other (y ∷ xs) (suc k) zero x h = refl
   get_set_other (y ∷ xs) (suc k) (suc j) x h = get_set_other xs k j x (λ e. h (ap suc e))
 
-  -- where no element is, the list is over
+  -- if there is no element at k, the list ends before it
   pub none_past : (xs : List X) (k : ℕ) → slice_get xs k ≡ None → length xs ≤ k
   none_past [] k e = omega arith
   none_past (x ∷ xs) zero e = cc
   none_past (x ∷ xs) (suc k) e = let rest : length xs ≤ k = none_past xs k e in omega arith
 
-  -- ---- which are there
+  -- ---- membership
 
   pub contains_none : (y : X) → Contains [] y → ⊥
   contains_none y c = let low = c.1 in omega arith
@@ -49,7 +49,7 @@ module _ {X : Type 0} where
   all_at P [] y all c = absurd (contains_none y c)
   all_at P (x ∷ xs) y all c = elim (contains_cases x xs y c) [ inl e ↦ subst P e all.0 | inr rest ↦ all_at P xs y all.1 rest ]
 
-  -- what is appended comes last
+  -- an appended item comes last
   pub appended_cases : (xs : List X) (x y : X) → Contains (xs ++ x ∷ []) y → Contains xs y ⊎ (x ≡ y)
   appended_cases [] x y c = elim (contains_cases x [] y c) [ inl e ↦ inr e | inr rest ↦ absurd (contains_none y rest) ]
   appended_cases (z ∷ xs) x y c = elim (contains_cases z (xs ++ x ∷ []) y c) [
@@ -80,7 +80,7 @@ module _ {X Y : Type 0} where
     | inr rest ↦ contains_later (f y) (map f xs) (f x) (mapped_has f xs x rest)
   ]
 
-  -- each element comes of one
+  -- each element is f of one of the list's
   pub mapped_from : (f : X → Y) (xs : List X) (y : Y) → Contains (map f xs) y → (x : X) × Contains xs x × (f x ≡ y)
   mapped_from f [] y c = absurd (contains_none y c)
   mapped_from f (x ∷ xs) y c = elim (contains_cases (f x) (map f xs) y c) [

@@ -1,4 +1,4 @@
--- What is found in a list of entries whose numbers rise.
+-- Finding entries in a list whose numbers rise.
 use Rattle.std.proofs.Common.{◌≡◌, ℕ, Bool, true, false, cond, T, List, [], ◌∷◌, refl, sym, subst}
 use Rattle.std.specs.declared.cmp.Ordering.TheVariants.{Less}
 use Rattle.std.specs.Prelude.{Some, None}
@@ -16,7 +16,7 @@ module _ {X : Type 0} where
   pub same_no : (e f : ℕ × X) → eq_by_cmp nat_cmp e.0 f.0 ≡ true → e.0 ≡ f.0
   same_no e f h = nat_cmp-IsAntisymmetric e.0 f.0 (tied (nat_cmp e.0 f.0) h)
 
-  -- what comes later has another number
+  -- later entries have other numbers
   pub later : (f e : ℕ × X) (es : List (ℕ × X)) → T (below_all nat_cmp f.0 es) → IsIn e es → nat_cmp f.0 e.0 ≡ Less
   later f e [] low there = cc
   later f e (g ∷ es) low there = by (eq_by_cmp nat_cmp e.0 g.0) (λ is. later f e es (second _ _ low) is) refl there

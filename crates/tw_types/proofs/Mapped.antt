@@ -1,4 +1,4 @@
--- What a finite map answers with something else at each key.
+-- Look-ups in a finite map whose values are replaced.
 use Rattle.std.proofs.Common.{◌≡◌, ℕ, zero, suc, Bool, true, false, cond, T, List, [], ◌∷◌, Option, Some, None, refl, sym, ap, ◌∙◌, map as each, length, slice_get, option_map}
 use Rattle.std.specs.declared.cmp.Ordering.{Ordering}
 use Rattle.std.specs.Ordering.{eq_by_cmp}
@@ -75,7 +75,7 @@ module _ {K X Y : Type 0} {R : K → K → Ordering} (f : X → Y) where
         ∙ ap (cond (eq_by_cmp R q k) None) (sym (get_mapped m q))
         ∙ sym (get-remove o (mapped f m) k q))
 
--- ---- with each value as it is
+-- ---- replacing each value by itself
 
 pub each_same : {X : Type 0} (xs : List X) → each (λ x. x) xs ≡ xs
 each_same [] = refl

@@ -36,7 +36,7 @@ lt_test a b h = grind (arith, nat_tests)
 pub test_lt : (a b : ℕ) → nat_lt a b ≡ true → a < b
 test_lt a b h = grind (arith, nat_tests)
 
--- two numbers are the same or apart
+-- two numbers are equal or different
 pub same_or_apart : (a b : ℕ) → (a ≡ b) ⊎ (a ≡ b → ⊥)
 same_or_apart a b = by (nat_eq a b) refl
   where

@@ -1,4 +1,4 @@
--- What a comparison comes to, and which keys tie.
+-- Results of comparisons, and which keys tie.
 use Rattle.std.proofs.Common.{◌≡◌, Bool, true, false, refl, ap}
 use Rattle.std.specs.declared.cmp.Ordering.{Ordering}
 use Rattle.std.specs.declared.cmp.Ordering.TheVariants.{Less, Equal, Greater}

@@ -46,7 +46,7 @@ element_is element ty h = by ty.containers h
     by [] h = cc
     by (own ∷ inner) h = sym (ap Some (same_types element (record ty { containers = inner }) h))
 
--- what has subscripts is a container
+-- a type with subscripts is a container
 pub by_deep : (by : Scalar) (ty : NestedScalar) → is_container_by by ty ≡ true → is_scalar ty ≡ false
 by_deep by ty h = at ty.containers h
   where

@@ -1,4 +1,4 @@
--- What a change of one datum leaves of a store, told by the live data alone.
+-- The store after a change of one datum, described by the live data alone.
 use Rattle.std.proofs.Common.{◌≡◌, ℕ, Bool, true, false, cond, Some, None, refl, sym, ap, ◌∙◌, fold}
 use Rattle.std.specs.declared.option.Option.{Option}
 use Rattle.std.specs.Cmp.{nat_cmp_total}
@@ -11,7 +11,7 @@ use Rattle.tw_types.specs.StoreCalls.{changed}
 abbrev pub with_live : ℕ → Data → Store
 with_live next live = record { live = live; next = next }
 
--- what stands at the id in s
+-- the result of looking up the id in s
 pub here_is : (s : Store) (m : Data) (id : ℕ) (r : Option Datum) → s.live ≡ m → get m id ≡ r → get s.live id ≡ r
 here_is s m id r view there = ap (λ x. get x id) view ∙ there
 
@@ -21,7 +21,7 @@ changed_is s m n id x f view there written =
     let here = here_is s m id (Some x) view there in
     rw here (ap (with_live s.next) (written ∙ ap (λ y. insert y id (f x)) (sym view)))
 
--- nothing changes at an id that isn't there
+-- changing an id that isn't there does nothing
 pub absent_is : (s : Store) (m n : Data) (id : ℕ) (f : Datum → Datum) → s.live ≡ m → get m id ≡ None → n ≡ m → with_live s.next n ≡ changed s id f
 absent_is s m n id f view there e =
     let here = here_is s m id None view there in
@@ -39,7 +39,7 @@ removed_again = remove_insert nat_cmp_total nat_cmp-IsAntisymmetric
 gone : Data → Datum → Data
 gone m x = fold (drop_read_within 2) m (members_of x.content)
 
--- a datum that was written, and then settled
+-- settling a datum after writing it
 pub settled_written : (m : Data) (id : ℕ) (x : Datum) → settled (insert m id x) id x ≡ settled m id x
 unfolding gone
 settled_written m id x = at (is_unheld x)

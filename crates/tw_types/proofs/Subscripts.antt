@@ -17,7 +17,7 @@ use Rattle.tw_types.proofs.SameTypes.{same_scalars}
 use Rattle.tw_types.proofs.Totals.{IsEntry, get_entry}
 use Rattle.tw_types.proofs.ValueOrder.{value_cmp_total, value_cmp-IsAntisymmetric}
 
--- there are none at first
+-- an empty container has no subscripts
 pub no_kinds : (ty : NestedScalar) → AreSubscriptsFor ty map.empty
 no_kinds ty k m at = let z : None ≡ Some m = sym (get-empty value_cmp k) ∙ at in cc
 
@@ -35,7 +35,7 @@ members_kinds x of = by x.content of
     by (Set v) h = no_kinds x.ty
     by (Contains members) h = h.1
 
--- one type at most is that of a container's subscripts
+-- a container has subscripts of one type only
 one_kind : (a b : Scalar) (ty : NestedScalar) → is_container_by a ty ≡ true → is_container_by b ty ≡ true → a ≡ b
 one_kind a b ty h g = at ty.containers h g
   where
@@ -43,7 +43,7 @@ one_kind a b ty h g = at ty.containers h g
     at [] h g = cc
     at (own ∷ inner) h g = same_scalars a own h ∙ sym (same_scalars b own g)
 
--- a subscript that is found is of the type that the container says
+-- a subscript that is found is of the container's type
 found_entry : (index : ℤ) (es : List (Subscript × ℕ)) (k : Subscript) → subscript_after index (keys_of es) ≡ Some k → (m : ℕ) × IsEntry (k, m) es
 found_entry (negsuc n) es k is = cc
 found_entry (pos n) es k is = at n es is

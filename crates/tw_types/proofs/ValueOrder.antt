@@ -1,4 +1,4 @@
--- The order of values is total, and only equal values tie: what maps by values need.
+-- The order of values is total, and only equal values tie: finite maps by values need both.
 use Rattle.std.proofs.Common.{◌≡◌, ℕ, List, [], ◌∷◌, ap, refl, rules}
 use Rattle.std.specs.declared.cmp.Ordering.{Ordering}
 use Rattle.std.specs.declared.cmp.Ordering.TheVariants.{Less, Equal, Greater}

@@ -1,4 +1,4 @@
--- What an input of a program gives.
+-- The inputs of a program, as definitions see them.
 use Rattle.std.specs.Prelude.{List, map}
 use Rattle.tw_types.specs.declared.data_type.Scalar.{Scalar}
 use Rattle.tw_types.specs.declared.data_type.Scalar.TheVariants as scalar
@@ -8,7 +8,7 @@ use Rattle.tw_types.specs.declared.value.Value.{Value}
 use Rattle.tw_types.specs.declared.value.Value.TheVariants as value
 use Rattle.tw_types.specs.ValueOrder.{Subscript}
 
--- a value; or a container: the type of its subscripts, that of its values, and its members
+-- a value; or a container: the type of its subscripts, the type of its values, and its members
 pub data Given : Type 0 where
   Single : Value → Given
   Container : Scalar → Scalar → List (Subscript × Value) → Given

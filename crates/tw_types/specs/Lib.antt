@@ -1,7 +1,7 @@
--- What a reader must believe of types, values and the store, in the order in which the files stand on one another: the
--- limits of types, texts and layouts, the order of the actors, what each call of a store asks and leaves, which task an
--- actor takes, what an engine asks and releases next. For the law on counts besides: Totals and Counts. TypedStore, Distinct
--- and Circle serve the laws of the crates above.
+-- The definitions on types, values and the store that a reader has to trust, ordered by dependency.
+-- They define the limits of types, texts and layouts, and the order of the actors. They define each store call's checks and results,
+-- which task an actor takes, and what an engine asks for and releases next.
+-- Totals and Counts serve the theorem on counts. TypedStore, Distinct and Circle serve theorems of the crates above.
 pub mod Nesting
 pub mod DataType
 pub mod Nest

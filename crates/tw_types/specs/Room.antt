@@ -1,8 +1,8 @@
--- Where one more right can be counted.
+-- Bounds below which one more right can be counted.
 use Rattle.std.specs.Prelude.{◌<◌, ◌^◌, Option, Some, None}
 use Rattle.tw_types.specs.Store.{Datum}
 
--- a datum may have one read more, or one write more
+-- holds if one more read, or one more write, can be counted
 abbrev pub HasReadRoom : Option Datum → Type 0
 HasReadRoom None = Unit {0}
 HasReadRoom (Some x) = x.reads < 2 ^ 63

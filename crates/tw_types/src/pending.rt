@@ -1,10 +1,9 @@
-//! Rules that are pending, and who waits for whom among them.
+//! Pending rules, and which of them wait for which.
 
 use crate::ids::{DatumId, RuleNo};
 use crate::items::Items;
 
-/// A rule that is pending: the data for which its parameters wait, and those of its `write` arguments; each by rising
-/// parameter.
+/// A pending rule: the data for which its parameters wait, and the data of its `write` arguments, each by rising parameter.
 #[derive(Drop)]
 pub struct Pending {
     pub number: RuleNo,
@@ -12,7 +11,7 @@ pub struct Pending {
     pub writes: Items<DatumId>,
 }
 
-/// A rule, a datum for which it waits, and a rule that may write that datum.
+/// A link of a deadlock circle: a rule, a datum for which it waits, and a rule that may write that datum.
 #[derive(Clone, Copy, PartialEq, Eq)]
 pub struct Link {
     pub rule: RuleNo,

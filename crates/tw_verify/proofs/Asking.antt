@@ -1,4 +1,4 @@
--- What RULE and PUT ask of their arguments, one by one.
+-- The checks that RULE and PUT make of their arguments, one by one.
 use Rattle.std.proofs.Common.{◌≡◌, ◌⊎◌, inl, inr, ℕ, Bool, true, false, List, [], ◌∷◌, ◌++◌, refl, sym, ap, ◌∙◌}
 use Rattle.tw_verify.proofs.VerifierNames.{None, Question, Scalar, Typing, append-nil, asks_args, asks_value, if◌then◌else◌, lowest_of, may_stand_for, passes, refusal_in, right_at, slice_set, without_args}
 use Rattle.tw_types.specs.declared.param.Param.{Param}
@@ -18,7 +18,7 @@ ask_more waits registers p params arg args typing = by (is_val p.mode) (asks_val
         ∙ ap (λ (own : List Question). lowest_of (refusal_in own) (refusal_in (asks_args waits registers params args typing))) (sym (append-nil value))
     by false value right = refusal_in-append (right ∷ []) (asks_args waits registers params args (slice_set typing arg None))
 
--- nothing is asked where no parameter or no argument is left
+-- nothing is checked if no parameter or no argument is left
 pub nothing_asked : (waits : Bool) (registers : List Scalar) (params : List Param) (args : List ℕ) (typing : Typing) → (params ≡ []) ⊎ (args ≡ []) → asks_args waits registers params args typing ≡ []
 nothing_asked waits registers [] args typing h = refl
 nothing_asked waits registers (p ∷ params) [] typing h = refl

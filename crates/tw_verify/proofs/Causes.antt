@@ -1,4 +1,4 @@
--- The lowest number at a place, and what it comes from.
+-- The lowest code at a place, and its origin.
 use Rattle.std.proofs.Common.{◌≡◌, ℕ, suc, ◌≤◌, ◌⊎◌, inl, inr, Bool, true, false, Option, Some, None, refl, sym, ap, ◌∙◌, arith}
 use Rattle.tw_verify.proofs.VerifierNames.{if◌then◌else◌, leb-false, leb-true, lowest_at, lowest_of, nat_lt, option_map, same_Some, verify_refusal_number}
 use Rattle.std.specs.Bool.{then_some}
@@ -42,7 +42,7 @@ if_not false k h = refl
 if_so : (b : Bool) (k : ℕ) → b ≡ true → (if b then Some k else None) ≡ Some k
 if_so b k e = ap (λ (t : Bool). if t then Some k else None) e
 
--- a refusal that is told where a test says so
+-- an error that is returned if a test holds
 pub then_number : (b : Bool) (refusal : VerifyRefusal) → option_map verify_refusal_number (then_some b refusal) ≡ (if b then Some (verify_refusal_number refusal) else None)
 then_number true refusal = refl
 then_number false refusal = refl
@@ -86,7 +86,7 @@ least_at own differs changed n h = by (lowest_of own (if differs then Some 7 els
           λ c. least.1 8 (if_so changed 8 c),
         )
 
--- where there is none, none of the three is
+-- if there is none, none of the three is there
 pub nothing_at : (own : Option ℕ) (differs changed : Bool) → lowest_at own differs changed ≡ None → (own ≡ None) × (differs ≡ false) × (changed ≡ false)
 nothing_at own differs changed h =
     let outer = low_none (lowest_of own (if differs then Some 7 else None)) (if changed then Some 8 else None) h in

@@ -1,4 +1,4 @@
--- What is wrong at a place, and lists of typings with one place more where nothing is.
+-- Errors at a place, and lists of typings extended by one place without an error.
 use Rattle.std.proofs.Common.{◌≡◌, ℕ, ◌+◌, ◌<◌, ◌≤◌, ◌⊎◌, inl, inr, Bool, true, false, List, [], ◌∷◌, ◌++◌, length, length-append, get_or, Option, Some, None, refl, sym, ap, ◌∙◌, subst, arith}
 use Rattle.tw_verify.proofs.VerifierNames.{Brings, HasChanged, Instr, IsEndOf, IsReached, IsRefusalAt, IsTypingRefusal, IsWellTyped, LeadsTo, Procedure, Typing, after, asks_at, cases_lt, flow_of, lowest_at, onward, refusal_in, same_Some, slice_get, slice_get-get_or, slice_get_within, start_typing}
 use Rattle.tw_code.specs.declared.flow.Way.{Way}
@@ -17,7 +17,7 @@ early_outcome before place Skipped h = omega arith
 
 -- ---- nothing is wrong
 
--- nothing stands before the first place
+-- there are no typings before the first place
 pub none_typed : (program : List Procedure) (p : Procedure) → IsWellTyped program p [] 0
 none_typed program p = record {
   long = refl;
@@ -109,7 +109,7 @@ not_false : (b : Bool) → (b ≡ false → ⊥) → b ≡ true
 not_false true h = refl
 not_false false h = absurd (h refl)
 
--- a place that is reached, where something is wrong
+-- a place that is reached and has an error
 pub refusal_at : (program : List Procedure) (p : Procedure) (typings : List Typing) (place number : ℕ) (r : Reached) (i : Instr) (changed : Bool) → IsWellTyped program p typings place → HasReached program p typings (place + place) place r → slice_get p.code place ≡ Some i
     → (changed ≡ true → HasChanged p.code typings place r.typing) → ((first : ℕ) (begun : Typing) → changed ≡ false → IsEndOf p.code first place → slice_get typings first ≡ Some begun → r.typing ≡ begun)
     → lowest_at (refusal_in (asks_at program p place i r.typing)) r.differs changed ≡ Some number → IsTypingRefusal program p number place

@@ -1,4 +1,4 @@
--- The lowest number of questions.
+-- The lowest code of checks.
 use Rattle.std.proofs.Common.{◌≡◌, ℕ, Bool, true, false, List, [], ◌∷◌, ◌++◌, Option, Some, None, refl, sym, ap, ◌∙◌, arith}
 use Rattle.tw_verify.proofs.VerifierNames.{Question, if◌then◌else◌, lower, lowest_of, nat_lt, refusal_in}
 use Rattle.std.proofs.lemmas.Bool.Decides.{nat_tests}

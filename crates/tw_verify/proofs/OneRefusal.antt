@@ -1,4 +1,4 @@
--- A program has one first refusal.
+-- A program has one first error.
 use Rattle.std.proofs.Common.{◌≡◌, ℕ, ◌+◌, ◌<◌, ◌≤◌, ◌⊎◌, inl, inr, true, false, List, length, take, get_or, Some, None, sym, ap, ◌∙◌, subst, arith, ext_get_or}
 use Rattle.tw_verify.proofs.VerifierNames.{Instr, IsLowestRefusal, IsProcedureRefusal, IsStructureRefusal, IsTypingRefusal, IsWellTyped, Procedure, Typing, cases_lt, flows, same_Some, slice_get, slice_get-get_or, start_typing, structure_refusal_at}
 use Rattle.tw_verify.specs.Laws.{OneFirstRefusal}
@@ -17,7 +17,7 @@ structure_once code n m k l s t = by (cases_lt k l) (cases_lt l k)
         let same : k ≡ l = omega arith in
         (same_Some n m (sym s.here ∙ ap (structure_refusal_at (flows code)) same ∙ t.here), same)
 
--- one list of typings stands up to a place
+-- only one list of typings fits up to a place
 typings_once : (program : List Procedure) (p : Procedure) (ts us : List Typing) (to : ℕ) → IsWellTyped program p ts to → IsWellTyped program p us to → ts ≡ us
 typings_once program p ts us to v w = ext_get_or start ts us (v.long ∙ sym w.long) alike
   where
@@ -27,7 +27,7 @@ typings_once program p ts us to v w = ext_get_or start ts us (v.long ∙ sym w.l
     alike : (k : ℕ) → k < length ts → get_or ts k start ≡ get_or us k start
     alike k inside = agree program p ts us to to v w k (get_or ts k start) (get_or us k start) (slice_get-get_or ts k start inside) (slice_get-get_or us k start (omega (arith, inside, v.long, w.long)))
 
--- what stands further has a front that stands up to the place, this one included
+-- a longer list that fits has a prefix that fits up to the place, this one included
 typed_past : (program : List Procedure) (p : Procedure) (n k to : ℕ) (ts : List Typing) → IsTypingRefusal program p n k → IsWellTyped program p ts to → k < to → ⊥
 typed_past program p n k to ts s w past = s.none (take (k + 1) ts) (well_typed_front program p ts to (k + 1) w (omega (arith, past)))
 

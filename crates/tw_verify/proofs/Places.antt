@@ -1,4 +1,4 @@
--- Where loops end, what is begun at a place, and the tables of both.
+-- The ENDs of loops, the loops begun at a place, and the tables of both.
 use Rattle.std.proofs.Common.{◌≡◌, ◌≢◌, ℕ, zero, suc, ◌+◌, ◌-◌, ◌<◌, ◌≤◌, ◌⊎◌, inl, inr, List, [], ◌∷◌, ◌++◌, length, length-append, drop, set, get_or, Option, Some, None, refl, sym, ap, ◌∙◌, subst, arith}
 use Rattle.tw_verify.proofs.VerifierNames.{AreFirsts, DepthsTo, EndsFrom, Instr, IsEndOf, cases_lt, depth_after, depth_of, end_from, end_of, flow_of, flows, length-map, length-set, same_Some, slice_get, slice_index}
 use Rattle.std.proofs.Math.ListN.{get_or-append}
@@ -15,7 +15,7 @@ use Rattle.tw_verify.proofs.Lists.{get_set_at, get_set_other}
 pub stop_end : (code : List Flow) (place : ℕ) → slice_get code place ≡ Some Stop → end_of code place ≡ end_of code (place + 1)
 stop_end code place at = ap (λ (xs : List Flow). end_from place 0 xs) (drop_at code place Stop at)
 
--- where no END is left, none is left for the loops outside
+-- if no END is left, none is left for the loops outside
 no_end : (xs : List Flow) (place inner : ℕ) → end_from place inner xs ≡ None → end_from place (suc inner) xs ≡ None
 no_end [] place inner e = refl
 no_end (Straight ∷ xs) place inner e = no_end xs (place + 1) inner e
@@ -145,7 +145,7 @@ depths_more code depths place depth known d = record {
         let same : k ≡ place = omega arith in
         ap (λ (n : ℕ). get_or (depths ++ depth ∷ []) n 0) here ∙ get_or-append_seam depths depth [] 0 ∙ d ∙ ap (λ (n : ℕ). depth_of code n) (sym same)
 
--- the table of first places with one more place looked at, where a loop begins
+-- the table of first places extended by one place, if a loop begins there
 pub firsts_more : (code : List Instr) (firsts : List (Option ℕ)) (place end : ℕ) → AreFirsts code firsts place → IsEndOf code (place + 1) end → AreFirsts code (set firsts end (Some (place + 1))) (place + 1)
 firsts_more code firsts place end known is = record {
   long = length-set firsts end (Some (place + 1)) ∙ known.long;
@@ -180,7 +180,7 @@ firsts_more code firsts place end known is = record {
         let same : first ≡ place + 1 = omega arith in
         absurd (other (end_same code (place + 1) k end (subst (λ (n : ℕ). IsEndOf code n k) same own) is))
 
--- the same table, where none begins
+-- the same table, if none begins there
 pub firsts_same : (code : List Instr) (firsts : List (Option ℕ)) (place : ℕ) → AreFirsts code firsts place → ((end : ℕ) → IsEndOf code (place + 1) end → ⊥) → AreFirsts code firsts (place + 1)
 firsts_same code firsts place known none = record {
   long = known.long;

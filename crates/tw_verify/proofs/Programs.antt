@@ -1,4 +1,4 @@
--- Accepted programs have no first refusal.
+-- Accepted programs have no first error.
 use Rattle.std.proofs.Common.{◌≡◌, ◌≢◌, ℕ, ◌+◌, ◌<◌, ◌≤◌, ◌⊎◌, inl, inr, true, false, List, [], ◌∷◌, ◌++◌, length, length-append, take, get_or, Option, Some, None, refl, sym, ap, ◌∙◌, subst, arith}
 use Rattle.tw_verify.proofs.VerifierNames.{AreFindings, AreTyped, Findings, IfFault, IsAccepted, IsAcceptedProcedure, IsFirstRefusal, IsProcedureRefusal, IsRefusal, IsSomeAnd, IsTyped, Procedure, flows, is_memory, refusal_of, same_Some, slice_get, slice_get-get_or, slice_get_within, verify_refusal_number}
 use Rattle.tw_code.specs.accepting.MainShape.{has_main_shape}
@@ -25,7 +25,7 @@ accepted program all t = record {
   each = λ k p at. accepted_one program all (length program) k p t.each (slice_get_within program k p at) at;
 }
 
--- what was found out about a procedure is its budget
+-- the budget in a procedure's findings is its budget
 pub budget_of : (program : List Procedure) (all : List Findings) (k : ℕ) (own : Findings) → AreTyped program all (length program) → k < length program → slice_get all k ≡ Some own → IsSomeAnd (slice_get program k) (λ p. IsBudget (flows p.code) own.budget)
 budget_of program all k own t inside at = by (slice_get program k) refl
   where

@@ -1,4 +1,4 @@
--- What has reached the places, outcome by outcome.
+-- The typings that reach places, outcome by outcome.
 use Rattle.std.proofs.Common.{◌≡◌, ◌≢◌, ℕ, zero, suc, ◌+◌, ◌<◌, ◌≤◌, ◌==◌, ◌⊎◌, inl, inr, Bool, true, false, not, ◌||◌, List, [], ◌∷◌, ◌++◌, length, drop, take, get_or, Option, Some, None, refl, sym, ap, ◌∙◌, subst, arith}
 use Rattle.tw_verify.proofs.VerifierNames.{Brings, Instr, IsReached, LeadsTo, Procedure, RightType, Typing, after, and_parts, append-nil, cases_lt, eqb-false, eqb-true, first_row, flow_of, if◌then◌else◌, is_place, noted, onward, option_eq, same_Some, sent, slice_get, slice_get-get_or, slice_get_within, start_typing}
 use Rattle.std.specs.Bool.{Decides}
@@ -17,7 +17,7 @@ use Rattle.tw_verify.proofs.Lists.{get_front, get_last}
 use Rattle.tw_types.proofs.SameTypes.{same_types, type_itself}
 use Rattle.tw_verify.proofs.Typings.{onward_later}
 
--- ---- the same typing
+-- ---- equal typings
 
 same_mode : (a b : Mode) → (mode_rank a == mode_rank b) ≡ true → a ≡ b
 same_mode Val Val h = refl
@@ -89,7 +89,7 @@ earlier_outcome a b Skipped Skipped h = omega arith
 
 -- ---- rows
 
--- what has reached a place by the outcomes before a number
+-- what has reached a place by the first outcomes
 pub record HasReached (program : List Procedure) (p : Procedure) (typings : List Typing) (number place : ℕ) (r : Reached) : Type 0 where
   pub first : IsReached program p typings place r.typing
   pub same : r.differs ≡ false → (before : ℕ) (other : Typing) (b : Brings program p typings before place other) → outcome_number before b.step.way < number → other ≡ r.typing
@@ -176,7 +176,7 @@ brought program p ts number place way i t now before next other b below = by (ne
         let from = same_Some b.from t (sym b.there ∙ ap (slice_get ts) same ∙ now.there) in
         inr (b.is ∙ ap (λ (w : Way). after program w b.step.instr b.from) is ∙ ap (λ (x : Instr). after program way x b.from) instr ∙ ap (after program way i) from)
 
--- where it goes on elsewhere, nothing changes
+-- if it continues elsewhere, nothing changes
 row_elsewhere : (program : List Procedure) (p : Procedure) (ts : List Typing) (number place : ℕ) (way : Way) (i : Instr) (t : Typing) → IsOutcome p ts number place way i t → (next : ℕ) (row : Option Reached) → (onward way place (flow_of i) ≡ Some next → ⊥) → IsRow program p ts number next row → IsRow program p ts (suc number) next row
 row_elsewhere program p ts number place way i t now next row away h = by row h
   where
@@ -195,7 +195,7 @@ row_elsewhere program p ts number place way i t now next row away h = by row h
     by None k = (k.0, λ before step below. k.1 before step (early before step below))
     by (Some r) k = record { first = k.first; same = λ e before other b below. k.same e before other b (early before b.step below); another = k.another }
 
--- where it goes on here, its typing is noted
+-- if it continues here, its typing is noted
 row_here : (program : List Procedure) (p : Procedure) (ts : List Typing) (number place : ℕ) (way : Way) (i : Instr) (t : Typing) → IsOutcome p ts number place way i t → (next : ℕ) (row : Option Reached) → onward way place (flow_of i) ≡ Some next → IsRow program p ts number next row → IsRow program p ts (suc number) next (noted row (after program way i t))
 row_here program p ts number place way i t now next row goes h = by row h
   where

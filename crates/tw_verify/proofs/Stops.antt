@@ -1,4 +1,4 @@
--- Where a pass stops.
+-- The place where a pass stops.
 use Rattle.std.proofs.Common.{◌≡◌, ℕ, ◌+◌, inl, inr, List, [], ◌∷◌, ◌++◌, None, refl}
 use Rattle.tw_verify.proofs.VerifierNames.{IsReached, IsWellTyped, Procedure, Typing}
 use Rattle.tw_verify.specs.Known.{AreUpTo}

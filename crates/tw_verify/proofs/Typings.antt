@@ -1,4 +1,4 @@
--- Lists of typings: a list that stands is the only one of its length, and has all that reaches a place of it.
+-- Lists of typings: a list that fits is the only one of its length, and has each typing that reaches one of its places.
 use Rattle.std.proofs.Common.{◌≡◌, ℕ, zero, suc, ◌+◌, ◌<◌, ◌≤◌, ◌⊎◌, inl, inr, List, take, get_or, Some, refl, sym, ap, ◌∙◌, subst, arith}
 use Rattle.tw_verify.proofs.VerifierNames.{Brings, Instr, IsReached, IsWellTyped, Procedure, Typing, after, cases_lt, flow_of, length-take, onward, same_Some, slice_get, slice_get-get_or, slice_get_within}
 use Rattle.tw_code.specs.declared.flow.Flow.{Flow}
@@ -23,9 +23,9 @@ onward_later Skipped place (Begin turns) next h = cc
 onward_later Skipped place Close next h = cc
 onward_later Skipped place Stop next h = cc
 
--- ---- lists that stand
+-- ---- lists that fit
 
--- so does each front
+-- each prefix of a list that fits also fits
 pub well_typed_front : (program : List Procedure) (p : Procedure) (typings : List Typing) (to n : ℕ) → IsWellTyped program p typings to → n ≤ to → IsWellTyped program p (take n typings) n
 well_typed_front program p typings to n w few = record {
   long = omega (arith, length-take n typings, w.long);
@@ -57,7 +57,7 @@ agree_below program p ts us m n v w (suc bound) (suc k) below t u at there =
 pub agree : (program : List Procedure) (p : Procedure) (ts us : List Typing) (m n : ℕ) → IsWellTyped program p ts m → IsWellTyped program p us n → (k : ℕ) (t u : Typing) → slice_get ts k ≡ Some t → slice_get us k ≡ Some u → t ≡ u
 agree program p ts us m n v w k t u at there = agree_below program p ts us m n v w (suc k) k (omega arith) t u at there
 
--- what an earlier place brings is the typing of the place, in every list that has one there
+-- an earlier place brings the place's typing, in every list that has one there
 pub brought_typing : (program : List Procedure) (p : Procedure) (ts us : List Typing) (m n before place : ℕ) (t u : Typing) → IsWellTyped program p ts m → Brings program p ts before place t → IsWellTyped program p us n → slice_get us place ≡ Some u → u ≡ t
 brought_typing program p ts us m n before place t u v b w at =
     let step = b.step in

@@ -1,4 +1,4 @@
--- Names of the verifier, of what it accepts and of what is known of it, for the files here.
+-- Names of the verifier, of accepted programs and of their findings, for the files here.
 pub use Rattle.std.proofs.lemmas.Bool.{and_parts, cases_lt, eqb-false, eqb-true, leb-false, leb-true}
 pub use Rattle.std.proofs.lemmas.List.{append-nil, append_assoc, length-map, length-set, length-take, take_more}
 pub use Rattle.std.proofs.lemmas.Option.{get_or_from_slice_get, same_Some, slice_get-get_or, slice_get_past, slice_get_read, slice_get_within}

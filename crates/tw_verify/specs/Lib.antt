@@ -1,15 +1,14 @@
--- What a reader must believe: as what a verified program is seen (Typed), the numbers of the refusals (Refusal), and when
--- two typings are the same (Same). Which programs are accepted, what refuses another, and what an instruction asks and leaves
--- stand with the programs, under `accepting`; what `no_trap` says, in tw_no_trap. Laws says that there is one first refusal,
--- and of accepted programs none. Known says which typings are known of a refused program, and Quick what an instruction in eight
--- bytes stands for.
+-- The definitions that a reader has to trust: the model of a verified program (Typed), the codes of the errors (`Refusal`), and
+-- equality of typings (Same). Accepted programs, their errors, and the requirements and results of instructions are defined in tw_code,
+-- under `accepting`; the theorem `no_trap` in tw_no_trap. `Laws` states that there is one first error, and none for accepted programs.
+-- Known has the typings known of a rejected program, and Quick the instructions in eight bytes.
 pub mod Typed
 pub mod Known
 pub mod Refusal
 pub mod Same
 pub mod Laws
 pub mod Quick
--- What only private functions speak of.
+-- Definitions for private functions.
 pub mod Loops
 pub mod Passes
 pub mod Verified

@@ -1,4 +1,4 @@
-//! What RULE and PUT ask: of the procedure that they name, and of the arguments for it.
+//! The checks of RULE and PUT: of the procedure that they name, and of its arguments.
 
 ghost use Rattle.std.specs.Prelude.{◌≡◌, ◌∷◌, [], slice_get};
 ghost use Rattle.std.specs.List.{AllByRecursion};
@@ -15,7 +15,7 @@ use crate::typing::Typing;
 use tw_code::{Action, Priority, Procedure};
 use tw_types::{Kind, Param, Scalar};
 
-/// What is asked of one argument: a value of the parameter's type, or a right that may stand for it.
+/// Checks one argument: a value of the parameter's type, or a right that suits the parameter.
 fn argument_refusal(
     waits: bool,
     registers: &[Scalar],
@@ -36,8 +36,7 @@ fn argument_refusal(
     (!fits).then_some(VerifyRefusal::WrongRight)
 }
 
-/// What is asked of the arguments in order. A right leaves its register, so that one that is named twice is missing
-/// at the second time.
+/// Checks the arguments in order. A right leaves its register, so the register is empty if it is named again.
 fn arguments_refusal(
     waits: bool,
     registers: &[Scalar],
@@ -59,8 +58,7 @@ fn arguments_refusal(
     refusal
 }
 
-/// What is asked of the procedure that is named: that it is known, that it has as many parameters as there are
-/// arguments, and then what these are asked.
+/// Checks the named procedure: it is known, and has as many parameters as there are arguments. Only then checks the arguments.
 fn callee_refusal(
     waits: bool,
     procedures: &[Procedure],
@@ -84,7 +82,7 @@ fn callee_refusal(
     arguments_refusal(waits, procedure.registers.as_slice(), params, args, typing)
 }
 
-/// A computed priority must be an integer.
+/// Checks that a computed priority is in a declared register of type int.
 fn priority_refusal(registers: &[Scalar], priority: Priority) -> Option<VerifyRefusal>
     ensures { option_map verify_refusal_number result ≡ refusal_in (asks_priority registers.now priority) }
 {
@@ -100,7 +98,7 @@ fn is_control(procedure: &Procedure) -> bool
     matches!(procedure.kind, Kind::Control)
 }
 
-/// What RULE asks, whose task waits for its data, and PUT, whose doesn't.
+/// Checks a RULE (`waits`), whose task waits for its data, or a PUT, whose task doesn't.
 pub(crate) fn action_refusal(
     waits: bool,
     procedures: &[Procedure],

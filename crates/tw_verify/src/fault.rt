@@ -1,4 +1,4 @@
-//! Where a pass stops.
+//! Errors of a pass over one procedure, and of a program.
 
 ghost use Rattle.std.specs.Prelude.{◌≡◌};
 ghost use Rattle.tw_verify.specs.Passes.{no_memory, refusal_of};
@@ -6,7 +6,7 @@ ghost use Rattle.tw_verify.specs.Passes.{no_memory, refusal_of};
 use crate::refusal::VerifyRefusal;
 use std::alloc::AllocError;
 
-/// Why a pass over one procedure stops, and at which place; where memory ran out, at place 0.
+/// The error that stops a pass over one procedure, and its place; if an allocation failed, the place is 0.
 #[derive(Clone, Copy)]
 pub(crate) struct Fault {
     pub(crate) no: VerifyRefusal,
@@ -14,7 +14,7 @@ pub(crate) struct Fault {
 }
 
 impl Fault {
-    /// Memory ran out.
+    /// Returns the error of a failed allocation.
     pub(crate) fn no_memory() -> Fault
         ensures { result ≡ no_memory }
     {
@@ -33,7 +33,7 @@ impl From<AllocError> for Fault {
     }
 }
 
-/// Why a program is refused, and where.
+/// The error of a program that isn't accepted: its code, procedure and place.
 #[derive(Clone, Copy)]
 pub(crate) struct Refusal {
     pub(crate) no: VerifyRefusal,
@@ -50,7 +50,7 @@ impl From<AllocError> for Refusal {
 }
 
 impl Refusal {
-    /// The refusal by the fault of a procedure.
+    /// Makes the program's error from a procedure's. If an allocation failed, procedure and place are 0.
     pub(crate) fn new(procedure: usize, fault: Fault) -> Refusal
         ensures { result ≡ refusal_of procedure fault }
     {

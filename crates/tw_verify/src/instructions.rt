@@ -1,4 +1,4 @@
-//! What each instruction asks of a typing and of the declared value registers.
+//! The checks of each instruction, on a typing and on the declared value registers.
 
 ghost use Rattle.std.specs.Prelude.{◌≡◌, ◌<◌, [], true, slice_get};
 ghost use Rattle.std.specs.Option.{option_map, option_map_or};
@@ -19,7 +19,7 @@ use crate::typing::{RightType, Typing};
 use tw_code::{DataInstr, Instr, LocalInstr, Procedure};
 use tw_types::Scalar;
 
-/// What a local instruction asks, a line an instruction.
+/// Checks a local instruction, with one line for each.
 fn local_refusal(registers: &[Scalar], instr: &LocalInstr) -> Option<VerifyRefusal>
     ensures { option_map verify_refusal_number result ≡ refusal_in (asks_local registers.now instr.now) }
 {
@@ -65,7 +65,7 @@ fn local_refusal(registers: &[Scalar], instr: &LocalInstr) -> Option<VerifyRefus
     }
 }
 
-/// STORE: a write of a scalar, and a value of its type.
+/// Checks STORE: a write right on a scalar, and a value of its type.
 fn store_refusal(
     registers: &[Scalar],
     typing: &Typing,
@@ -81,7 +81,7 @@ fn store_refusal(
     value_of_refusal(registers, from, &right, fits)
 }
 
-/// GET: a read of a closed scalar, and a register of its type.
+/// Checks GET: a `closed` right on a scalar, and a register of its type.
 fn get_refusal(registers: &[Scalar], typing: &Typing, to: u8, datum: u8) -> Option<VerifyRefusal>
     requires { datum < 16 }
     ensures { option_map verify_refusal_number result
@@ -92,7 +92,7 @@ fn get_refusal(registers: &[Scalar], typing: &Typing, to: u8, datum: u8) -> Opti
     value_of_refusal(registers, to, &right, fits)
 }
 
-/// INS: a write of a container, a read of what that has as members, and a subscript of the container's type.
+/// Checks INS: a write right on a container, a read right on a datum of its element type, and a subscript of its type.
 fn insert_refusal(
     registers: &[Scalar],
     typing: &Typing,
@@ -113,7 +113,7 @@ fn insert_refusal(
     beside(writes, VerifyRefusal::WrongRight, others)
 }
 
-/// LOOK: a register for the member, a read of a closed container, and a subscript of its type.
+/// Checks LOOK: an empty register for the member, a `closed` right on a container, and a subscript of its type.
 fn look_refusal(
     registers: &[Scalar],
     typing: &Typing,
@@ -132,7 +132,7 @@ fn look_refusal(
     beside(typing.is_free(member), VerifyRefusal::RightNotEmpty, others)
 }
 
-/// SUBAT: a register for a subscript of a closed container's type, a read of that, and an integer.
+/// Checks SUBAT: a register of the subscripts' type, a `closed` right on a container with such subscripts, and an integer.
 fn subscript_refusal(
     registers: &[Scalar],
     typing: &Typing,
@@ -149,7 +149,7 @@ fn subscript_refusal(
     members_by_refusal(typing, container, by, others)
 }
 
-/// SIZE: an integer, and a read of a closed container.
+/// Checks SIZE: an integer register, and a `closed` right on a container.
 fn size_refusal(
     registers: &[Scalar],
     typing: &Typing,
@@ -164,7 +164,7 @@ fn size_refusal(
     members_refusal(typing, container, others)
 }
 
-/// DUPR: a register for the copy, and a read.
+/// Checks DUPR: an empty register for the copy, and a read right.
 fn copy_read_refusal(typing: &Typing, to: u8, from: u8) -> Option<VerifyRefusal>
     requires to { to < 16 }
     requires from { from < 16 }
@@ -175,7 +175,7 @@ fn copy_read_refusal(typing: &Typing, to: u8, from: u8) -> Option<VerifyRefusal>
     beside(typing.is_free(to), VerifyRefusal::RightNotEmpty, others)
 }
 
-/// DUPW: a register for the copy, and a write of a container.
+/// Checks DUPW: an empty register for the copy, and a write right on a container.
 fn copy_write_refusal(typing: &Typing, to: u8, from: u8) -> Option<VerifyRefusal>
     requires to { to < 16 }
     requires from { from < 16 }
@@ -186,7 +186,7 @@ fn copy_write_refusal(typing: &Typing, to: u8, from: u8) -> Option<VerifyRefusal
     beside(typing.is_free(to), VerifyRefusal::RightNotEmpty, others)
 }
 
-/// What an instruction on data asks at a typing, a case an instruction.
+/// Checks an instruction on data at a typing, with one case for each.
 fn data_refusal(registers: &[Scalar], instr: DataInstr, typing: &Typing) -> Option<VerifyRefusal>
     requires { IsDataInstr instr }
     ensures { option_map verify_refusal_number result ≡ refusal_in (asks_data registers.now instr typing.now) }
@@ -224,7 +224,7 @@ fn data_refusal(registers: &[Scalar], instr: DataInstr, typing: &Typing) -> Opti
     }
 }
 
-/// What an instruction asks at a typing.
+/// Checks an instruction at a typing. Returns the lowest error.
 fn instr_refusal(
     procedures: &[Procedure],
     procedure: &Procedure,
@@ -245,7 +245,7 @@ fn instr_refusal(
     }
 }
 
-/// Whether a register is of this type, if it is declared.
+/// Returns whether a register is of this type, or isn't declared.
 fn is_open_or_of(registers: &[Scalar], register: usize, ty: Scalar) -> bool
     ensures { result ≡ option_map_or (λ declared. same_scalar declared ty)
         (slice_get registers.now register) true }
@@ -256,7 +256,7 @@ fn is_open_or_of(registers: &[Scalar], register: usize, ty: Scalar) -> bool
     }
 }
 
-/// The value parameters must have registers, of their types.
+/// Checks that the value parameters have registers, of their types.
 fn params_refusal(procedure: &Procedure) -> Option<VerifyRefusal>
     ensures { option_map verify_refusal_number result ≡ refusal_in (asks_params procedure.now) }
 {
@@ -276,7 +276,7 @@ fn params_refusal(procedure: &Procedure) -> Option<VerifyRefusal>
     }
 }
 
-/// What is asked at a place: at the first one also that the parameters have their registers.
+/// Checks an instruction at a place and its typing, and at place 0 also the registers of the parameters. Returns the lowest error.
 pub fn place_refusal(
     procedures: &[Procedure],
     procedure: &Procedure,

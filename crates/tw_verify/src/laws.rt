@@ -1,4 +1,4 @@
-//! What holds of all programs, and of accepted ones when they run.
+//! Theorems on all programs, and on runs of accepted ones.
 
 ghost use Rattle.std.specs.Prelude.{◌≡◌, List};
 ghost use Rattle.tw_types.specs.declared.event.Event.{Event};
@@ -17,9 +17,9 @@ ghost use Rattle.tw_verify.specs.Typed.{typings_of};
 
 use crate::verified::Verified;
 
-/// Whatever the inputs of its signature, the layout and the events, in whatever order: an accepted program reaches no
-/// trap, each task that runs has exactly one next step, which goes, and has spent less than its budget. Each state that it
-/// reaches is in order: that is said over its own typings, which are right, and over any others that are.
+/// Proves that an accepted program doesn't trap, with any inputs of its signature, any layout and any events in any order. Each
+/// running task has exactly one next step, which succeeds, and has spent less than its budget. Each state that the program reaches is
+/// in order, for the program's own typings, which are right, and for any others that are.
 pub fn no_trap(verified: &Verified)
     ensures right { AreRight verified.now.program (typings_of verified.now) }
     ensures safe { NoTrap verified.now.program }
@@ -29,17 +29,17 @@ pub fn no_trap(verified: &Verified)
     let _procedures = verified.program().procedures();
 }
 
-/// However an accepted program runs: where it ends quietly, what is live is the host's outputs and what they hold, all
-/// closed. Where it is stuck, each pending rule waits for an open datum that a pending rule may write, and just there the
-/// walk along these finds a circle of rules.
+/// Proves how runs of an accepted program end. At a quiet end the live data are the host's outputs and their members, all
+/// closed. In a stuck state each pending rule waits for an open datum that a pending rule may write, and the walk along these
+/// finds a circle of rules. It finds one in stuck states only.
 pub fn ends_well(verified: &Verified)
     ensures { (inputs : List Input) (layout : ActorCounts) (events : List Event) (s : State) → AreInputsOf verified.now.program inputs → reached verified.now.program inputs layout events ≡ Went s → EndsWell verified.now.program s }
 {
     let _procedures = verified.program().procedures();
 }
 
-/// A program has at most one first refusal, and an accepted one has none. So `verify` can tell no other one, whatever its
-/// way.
+/// Proves that a program has at most one first error, and an accepted one has none. So the first error doesn't depend on how
+/// `verify` works.
 pub fn one_first_refusal()
     ensures one { OneFirstRefusal }
     ensures accepted { AcceptedUnrefused }

@@ -1,11 +1,11 @@
-//! The verifier: which programs are accepted, and why another isn't.
+//! The verifier: accepts a program, or returns its first error.
 //!
-//! An accepted program has for each procedure a list of typings, which says what every right register holds at every
-//! place, and a budget, how many instructions a task may do; a refused one comes back with its first refusal.
+//! An accepted program has a list of typings for each procedure, which says which right each right register has at each place. It
+//! also has a budget, the greatest number of instructions of a task. A rejected one is returned with its first error.
 //!
-//! * Of one place: `place_refusal` tells what is broken there, the lowest number first; `Typing` is what right registers hold.
-//! * Of a program: `verify`, and what a `Verified` keeps.
-//! * Of all runs: the law `no_trap`.
+//! * For one place: `place_refusal` returns the lowest error there; a `Typing` is the content of the right registers.
+//! * For a program: `verify`, and its result `Verified`.
+//! * For all runs: the theorem `no_trap`.
 #![tactic(auto)]
 
 mod arguments;

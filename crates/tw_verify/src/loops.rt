@@ -1,4 +1,4 @@
-//! Where loops begin and end.
+//! Finds where loops begin and end.
 
 ghost use Rattle.std.specs.Prelude.{◌≡◌, ℕ, ◌+◌, ◌<◌, ◌≤◌, [], ◌∷◌, Some, length, IfOk, ◌^◌};
 ghost use Rattle.tw_code.specs.accepting.Flow.{flows};
@@ -18,7 +18,7 @@ fn end_known(code: &[Instr], ends: &[Option<usize>], from: usize, place: usize) 
     ends[place]
 }
 
-/// The next END that ends a loop begun before the place, from those further on.
+/// Returns the next END that ends a loop begun before the place, from the later ones.
 fn end_at(code: &[Instr], ends: &[Option<usize>], place: usize) -> Option<usize>
     requires within { place < length code.now }
     requires short { length code.now < 2 ^ 32 }
@@ -49,7 +49,7 @@ fn all_ends(alloc: Global, code: &[Instr]) -> Result<Vec<Option<usize>>, AllocEr
     Ok(ends)
 }
 
-/// How many loops are begun and not ended after an instruction.
+/// Returns how many loops are begun and not ended after an instruction.
 fn deeper(depth: usize, flow: Flow) -> usize
     requires { depth < 2 ^ 32 }
     ensures depth { result ≡ depth_after depth (flow ∷ []) }
@@ -75,7 +75,7 @@ fn all_depths(alloc: Global, code: &[Instr]) -> Result<Vec<usize>, AllocError>
     Ok(depths)
 }
 
-/// The END of the loop that begins at a place, if one does.
+/// Returns the END of the loop that begins at a place, if one does.
 fn end_of_begin(code: &[Instr], ends: &[Option<usize>], place: usize) -> Option<usize>
     requires within { place < length code.now }
     requires short { length code.now < 2 ^ 32 }
@@ -89,7 +89,7 @@ fn end_of_begin(code: &[Instr], ends: &[Option<usize>], place: usize) -> Option<
     }
 }
 
-/// The first place of the loop of each END.
+/// Returns the first place of each END's loop.
 fn all_firsts(
     alloc: Global,
     code: &[Instr],
@@ -108,8 +108,8 @@ fn all_firsts(
     Ok(firsts)
 }
 
-/// What is known of the places of a code: the next END that ends a loop begun before, how many loops are begun there,
-/// and, of an END, its loop's first place.
+/// Tables on the places of a code: the next END that ends a loop begun before, how many loops are begun there,
+/// and, for an END, its loop's first place.
 #[derive(Drop)]
 pub(crate) struct Loops {
     ends: Vec<Option<usize>>,
@@ -118,7 +118,7 @@ pub(crate) struct Loops {
 }
 
 impl Loops {
-    /// Those of a code.
+    /// Computes the tables of a code.
     pub(crate) fn new(alloc: Global, code: &[Instr]) -> Result<Loops, AllocError>
         requires { length code.now < 2 ^ 32 }
         ensures { IfOk result (AreLoops code.now) }
@@ -133,7 +133,7 @@ impl Loops {
         })
     }
 
-    /// How many loops are begun and not ended before a place.
+    /// Returns how many loops are begun and not ended before a place.
     pub(crate) fn depth(&self, code: &[Instr], place: usize) -> usize
         requires known { AreLoops code.now self.now }
         requires within { place < length code.now }
@@ -142,7 +142,7 @@ impl Loops {
         self.depths[place]
     }
 
-    /// The first END from a place on that ends no loop begun from there on.
+    /// Returns the first END from a place on that ends no loop begun from there on.
     pub(crate) fn end(&self, code: &[Instr], place: usize) -> Option<usize>
         requires known { AreLoops code.now self.now }
         requires within { place ≤ length code.now }
@@ -151,7 +151,7 @@ impl Loops {
         end_known(code, &self.ends, 0, place)
     }
 
-    /// The first place of the loop of the END at a place.
+    /// Returns the first place of the loop of the END at a place, if there is one.
     pub(crate) fn first(&self, code: &[Instr], place: usize) -> Option<usize>
         requires known { AreLoops code.now self.now }
         requires within { place < length code.now }
@@ -161,7 +161,7 @@ impl Loops {
         self.firsts[place]
     }
 
-    /// The innermost loop whose body has the place, by its END.
+    /// Returns the END of the innermost loop whose body has the place, if there is one.
     pub(crate) fn block(&self, code: &[Instr], place: usize) -> Option<usize>
         requires known { AreLoops code.now self.now }
         requires within { place < length code.now }

@@ -9,7 +9,7 @@ ghost use Rattle.tw_code.specs.format.Program.{IsInstr, IsProgram, IsTarget};
 use tw_code::{Instr, Procedure};
 use tw_types::Kind;
 
-/// The actors up to a target, where it is for the procedure that is named and that is of the kind.
+/// Returns the number of actors up to a target, if the named procedure is known and of the kind; else 0.
 fn needed_for(kind: Kind, callee: Option<&Procedure>, target: Option<u8>) -> u8
     requires { IsTarget target }
     ensures { result ≡ needed_for kind (option_copied callee.entry) target }
@@ -20,7 +20,7 @@ fn needed_for(kind: Kind, callee: Option<&Procedure>, target: Option<u8>) -> u8
     }
 }
 
-/// The actors that the target of an instruction needs.
+/// Returns how many actors of the kind the target of an instruction needs.
 fn needed_by_instr(kind: Kind, procedures: &[Procedure], instr: &Instr) -> u8
     requires { IsInstr instr.now }
     ensures { result ≡ needed_by_instr kind procedures.now instr.now }
@@ -37,7 +37,7 @@ fn needed_by_instr(kind: Kind, procedures: &[Procedure], instr: &Instr) -> u8
     }
 }
 
-/// The most that an instruction of a code needs.
+/// Returns the greatest need of the instructions of a code.
 fn needed_by_code(kind: Kind, procedures: &[Procedure], code: &[Instr]) -> u8
     requires { AllByRecursion IsInstr code.now }
     ensures { result ≡ needed_by_code kind procedures.now code.now }
@@ -49,7 +49,7 @@ fn needed_by_code(kind: Kind, procedures: &[Procedure], code: &[Instr]) -> u8
     most
 }
 
-/// How many actors of a kind the targets of a program need.
+/// Returns how many actors of a kind the targets of a program need.
 pub(crate) fn needed(kind: Kind, procedures: &[Procedure]) -> u8
     requires { IsProgram procedures.now }
     ensures { result ≡ needed kind procedures.now }

@@ -37,7 +37,7 @@ fn typing_at(typings: &[Typing], place: usize) -> Option<Typing>
     typings.get(place).copied()
 }
 
-/// Whether the END at a place is reached with another typing than its loop's first place has.
+/// Returns whether the END at a place is reached with another typing than its loop's first place has.
 fn is_changed(
     code: &[Instr],
     loops: &Loops,
@@ -60,7 +60,7 @@ fn is_changed(
     }
 }
 
-/// The lowest number that is refused at a place that is reached.
+/// Returns the lowest error at a place that is reached.
 fn typing_refusal(
     procedures: &[Procedure],
     procedure: &Procedure,
@@ -80,16 +80,16 @@ fn typing_refusal(
     lowest(lowest(own, differs), changed)
 }
 
-/// How a pass over a procedure ends, with the typing of each place to which it came.
+/// The result of a pass over a procedure, with the typing of each place that it reached.
 #[derive(Drop)]
 pub(crate) enum Pass {
-    /// Behind the last place.
+    /// It passed the last place.
     Through(Items<Typing>),
-    /// At a place that is refused; it has its typing too, unless nothing leads there.
+    /// It stopped at a place with an error. The place's own typing is the last one, unless nothing leads there.
     Stopped(Items<Typing>, Fault),
 }
 
-/// Goes from the first place to the last, or to the first one that is refused for its typing.
+/// Checks all places in order, up to the first one with an error of typing.
 fn typing_pass(
     alloc: Global,
     procedures: &[Procedure],
@@ -122,7 +122,7 @@ fn typing_pass(
     Ok(Pass::Through(Items::from(all)))
 }
 
-/// What is known of the typings of a procedure, whether it is accepted or not.
+/// Returns the typings known of a procedure, whether it is accepted or not.
 pub(crate) fn known_typings(
     alloc: Global,
     procedures: &[Procedure],
@@ -141,7 +141,7 @@ pub(crate) fn known_typings(
     }
 }
 
-/// How many instructions a task of the procedure may do.
+/// Returns the budget of the procedure.
 fn budget(alloc: Global, procedure: &Procedure) -> Result<u64, Fault>
     requires operands { IsProcedure procedure.now }
     requires structured { IsStructured procedure.now.code }
@@ -159,7 +159,7 @@ fn budget(alloc: Global, procedure: &Procedure) -> Result<u64, Fault>
     }
 }
 
-/// What is found out about an accepted procedure. Its structure is asked first, then its typings, then its budget.
+/// Verifies a procedure: its structure first, then its typings, then its budget.
 pub(crate) fn procedure_findings(
     alloc: Global,
     procedures: &[Procedure],

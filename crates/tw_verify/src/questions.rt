@@ -1,5 +1,5 @@
-//! Questions about registers, of a typing and of the declared value registers: of all that isn't met, the lowest
-//! refusal.
+//! Checks of registers, against a typing and the declared value registers. Each returns the lowest error among its unmet
+//! conditions.
 
 ghost use Rattle.std.specs.Prelude.{◌≡◌, ◌<◌, ◌∷◌, [], ◌++◌, Bool};
 ghost use Rattle.std.specs.Option.{option_map};
@@ -12,7 +12,7 @@ use crate::refusal::VerifyRefusal;
 use crate::typing::{RightType, Typing};
 use tw_types::Scalar;
 
-/// The lower of two refusals, of which each may be missing.
+/// Returns the lower of two errors, each of which may be missing.
 pub fn lowest(first: Option<VerifyRefusal>, second: Option<VerifyRefusal>) -> Option<VerifyRefusal>
     ensures { option_map verify_refusal_number result
         ≡ lowest_of (option_map verify_refusal_number first) (option_map verify_refusal_number second) }
@@ -24,7 +24,7 @@ pub fn lowest(first: Option<VerifyRefusal>, second: Option<VerifyRefusal>) -> Op
     }
 }
 
-/// One question beside others: where its answer is no, the lower of its refusal and theirs.
+/// Adds one check to the error of others: returns the lower of both errors if it fails.
 pub(crate) fn beside(
     met: bool,
     refusal: VerifyRefusal,
@@ -40,7 +40,7 @@ pub(crate) fn beside(
     }
 }
 
-/// A value register must be declared, and be of this type.
+/// Checks that a value register is declared, and of this type.
 pub(crate) fn value_refusal(registers: &[Scalar], register: u8, ty: Scalar) -> Option<VerifyRefusal>
     ensures { option_map verify_refusal_number result ≡ refusal_in (asks_value registers.now register ty) }
 {
@@ -50,7 +50,7 @@ pub(crate) fn value_refusal(registers: &[Scalar], register: u8, ty: Scalar) -> O
     }
 }
 
-/// Two value registers must be declared, and be of these types.
+/// Checks that two value registers are declared, and of these types.
 pub(crate) fn both_refusal(
     registers: &[Scalar],
     first: u8,
@@ -67,7 +67,7 @@ pub(crate) fn both_refusal(
     )
 }
 
-/// Three value registers must be declared, and be of one type.
+/// Checks that three value registers are declared, and of one type.
 pub(crate) fn values_refusal(
     registers: &[Scalar],
     first: u8,
@@ -84,7 +84,7 @@ pub(crate) fn values_refusal(
     )
 }
 
-/// Two value registers must be declared, and be of the same type.
+/// Checks that two value registers are declared, and of the same type.
 pub(crate) fn alike_refusal(registers: &[Scalar], first: u8, second: u8) -> Option<VerifyRefusal>
     ensures { option_map verify_refusal_number result ≡ refusal_in (asks_alike registers.now first second) }
 {
@@ -94,8 +94,8 @@ pub(crate) fn alike_refusal(registers: &[Scalar], first: u8, second: u8) -> Opti
     }
 }
 
-/// A right register must have a right of the kind that is asked, and a value register be of the type of its datum.
-/// Whether the right is of that kind, the caller says.
+/// Checks that a right register has a right of the required kind, and that a value register is of the type of its datum. `fits` is
+/// whether the right is of that kind.
 pub(crate) fn value_of_refusal(
     registers: &[Scalar],
     register: u8,
@@ -117,7 +117,7 @@ pub(crate) fn value_of_refusal(
     }
 }
 
-/// Two right registers must be empty, and different.
+/// Checks that two right registers are empty, and different.
 pub(crate) fn empty_pair_refusal(typing: &Typing, first: u8, second: u8) -> Option<VerifyRefusal>
     requires first { first < 16 }
     requires second { second < 16 }
@@ -127,7 +127,7 @@ pub(crate) fn empty_pair_refusal(typing: &Typing, first: u8, second: u8) -> Opti
     (!fits).then_some(VerifyRefusal::RightNotEmpty)
 }
 
-/// A right register must have a right to read.
+/// Checks that a right register has a read right.
 pub(crate) fn read_refusal(typing: &Typing, register: u8) -> Option<VerifyRefusal>
     requires { register < 16 }
     ensures { option_map verify_refusal_number result
@@ -137,7 +137,7 @@ pub(crate) fn read_refusal(typing: &Typing, register: u8) -> Option<VerifyRefusa
     (!fits).then_some(VerifyRefusal::WrongRight)
 }
 
-/// A right register must have a right to write, and not a scalar's.
+/// Checks that a right register has a write right, and not on a scalar.
 pub(crate) fn container_write_refusal(typing: &Typing, register: u8) -> Option<VerifyRefusal>
     requires { register < 16 }
     ensures { option_map verify_refusal_number result
@@ -151,7 +151,7 @@ pub(crate) fn container_write_refusal(typing: &Typing, register: u8) -> Option<V
     }
 }
 
-/// Beside other questions: a right register must have a right to read a closed container.
+/// Like `beside`, with the check that a right register has a `closed` right on a container.
 pub(crate) fn members_refusal(
     typing: &Typing,
     register: u8,
@@ -168,7 +168,7 @@ pub(crate) fn members_refusal(
     beside(fits, VerifyRefusal::WrongRight, others)
 }
 
-/// The same, for a container by such subscripts.
+/// Like `members_refusal`, for a container with such subscripts.
 pub(crate) fn members_by_refusal(
     typing: &Typing,
     register: u8,
@@ -187,7 +187,7 @@ pub(crate) fn members_by_refusal(
     beside(fits, VerifyRefusal::WrongRight, others)
 }
 
-/// Whether a right register has a right to write a container by such subscripts.
+/// Returns whether a right register has a write right on a container with such subscripts.
 pub(crate) fn writes_container_by(typing: &Typing, register: u8, by: Scalar) -> bool
     requires { register < 16 }
     ensures { result ≡ passes (writes_container_by by) (right_at typing.now register) }
@@ -198,7 +198,7 @@ pub(crate) fn writes_container_by(typing: &Typing, register: u8, by: Scalar) -> 
     }
 }
 
-/// Whether a right register has a read of what the datum of another one has as members.
+/// Returns whether a right register has a read right on a datum of the element type of another one's container.
 pub(crate) fn is_member_read(typing: &Typing, container: u8, member: u8) -> bool
     requires container { container < 16 }
     requires member { member < 16 }

@@ -1,4 +1,4 @@
-//! What reaches the places ahead.
+//! Typings that reach later places.
 
 ghost use Rattle.std.specs.Prelude.{◌≡◌, ℕ, ◌<◌, Option, Some, None, length, slice_get, IfOk, ◌^◌};
 ghost use Rattle.tw_code.specs.accepting.Flow.{flow_of, onward};
@@ -12,7 +12,7 @@ use crate::typing::Typing;
 use std::alloc::{AllocError, Global};
 use tw_code::{Flow, Instr, Procedure, Way};
 
-/// What has reached a place so far: the typing that came first, and whether another one came.
+/// The typings that have reached a place so far: the first one, and whether another one differs from it.
 #[derive(Clone, Copy)]
 pub(crate) struct Reached {
     pub(crate) typing: Typing,
@@ -34,7 +34,7 @@ fn note(reached: Option<Reached>, typing: Typing) -> Option<Reached>
     }
 }
 
-/// The later place where an instruction goes on by this outcome.
+/// Returns the later place where an instruction continues with this outcome, if there is one.
 pub fn next_place(way: Way, place: usize, flow: Flow) -> Option<usize>
     requires { place < 2 ^ 32 }
     ensures { result ≡ onward way place flow }
@@ -64,7 +64,7 @@ fn send(rows: &mut [Option<Reached>], to: Option<usize>, typing: Typing)
     }
 }
 
-/// Notes what both outcomes of an instruction bring, first that which isn't refused.
+/// Notes the typings after both outcomes of an instruction, `Completed` first.
 pub(crate) fn send_both(
     rows: &mut [Option<Reached>],
     procedures: &[Procedure],
@@ -86,7 +86,7 @@ pub(crate) fn send_both(
     send(rows, next_place(Way::Skipped, place, flow), refused);
 }
 
-/// Before any instruction the parameters' typing has reached the first place, and nothing another one.
+/// Returns the table before any instruction: the parameters' typing has reached the first place, and nothing any other.
 pub(crate) fn first_rows(
     alloc: Global,
     count: usize,
@@ -104,7 +104,7 @@ pub(crate) fn first_rows(
     Ok(rows)
 }
 
-/// What has reached a place.
+/// Returns what has reached a place.
 pub(crate) fn row_at(rows: &[Option<Reached>], place: usize) -> Option<Reached>
     requires { place < length rows.now }
     ensures { slice_get rows.now place ≡ Some result }

@@ -1,65 +1,65 @@
-//! Why a program is refused.
+//! Errors of the verifier.
 
 ghost use Rattle.std.specs.Prelude.{◌≡◌, ◌==◌};
 ghost use Rattle.tw_verify.specs.Refusal.{is_memory, verify_refusal_number};
 
-/// Why a program isn't accepted, by rising numbers.
+/// The error of a program that isn't accepted, by rising codes.
 #[derive(Clone, Copy)]
 pub enum VerifyRefusal {
-    /// V01.
+    /// V01: a value register isn't declared.
     UndeclaredValue,
-    /// V02.
+    /// V02: a value register is of another type than required.
     WrongValueType,
-    /// V03.
+    /// V03: a right register that is filled isn't empty, or NEW names one register twice.
     RightNotEmpty,
-    /// V04.
+    /// V04: a right register doesn't have the required right.
     WrongRight,
-    /// V05.
+    /// V05: a skip leaves the code or its block.
     SkipLeavesBlock,
-    /// V06.
+    /// V06: a REPEAT or an END has no partner, or loops are nested more than four deep.
     Unmatched,
-    /// V07.
+    /// V07: a place is reached with different typings.
     TypingsDiffer,
-    /// V08.
+    /// V08: the typing at an END isn't that of its loop's first place.
     TypingChanged,
-    /// V09.
+    /// V09: no earlier place leads to the place.
     Unreached,
-    /// V10.
+    /// V10: a right is left at a RET.
     RightLeft,
-    /// V11.
+    /// V11: a RET is in a loop, or the code doesn't end with one.
     MisplacedRet,
-    /// V12.
+    /// V12: there is no such procedure.
     UnknownProcedure,
-    /// V13.
+    /// V13: the number of arguments isn't that of the parameters.
     ArgumentCount,
-    /// V14.
+    /// V14: a leaf has a RULE or PUT.
     ActionInLeaf,
-    /// V15.
+    /// V15: the write right of a scalar is copied or dropped.
     ScalarWrite,
-    /// V16.
+    /// V16: main doesn't have its shape.
     MainShape,
-    /// V17.
+    /// V17: some walk is longer than the greatest budget.
     BudgetTooLarge,
-    /// V18.
+    /// V18: an allocation failed.
     NoMemory,
 }
 
 impl VerifyRefusal {
-    /// Whether it says nothing of the program.
+    /// Returns whether it is a failed allocation, which says nothing of the program.
     pub(crate) fn is_memory(self) -> bool
         ensures { result ≡ is_memory self }
     {
         matches!(self, VerifyRefusal::NoMemory)
     }
 
-    /// Whether it is told before any procedure is looked at.
+    /// Returns whether it is V16, which is checked before any procedure.
     pub(crate) fn is_main_shape(self) -> bool
         ensures { result ≡ (verify_refusal_number self == 16) }
     {
         matches!(self, VerifyRefusal::MainShape)
     }
 
-    /// The number behind the letter V.
+    /// Returns its code without the letter V.
     pub fn number(self) -> u8
         ensures { result ≡ verify_refusal_number self }
     {

@@ -1,4 +1,4 @@
-//! A program that is refused.
+//! Programs that aren't accepted.
 
 ghost use Rattle.std.specs.Prelude.{◌<◌, length, IfOk};
 ghost use Rattle.tw_verify.specs.Known.{AreFound};
@@ -13,7 +13,7 @@ use thiserror::Error;
 use tw_code::Program;
 use tw_types::Items;
 
-/// A program that isn't accepted, with its first refusal.
+/// A program that isn't accepted, with its first error.
 #[derive(Drop, Error)]
 #[error("refused V{:02} in procedure {procedure} at place {place}", .no.number())]
 pub struct Refused {
@@ -24,8 +24,8 @@ pub struct Refused {
 }
 
 impl Refused {
-    /// What the right registers hold at each place of the procedure to which `verify` came: the refused place is the last,
-    /// or the one before it where nothing leads there.
+    /// Returns the typings of the procedure's places that `verify` reached. The place of the error is the last one, or the place
+    /// before it if nothing leads to the error's place.
     pub fn typings(&self, alloc: Global, procedure: usize) -> Result<Items<Typing>, AllocError>
         requires { procedure < length self.now.program.procedures }
         ensures { IfOk result (AreFound self.now.program.procedures (verify_refusal_number self.now.no) self.now.procedure procedure) }
@@ -38,7 +38,7 @@ impl Refused {
     }
 }
 
-/// As it is displayed, without the program.
+/// Displays the error, without the program.
 impl fmt::Debug for Refused {
     fn fmt<W: fmt::Write>(&self, f: &mut fmt::Formatter<W>) -> fmt::Result {
         write!(f, "{self}")

@@ -22,7 +22,7 @@ fn is_same_block(left: Option<usize>, right: Option<usize>) -> bool
     }
 }
 
-/// Whether a place is in the code and in the block of the instruction that skips to it.
+/// Returns whether a place is in the code, and in the block of the instruction that skips to it.
 fn is_goal_in_block(code: &[Instr], loops: &Loops, place: usize, goal: usize) -> bool
     requires known { AreLoops code.now loops.now }
     requires within { place < length code.now }
@@ -44,7 +44,7 @@ fn is_skip_in_block(code: &[Instr], loops: &Loops, place: usize, flow: Flow) -> 
     }
 }
 
-/// Whether a REPEAT has its END and isn't the fifth of a nest, and an END has its REPEAT.
+/// Returns whether a REPEAT has its END and isn't the fifth of a nest, and an END has its REPEAT.
 fn has_partner(code: &[Instr], loops: &Loops, place: usize, flow: Flow) -> bool
     requires known { AreLoops code.now loops.now }
     requires within { place < length code.now }
@@ -58,7 +58,7 @@ fn has_partner(code: &[Instr], loops: &Loops, place: usize, flow: Flow) -> bool
     }
 }
 
-/// Whether a RET is in no loop, and another instruction isn't the last.
+/// Returns whether a RET is in no loop, and another instruction isn't the last.
 fn is_ending_well(code: &[Instr], loops: &Loops, place: usize, flow: Flow) -> bool
     requires known { AreLoops code.now loops.now }
     requires within { place < length code.now }
@@ -71,7 +71,7 @@ fn is_ending_well(code: &[Instr], loops: &Loops, place: usize, flow: Flow) -> bo
     }
 }
 
-/// The lowest number that is refused at a place.
+/// Returns the lowest error of the structure at a place.
 fn structure_refusal(code: &[Instr], loops: &Loops, place: usize) -> Option<VerifyRefusal>
     requires known { AreLoops code.now loops.now }
     requires within { place < length code.now }
@@ -91,7 +91,7 @@ fn structure_refusal(code: &[Instr], loops: &Loops, place: usize) -> Option<Veri
     None
 }
 
-/// Asks the structure of all places in order.
+/// Checks the structure of all places in order. Fails at the first place with an error.
 pub(crate) fn ask_structure(code: &[Instr], loops: &Loops) -> Result<(), Fault>
     requires known { AreLoops code.now loops.now }
     requires short { length code.now < 2 ^ 32 }

@@ -1,4 +1,4 @@
-//! What the right registers hold.
+//! Typings: the rights in the right registers.
 
 ghost use Rattle.std.specs.Prelude.{◌≡◌, ◌≤◌, ◌<◌, ◌∷◌, [], ℕ, length, Some, is_none, slice_set};
 ghost use Rattle.std.specs.List.{list_all, AllByRecursion};
@@ -34,21 +34,21 @@ impl Model for RightType {
 }
 
 impl RightType {
-    /// How it is held.
+    /// Returns its mode: `Closed`, `Ref` or `Write`.
     pub fn mode(self) -> Mode
         ensures { result ≡ self.mode }
     {
         self.mode
     }
 
-    /// The type of its datum.
+    /// Returns the type of its datum.
     pub fn ty(self) -> DataType
         ensures { result ≡ self.ty }
     {
         self.ty
     }
 
-    /// A right to write a datum of the type.
+    /// Returns a write right on a datum of the type.
     fn write(ty: DataType) -> RightType
         ensures { a_write ty ≡ Some result }
     {
@@ -58,7 +58,7 @@ impl RightType {
         }
     }
 
-    /// A right to read a datum of the type.
+    /// Returns a read right on a datum of the type.
     fn read(ty: DataType) -> RightType
         ensures { a_read ty ≡ Some result }
     {
@@ -68,7 +68,7 @@ impl RightType {
         }
     }
 
-    /// A right to read a member of its datum, where that has members.
+    /// Returns a read right on a member of its datum, or `None` if that is a scalar.
     fn member_read(self) -> Option<RightType>
         ensures { result ≡ option_and_then a_read (element_of self.ty) }
     {
@@ -117,7 +117,7 @@ impl RightType {
         self.mode == Mode::Closed && self.ty.is_container_by(by)
     }
 
-    /// Whether it may be given for a parameter. For a `closed` one any read may be, if the task waits for its data.
+    /// Returns whether it suits a parameter. For a `closed` one any read does, if the task waits for its data.
     pub(crate) fn may_stand_for(self, waits: bool, param: Param) -> bool
         ensures { result ≡ may_stand_for waits param self }
     {
@@ -131,7 +131,7 @@ impl RightType {
         suits && self.ty == param.ty
     }
 
-    /// Whether it reads what that container has as members.
+    /// Returns whether it is a read right on a datum of that container's element type.
     pub(crate) fn reads_member_of(self, container: RightType) -> bool
         ensures { result ≡ reads_member_of container self }
     {
@@ -139,7 +139,7 @@ impl RightType {
     }
 }
 
-/// What the right registers hold at a place: each is empty or has a right.
+/// The content of the right registers at a place: each is empty or has a right.
 #[derive(Clone, Copy, PartialEq, Eq)]
 pub struct Typing {
     rights: [Option<RightType>; Procedure::RIGHT_REGISTERS],
@@ -157,7 +157,7 @@ impl Model for Typing {
 }
 
 impl Typing {
-    /// The typing with which a procedure of these parameters starts.
+    /// Returns the typing with which a procedure of these parameters starts.
     pub fn start(params: &[Param]) -> Typing
         requires { length params.now ≤ 16 }
         ensures { result ≡ start_typing params.now }
@@ -176,7 +176,7 @@ impl Typing {
         Typing { rights }
     }
 
-    /// What a register holds.
+    /// Returns the right in a register, or `None` if it is empty.
     pub fn right_at(&self, register: u8) -> Option<RightType>
         requires { register < 16 }
         ensures { result ≡ right_at self.now register }
@@ -184,7 +184,7 @@ impl Typing {
         self.rights[register as usize]
     }
 
-    /// Whether a register is empty.
+    /// Returns whether a register is empty.
     pub(crate) fn is_free(&self, register: u8) -> bool
         requires { register < 16 }
         ensures { result ≡ is_free self.now register }
@@ -192,14 +192,14 @@ impl Typing {
         self.right_at(register).is_none()
     }
 
-    /// Whether every register is empty.
+    /// Returns whether every register is empty.
     pub fn is_empty(&self) -> bool
         ensures { result ≡ list_all is_none self.now }
     {
         self.rights.iter().all(|right| right.is_none())
     }
 
-    /// Whether every register holds the same.
+    /// Returns whether both typings have the same rights.
     pub fn is_same(&self, other: &Typing) -> bool
         ensures { result ≡ same_typing self.now other.now }
     {
@@ -214,7 +214,7 @@ impl Typing {
         self
     }
 
-    /// The typing after LOOK: a completed one gives a right to read the member.
+    /// Returns the typing after LOOK: a completed one adds a read right on the member.
     fn after_look(self, way: Way, member: u8, container: u8) -> Typing
         requires { (member < 16) × (container < 16) }
         ensures { (by : ByScalar) (subscript skip : ℕ) → result ≡ after_data way (on_data.Look by member container subscript skip) self }
@@ -226,7 +226,7 @@ impl Typing {
         }
     }
 
-    /// The typing after an instruction on data that goes on by this outcome, a case an instruction.
+    /// Returns the typing after an instruction on data with this outcome, with one case for each.
     fn after_data(self, way: Way, instr: DataInstr) -> Typing
         requires { IsDataInstr instr }
         ensures { result ≡ after_data way instr self }
@@ -255,7 +255,7 @@ impl Typing {
         }
     }
 
-    /// Without the argument that stands for a parameter, if that is a right.
+    /// Empties the register of a parameter's argument, if that is a right.
     pub fn without(self, param: Param, arg: u8) -> Typing
         requires { IsRegister arg }
         ensures { result ≡ without_args (param ∷ []) (arg ∷ []) self }
@@ -267,7 +267,7 @@ impl Typing {
         }
     }
 
-    /// Without the arguments that are rights.
+    /// Empties the registers of all arguments that are rights.
     fn without_args(self, params: &[Param], args: &[u8]) -> Typing
         requires { AllByRecursion IsRegister args.now }
         ensures { result ≡ without_args params.now args.now self }
@@ -279,7 +279,7 @@ impl Typing {
         left
     }
 
-    /// The typing after RULE and PUT: the rights among the arguments are given away.
+    /// Returns the typing after RULE or PUT: the rights among the arguments have left their registers.
     fn after_action(self, procedures: &[Procedure], action: &Action) -> Typing
         requires { IsAction action.now }
         ensures { result ≡ without_args (params_of procedures.now action.now.procedure) action.now.args self }
@@ -290,7 +290,7 @@ impl Typing {
         }
     }
 
-    /// The typing after an instruction that goes on by this outcome.
+    /// Returns the typing after an instruction with this outcome.
     pub fn after(self, procedures: &[Procedure], way: Way, instr: &Instr) -> Typing
         requires { IsInstr instr.now }
         ensures { result ≡ after procedures.now way instr.now self }

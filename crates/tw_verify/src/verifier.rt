@@ -1,4 +1,4 @@
-//! Verifying.
+//! Verifies programs.
 
 ghost use Rattle.std.specs.Prelude.{◌≡◌, ◌≢◌, IfOk, IfErr, OnOk};
 ghost use Rattle.tw_code.specs.format.Program.{IsProgram};
@@ -18,7 +18,7 @@ use std::alloc::Global;
 use tw_code::{Procedure, Program, has_main_shape};
 use tw_types::{Items, keep};
 
-/// What is found out about each procedure of an accepted program.
+/// Returns the findings of each procedure of an accepted program.
 fn all_findings(alloc: Global, procedures: &[Procedure]) -> Result<Items<Findings>, Refusal>
     requires { IsProgram procedures.now }
     ensures accepted { IfOk result (IsTyped procedures.now) }
@@ -42,24 +42,24 @@ fn all_findings(alloc: Global, procedures: &[Procedure]) -> Result<Items<Finding
     Ok(Items::from(all))
 }
 
-/// Accepts a program, or gives it back with its first refusal: main's shape is asked first, then in each procedure
-/// in order its structure, then its typings, then its budget.
+/// Accepts a program, or returns it with its first error. Checks main's shape first, then in each procedure in order its
+/// structure, its typings and its budget.
 pub fn verify(alloc: Global, program: Program) -> Result<Verified, Refused>
-    // An accepted program is answered `Ok`, unless memory runs out.
+    // An accepted program's result is `Ok`, unless an allocation fails.
     ensures complete { IsAccepted program.procedures → IfErr result (λ refused. refused.no ≡ NoMemory) }
-    // No other program is.
+    // No other program's is.
     ensures sound { OnOk result (IsAccepted program.procedures) }
-    // What is accepted is the program that was given.
+    // The result has the program that was passed.
     ensures kept { IfOk result (λ verified. verified.program ≡ program.procedures) }
     ensures version { IfOk result (λ verified. verified.version ≡ program.version) }
 
-    // A refusal is the program's first one, unless memory ran out.
+    // The error is the program's first one, unless an allocation failed.
     ensures first { IfErr result (λ refused. refused.no ≢ NoMemory
         → IsFirstRefusal program.procedures (verify_refusal_number refused.no) refused.procedure refused.place) }
-    // Where memory ran out, no place is told.
+    // If an allocation failed, procedure and place are 0.
     ensures memory { IfErr result (λ refused. refused.no ≡ NoMemory
         → (refused.procedure ≡ 0) × (refused.place ≡ 0)) }
-    // The program comes back.
+    // The program is returned unchanged.
     ensures back { IfErr result (λ refused. refused.program ≡ program) }
 {
     match all_findings(alloc, program.procedures()) {

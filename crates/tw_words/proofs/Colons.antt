@@ -1,4 +1,4 @@
--- What stands before a `:`.
+-- Texts before a `:`.
 use Rattle.std.proofs.Common.{◌≡◌, ◌≢◌, ◌==◌, ℕ, Bool, true, false, cond, List, [], ◌∷◌, ◌++◌, Option, Some, None, refl, sym, ap, ◌∙◌}
 use Rattle.std.proofs.lemmas.Bool.{eqb-true}
 use Rattle.std.specs.Borrow.{Bor}
@@ -30,7 +30,7 @@ pub colon_same : (word : List ℕ) (r : Option (Bor (List ℕ))) → MatchOption
 colon_same word None h = sym (none_before word h)
 colon_same word (Some x) h = sym (ap before_colon h ∙ before x.now)
 
--- what is found before it is what stands before it
+-- the text that is found is before the `:`
 pub found_before : (word found : List ℕ) → before_colon word ≡ Some found → word ≡ found ++ 58 ∷ []
 found_before [] found e = absurd (none e)
   where

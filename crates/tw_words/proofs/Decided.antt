@@ -1,4 +1,4 @@
--- What the tests of digits and limits decide.
+-- Decisions of the tests of digits and limits.
 use Rattle.std.proofs.Common.{◌≡◌, ◌≤◌, ℕ, true, false, List, [], ◌∷◌, Decides, refl, arith}
 use Rattle.std.specs.Prelude.{nat_lt}
 use Rattle.std.specs.Char.{digit_value}

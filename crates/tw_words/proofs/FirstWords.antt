@@ -1,4 +1,4 @@
--- What stands first, as the reader finds it.
+-- The first word, as the reader finds it.
 use Rattle.std.proofs.Common.{[], ◌≡◌, ◌≢◌, ℕ, suc, ◌-◌, ◌≤◌, Bool, true, false, cond, List, ◌∷◌, ◌++◌, length, get_or, take, drop, refl, sym, ap, subst, ◌∙◌, append_assoc, arith}
 use Rattle.std.specs.Prelude.{Err, IfOk, Ok, Result}
 use Rattle.std.proofs.lemmas.Bool.Decides.{nat_tests}
@@ -27,7 +27,7 @@ gap_grows bytes [] l p g = absurd (omega (arith, l))
 gap_grows bytes (b ∷ rest) l p (gap, is, parts) =
     subst (HasGap bytes) (sym (slice_tail b rest)) (gap ++ b ∷ [], gap_more gap b is p, parts ∙ sym (append_assoc gap (b ∷ []) rest))
 
--- what stands behind the gap stands first
+-- a word after a gap is the first word
 gap_joins : (g h : List ℕ) → IsGap g → IsGap h → IsGap (g ++ h)
 gap_joins [] h is other = other
 gap_joins (b ∷ g) h is other = (is.0, gap_joins g h is.1 other)
@@ -51,7 +51,7 @@ behind_word word bytes rest after a f = record {
   edge = f.edge;
 }
 
--- and what stands first stands behind it
+-- and the first word is after the gap
 blank_behind : (bytes rest : List ℕ) → IsAfterGap bytes rest → IsBlank bytes → IsBlank rest
 blank_behind bytes rest a b = record {
   gap = [];
@@ -76,7 +76,7 @@ behind_gap next.End bytes rest a is = behind_blank bytes rest a is
 behind_gap next.Broken bytes rest a is = (λ blank. is.0 (blank_behind bytes rest a blank), λ word after first. is.1 word after (word_behind word bytes rest after a first))
 behind_gap (next.Found word after) bytes rest a is = behind_word (seen word) bytes rest after.now a is
 
--- ---- where a word stands first, or a quote
+-- ---- if a word is first, or a quote
 
 word_now : (word : Word) (bytes rest : List ℕ) → IsAtWord bytes → IsFirstWord word bytes rest → (text : List ℕ) × (bytes ≡ text ++ rest) × IsWord word text × IsAtEdge rest
 word_now word bytes rest at f =
@@ -116,11 +116,11 @@ edge_test : (rest : List ℕ) → IsAtEdge rest → is_at_edge rest ≡ true
 edge_test [] e = refl
 edge_test (b ∷ rest) e = e
 
--- no text stands between quotes
+-- there is no quoted text
 pub unread_broken : (bytes : List ℕ) → get_or bytes 0 0 ≡ 34 → ((text rest : List ℕ) → BeginsQuoted text bytes rest → ⊥) → IsBroken bytes
 unread_broken bytes q none = (λ blank. quote_no_blank bytes q blank, λ word rest first. let text = quote_word word bytes rest q first in none text.0 rest text.1)
 
--- one does, and no word ends behind it
+-- there is one, and no word ends after it
 pub unended_broken : (bytes text rest : List ℕ) → get_or bytes 0 0 ≡ 34 → BeginsQuoted text bytes rest → is_at_edge rest ≡ false → IsBroken bytes
 unended_broken bytes text rest q begins e = (λ blank. quote_no_blank bytes q blank, λ word after first. by word after (quote_word word bytes after q first))
   where

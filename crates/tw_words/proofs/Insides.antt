@@ -1,4 +1,4 @@
--- Reading between quotes from left to right finds the text that stands there, and no other.
+-- Parsing between quotes from left to right finds the text that is written there, and no other.
 use Rattle.std.proofs.Common.{◌≡◌, ◌≢◌, ℕ, ◌+◌, ◌*◌, ◌<◌, ◌⊎◌, inl, inr, Bool, true, false, cond, eqb, List, [], ◌∷◌, ◌++◌, Option, Some, None, refl, sym, ap, subst, ◌∙◌, append_assoc, arith}
 use Rattle.std.specs.Prelude.{nat_lt}
 use Rattle.std.specs.Char.{digit_value}
@@ -9,7 +9,7 @@ use Rattle.tw_words.specs.declared.escape.Escape.TheVariants.{Nothing, Slash, He
 use Rattle.tw_words.specs.Quoted.{BeginsQuoted, IsInside, IsPiece, backslash, hex, line_feed, nothing, one_more, plain, quote}
 use Rattle.tw_words.specs.reading.Inside.{Found, inside_from, with_byte}
 
--- ---- what stands between quotes is read
+-- ---- a text between quotes is read
 
 pub not_eq : (a b : ℕ) → a ≢ b → eqb a b ≡ false
 not_eq a b ne = grind (arith, nat_tests)
@@ -29,9 +29,9 @@ inside_read _ _ rest nothing = refl
 inside_read _ _ rest (one_more b piece text inside p i) =
     ap (inside_from Nothing) (append_assoc piece inside (34 ∷ rest)) ∙ piece_read b piece (inside ++ 34 ∷ rest) p ∙ ap (with_byte b) (inside_read text inside rest i)
 
--- ---- what is read stands between quotes
+-- ---- a text that is read is between quotes
 
--- which way a test went
+-- the branch that a test took
 chosen : {Z : Type 0} (b : Bool) (x y z : Z) → cond b x y ≡ z → ((b ≡ true) × (x ≡ z)) ⊎ ((b ≡ false) × (y ≡ z))
 chosen true x y z e = inl (refl, e)
 chosen false x y z e = inr (refl, e)
@@ -48,14 +48,14 @@ with_some b (Some x) text rest e =
     let same : ◌≡◌ {A = List ℕ × List ℕ} (b ∷ x.0, x.1) (text, rest) = some_is (b ∷ x.0, x.1) (text, rest) e in
     (x.0, ap (λ (r : List ℕ). Some (x.0, r)) (ap (λ (y : List ℕ × List ℕ). y.1) same), ap (λ (y : List ℕ × List ℕ). y.0) same)
 
--- what stands before the bytes that are read in an escape
+-- the bytes already read of an escape
 abbrev HasBegun : Escape → List ℕ → Type 0
 HasBegun Nothing front = front ≡ []
 HasBegun Slash front = front ≡ 92 ∷ []
 HasBegun Hex front = front ≡ 92 ∷ 120 ∷ []
 HasBegun (Digit first) front = (h : ℕ) × (front ≡ 92 ∷ 120 ∷ h ∷ []) × (digit_value h ≡ first) × (first < 8)
 
--- the bytes, behind what has been read of an escape, are this text up to its quote and what follows
+-- with what has been read of an escape, the bytes are this text up to its quote, and the rest
 pub record IsFound (front bytes text rest : List ℕ) : Type 0 where
   pub inside : List ℕ
   pub is_inside : IsInside text inside
@@ -131,7 +131,7 @@ found_inside (b ∷ bytes) (Digit first) front text rest before is =
       | inr h ↦ none_is (text, rest) h.1
     ]
 
--- ---- a text between quotes that stands first
+-- ---- a quoted text at the start
 
 pub tail_is : (b c : ℕ) (xs ys : List ℕ) → b ∷ xs ≡ c ∷ ys → xs ≡ ys
 tail_is b c xs ys e = cc
@@ -158,7 +158,7 @@ read_begins text bytes rest e =
 pub never_both : (x : List ℕ × List ℕ) → ◌≡◌ {A = Found} None (Some x) → ⊥
 never_both x e = cc
 
--- one text alone stands first, and one rest follows
+-- only one quoted text is at the start, and only one rest follows
 pub one_text : (text other bytes rest after : List ℕ) → BeginsQuoted text bytes rest → BeginsQuoted other bytes after → (text ≡ other) × (rest ≡ after)
 one_text text other [] rest after h k = absurd (none_begins text rest h)
 one_text text other (b ∷ bytes) rest after h k =

@@ -16,7 +16,7 @@ lines_of : (items : List (ℕ × Bor (List ℕ))) → map (λ (p : ℕ × List �
 lines_of [] = refl
 lines_of (i ∷ items) = ap (λ (x : List (List ℕ)). i.1.now ∷ x) (lines_of items)
 
--- where the loop over a text's lines stands
+-- a loop over a text's lines is at this line
 pub record StandsAtLine (ls before : List (List ℕ)) (index : ℕ) (line : List ℕ) : Type 0 where
   pub others : List (List ℕ)
   pub parts : ls ≡ before ++ (line ∷ others)
@@ -38,7 +38,7 @@ line_turn ls items index line e low at =
       index_is = here.0 ∙ omega (arith, length-map items (λ (item : ℕ × Bor (List ℕ)). item.1.now));
     }
 
--- at the end of such a loop all lines are yielded
+-- at the end of such a loop all lines have been yielded
 pub all_lines : (ls : List (List ℕ)) (items : List (ℕ × Bor (List ℕ))) → map (λ (item : ℕ × Bor (List ℕ)). (item.0, item.1.now)) items ≡ enumerate_from 0 ls → map (λ (item : ℕ × Bor (List ℕ)). item.1.now) items ≡ ls
 all_lines ls items e = sym (lines_of items) ∙ ap (map (λ (x : ℕ × List ℕ). x.1)) e ∙ all_seconds 0 ls
   where

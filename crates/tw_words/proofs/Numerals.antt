@@ -1,4 +1,4 @@
--- Digits, one by one; and what two numbers a text can't spell.
+-- Digits, one by one; and that no text writes two numbers.
 use Rattle.std.proofs.Common.{◌≡◌, ℕ, zero, suc, ◌-◌, ℤ, pos, negsuc, neg_ℤ, ◌+◌, ◌*◌, ◌<◌, ◌^◌, inl, inr, List, ◌∷◌, length, take, get_or, refl, sym, ap, subst, ◌∙◌, arith}
 use Rattle.std.specs.Prelude.{min, Err}
 use Rattle.std.specs.Char.{digit_value}
@@ -45,7 +45,7 @@ one_digit text past i value digit next h inside below is made = record {
 pub no_sign : (n : ℕ) (rest : List ℕ) → SpellsDigits n (45 ∷ rest) → ⊥
 no_sign n rest h = absurd (omega (arith, h.digits.1.0))
 
--- ---- one number alone
+-- ---- only one number
 
 pub one_size : (n m : ℕ) (text : List ℕ) → SpellsDigits n text → SpellsDigits m text → n ≡ m
 one_size n m text h k = sym h.value ∙ k.value
@@ -58,7 +58,7 @@ one_number n m text (inr (a, ds, is, h, e)) (inr (b, cs, has, k, f)) =
     let same : ds ≡ cs = tail_is 45 45 ds cs (sym is ∙ has) in
     e ∙ ap (λ (size : ℕ). neg_ℤ (pos size)) (one_size a b cs (subst (SpellsDigits a) same h) k) ∙ sym f
 
--- ---- what is written
+-- ---- the written form
 
 pub shown : (n : ℤ) → IsIn64 n → SpellsNumber n (signed_decimal n)
 shown (pos n) h = let k = decimal_is_IsNumeral n (omega (arith, h.sfits)) in inl (n, record { digits = k.0; value = k.1 }, refl)

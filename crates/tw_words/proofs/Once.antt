@@ -1,4 +1,4 @@
--- One word alone stands first, and one list of words in a line.
+-- A line has only one first word, and only one list of words.
 use Rattle.std.proofs.Common.{[], ◌≡◌, ℕ, Bool, true, false, List, ◌∷◌, ◌++◌, refl, sym, ap, subst, ◌∙◌}
 use Rattle.std.specs.Prelude.{◌||◌}
 use Rattle.std.specs.List.{AllByRecursion}
@@ -10,7 +10,7 @@ use Rattle.tw_words.specs.Words.{AreFirstWords, Bare, IsAtEdge, IsAtEnd, IsAtWor
 pub differ : true ≡ false → ⊥
 differ e = cc
 
--- no edge stands in these bytes
+-- no word ends in these bytes
 abbrev pub HasNoEdge : List ℕ → Type 0
 HasNoEdge bytes = AllByRecursion (λ c. is_edge c ≡ false) bytes
 
@@ -23,7 +23,7 @@ neither false y e = (refl, e)
 pub no_edge : (b : ℕ) → is_edge b ≡ false → (is_parting b ≡ false) × (is_comment_sign b ≡ false)
 no_edge b e = neither (is_parting b) (is_comment_sign b) e
 
--- what stands behind a gap is found
+-- only one text is after a gap
 pub gap_once : (g h a b : List ℕ) → IsGap g → IsGap h → IsAtWord a → IsAtWord b → g ++ a ≡ h ++ b → a ≡ b
 gap_once [] [] a b _ _ _ _ e = e
 gap_once [] (c ∷ h) a b _ gap at _ e = absurd (differ (sym gap.0 ∙ subst IsAtWord e at))
@@ -39,7 +39,7 @@ end_here (b ∷ rest) end = subst (λ (c : ℕ). is_parting c ≡ false) (sym (e
 abbrev IsHere : List ℕ → Type 0
 IsHere bytes = IsAtWord bytes × (IsAtEnd bytes → ⊥)
 
--- a word begins with no parting and no comment sign
+-- a word begins with no separator and no comment sign
 pub word_here : (word : Word) (text rest : List ℕ) → IsWord word text → IsAtWord (text ++ rest) × (IsAtEnd (text ++ rest) → ⊥)
 word_here (Bare []) text rest is = absurd is.0
 word_here (Bare (b ∷ bs)) text rest (bare, same) =
@@ -88,7 +88,7 @@ blank_no_word w bytes rest b f =
 
 -- ---- lines
 
--- the first word of a line, and the line behind it
+-- the first word of a line, and the line after it
 pub line_rest : (w v : Word) (ws : List Word) (line rest : List ℕ) → IsLine (w ∷ ws) line → IsFirstWord v line rest → (w ≡ v) × IsLine ws rest
 line_rest w v ws line rest (end, (after, first, more), blank) other =
     let one = first_word_once w v line after rest first other in
@@ -105,7 +105,7 @@ line_once (w ∷ ws) (v ∷ vs) line l (end, (after, first, more), blank) =
     let one = line_rest w v ws line after l first in
     ap (λ (x : Word). x ∷ ws) one.0 ∙ ap (λ (xs : List Word). v ∷ xs) (line_once ws vs after one.1 (end, more, blank))
 
--- the first word of a broken line, and the broken line behind it
+-- the first word of a broken line, and the broken line after it
 pub broken_rest : (w v : Word) (ws : List Word) (line rest : List ℕ) → IsBrokenLine (w ∷ ws) line → IsFirstWord v line rest → (w ≡ v) × IsBrokenLine ws rest
 broken_rest w v ws line rest (end, (after, first, more), broken) other =
     let one = first_word_once w v line after rest first other in

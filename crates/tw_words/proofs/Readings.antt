@@ -1,4 +1,4 @@
--- Readings that answer what spells a value and what may stand there, how they go together, and those of numbers.
+-- Readings that report which value is written and whether it is allowed; how they are combined, and those of numbers.
 use Rattle.std.proofs.Common.{◌≡◌, ◌==◌, ℕ, zero, suc, ◌≤◌, ◌^◌, ℤ, pos, neg_ℤ, Bool, true, false, cond, List, [], ◌∷◌, Result, Ok, Err, inl, inr, refl, sym, ap, subst, ◌∙◌, arith}
 use Rattle.std.proofs.lemmas.Bool.{eqb-true}
 use Rattle.std.proofs.lemmas.Bool.Decides.{nat_tests}
@@ -12,13 +12,13 @@ use Rattle.tw_words.proofs.Decided.{digits_decide, within_decide}
 use Rattle.tw_words.proofs.Insides.{head_is, tail_is}
 use Rattle.tw_words.proofs.Numerals.{no_sign, one_number, one_size, size_fits}
 
--- A value that is spelled and may stand here; or none is spelled; or one is, and none that may stand here.
+-- The value that is written, if it is allowed; or none is written; or one is, and none that is allowed.
 abbrev pub Reads : {A : Type 0} → (A → Type 0) → (A → Type 0) → Result A Flaw → Type 0
 Reads Has May (Ok a) = Has a × May a
 Reads {A} Has May (Err Form) = (a : A) → Has a → ⊥
 Reads {A} Has May (Err Limit) = ((a : A) × Has a) × ((a : A) → Has a → May a → ⊥)
 
--- two readings of what is spelled once are one
+-- two readings of a text that writes at most one value are equal
 pub same : {A : Type 0} (Has May : A → Type 0) → ((a b : A) → Has a → Has b → a ≡ b) → (r s : Result A Flaw) → IsRead Has May r → Reads Has May s → r ≡ s
 same Has May one (Ok a) (Ok b) h k = ap (λ c. Ok c) (one a b h.0 k.0)
 same Has May one (Ok a) (Err Form) h k = absurd (k a h.0)
@@ -30,7 +30,7 @@ same Has May one (Err Limit) (Ok b) h k = absurd (h.2 (subst May (one b h.0 k.0 
 same Has May one (Err Limit) (Err Form) h k = absurd (k h.0 h.1)
 same Has May one (Err Limit) (Err Limit) h k = refl
 
--- what is read, as another value
+-- a value that is read, converted
 module _ {A B : Type 0} (make : A → B) (Has May : A → Type 0) (Has' May' : B → Type 0)
     (to : (a : A) → Has a → Has' (make a)) (back : (b : B) → Has' b → (a : A) × Has a × (b ≡ make a))
     (may : (a : A) → Has a → May a → May' (make a)) (may_back : (a : A) → Has a → May' (make a) → May a) where

@@ -1,4 +1,4 @@
--- What is left of a line in UTF-8 is UTF-8.
+-- The rest of a line in UTF-8 is UTF-8.
 use Rattle.std.proofs.Common.{◌≡◌, ℕ, suc, ◌-◌, ◌<◌, ◌≤◌, true, List, [], ◌∷◌, ◌++◌, length, get_or, take, drop, sym, ap, subst, ◌∙◌, append_assoc, arith}
 use Rattle.std.specs.Prelude.{IsUtf8}
 use Rattle.std.proofs.lemmas.Bool.Decides.{nat_tests}
@@ -20,7 +20,7 @@ at_edge_utf8 front (b ∷ rest) e u = IsUtf8-append (b ∷ []) rest (one_ascii b
 pub rest_utf8 : (word : Word) (bytes rest : List ℕ) → IsFirstWord word bytes rest → IsUtf8 bytes → IsUtf8 rest
 rest_utf8 word bytes rest f u = at_edge_utf8 (f.gap ++ f.text) rest f.edge (subst IsUtf8 (f.parts ∙ sym (append_assoc f.gap f.text rest)) u)
 
--- what follows the first byte, as a slice pattern gives it
+-- the rest after the first byte, as a slice pattern returns it
 pub slice_tail : {A : Type 0} (x : A) (rest : List A) → take (length (x ∷ rest) - 1) (drop 1 (x ∷ rest)) ≡ rest
 slice_tail x rest =
     let e : suc (length rest) - 1 ≡ length rest = omega arith in

@@ -1,4 +1,4 @@
--- A text that stands between quotes in UTF-8 is UTF-8, and so is what follows it.
+-- A quoted text in UTF-8 is UTF-8, and so is the rest after it.
 use Rattle.std.proofs.Common.{◌≡◌, ℕ, zero, suc, ◌+◌, ◌*◌, ◌<◌, List, [], ◌∷◌, ◌++◌, length, get_or, drop, Some, refl, sym, ap, subst, ◌∙◌, append_assoc, arith}
 use Rattle.std.specs.Prelude.{IsUtf8}
 use Rattle.std.specs.Char.{digit_value}
@@ -18,7 +18,7 @@ one_ascii b lt = IsUtf8-from_ascii (b ∷ []) ascii
     ascii zero = lt
     ascii (suc i) = omega arith
 
--- ---- a text may be cut round an ASCII byte
+-- ---- a text may be cut around an ASCII byte
 
 pub cut_front : (front : List ℕ) (b : ℕ) (rest : List ℕ) → b < 128 → IsUtf8 (front ++ b ∷ rest) → IsUtf8 front
 cut_front front b rest lt u =
@@ -36,7 +36,7 @@ cut_rest front b rest lt u =
     ap (drop (length front + 1)) (sym (append_assoc front (b ∷ []) rest)) ∙ drop_at (front ++ b ∷ []) rest (length front + 1) (length-append front (b ∷ [])) in
     subst IsUtf8 one (IsUtf8-drop (front ++ b ∷ rest) (length front + 1) u boundary)
 
--- ---- what stands between quotes
+-- ---- texts between quotes
 
 hex_small : (b : ℕ) → digit_value b < 16 → b < 128
 hex_small b h = grind (arith, nat_tests)

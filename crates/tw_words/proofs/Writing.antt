@@ -1,4 +1,4 @@
--- Words that are written one after the other, parted by spaces, are the words of the line.
+-- Words that are written one after the other, separated by spaces, are the words of the line.
 use Rattle.std.proofs.Common.{[], ◌≡◌, ◌==◌, ℕ, ◌/◌, ◌%◌, ◌<◌, ◌≤◌, ◌^◌, Bool, true, false, codes, List, ◌∷◌, ◌++◌, length, refl, sym, ap, arith}
 use Rattle.std.specs.Prelude.{◌||◌, if◌then◌else◌, nat_lt}
 use Rattle.std.specs.Fmt.{decimal}
@@ -15,14 +15,14 @@ use Rattle.tw_words.proofs.Breaks.{IsOneLine}
 use Rattle.tw_words.proofs.Insides.{not_eq}
 use Rattle.tw_words.proofs.Once.{HasNoEdge}
 
--- each text stands for its word
+-- each text writes its word
 abbrev pub AreWords : List Word → List (List ℕ) → Type 0
 AreWords [] [] = Unit {0}
 AreWords [] (t ∷ ts) = ⊥
 AreWords (w ∷ ws) [] = ⊥
 AreWords (w ∷ ws) (t ∷ ts) = IsWord w t × AreWords ws ts
 
--- ---- words parted by spaces
+-- ---- words separated by spaces
 
 -- a space before a word is a gap
 after_space : (word : Word) (bytes rest : List ℕ) → IsFirstWord word bytes rest → IsFirstWord word (32 ∷ bytes) rest
@@ -51,7 +51,7 @@ pub all_append : (P : ℕ → Type 0) (xs ys : List ℕ) → AllByRecursion P xs
 all_append P [] ys front back = back
 all_append P (x ∷ xs) ys front back = (front.0, all_append P xs ys front.1 back)
 
--- what holds of a space and of all bytes of the words holds of all bytes of the line
+-- a property of a space and of all bytes of the words is one of all bytes of the line
 pub joined_all : (P : ℕ → Type 0) (texts : List (List ℕ)) → P 32 → AllByRecursion (AllByRecursion P) texts → AllByRecursion P (join_with_byte 32 texts)
 joined_all P [] space are = tt
 joined_all P (t ∷ []) space are = are.0

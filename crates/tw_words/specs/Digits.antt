@@ -1,4 +1,4 @@
--- Digits, and limits, as they are tested, and the numbers that are read.
+-- Tests of digits and limits, and the numbers that are read.
 use Rattle.std.specs.Prelude.{ℕ, ℤ, pos, neg_ℤ, Bool, true, false, ◌&&◌, ◌==◌, nat_lt, if◌then◌else◌, List, [], ◌∷◌, Result, Ok, Err}
 use Rattle.std.specs.Char.{digit_value}
 use Rattle.std.specs.Str.Parse.{digits_value}
@@ -16,21 +16,21 @@ are_digits (d ∷ ds) = all_digits (d ∷ ds)
 abbrev pub is_within : ℕ → ℕ → ℕ → Bool
 is_within low high n = if nat_lt n low then false else if nat_lt high n then false else true
 
--- ---- what is read
+-- ---- results of reading
 
--- as another value
+-- converts a result
 abbrev pub as_is : {A B : Type 0} → (A → B) → Result A Flaw → Result B Flaw
 as_is make (Ok a) = Ok (make a)
 as_is make (Err e) = Err e
 
--- the number between these limits
+-- returns the number that digits write, if it is between these limits
 unfoldable pub digits_in : ℕ → ℕ → List ℕ → Result ℕ Flaw
 digits_in low high text = if are_digits text then (if is_within low high (digits_value 10 text) then Ok (digits_value 10 text) else Err Limit) else Err Form
 
 abbrev pub negative : ℕ → ℤ
 negative n = neg_ℤ (pos n)
 
--- the number of 64 bits
+-- returns the number that a text writes, if it fits 64 bits
 unfoldable pub signed_in : List ℕ → Result ℤ Flaw
 signed_in [] = Err Form
 signed_in (b ∷ rest) = if b == 45 then as_is negative (digits_in 0 0x8000000000000000 rest) else as_is pos (digits_in 0 0x7FFFFFFFFFFFFFFF (b ∷ rest))

@@ -1,7 +1,7 @@
--- How the names of a text are hashed.
+-- Hashing of the names of a text.
 use Rattle.std.specs.declared.hash.DefaultHasher.{DefaultHasher}
 use Rattle.tw_words.specs.declared.hash.TextHash.{TextHash}
 
--- the hasher that has read the text
+-- returns the hasher that has read the text
 abbrev pub after_text : TextHash → DefaultHasher
 after_text h = h.after_text

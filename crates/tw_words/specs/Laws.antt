@@ -1,14 +1,13 @@
--- What is written is read back.
+-- Theorems: what is written is read back.
 use Rattle.std.specs.Prelude.{◌≡◌, ◌↔◌, ◌++◌, ℕ, ℤ, List}
 use Rattle.std.specs.Fmt.{signed_decimal}
 use Rattle.tw_words.specs.Number.{IsIn64, SpellsNumber}
 use Rattle.tw_words.specs.Quoted.{BeginsQuoted, quoted}
 
--- the text that a number is shown as spells this number, and no other
+-- the decimal text of a number writes this number, and no other
 abbrev pub NumbersAreReadBack : Type 0
 NumbersAreReadBack = (n m : ℤ) → IsIn64 n → SpellsNumber m (signed_decimal n) ↔ (m ≡ n)
 
--- What is written of a text between quotes, with anything behind it, begins with that text and no other, and that is what
--- follows.
+-- A quoted text, followed by any bytes, begins with that text and no other, and these bytes follow it.
 abbrev pub QuotedTextsAreReadBack : Type 0
 QuotedTextsAreReadBack = (text rest found after : List ℕ) → BeginsQuoted found (quoted text ++ rest) after ↔ ((found ≡ text) × (after ≡ rest))

@@ -1,7 +1,7 @@
--- What spells a number and a text between quotes, how a text is written, and how words stand in a line: Number, Quoted and
--- Words, which are to be believed of all calls. Laws says what the two laws are. Seen says how the code's words are seen. What
--- the readers keep is in reading. Digits is what digits are and which number is read, and Names what a name is, for crates above.
--- Shown is how much of a long text a message shows.
+-- The definitions that a reader has to trust for all calls: how numbers and quoted texts are written (Number, Quoted), and how lines
+-- are split into words (Words).
+-- `Laws` has the two theorems. Seen relates the code's words to them. The folder reading is private to the readers.
+-- Digits and Names serve crates above: which number is read, and which texts are names. Shown shortens long texts for messages.
 pub mod Number
 pub mod Quoted
 pub mod Words
@@ -11,5 +11,5 @@ pub mod Digits
 pub mod Names
 pub mod Shown
 pub mod reading
--- How names are hashed.
+-- Hashing of names.
 pub mod Hash

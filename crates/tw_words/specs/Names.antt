@@ -1,4 +1,4 @@
--- Names: a letter, and then letters, digits or `_`; and what stands before a `:`.
+-- Names: a letter followed by letters, digits or `_`. Also names before a `:`.
 use Rattle.std.specs.Prelude.{ℕ, Bool, true, false, ◌&&◌, ◌||◌, ◌==◌, List, [], ◌∷◌, Option, Some, None, if◌then◌else◌}
 use Rattle.tw_words.specs.Digits.{is_within}
 
@@ -16,7 +16,7 @@ abbrev pub is_name : List ℕ → Bool
 is_name [] = false
 is_name (b ∷ others) = is_letter b && all_in_name others
 
--- without a `:` at its end
+-- returns the text without the `:` at its end, if it has one
 abbrev pub before_colon : List ℕ → Option (List ℕ)
 before_colon [] = None
 before_colon (b ∷ []) = if b == 58 then Some [] else None

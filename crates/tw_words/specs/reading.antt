@@ -1,3 +1,3 @@
--- What the readers keep to themselves: no public clause reaches this folder.
+-- Definitions for the readers' own contracts: no public clause uses this folder.
 pub mod Inside
 pub mod Next

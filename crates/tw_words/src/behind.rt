@@ -1,18 +1,18 @@
-//! Texts that are written behind others.
+//! Appends texts and numbers to bytes.
 
 ghost use Rattle.std.specs.Prelude.{◌≡◌, ◌++◌, OnOk, decimal};
 ghost use Rattle.std.specs.Fmt.{signed_decimal};
 
 use std::alloc::{AllocError, Global};
 
-/// Adds a text, by its bytes.
+/// Appends the bytes of a text.
 pub fn put(out: &mut Vec<u8>, text: &str) -> Result<(), AllocError>
     ensures { OnOk result (out.new.items ≡ out.old.items ++ text.now) }
 {
     out.extend_from_slice(text.as_bytes())
 }
 
-/// Adds two texts.
+/// Appends two texts.
 pub fn put_both(out: &mut Vec<u8>, front: &str, back: &str) -> Result<(), AllocError>
     ensures { OnOk result (out.new.items ≡ out.old.items ++ (front.now ++ back.now)) }
 {
@@ -20,7 +20,7 @@ pub fn put_both(out: &mut Vec<u8>, front: &str, back: &str) -> Result<(), AllocE
     put(out, back)
 }
 
-/// Adds a number in decimal digits.
+/// Appends a number in decimal digits.
 pub fn put_decimal(alloc: Global, out: &mut Vec<u8>, number: usize) -> Result<(), AllocError>
     ensures { OnOk result (out.new.items ≡ out.old.items ++ decimal number) }
 {
@@ -28,7 +28,7 @@ pub fn put_decimal(alloc: Global, out: &mut Vec<u8>, number: usize) -> Result<()
     put(out, &digits)
 }
 
-/// Adds a text, and a number after it.
+/// Appends a text, and a number after it.
 pub fn put_numbered(
     alloc: Global,
     out: &mut Vec<u8>,
@@ -41,7 +41,7 @@ pub fn put_numbered(
     put_decimal(alloc, out, number)
 }
 
-/// Adds an integer as it is shown.
+/// Appends an integer in decimal, with `-` if it is negative.
 pub fn put_signed(alloc: Global, out: &mut Vec<u8>, number: i64) -> Result<(), AllocError>
     ensures { OnOk result (out.new.items ≡ out.old.items ++ signed_decimal number) }
 {

@@ -1,4 +1,4 @@
-//! Bytes of a text between quotes, one by one.
+//! Decodes quoted texts, byte by byte.
 
 ghost use Rattle.std.specs.Prelude.{◌≡◌, ◌<◌, ◌∷◌, List, ℕ};
 ghost use Rattle.std.specs.Char.{digit_value};
@@ -8,26 +8,26 @@ ghost use Rattle.tw_words.specs.reading.Inside.{IsInEscape, KeepsEscape, inside_
 /// How much of an escape has been read.
 #[derive(Clone, Copy)]
 pub enum Escape {
-    /// None of it.
+    /// Nothing.
     Nothing,
     /// `\`.
     Slash,
     /// `\x`.
     Hex,
-    /// `\x` and the first digit, which is this.
+    /// `\x` and the first digit, whose value this is.
     Digit(u8),
 }
 
-/// What the next byte of a text says.
+/// The effect of the next byte of a quoted text.
 #[derive(Clone, Copy)]
 pub enum Says {
-    /// The text ends.
+    /// It ends the text.
     End,
-    /// It can't stand there.
+    /// It isn't allowed there.
     Wrong,
-    /// An escape goes on.
+    /// It begins or continues an escape.
     Into(Escape),
-    /// A byte of the text is whole.
+    /// It completes a byte of the text.
     Byte(u8),
 }
 
@@ -42,7 +42,7 @@ fn hex_value(byte: u8) -> Option<u8>
     }
 }
 
-/// What a byte says after this much of an escape.
+/// Returns the effect of a byte after this much of an escape.
 #[tactic(auto, unfolding(crate::specs::reading::Inside::inside_from))]
 pub fn read_byte(escape: Escape, byte: u8) -> Says
     requires { IsInEscape escape }

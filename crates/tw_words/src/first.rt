@@ -1,8 +1,8 @@
-//! The bytes that stand first.
+//! Removes prefixes.
 
 ghost use Rattle.std.specs.Prelude.{◌≡◌, ◌≢◌, ◌++◌, ℕ, List, MatchOption};
 
-/// What follows these bytes, where they stand first.
+/// Returns the bytes after this prefix, or `None` if they don't begin with it.
 pub fn after<'a>(front: &[u8], bytes: &'a [u8]) -> Option<&'a [u8]>
     ensures { MatchOption result
         ((rest : List ℕ) → bytes.entry.now ≢ front.now ++ rest)

@@ -1,4 +1,4 @@
-//! How the names of a text are hashed.
+//! Hashes the names of a text.
 
 ghost use Rattle.std.specs.Prelude.{◌≡◌};
 ghost use Rattle.std.specs.Hash.DefaultHasher.{initial, write};

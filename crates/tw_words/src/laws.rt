@@ -1,13 +1,13 @@
-//! What is written is read back.
+//! Theorems: what this crate writes is read back.
 
 ghost use Rattle.tw_words.specs.Laws.{NumbersAreReadBack, QuotedTextsAreReadBack};
 
-/// A number as it is shown spells itself.
+/// Proves that the decimal text of a number is read as this number.
 pub fn numbers_are_read_back()
     ensures { NumbersAreReadBack }
 {}
 
-/// A text as it is quoted is read as itself, whatever follows it.
+/// Proves that a quoted text is read as itself, whatever follows it.
 pub fn quoted_texts_are_read_back()
     ensures { QuotedTextsAreReadBack }
 {}

@@ -1,7 +1,7 @@
-//! The words that texts of the task host share: the words of a line, numbers in decimal digits, and texts between quotes.
+//! The lexical syntax that all texts of the task host share: words of a line, decimal numbers, and quoted texts.
 //!
-//! Input words, reports and assembly text write numbers and texts alike, and what is written here is read back. In a line
-//! words are parted by spaces, tabs and carriage returns; a `;` outside a quoted text begins a comment.
+//! Input arguments, reports and assembly text write numbers and texts alike, and what is written here is read back. In a line,
+//! words are separated by spaces, tabs and carriage returns. A `;` outside a quoted text begins a comment.
 #![tactic(auto)]
 
 mod behind;

@@ -1,4 +1,4 @@
-//! The lines of a text, by their numbers.
+//! Finds lines of a text by their numbers.
 
 ghost use Rattle.std.specs.Prelude.{◌≡◌, ◌-◌, MatchOption, None, Some, slice_get};
 ghost use Rattle.std.specs.Str.Lines.{lines};

@@ -1,4 +1,4 @@
-//! Names, and what stands before a `:`.
+//! Names, and names before a `:`.
 
 ghost use Rattle.std.specs.Prelude.{◌≡◌, ◌≢◌, ◌++◌, ℕ, List, MatchOption};
 ghost use Rattle.std.specs.Option.{option_map};
@@ -34,7 +34,7 @@ fn all_in_name(text: &[u8]) -> bool
     true
 }
 
-/// Whether it is a letter and then letters, digits or `_`.
+/// Returns whether it is a letter followed by letters, digits or `_`.
 pub fn is_name(text: &[u8]) -> bool
     ensures { result ≡ is_name text.now }
 {
@@ -44,7 +44,7 @@ pub fn is_name(text: &[u8]) -> bool
     }
 }
 
-/// What stands before these bytes, where they stand last.
+/// Returns the bytes before this suffix, or `None` if they don't end with it.
 pub fn before<'a>(bytes: &'a [u8], back: &[u8]) -> Option<&'a [u8]>
     ensures { MatchOption result
         ((front : List ℕ) → bytes.entry.now ≢ front ++ back.now)
@@ -53,7 +53,7 @@ pub fn before<'a>(bytes: &'a [u8], back: &[u8]) -> Option<&'a [u8]>
     bytes.strip_suffix(back)
 }
 
-/// What stands before a `:` at the end.
+/// Returns the bytes before a `:` at the end, or `None` if there is none.
 pub fn before_colon(word: &[u8]) -> Option<&[u8]>
     ensures { option_map (λ name. name.now) result ≡ before_colon word.now }
 {

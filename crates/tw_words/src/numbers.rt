@@ -1,4 +1,4 @@
-//! Numbers in decimal digits.
+//! Reads decimal numbers.
 
 ghost use Rattle.std.specs.Prelude.{◌≡◌, ◌<◌, ◌≤◌, ◌^◌, pos, neg_ℤ};
 ghost use Rattle.std.specs.Char.{digit_value};
@@ -8,10 +8,10 @@ ghost use Rattle.tw_words.specs.Number.{IsIn64, IsRead, SpellsDigits, SpellsNumb
 
 use crate::first::after;
 
-/// Why a text is no number that may stand there, or words are no statement.
+/// The error of a text that isn't the number that is expected, or of words that aren't a statement.
 #[derive(Clone, Copy, Debug, PartialEq, Eq)]
 pub enum Flaw {
-    /// It has another form, or there are too few words or too many.
+    /// It has another form, or there are too few or too many words.
     Form,
     /// A number, a count, a nesting of containers, a name or a text is out of its limits.
     Limit,
@@ -26,7 +26,8 @@ fn digit_of(byte: u8) -> Option<u8>
     }
 }
 
-/// The number between these limits that digits spell.
+/// Returns the number between these limits that the digits write. Fails with `Form` if they aren't digits, with `Limit` if the number is out of the
+/// limits.
 pub fn digits(text: &[u8], low: u64, high: u64) -> Result<u64, Flaw>
     ensures { IsRead (λ n. SpellsDigits n text.now) (IsInRange low high) result }
 {
@@ -54,7 +55,7 @@ fn negated(size: u64) -> i64
     (-(size as i128)) as i64
 }
 
-/// The number of 64 bits that a text spells: digits, with a `-` before them or not.
+/// Returns the number that the text writes: digits, with or without `-` before them. Fails with `Limit` if it doesn't fit 64 bits.
 pub fn number(text: &[u8]) -> Result<i64, Flaw>
     ensures { IsRead (λ n. SpellsNumber n text.now) IsIn64 result }
 {

@@ -1,4 +1,4 @@
-//! Texts between quotes.
+//! Reads and writes quoted texts.
 
 ghost use Rattle.std.specs.Prelude.{◌≡◌, ◌++◌, ◌<◌, [], ℕ, List, IfOk, IsUtf8, MatchOption, OnOk, string_bytes};
 ghost use Rattle.std.specs.Option.{option_map};
@@ -10,7 +10,8 @@ use crate::escape::{Escape, Says, read_byte};
 use crate::first::after;
 use std::alloc::{AllocError, Global};
 
-/// Adds the bytes of a text up to its closing quote, and gives what follows that.
+/// Appends the bytes of a text up to its closing quote, and returns the bytes after that. Returns `None` if an escape is wrong, or
+/// if the closing quote is missing.
 fn inside<'a>(text: &mut Vec<u8>, bytes: &'a [u8]) -> Result<Option<&'a [u8]>, AllocError>
     requires { text.old.items ≡ [] }
     ensures { IfOk result (λ read. option_map (λ rest. (text.new.items, rest.now)) read ≡ inside_from Nothing bytes.entry.now) }
@@ -32,7 +33,7 @@ fn inside<'a>(text: &mut Vec<u8>, bytes: &'a [u8]) -> Result<Option<&'a [u8]>, A
     Ok(None)
 }
 
-/// The text between quotes that stands first, and what follows it; `None` where none stands first.
+/// Returns the quoted text at the start, and the bytes after it. Returns `None` if none is there.
 pub fn quoted_text(alloc: Global, bytes: &[u8]) -> Result<Option<(String, &[u8])>, AllocError>
     requires { IsUtf8 bytes.now }
     ensures exact { IfOk result (λ read. MatchOption read
@@ -60,7 +61,7 @@ fn hex_digit(n: u8) -> u8
     if n < 10 { b'0' + n } else { b'a' + (n - 10) }
 }
 
-/// Adds a byte as it stands inside quotes.
+/// Appends a byte as quoted texts write it.
 fn put_escaped(out: &mut Vec<u8>, byte: u8) -> Result<(), AllocError>
     ensures { OnOk result (out.new.items ≡ out.old.items ++ escaped byte) }
 {
@@ -76,7 +77,7 @@ fn put_escaped(out: &mut Vec<u8>, byte: u8) -> Result<(), AllocError>
     }
 }
 
-/// Adds the bytes of a text between quotes.
+/// Appends a quoted text, given by its bytes.
 pub(crate) fn put_quoted_bytes(out: &mut Vec<u8>, text: &[u8]) -> Result<(), AllocError>
     ensures { OnOk result (out.new.items ≡ out.old.items ++ quoted text.now) }
 {
@@ -87,7 +88,7 @@ pub(crate) fn put_quoted_bytes(out: &mut Vec<u8>, text: &[u8]) -> Result<(), All
     out.extend_from_slice(b"\"")
 }
 
-/// Adds a text between quotes.
+/// Appends a quoted text.
 pub fn put_quoted(out: &mut Vec<u8>, text: &str) -> Result<(), AllocError>
     ensures { OnOk result (out.new.items ≡ out.old.items ++ quoted text.now) }
 {

@@ -7,17 +7,17 @@ use crate::behind::put;
 use crate::quoted::put_quoted_bytes;
 use std::alloc::AllocError;
 
-/// The most characters of a line or a word that a message shows.
+/// The greatest number of characters of a line or a word that a message shows.
 const MOST_CHARACTERS: usize = 200;
 
-/// Tells whether a byte of a text begins a character.
+/// Returns whether a byte of a text begins a character.
 pub fn begins_character(byte: u8) -> bool
     ensures { result ≡ begins_character byte }
 {
     byte < 128 || 191 < byte
 }
 
-/// Returns the first characters of a text, at most so many.
+/// Returns the first characters of a text, at most `most`.
 fn first_characters(most: usize, text: &[u8]) -> &[u8]
     ensures { result.now ≡ first_characters most text.now }
 {
@@ -33,7 +33,7 @@ fn first_characters(most: usize, text: &[u8]) -> &[u8]
     text
 }
 
-/// Returns the mark after a text of which this part is shown.
+/// Returns the mark after a text of which `shown` is shown.
 fn cut_mark(shown: &[u8], text: &[u8]) -> &'static str
     requires { shown.now ≡ first_characters 200 text.now }
     ensures { result.now ≡ cut_mark text.now }
@@ -41,7 +41,7 @@ fn cut_mark(shown: &[u8], text: &[u8]) -> &'static str
     if shown.len() < text.len() { " .." } else { "" }
 }
 
-/// Adds a line or a word for a message. A long one is cut after 200 characters and marked with ` ..`.
+/// Appends a line or a word for a message. A long one is cut after 200 characters and marked with ` ..`.
 pub fn put_shortened(out: &mut Vec<u8>, text: &[u8]) -> Result<(), AllocError>
     ensures { OnOk result (out.new.items ≡ out.old.items ++ shortened text.now) }
 {
@@ -50,7 +50,7 @@ pub fn put_shortened(out: &mut Vec<u8>, text: &[u8]) -> Result<(), AllocError>
     put(out, cut_mark(shown, text))
 }
 
-/// Adds a word between quotes for a message, shortened like `put_shortened`.
+/// Appends a word between quotes for a message, shortened like `put_shortened`.
 pub fn put_shortened_quoted(out: &mut Vec<u8>, text: &[u8]) -> Result<(), AllocError>
     ensures { OnOk result (out.new.items ≡ out.old.items ++ shortened_quoted text.now) }
 {

@@ -1,4 +1,4 @@
-//! Words of a line.
+//! Splits lines into words.
 
 ghost use Rattle.std.specs.Prelude.{◌≡◌, ℕ, IfOk, IsUtf8, get_or, map};
 ghost use Rattle.tw_words.specs.Words.{IsAtWord, is_edge, is_parting};
@@ -11,9 +11,9 @@ use std::alloc::{AllocError, Global};
 /// A word of a line.
 #[derive(Drop)]
 pub enum Word<'a> {
-    /// As it stands in the line.
+    /// The bytes of the word, as in the line.
     Bare(&'a [u8]),
-    /// A text that stands between quotes.
+    /// The text of a quoted word.
     Quoted(String),
 }
 
@@ -21,18 +21,18 @@ pub enum Word<'a> {
 #[derive(Drop)]
 pub struct Line<'a> {
     pub words: Vec<Word<'a>>,
-    /// Whether these are all; else what follows them is no word.
+    /// Whether these are all words of the line. If not, what follows them isn't a word.
     pub whole: bool,
 }
 
-/// What stands first in what is left of a line.
+/// The result of reading one word of a line.
 #[derive(Drop)]
 pub enum Next<'a> {
-    /// A comment, or nothing.
+    /// There is only a comment, or nothing.
     End,
-    /// Something that is no word.
+    /// There is something that isn't a word.
     Broken,
-    /// A word, and what follows it.
+    /// A word, and the bytes after it.
     Found(Word<'a>, &'a [u8]),
 }
 
@@ -48,7 +48,7 @@ fn ends_word(byte: u8) -> bool
     parts_words(byte) || byte == b';'
 }
 
-/// What follows the gap that stands first.
+/// Returns the bytes after the gap at the start: spaces, tabs and carriage returns.
 pub fn without_gap(bytes: &[u8]) -> &[u8]
     requires { IsUtf8 bytes.now }
     ensures after { IsAfterGap bytes.now result.now }
@@ -64,7 +64,7 @@ pub fn without_gap(bytes: &[u8]) -> &[u8]
     rest
 }
 
-/// How many bytes stand before the first edge.
+/// Returns how many bytes are before the first one that ends a word.
 fn length_of_bare(bytes: &[u8]) -> usize
     ensures { result ≡ bare_length bytes.now }
 {
@@ -87,7 +87,7 @@ fn is_at_edge(bytes: &[u8]) -> bool
     }
 }
 
-/// The text between quotes that stands first, if a word ends behind it.
+/// Reads the quoted word at the start. It is broken if no word can end after its closing quote.
 fn next_quoted(alloc: Global, bytes: &[u8]) -> Result<Next<'_>, AllocError>
     requires utf8 { IsUtf8 bytes.now }
     requires quote { get_or bytes.now 0 0 ≡ 34 }
@@ -105,7 +105,7 @@ fn next_quoted(alloc: Global, bytes: &[u8]) -> Result<Next<'_>, AllocError>
     }
 }
 
-/// What stands first where no gap does.
+/// Reads the word at the start, when no gap is there.
 fn next_here(alloc: Global, bytes: &[u8]) -> Result<Next<'_>, AllocError>
     requires utf8 { IsUtf8 bytes.now }
     requires here { IsAtWord bytes.now }
@@ -126,7 +126,7 @@ fn next_here(alloc: Global, bytes: &[u8]) -> Result<Next<'_>, AllocError>
     }
 }
 
-/// The word that stands first, behind a gap or none; or why there is none.
+/// Reads the first word, after a gap or none.
 pub fn next_word(alloc: Global, bytes: &[u8]) -> Result<Next<'_>, AllocError>
     requires { IsUtf8 bytes.now }
     ensures { IfOk result (λ next. IsNext next bytes.now) }
@@ -134,7 +134,7 @@ pub fn next_word(alloc: Global, bytes: &[u8]) -> Result<Next<'_>, AllocError>
     next_here(alloc, without_gap(bytes))
 }
 
-/// The words of a line, up to the first that is broken.
+/// Splits a line into its words, up to the first broken one.
 pub fn words_of(alloc: Global, line: &[u8]) -> Result<Line<'_>, AllocError>
     requires { IsUtf8 line.now }
     ensures { IfOk result (λ read. IsRead (map seen read.words.items) read.whole line.now) }

@@ -61,7 +61,7 @@ module _ (κ : NamedLft) (N : RattleType) (named : Named.Ghosts N.Denot) (ledger
   seat : IsSend N → IsSend (Seat.the_row N named ledger)
   seat s = search (OfSeat.the_send, sendable, Crossing.crosses) depth 60 fits 20000
 
-  -- what a seat's thread takes along
+  -- everything that a seat's thread takes with it
   module _ (name : Sym) (a b c d : NamedLft) (G R : RattleType) (seat_crosses : IsSend N) (gate : IsSync (param 1 G)) (runtime : IsSync (param 2 R)) where
     shown : IsSend (shr_ref_field b (Host.the_row κ N named ledger) tt).row
     shown = search (host, sendable)

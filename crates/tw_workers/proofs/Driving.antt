@@ -1,4 +1,4 @@
--- Steps of a driver, one behind another.
+-- Steps of a driver, one after another.
 use Rattle.std.proofs.Common.{◌≡◌, Bool, List, [], ◌∷◌, ◌++◌, append_assoc, Option, None, sym, ap, subst, ◌∙◌}
 use Rattle.std.specs.List.{FoldsTo}
 use Rattle.tw_frame.specs.Jobs.{DoneView}
@@ -19,7 +19,7 @@ seen view R p q (x ∷ xs) is = (view is.0, is.1, seen view R is.0 q xs is.2)
 
 -- ---- the rest of a drive
 
--- the Done that is handed in is the one that was there
+-- the `Done` that is submitted is the one that was there
 module _ (was given : Option DoneView) (taken : given ≡ was) (past : List Step) (so_far : (rest : List Step) (memory : Bool) → Drives was rest memory → Drives None (past ++ rest) memory) (several : Bool) (answer : Answer) (behind : List Step) where
   turned : (rest : List Step) (memory : Bool) → Drives given (asked several given answer ∷ rest) memory → Drives None (past ++ (asked several given answer ∷ rest)) memory
   turned rest memory drives = so_far (asked several given answer ∷ rest) memory (subst (λ o. Drives o (asked several given answer ∷ rest) memory) taken drives)

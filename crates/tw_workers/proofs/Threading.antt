@@ -1,4 +1,4 @@
--- Drivers of seats, one behind another.
+-- Drivers of seats, one after another.
 use Rattle.std.proofs.Common.{◌≡◌, Bool, true, false, ◌||◌, List, [], ◌∷◌, drop, get_or, length, map, refl, sym, ap, ◌∙◌, subst}
 use Rattle.std.specs.List.{IsFirstAndRest}
 use Rattle.tw_types.specs.declared.actor.Actor.{Actor}
@@ -23,7 +23,7 @@ module _ {X : Type 0} (view : X → Told) (run : Run) (unwatched : Type 0) where
     pub unthreaded_first : {memory rest : Bool} → Drove run unwatched (view first) memory → All others rest → All seats true
     unthreaded_first drove all = subst (λ (xs : List X). All xs true) (sym split.0) (unthreaded drove all)
 
--- seats of these actors that were told nothing
+-- seats of these actors without events
 pub opened : {X : Type 0} (actor : X → Actor) (list : X → List Event) (seats : List X) (actors : List Actor) → map actor seats ≡ actors → map list seats ≡ map (λ _. []) actors → map (λ s. told_by (actor s) (list s)) seats ≡ map (λ a. told_by a []) actors
 opened actor list [] [] is empty = refl
 opened actor list [] (a ∷ actors) is empty = cc

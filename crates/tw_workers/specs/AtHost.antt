@@ -1,4 +1,4 @@
--- What a step says of a host's seat.
+-- The effects of a driver's steps on a host's seat.
 use Rattle.std.specs.Prelude.{◌≡◌}
 use Rattle.tw_host.specs.Holds.{TellsAll}
 use Rattle.tw_host.specs.Run.{Run}
@@ -6,8 +6,8 @@ use Rattle.tw_host.specs.Seats.{Told}
 use Rattle.tw_host.specs.Tells.{Tells}
 use Rattle.tw_workers.specs.Driving.{Step, Turned, Held, Stopped, Before, Ran, After}
 
--- A turn tells the seat what the host promises, and so do several under one hold, which are made only where the gate doesn't watch. Nothing
--- else tells it anything, and it stays its actor's
+-- Holds if a scheduling step changes the seat as the host promises. So does a batch, which is made only if the observer doesn't watch.
+-- No other step changes the seat, and it stays its actor's.
 abbrev pub AtSeat : Run → Type 0 → Told → Step → Told → Type 0
 AtSeat run unwatched old (Turned given answer) new = (new.actor ≡ old.actor) × Tells run old.actor old.events new.events given answer
 AtSeat run unwatched old (Held given answer) new = unwatched × (new.actor ≡ old.actor) × TellsAll run old.actor old.events new.events given answer

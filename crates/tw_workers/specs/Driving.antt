@@ -1,4 +1,4 @@
--- What a driver does at its seat: the list of its steps, from its first turn to its end.
+-- The contract of a driver: the list of its steps, from its first scheduling step to its end.
 use Rattle.std.specs.Prelude.{◌≡◌, ℕ, Bool, true, false, List, [], ◌∷◌, ◌++◌, Option, Some, None, Result, Ok, Err}
 use Rattle.tw_types.specs.declared.actor.Actor.{Actor}
 use Rattle.tw_frame.specs.Jobs.{DoneView, JobView}
@@ -10,8 +10,8 @@ use Rattle.tw_workers.specs.declared.driver.End.{End}
 abbrev pub Answer : Type 0
 Answer = Result Turn Strange
 
--- a turn with what it was given and what it answered; several under one hold of the lock, with what the first was given and what the last
--- answered; a stop of the run; a job, and the two calls of the gate round it
+-- A step of a driver: a scheduling step or a batch, a stop of the run, a job, or a call of the observer before or after the job.
+-- A scheduling step has its argument and its result, and a batch the argument of its first step and the result of its last.
 pub data Step : Type 0 where
   Turned : Option DoneView → Answer → Step
   Held : Option DoneView → Answer → Step
@@ -20,23 +20,23 @@ pub data Step : Type 0 where
   Ran : JobView → DoneView → Step
   After : Actor → ℕ → Step
 
--- one turn, or several under one hold
+-- returns one scheduling step, or a batch
 abbrev pub asked : Bool → Option DoneView → Answer → Step
 asked false given answer = Turned given answer
 asked true given answer = Held given answer
 
--- ---- behind a turn
+-- ---- after a scheduling step
 
--- a job is run between the two calls of the gate
+-- returns the steps of a job, which is run between the two calls of the observer
 abbrev pub working : JobView → DoneView → List Step
 working job done = Before job.actor job.task ∷ Ran job done ∷ After job.actor job.task ∷ []
 
--- memory ran out: a Done is handed in once, whatever is answered, and the run is stopped
+-- holds if, after a failed allocation, a `Done` is submitted once, with any result, and the run is stopped
 abbrev pub GivesUp : Option DoneView → List Step → Type 0
 GivesUp None steps = steps ≡ Stopped ∷ []
 GivesUp (Some done) steps = (answer : Answer) × (steps ≡ Turned (Some done) answer ∷ Stopped ∷ [])
 
--- The driver goes on: these steps are behind this answer, and with its next turn it hands this in
+-- The driver continues: these steps follow this result, and with its next scheduling step it submits this.
 abbrev pub GoesOn : Answer → List Step → Option DoneView → Type 0
 GoesOn (Ok (turn.Over closing)) steps next = ⊥
 GoesOn (Ok (turn.Foreign done)) steps next = ⊥
@@ -48,7 +48,7 @@ GoesOn (Ok turn.Went) steps next = (steps ≡ []) × (next ≡ None)
 GoesOn (Ok turn.Idle) steps next = (steps ≡ []) × (next ≡ None)
 GoesOn (Err strange) steps next = ⊥
 
--- The driver ends: these steps are behind its last answer, and this is whether memory ran out
+-- The driver ends: these steps follow its last result, and `memory` is whether an allocation failed.
 abbrev pub Ends : Answer → List Step → Bool → Type 0
 Ends (Ok (turn.Over closing)) steps memory = (steps ≡ []) × (memory ≡ false)
 Ends (Ok (turn.Foreign done)) steps memory = (steps ≡ Stopped ∷ []) × (memory ≡ false)
@@ -61,14 +61,14 @@ Ends (Ok turn.Went) steps memory = ⊥
 Ends (Ok turn.Idle) steps memory = ⊥
 Ends (Err strange) steps memory = (steps ≡ Stopped ∷ []) × (memory ≡ false)
 
--- it goes on, with a Done or none to hand in; or it ends, and memory ran out or not
+-- holds if it continues, with or without a `Done` to submit; or if it ends
 abbrev pub Follows : Answer → List Step → Result (Option DoneView) End → Type 0
 Follows answer steps (Ok next) = GoesOn answer steps next
 Follows answer steps (Err end) = Ends answer steps end.memory
 
--- ---- from a turn to the end
+-- ---- from a scheduling step to the end
 
--- a driver that hands this in makes these steps, and memory ran out or not
+-- a driver that submits this makes these steps, and `memory` is whether an allocation failed
 pub data Drives : Option DoneView → List Step → Bool → Type 0 where
   ends : {given : Option DoneView} {memory : Bool} (several : Bool) (answer : Answer) (rest : List Step) → Ends answer rest memory → Drives given (asked several given answer ∷ rest) memory
   goes : {given : Option DoneView} {memory : Bool} (several : Bool) (answer : Answer) (behind : List Step) (next : Option DoneView) (rest : List Step)

@@ -1,6 +1,6 @@
--- What a driver does, step by step.
+-- The steps of a driver.
 pub mod Driving
--- What these steps are at a host.
+-- The effects of these steps at a host.
 pub mod AtHost
--- What drivers in threads say of memory.
+-- Reports of drivers in threads on failed allocations.
 pub mod Threads

@@ -1,4 +1,4 @@
-//! What a driver works at.
+//! The interface between a driver and a host.
 
 ghost use Rattle.std.specs.Prelude.{◌≡◌, Bool, Ok, IfOk};
 ghost use Rattle.tw_verify.specs.Typed.{TypedProgram};
@@ -15,14 +15,14 @@ use tw_host::{Host, Named, Seat, Strange};
 use tw_pool::Turn;
 use tw_types::Actor;
 
-/// What a driver asks for in the name of a seat: of a host behind its lock, of a gate, and of a job. Each call is a step of the
-/// seat, so that a driver's contract can say which steps it made.
+/// The calls that a driver makes for a seat: of a host, of a job observer (`Gate`), and of a job. Each call is a step of
+/// the seat, so that a driver's contract can list its steps.
 pub trait Desk<'a> {
     type Seat;
 
     ghost program: { TypedProgram };
 
-    /// What a step makes of a seat.
+    /// The effect of a step on a seat.
     ghost does: { Self.Seat → Step → Self.Seat → Type 0 };
 
     fn turn<R: Wait>(
@@ -36,7 +36,7 @@ pub trait Desk<'a> {
         ensures does { does seat.old (Turned done.entry result) seat.new }
         ensures program { IfOk result (IsAnswerOf program) };
 
-    /// One turn, or several under one hold of the lock.
+    /// Makes one scheduling step, or a batch.
     fn turns<R: Wait>(
         &self,
         rt: &R,
@@ -48,7 +48,8 @@ pub trait Desk<'a> {
         ensures does { (several : Bool) × does seat.old (asked several done.entry result) seat.new }
         ensures program { IfOk result (IsAnswerOf program) };
 
-    /// Parks the thread of a seat whose last turn was idle, until there is work for it or the run is over. It may also return for no reason.
+    /// Parks the thread of a seat whose last step was idle, until there is work for it or the run is over. It may also return without a
+    /// reason.
     fn park<R: Wait>(&self, rt: &R, seat: &Self::Seat);
 
     fn stop<R: Wait>(&self, rt: &R, seat: &mut Self::Seat)
@@ -65,7 +66,7 @@ pub trait Desk<'a> {
         ensures { does seat.old (After actor task) seat.new };
 }
 
-/// A host, and the gate round its jobs.
+/// A host, and the observer of its jobs.
 #[derive(Drop)]
 pub struct Guarded<'h, 'a, N: Named, G: Gate> {
     pub host: &'h Host<'a, N>,

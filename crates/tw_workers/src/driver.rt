@@ -1,4 +1,4 @@
-//! Drivers.
+//! Drivers, each of which drives a seat until the run is over.
 
 ghost use Rattle.std.specs.Prelude.{◌≡◌, IfOk, List, None, Some};
 ghost use Rattle.std.specs.List.{FoldsTo};
@@ -17,19 +17,19 @@ use tw_frame::{Done, Job};
 use tw_host::{Host, Named, Seat, Strange};
 use tw_pool::Turn;
 
-/// A seat that was driven, and whether memory ran out.
+/// A seat after its driver has ended, and whether an allocation failed.
 pub struct Driven<N: Named> {
     pub seat: Seat<N>,
     pub memory: bool,
 }
 
-/// A driver ends, and whether memory ran out.
+/// The end of a driver, and whether an allocation failed.
 #[derive(Drop)]
 struct End {
     memory: bool,
 }
 
-/// Runs a job between the two calls of the gate.
+/// Runs a job between the two calls of the observer.
 fn run_job<'a, D: Desk<'a>, R: Wait>(
     rt: &R,
     alloc: Global,
@@ -48,7 +48,7 @@ fn run_job<'a, D: Desk<'a>, R: Wait>(
     done
 }
 
-/// Memory ran out: hands a Done in once more, and stops the run.
+/// Submits a `Done` once more after a failed allocation, and stops the run.
 fn give_up<'a, D: Desk<'a>, R: Wait>(
     rt: &R,
     alloc: Global,
@@ -67,7 +67,7 @@ fn give_up<'a, D: Desk<'a>, R: Wait>(
     desk.stop(rt, seat);
 }
 
-/// Runs a job, whose Done is handed in by the next turn. A short one ends the driver.
+/// Runs a job, whose `Done` is submitted with the next step. A short one ends the driver.
 fn work<'a, D: Desk<'a>, R: Wait>(
     rt: &R,
     alloc: Global,
@@ -87,7 +87,7 @@ fn work<'a, D: Desk<'a>, R: Wait>(
     Ok(Some(done))
 }
 
-/// What is behind a turn: the Done for the next one, or the end of the driver.
+/// Handles the result of a step. Returns the `Done` for the next one, or the end of the driver.
 fn go_on<'a, D: Desk<'a>, R: Wait + Clock>(
     rt: &R,
     alloc: Global,
@@ -118,8 +118,8 @@ fn go_on<'a, D: Desk<'a>, R: Wait + Clock>(
     }
 }
 
-/// Turns a seat at any desk until the run is over. Where memory is refused, or the answer is none that this driver awaits, it
-/// stops the run. True where memory ran out.
+/// Drives a seat at any desk until the run is over. Stops the run if an allocation fails, or if a result isn't one that this driver
+/// expects. Returns whether an allocation failed.
 pub fn drive_at<'a, D: Desk<'a>, R: Wait + Clock>(
     rt: &R,
     alloc: Global,
@@ -139,7 +139,7 @@ pub fn drive_at<'a, D: Desk<'a>, R: Wait + Clock>(
     unreachable!()
 }
 
-/// Drives a seat that is lent. True where memory ran out.
+/// Drives a borrowed seat. Returns whether an allocation failed.
 pub(crate) fn drive_lent<'a, N: Named, G: Gate, R: Wait + Clock>(
     rt: &R,
     alloc: Global,
@@ -154,8 +154,8 @@ pub(crate) fn drive_lent<'a, N: Named, G: Gate, R: Wait + Clock>(
     drive_at(rt, alloc, &guarded, seat)
 }
 
-/// Drives a seat until the run is over, or memory is refused, or the host's answer is none that a driver awaits; in the last
-/// two cases it stops the run.
+/// Drives a seat until the run is over. Stops the run if an allocation fails, or if a result of the host isn't one that a driver
+/// expects.
 pub fn drive<'a, N: Named, G: Gate, R: Wait + Clock>(
     rt: &R,
     alloc: Global,

@@ -1,4 +1,4 @@
-//! What stands round each job, and looks on.
+//! Job observers, which are called before and after each job.
 
 ghost use Rattle.std.specs.Prelude.{◌≡◌, false};
 
@@ -7,9 +7,9 @@ use std::time::Clock;
 use tw_host::{Host, Named};
 use tw_types::Actor;
 
-/// How far a run is.
+/// Progress of a run.
 pub trait Progress {
-    /// How many events there are by now, or were lately; None once the run is over.
+    /// Returns a recent number of events, or `None` once the run is over.
     fn events(&self) -> Option<u64>;
 }
 
@@ -19,13 +19,13 @@ impl<'a, N: Named> Progress for Host<'a, N> {
     }
 }
 
-/// Is called before and after each job, in the thread that runs it, with its actor and its task's number.
+/// A job observer. It is called before and after each job, in the thread that runs it, with its actor and its task's number.
 pub trait Gate {
-    /// Nothing is lost where it doesn't see each job.
+    /// Holds if the observer loses nothing by not seeing each job.
     ghost unwatched: { Type 0 } = { ⊥ };
 
-    /// Whether it is to see each job. Where it isn't, a job whose next instruction isn't local, or whose task is brief, is run and handed in
-    /// under the lock that lent it, and the gate isn't called for it.
+    /// Returns whether it has to see each job. If not, a job whose next instruction isn't local, or whose task is brief, is run and
+    /// submitted under the same lock, without calls of the observer.
     fn watches(&self) -> bool
         ensures { result ≡ false → unwatched }
     {
@@ -36,16 +36,16 @@ pub trait Gate {
 
     fn after_job<R: Wait>(&self, rt: &R, actor: Actor, task: u64);
 
-    /// Is called once, in the thread that has begun the drivers and waits for them to end. It may look at the run until that is over; how
-    /// often is its own.
+    /// Is called once, in the thread that has started the drivers and waits for them to end. It may monitor the run until that is over,
+    /// as often as it likes.
     fn look_on<R: Wait + Clock, P: Progress>(&self, _rt: &R, _run: &P) {}
 
-    /// Receives how many wakes of idle threads got lost. It is called once, after the last driver has ended, and the number is 0 unless the host
-    /// has a fault.
+    /// Receives how many wakes of idle threads were lost. It is called once, after the last driver has ended. The number is 0 unless
+    /// the host has a bug.
     fn late_wakes(&self, _late: u64) {}
 }
 
-/// Lets each job pass.
+/// A job observer that does nothing.
 #[derive(Clone, Copy)]
 pub struct NoGate;
 

@@ -1,4 +1,4 @@
-//! Drivers that turn a host from its seats, each in a thread of its own.
+//! Drivers, which make the scheduling steps of a host's seats, each in its own thread.
 #![tactic(auto)]
 
 mod desk;

@@ -21,7 +21,7 @@ use tw_pool::OpenRefusal;
 use tw_types::{Input, Layout};
 use tw_verify::Verified;
 
-/// What the driver of a seat promises: that it drove the seat from there, and says whether memory ran out.
+/// The promise of a seat's driver: it drove the seat from there, and returns whether an allocation failed.
 #[derive(Drop)]
 struct Begun<N: Named, G: Gate> {
     seat: Snapshot<Seat<N>>,
@@ -32,13 +32,13 @@ impl<N: Named, G: Gate> Promise<bool> for Begun<N, G> {
     ghost kept_by = { λ b memory. Drove N.run G.unwatched (told_by b.seat.value.actor b.seat.value.told.items) memory };
 }
 
-/// A seat had no thread and was driven here, and whether memory ran out.
+/// A seat that had no thread and was driven by its starter, and whether an allocation failed.
 #[derive(Drop)]
 struct Unthreaded {
     memory: bool,
 }
 
-/// Begins to drive a seat in a thread of its own. Where there is none the run is stopped, and the seat is driven here.
+/// Starts to drive a seat in its own thread. If there is none, stops the run and drives the seat here.
 fn begin<'s, 'e, 'a, N: Named + Send + Sync, G: Gate + Sync, R: Threads + Wait + Clock + Sync>(
     rt: &'e R,
     alloc: Global,
@@ -67,7 +67,8 @@ fn begin<'s, 'e, 'a, N: Named + Send + Sync, G: Gate + Sync, R: Threads + Wait +
     }
 }
 
-/// Drives each of these seats in a thread of its own, lets the gate look on, and joins the threads. True where memory ran out, or a seat had no thread.
+/// Drives each of these seats in its own thread, lets the observer monitor the run, and joins the threads. Returns whether an allocation
+/// failed or a seat had no thread.
 fn drive_each<'s, 'e, 'a, N: Named + Send + Sync, G: Gate + Sync, R: Threads + Wait + Clock + Sync>(
     rt: &'e R,
     alloc: Global,
@@ -94,7 +95,7 @@ fn drive_each<'s, 'e, 'a, N: Named + Send + Sync, G: Gate + Sync, R: Threads + W
     }
 }
 
-/// Drives each seat in a thread of its own. True where memory ran out.
+/// Drives each seat in its own thread. Returns whether an allocation failed or a seat had no thread.
 fn drive_all<'a, N: Named + Send + Sync, G: Gate + Sync, R: Threads + Wait + Clock + Sync>(
     rt: &R,
     alloc: Global,
@@ -113,8 +114,8 @@ fn drive_all<'a, N: Named + Send + Sync, G: Gate + Sync, R: Threads + Wait + Clo
     )
 }
 
-/// Drives all seats in threads of their own until the run is over, and closes the host. The second answer is true where memory
-/// ran out, or a thread was refused.
+/// Drives all seats in their own threads until the run is over, and closes the host. Also returns whether an allocation failed
+/// or a seat had no thread.
 pub fn run_all<'a, N: Named + Send + Sync, G: Gate + Sync, R: Threads + Wait + Clock + Sync>(
     rt: &R,
     alloc: Global,
@@ -131,7 +132,7 @@ pub fn run_all<'a, N: Named + Send + Sync, G: Gate + Sync, R: Threads + Wait + C
     (host.close(seats), memory)
 }
 
-/// One run under a name.
+/// Makes one run, with its name as a type.
 fn run_named<N: Named + Send + Sync, G: Gate + Sync, R: Threads + Wait + Clock + Sync>(
     rt: &R,
     alloc: Global,
@@ -153,7 +154,7 @@ fn run_named<N: Named + Send + Sync, G: Gate + Sync, R: Threads + Wait + Clock +
     Ok(run_all(rt, alloc, host, seats, gate))
 }
 
-/// One run, in as many threads as there are actors. The second answer is true where memory ran out, or a thread was refused.
+/// Runs a program in as many threads as there are actors. Also returns whether an allocation failed or a seat had no thread.
 pub fn run<G: Gate + Sync, R: Threads + Wait + Clock + Sync>(
     rt: &R,
     alloc: Global,

@@ -1,4 +1,4 @@
--- The operands that the code hands to a writer, as the table has them.
+-- The operands that the code passes to a writer, as operands of the table.
 use Rattle.std.specs.Prelude.{List}
 use Rattle.std.specs.List.{AllByRecursion}
 use Rattle.tw_code.specs.declared.form.Form.TheVariants.{Value, Right, Number, Turns, Literal, TypeOf, Skip, Callee, Target, Args}
@@ -19,6 +19,6 @@ seen (operand.Callee procedure) = holds Callee procedure
 seen (operand.Target target) = holds Target target
 seen (operand.Args registers) = holds Args registers.now
 
--- each is within its limits
+-- holds if each is within its limits
 abbrev pub AreOperands : List operands.Operand → Type 0
 AreOperands given = AllByRecursion (λ o. IsOperand (seen o)) given

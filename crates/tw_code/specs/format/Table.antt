@@ -1,6 +1,6 @@
--- The table of instructions: of each opcode its code, the forms of its operands, in the order of the bytes and of the text, and the
--- instruction that they make, the first version that has it, and its name in a text; and of each instruction its opcode and its operands.
--- How an operand is spelled in bytes says Spelling, and in text the assembler's Parts.
+-- The table of instructions. Each opcode has a code, the forms of its operands, in the order of bytes and of assembly, and the
+-- instruction that they make. It also has the first version with it, and a name in assembly.
+-- Each instruction has an opcode and operands. The encoding of an operand in bytes is in `Spelling`, and in assembly in tw_asm's Parts.
 use Rattle.std.specs.Prelude.{ℕ, ℤ, Bool, true, false, List, [], ◌∷◌, Option, Some, None, codes, ◌==◌, if◌then◌else◌}
 use Rattle.std.specs.List.{find}
 use Rattle.std.specs.Str.{bytes_eq}
@@ -28,7 +28,7 @@ use Rattle.tw_types.specs.declared.data_type.Scalar.TheVariants.{Int, Text}
 
 -- ---- operands
 
--- what an operand of a form holds
+-- the content of an operand of a form
 abbrev pub Content : Form → Type 0
 Content Value = ℕ
 Content Right = ℕ
@@ -48,13 +48,13 @@ Contents (form ∷ forms) = Content form × Contents forms
 pub data Operand : Type 0 where
   holds : (form : Form) → Content form → Operand
 
--- ---- a line an opcode
+-- ---- one line for each opcode
 
--- its code, the forms of its operands, and the instruction that they make
+-- a code, the forms of the operands, and the instruction that they make
 pub data Row : Type 0 where
   a_row : ℕ → (forms : List Form) → (Contents forms → Instr) → Row
 
--- the task that RULE and PUT name, with its priority made of what was given
+-- returns the task that RULE and PUT name, with the priority that `make` makes of its operand
 abbrev pub action_of : {P : Type 0} → (P → Priority) → ℕ × (P × (Option ℕ × (List ℕ × Unit {0}))) → Action
 action_of make x = record { procedure = x.0; priority = make x.1.0; target = x.1.1.0; args = x.1.1.1.0 }
 
@@ -108,7 +108,7 @@ code_of o = code_in (row_of o)
 abbrev pub forms_of : Opcode → List Form
 forms_of o = forms_in (row_of o)
 
--- the first version that has it
+-- returns the first version that has it
 abbrev pub since : Opcode → Version
 since opcode.InsertByText = Two
 since opcode.LookByText = Two
@@ -117,7 +117,7 @@ since opcode.RuleComputed = Two
 since opcode.PutComputed = Two
 since o = One
 
--- a version has what it or one before it brought
+-- returns whether a version has the features of another: of itself or an earlier one
 abbrev pub has_since : Version → Version → Bool
 has_since One One = true
 has_since One Two = false
@@ -126,16 +126,16 @@ has_since Two brought = true
 abbrev pub has_opcode : Version → Opcode → Bool
 has_opcode version o = has_since version (since o)
 
--- an opcode that was found, if the version has it
+-- returns the opcode that was found, if the version has it
 abbrev pub if_had : Version → Option Opcode → Option Opcode
 if_had version None = None
 if_had version (Some o) = if has_opcode version o then Some o else None
 
--- the opcode of this code, if the version has one
+-- returns the opcode of this code, if the version has one
 abbrev pub opcode_at : Version → ℕ → Option Opcode
 opcode_at version code = if_had version (find (λ o. code_of o == code) OPCODES)
 
--- ---- its name in a text
+-- ---- names in assembly
 
 abbrev pub word_of : Opcode → List ℕ
 word_of opcode.Int = codes "INT"
@@ -178,11 +178,11 @@ word_of opcode.PutComputed = codes "PUTV"
 unfoldable pub opcode_of : List ℕ → Option Opcode
 opcode_of name = find (λ o. bytes_eq (word_of o) name) OPCODES
 
--- the opcode of this name, if the version has it
+-- returns the opcode of this name, if the version has one
 abbrev pub opcode_in : Version → List ℕ → Option Opcode
 opcode_in version name = if_had version (opcode_of name)
 
--- ---- a line an instruction
+-- ---- one line for each instruction
 
 abbrev pub opcode_of_operation : Arithmetic → Opcode
 opcode_of_operation operation.Add = opcode.Add
@@ -206,7 +206,7 @@ local_row (local.JumpLess left right skip) = (opcode.JumpLess, holds Value left 
 local_row (local.Repeat turns) = (opcode.Repeat, holds Turns turns ∷ [])
 local_row local.End = (opcode.End, [])
 
--- one opcode where subscripts are integers, and another where they are texts
+-- returns one opcode for integers as subscripts, and another for texts
 abbrev pub opcode_by : Opcode → Opcode → Scalar → Opcode
 opcode_by for_integers for_texts Int = for_integers
 opcode_by for_integers for_texts Text = for_texts
@@ -224,12 +224,12 @@ data_row (on_data.CopyWrite to from) = (opcode.CopyWrite, holds Right to ∷ hol
 data_row (on_data.DropRead right) = (opcode.DropRead, holds Right right ∷ [])
 data_row (on_data.DropWrite right) = (opcode.DropWrite, holds Right right ∷ [])
 
--- one opcode where the priority is a constant, and another where it is computed
+-- returns one opcode for a constant priority, and another for a computed one
 abbrev pub opcode_of_priority : Opcode → Opcode → Priority → Opcode
 opcode_of_priority constant computed (Constant n) = constant
 opcode_of_priority constant computed (Computed register) = computed
 
--- a computed priority is its register
+-- returns the operand of a priority: the number, or the register of a computed one
 abbrev pub priority_operand : Priority → Operand
 priority_operand (Constant n) = holds Number n
 priority_operand (Computed register) = holds Value register

@@ -25,7 +25,7 @@ use tw_code::{Action, DataInstr, Instr, Procedure};
 use tw_instr::{Frame, Named, Stopped, called, data_instr, instr_at, procedure_of, put_called};
 use tw_types::{Actor, Kind};
 
-/// Who does an instruction: an actor, in a procedure of this kind of the program.
+/// The executor of an instruction: an actor, in a procedure of this kind of the program.
 #[derive(Clone, Copy)]
 struct Caller<'a> {
     program: &'a [Procedure],
@@ -33,7 +33,7 @@ struct Caller<'a> {
     actor: Actor,
 }
 
-/// The frame's task does a RULE.
+/// Executes a RULE of the frame's task.
 fn make_rule(
     alloc: Global,
     caller: Caller,
@@ -65,7 +65,7 @@ fn make_rule(
     Ok(())
 }
 
-/// The frame's task does a PUT.
+/// Executes a PUT of the frame's task.
 fn put_task(
     alloc: Global,
     caller: Caller,
@@ -96,7 +96,7 @@ fn put_task(
     Ok(())
 }
 
-/// The frame's task does an instruction on data.
+/// Executes an instruction on data of the frame's task.
 fn do_data(
     alloc: Global,
     on_data: DataInstr,
@@ -147,7 +147,7 @@ fn call_of(
     }
 }
 
-/// The actor's task does one instruction that is neither local nor RET.
+/// Executes one instruction of the actor's task that is neither local nor RET.
 pub fn call(
     alloc: Global,
     program: &[Procedure],

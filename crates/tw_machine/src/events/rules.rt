@@ -19,7 +19,7 @@ use tw_code::Procedure;
 use tw_instr::{Barred, Frame, Notices, Stopped, procedure_of};
 use tw_types::{Actor, Cause, DatumId, Layout, Notice, RuleNo, Stage, Subscriber};
 
-/// The rule of the number, if the engine holds it and runs no task.
+/// Returns the rule of the number, if the engine holds it and runs no task.
 fn own_rule<'a>(
     tables: &'a Tables,
     frames: &BTreeMap<Actor, Frame>,
@@ -40,7 +40,7 @@ fn own_rule<'a>(
     Some(rule)
 }
 
-/// The engine asks for a parameter of a rule: it is ready where its datum is closed, else the rule waits for that.
+/// Asks for a parameter of a rule. It becomes ready if its datum is closed, else the rule waits for the datum.
 pub fn ask(
     tables: &mut Tables,
     frames: &BTreeMap<Actor, Frame>,
@@ -73,7 +73,7 @@ pub fn ask(
     Ok(())
 }
 
-/// Whether a server of the layout delivers the notices of a datum.
+/// Returns whether the server is in the layout and delivers the notices of a datum.
 fn is_of_server(layout: Layout, server: u8, id: DatumId) -> bool
     ensures { result ≡ (nat_lt server layout.servers && (server_of layout.servers id == server)) }
 {
@@ -81,7 +81,7 @@ fn is_of_server(layout: Layout, server: u8, id: DatumId) -> bool
     server < servers && id.number() % u64::from(servers) == u64::from(server)
 }
 
-/// The server delivers a notice: the parameter that it names is ready, if the rule is pending.
+/// Delivers a notice. Its parameter becomes ready, if the rule is still pending.
 pub fn deliver(
     layout: Layout,
     tables: &mut Tables,
@@ -100,7 +100,7 @@ pub fn deliver(
     Ok(())
 }
 
-/// The engine releases a rule: it becomes a task.
+/// Releases a rule, which becomes a task.
 pub fn release(
     alloc: Global,
     program: &[Procedure],

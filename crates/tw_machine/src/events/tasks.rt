@@ -1,4 +1,4 @@
-//! The events of tasks: one is taken, does local instructions, and ends.
+//! The events of tasks: Take, Local and End.
 
 ghost use Rattle.std.specs.Prelude.{◌≡◌, ◌<◌, ◌^◌, IfSome, MatchResult, Ok, Err, OnOk, Some};
 ghost use Rattle.std.specs.FinMap.{get, remove};
@@ -18,7 +18,7 @@ use tw_code::{Instr, Procedure};
 use tw_instr::{Barred, Frame, Position, Stopped, instr_at, local_steps, procedure_of};
 use tw_types::{Actor, Cause, Layout};
 
-/// The actor takes a task.
+/// Lets the actor take a task.
 pub fn take(
     alloc: Global,
     program: &[Procedure],
@@ -42,7 +42,7 @@ pub fn take(
     Ok(())
 }
 
-/// The actor's task does so many local instructions.
+/// Executes this many local instructions of the actor's task.
 pub fn local(
     alloc: Global,
     program: &[Procedure],
@@ -84,7 +84,7 @@ fn local_of(
     Ok(())
 }
 
-/// Stopped where no local instruction stands at the place.
+/// Fails unless there is a local instruction at the place.
 fn must_be_local(code: &[Instr], position: &Position) -> Result<(), Barred>
     ensures { MatchResult result (λ _. IsLocalAt code.now position.now.place) (λ why. IsStopped (local_step code.now position.now) (barred_by why)) }
 {
@@ -94,7 +94,7 @@ fn must_be_local(code: &[Instr], position: &Position) -> Result<(), Barred>
     Ok(())
 }
 
-/// The instruction at the place of a frame.
+/// Returns the instruction at the place of a frame.
 fn instr_of<'a>(program: &'a [Procedure], frame: &Frame) -> Result<&'a Instr, Cause>
     ensures gives { MatchResult result (λ instr. instr_of program.now frame.now ≡ Ok instr.now) (λ cause. instr_of program.now frame.now ≡ Err cause) }
     ensures inside { OnOk result (frame.now.position.place < 2 ^ 63) }
@@ -103,7 +103,7 @@ fn instr_of<'a>(program: &'a [Procedure], frame: &Frame) -> Result<&'a Instr, Ca
     instr_at(procedure.code.as_slice(), frame.place())
 }
 
-/// Stopped where the actor's task can't end.
+/// Fails unless the actor's task can end.
 fn may_end(program: &[Procedure], frame: &Frame) -> Result<(), Barred>
     ensures { (s : Meaning) (actor : AnActor) → get s.frames actor ≡ Some frame.now → MatchResult result (λ _. end_event program.now actor s ≡ Went (with_frames s (remove s.frames actor))) (λ why. IsStopped (end_event program.now actor s) (barred_by why)) }
 {
@@ -117,7 +117,7 @@ fn may_end(program: &[Procedure], frame: &Frame) -> Result<(), Barred>
     Ok(())
 }
 
-/// The actor's task ends.
+/// Ends the actor's task.
 pub fn end(
     program: &[Procedure],
     frames: &mut BTreeMap<Actor, Frame>,

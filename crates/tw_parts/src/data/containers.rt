@@ -1,4 +1,4 @@
-//! Members of containers.
+//! Instructions on members of containers.
 
 ghost use Rattle.std.specs.Prelude.{◌≡◌};
 ghost use Rattle.tw_code.specs.declared.instr.DataInstr.TheVariants as on_data;
@@ -13,7 +13,7 @@ use tw_rights::Held;
 use tw_store::{Inserted, Store};
 use tw_types::{Scalar, Value};
 
-/// INS: it is refused, and skips, where the subscript is there.
+/// Executes INS: it is refused, and skips, if the subscript is taken.
 pub(crate) fn insert_member<'a>(
     store: &mut Store,
     frame: &mut Frame<'a>,
@@ -50,7 +50,7 @@ pub(crate) fn insert_member<'a>(
     }
 }
 
-/// LOOK: it is refused, and skips, where there is no member at the subscript.
+/// Executes LOOK: it is refused, and skips, if there is no member at the subscript.
 pub(crate) fn look_up(
     store: &mut Store,
     frame: &mut Frame<'_>,
@@ -74,7 +74,7 @@ pub(crate) fn look_up(
     }
 }
 
-/// SIZE.
+/// Executes SIZE.
 pub(crate) fn size<'a>(
     store: &Store,
     frame: &mut Frame<'a>,
@@ -91,7 +91,7 @@ pub(crate) fn size<'a>(
     give(frame, draft, to, Value::Int(size), Value::Int(size));
 }
 
-/// SUBAT: it is refused, and skips, where there are no more members than that.
+/// Executes SUBAT: it is refused, and skips, if there is no subscript with that many smaller ones.
 pub(crate) fn subscript_at<'a>(
     store: &Store,
     frame: &mut Frame<'a>,

@@ -1,4 +1,4 @@
-//! Values that an instruction reads of a Done, or gives to a task and to the draft of its next job.
+//! Values that an instruction reads from a job's result, or puts into a task and the draft of its next job.
 
 ghost use Rattle.std.specs.Prelude.{◌≡◌, ◌<◌, ◌^◌, ◌+◌, ℤ, IfOk, OnErr, Some, slice_get};
 ghost use Rattle.tw_types.specs.Value.{scalar_of};
@@ -12,7 +12,7 @@ use std::alloc::{AllocError, Global};
 use tw_frame::{Done, Draft, Frame};
 use tw_types::{Value, ValueRef};
 
-/// The number in a register that has one, as far as the Done came.
+/// Returns the integer in a register after the job, which must have one.
 pub(crate) fn number_at(done: &Done<'_>, register: u8) -> i64
     requires { (n : ℤ) × (slice_get done.now.after.values register ≡ Some (value.Int n)) }
     ensures { slice_get done.now.after.values register ≡ Some (value.Int result) }
@@ -23,7 +23,7 @@ pub(crate) fn number_at(done: &Done<'_>, register: u8) -> i64
     }
 }
 
-/// Two copies of a value; only a text's take memory.
+/// Copies a value twice. Allocates only for a text.
 pub(crate) fn copied_twice(alloc: Global, value: &Value) -> Result<(Value, Value), AllocError>
     ensures first { IfOk result (λ copies. copies.0 ≡ value.now) }
     ensures second { IfOk result (λ copies. copies.1 ≡ copies.0) }
@@ -34,7 +34,7 @@ pub(crate) fn copied_twice(alloc: Global, value: &Value) -> Result<(Value, Value
     Ok((first, second))
 }
 
-/// Gives a register of the frame a value, and that of its draft a copy of it, and goes on.
+/// Sets a register of the frame to a value, and that of its draft to a copy, and moves to the next place.
 pub(crate) fn give<'a>(
     frame: &mut Frame<'a>,
     draft: &mut Draft<'a>,

@@ -1,4 +1,4 @@
-//! Data are made, and rights on them copied and dropped.
+//! Instructions that make data, and that copy and drop rights.
 
 ghost use Rattle.std.specs.Prelude.{◌≡◌};
 ghost use Rattle.tw_code.specs.declared.instr.DataInstr.TheVariants as on_data;
@@ -12,7 +12,7 @@ use tw_rights::Held;
 use tw_store::Store;
 use tw_types::DataType;
 
-/// NEW.
+/// Executes NEW.
 pub(crate) fn new_datum<'a>(
     store: &mut Store,
     frame: &mut Frame<'a>,
@@ -37,7 +37,7 @@ pub(crate) fn new_datum<'a>(
     Ok(draft)
 }
 
-/// DUPR.
+/// Executes DUPR.
 pub(crate) fn copy_read(store: &mut Store, frame: &mut Frame<'_>, to: u8, from: u8)
     requires { MayDo (on_data.CopyRead to from) store.old frame.old }
     ensures done { IsDone (on_data.CopyRead to from) store.old store.new frame.old frame.new }
@@ -48,7 +48,7 @@ pub(crate) fn copy_read(store: &mut Store, frame: &mut Frame<'_>, to: u8, from: 
     frame.go_on();
 }
 
-/// DUPW.
+/// Executes DUPW.
 pub(crate) fn copy_write(store: &mut Store, frame: &mut Frame<'_>, to: u8, from: u8)
     requires { MayDo (on_data.CopyWrite to from) store.old frame.old }
     ensures done { IsDone (on_data.CopyWrite to from) store.old store.new frame.old frame.new }
@@ -59,7 +59,7 @@ pub(crate) fn copy_write(store: &mut Store, frame: &mut Frame<'_>, to: u8, from:
     frame.go_on();
 }
 
-/// DROPR.
+/// Executes DROPR.
 pub(crate) fn drop_read(store: &mut Store, frame: &mut Frame<'_>, datum: u8)
     requires { MayDo (on_data.DropRead datum) store.old frame.old }
     ensures done { IsDone (on_data.DropRead datum) store.old store.new frame.old frame.new }
@@ -70,7 +70,7 @@ pub(crate) fn drop_read(store: &mut Store, frame: &mut Frame<'_>, datum: u8)
     frame.go_on();
 }
 
-/// DROPW: where the container closes, those are told that wait for it.
+/// Executes DROPW: if the container closes, its subscribers get notices.
 pub(crate) fn drop_write<'a>(
     store: &mut Store,
     frame: &mut Frame<'a>,

@@ -1,4 +1,4 @@
-//! The value of a scalar is set, or read.
+//! Instructions on the value of a scalar.
 
 ghost use Rattle.std.specs.Prelude.{◌≡◌, ℕ, List, Some, Ok, IfOk, OnErr};
 ghost use Rattle.std.specs.FinMap.{get};
@@ -18,7 +18,7 @@ use tw_rights::{Held, ReadRight};
 use tw_store::Store;
 use tw_types::Value;
 
-/// STORE: those are told that wait for the datum.
+/// Executes STORE: the subscribers of the datum get notices.
 pub(crate) fn store_value<'a>(
     store: &mut Store,
     frame: &mut Frame<'a>,
@@ -49,7 +49,7 @@ pub(crate) fn store_value<'a>(
     }
 }
 
-/// Two copies of the value of a scalar that is set; only a text's take memory.
+/// Copies the value of a set scalar twice. Allocates only for a text.
 fn two_copies(store: &Store, alloc: Global, right: &ReadRight) -> Result<(Value, Value), AllocError>
     requires here { IsHere store.now right.now }
     requires allowed { may_retrieve (get store.now.store.live right.now.id) ≡ Ok tt }
@@ -70,7 +70,7 @@ fn two_copies(store: &Store, alloc: Global, right: &ReadRight) -> Result<(Value,
     }
 }
 
-/// GET: a register of the frame, and of its draft, has the value.
+/// Executes GET: sets a register of the frame, and of its draft.
 pub(crate) fn get_value<'a>(
     store: &Store,
     frame: &mut Frame<'a>,

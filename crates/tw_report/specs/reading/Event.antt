@@ -1,4 +1,4 @@
--- What words say, from left to right.
+-- Parsing of events from left to right.
 use Rattle.std.specs.Prelude.{ℕ, ◌==◌, min, if◌then◌else◌, List, [], ◌∷◌, codes, Option, Some, None}
 use Rattle.std.specs.Option.{option_and_then, option_map, option_or}
 use Rattle.std.specs.Str.{bytes_eq}
@@ -11,11 +11,11 @@ use Rattle.tw_words.specs.Digits.{are_digits, is_within}
 
 -- ---- one word
 
--- the number between these limits
+-- returns the number between these limits
 unfoldable pub number_in : ℕ → ℕ → List ℕ → Option ℕ
 number_in low high text = if are_digits text then (if is_within low high (digits_value 10 text) then Some (digits_value 10 text) else None) else None
 
--- the number of one byte behind a letter
+-- returns the number of one byte after a letter
 unfoldable pub behind : ℕ → List ℕ → Option ℕ
 behind letter [] = None
 behind letter (b ∷ rest) = if b == letter then number_in 0 255 rest else None
@@ -25,12 +25,12 @@ actor_in word = option_or (option_map Engine (behind 101 word)) (option_or (opti
 
 -- ---- the words
 
--- what the first word says, and the words behind it
+-- parses the first word, and returns the words after it
 abbrev pub first : {A : Type 0} → (List ℕ → Option A) → List (List ℕ) → Option (A × List (List ℕ))
 first read [] = None
 first read (word ∷ words) = option_map (λ a. (a, words)) (read word)
 
--- this, where no word is left
+-- returns the event, if no word is left
 abbrev pub alone : Event → List (List ℕ) → Option Event
 alone event [] = Some event
 alone event (word ∷ words) = None
@@ -38,7 +38,7 @@ alone event (word ∷ words) = None
 abbrev pub words_64 : List ℕ → Option ℕ
 words_64 = number_in 0 0xFFFFFFFFFFFFFFFF
 
--- the number of a parameter, or 255 where it is greater
+-- returns the number of a parameter, or 255 if it is greater
 unfoldable pub parameter_in : List ℕ → Option ℕ
 parameter_in word = option_map (λ number. min number 255) (words_64 word)
 
@@ -60,7 +60,7 @@ deliver_in words =
 abbrev pub release_in : List (List ℕ) → Option Event
 release_in words = option_and_then (λ e. option_and_then (λ r. alone (Release e.0 r.0) r.1) (first words_64 e.1)) (first (behind 101) words)
 
--- what the words behind a name say
+-- parses the words after a name
 unfoldable pub named : List ℕ → List (List ℕ) → Option Event
 named name words =
     if bytes_eq name (codes "take") then for_actor Take words else

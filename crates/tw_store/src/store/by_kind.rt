@@ -1,4 +1,4 @@
-//! Members by integers.
+//! Members with integers as subscripts.
 
 ghost use Rattle.std.specs.Prelude.{◌≡◌, option_map};
 ghost use Rattle.std.specs.FinMap as map;
@@ -18,7 +18,7 @@ use tw_rights::{ReadRight, WriteRight};
 use tw_types::{Value, ValueRef};
 
 impl Store {
-    /// `insert_under` an integer.
+    /// Calls `insert_under` with an integer.
     pub fn insert(
         &mut self,
         alloc: Global,
@@ -34,7 +34,7 @@ impl Store {
         self.insert_under(alloc, right, ValueRef::Int(subscript), member)
     }
 
-    /// `look_under` an integer.
+    /// Calls `look_under` with an integer.
     pub fn look(&mut self, right: &ReadRight, subscript: i64) -> Option<ReadRight>
         requires here { IsHere self.old right.now }
         requires allowed { may_look self.old.store right.now.id (INT subscript) ≡ Ok tt }
@@ -44,7 +44,7 @@ impl Store {
         self.look_under(right, ValueRef::Int(subscript))
     }
 
-    /// The `nth_subscript` of a container by integers.
+    /// Like `nth_subscript`, for a container with integers as subscripts.
     pub fn subscript_at(&self, right: &ReadRight, index: i64) -> Option<i64>
         requires here { IsHere self.now right.now }
         requires allowed { may_read_members_by scalar.Int (get self.now.store.live right.now.id) ≡ Ok tt }

@@ -1,4 +1,4 @@
-//! What is seen of the store without a change.
+//! Reads the store without changing it.
 
 ghost use Rattle.std.specs.Prelude.{◌≡◌, ◌<◌, IfSome, Some, length, slice_get, slice_index_or, []};
 ghost use Rattle.std.specs.FinMap.{get};
@@ -14,7 +14,7 @@ use tw_rights::ReadRight;
 use tw_types::{DatumId, Notice};
 
 impl Store {
-    /// The number of servers.
+    /// Returns the number of servers.
     pub fn servers(&self) -> usize
         ensures count { result ≡ length self.now.queues }
         ensures some { 0 < length self.now.queues }
@@ -23,21 +23,21 @@ impl Store {
         self.queues.len()
     }
 
-    /// The id of the datum that is made next.
+    /// Returns the id of the datum that is made next.
     pub fn next(&self) -> DatumId
         ensures { result ≡ self.now.store.next }
     {
         DatumId::new(self.next)
     }
 
-    /// The place of the datum of an id, if it is live: for reports and trials, since it goes through all places.
+    /// Returns the place of the datum of an id, if it is live. Searches all places: use it for reports and tests.
     pub fn place_of(&self, id: DatumId) -> Option<usize>
         ensures { result ≡ get self.now.places id }
     {
         place_of(&self.slab, id)
     }
 
-    /// The datum of an id, if it is live; it is searched as `place_of` does.
+    /// Returns the datum of an id, if it is live. Searches it like `place_of`.
     pub fn view(&self, id: DatumId) -> Option<&Datum>
         ensures datum { datum_if (option_copied result) ≡ get self.now.store.live id }
         ensures members { IfSome result (λ datum. KnowsPlaces self.now datum.now) }
@@ -48,7 +48,7 @@ impl Store {
         }
     }
 
-    /// The datum of a read right.
+    /// Returns the datum of a read right.
     pub fn view_at(&self, right: &ReadRight) -> &Datum
         requires { IsHere self.now right.now }
         ensures datum { get self.now.store.live right.now.id ≡ Some result.now.datum }
@@ -57,8 +57,8 @@ impl Store {
         datum_at(&self.slab, right.place())
     }
 
-    /// The member of a container with so many smaller subscripts. Its datum is looked up at its place. The container is
-    /// one that the store has shown since it changed last.
+    /// Returns the member of a container with `index` smaller subscripts, with its datum, which is found by its place. The container
+    /// must be one that the store returned after its last change.
     pub fn member<'a>(&'a self, container: &'a Datum, index: usize) -> Option<ShownMember<'a>>
         requires { KnowsPlaces self.now container.now }
         ensures { IsShown self.now container.now index result }
@@ -71,7 +71,7 @@ impl Store {
         })
     }
 
-    /// The notice that `take_note` gives next for a server. It stays in its queue.
+    /// Returns the notice that `take_note` returns next for a server. It stays in its queue.
     pub fn oldest_notice(&self, server: u8) -> Option<&Notice>
         requires { server < length self.now.queues }
         ensures { option_copied result ≡ slice_get (slice_index_or self.now.queues server []) 0 }

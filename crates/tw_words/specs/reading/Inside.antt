@@ -1,4 +1,4 @@
--- Reading a text between quotes from left to right.
+-- Parsing of quoted texts from left to right.
 use Rattle.std.specs.Prelude.{◌==◌, ◌<◌, ◌+◌, ◌*◌, ℕ, List, [], ◌∷◌, ◌++◌, Option, Some, None, nat_lt, if◌then◌else◌}
 use Rattle.std.specs.Char.{digit_value}
 use Rattle.tw_words.specs.declared.escape.Escape.{Escape}
@@ -6,11 +6,11 @@ use Rattle.tw_words.specs.declared.escape.Escape.TheVariants.{Nothing, Slash, He
 use Rattle.tw_words.specs.declared.escape.Says.{Says}
 use Rattle.tw_words.specs.declared.escape.Says.TheVariants.{End, Wrong, Into, Byte}
 
--- a text, and what follows its closing quote
+-- a text, and the bytes after its closing quote
 abbrev pub Found : Type 0
 Found = Option (List ℕ × List ℕ)
 
--- with these bytes before the text
+-- prepends these bytes to the text
 abbrev pub with_front : List ℕ → Found → Found
 with_front front None = None
 with_front front (Some x) = Some (front ++ x.0, x.1)
@@ -18,7 +18,7 @@ with_front front (Some x) = Some (front ++ x.0, x.1)
 abbrev pub with_byte : ℕ → Found → Found
 with_byte b found = with_front (b ∷ []) found
 
--- the text up to its closing quote, and what follows it, where so much of an escape has been read
+-- returns the text up to its closing quote, and the bytes after it, if this much of an escape has been read
 unfoldable pub inside_from : Escape → List ℕ → Found
 inside_from escape [] = None
 inside_from Nothing (b ∷ rest) =
@@ -34,7 +34,7 @@ inside_from Slash (b ∷ rest) =
 inside_from Hex (b ∷ rest) = if nat_lt (digit_value b) 8 then inside_from (Digit (digit_value b)) rest else None
 inside_from (Digit first) (b ∷ rest) = if nat_lt (digit_value b) 16 then with_byte (16 * first + digit_value b) (inside_from Nothing rest) else None
 
--- the first digit of an escape that has been read is below 8
+-- holds if the first digit of an escape is below 8
 abbrev pub IsInEscape : Escape → Type 0
 IsInEscape Nothing = Unit {0}
 IsInEscape Slash = Unit {0}
@@ -47,7 +47,7 @@ KeepsEscape Wrong = Unit {0}
 KeepsEscape (Into escape) = IsInEscape escape
 KeepsEscape (Byte b) = Unit {0}
 
--- what is read after a byte that says so
+-- returns the result after a byte with this effect
 abbrev pub read_on : Says → List ℕ → Found
 read_on End rest = Some ([], rest)
 read_on Wrong rest = None

@@ -1,4 +1,4 @@
--- What stands first in what is left of a line.
+-- The result of reading one word of a line.
 use Rattle.std.specs.Prelude.{◌≡◌, ℕ, suc, Bool, true, List, [], ◌∷◌, ◌++◌, if◌then◌else◌}
 use Rattle.tw_words.specs.declared.word.Next as nexts
 use Rattle.tw_words.specs.declared.word.Next.TheVariants as next
@@ -10,14 +10,14 @@ IsNext next.End bytes = IsBlank bytes
 IsNext next.Broken bytes = IsBroken bytes
 IsNext (next.Found word rest) bytes = IsFirstWord (seen word) bytes rest.now
 
--- all of the gap that stands first is before it
+-- the rest is what follows the whole gap at the start
 pub record IsAfterGap (bytes rest : List ℕ) : Type 0 where
   pub gap : List ℕ
   pub parts : bytes ≡ gap ++ rest
   pub is_gap : IsGap gap
   pub at_word : IsAtWord rest
 
--- how many bytes stand before the first edge
+-- counts the bytes before the first end of a word
 abbrev pub bare_length : List ℕ → ℕ
 bare_length [] = 0
 bare_length (b ∷ rest) = if is_edge b then 0 else suc (bare_length rest)

@@ -5,7 +5,7 @@ use Rattle.tw_verify.proofs.VerifierNames.{IsRegister, asks_args, lowest_of, opt
 use Rattle.std.specs.Slice.Iter.{iter_rest}
 use Rattle.tw_verify.proofs.arguments.arguments_refusal.Given as goal
 
--- what is found so far, and what is still asked
+-- the error so far, and the remaining checks
 abbrev pub invariant-loop-param : goal.invariant-loop-param
 invariant-loop-param l = record {
   rest : refusal_in (asks_args l.waits l.registers l.params l.args l.typing) ≡ lowest_of (option_map verify_refusal_number l.refusal) (refusal_in (asks_args l.waits l.registers (iter_rest (zip_first l.param-iterator)) (iter_rest (zip_second l.param-iterator)) l.left));

@@ -6,7 +6,7 @@ use Rattle.tw_verify.proofs.pass.is_changed.Goals as goal
 pub returns-in_default-clause-all : goal.returns-in_default-clause-all
 returns-in_default-clause-all c = λ first begun no end there. absurd (c.in_default.not-Some first (c.first.ensures.all first end))
 
--- a test whose opposite is told
+-- a test whose negation holds
 opposite : (b : Bool) → not b ≡ true → b ≡ false
 opposite true h = cc
 opposite false h = refl

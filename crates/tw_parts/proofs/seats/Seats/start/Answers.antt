@@ -8,7 +8,7 @@ use Rattle.tw_parts.proofs.Rooming.{as_many, kept_begun, kept_laid, room_there}
 use Rattle.tw_parts.proofs.Seating.{count_set, get_seated, low_seat, seated_put}
 use Rattle.tw_parts.proofs.seats.Seats.start.Goals as goal
 
--- what is handed out is an entry's
+-- the task that is taken is an entry's
 handed : (o : Option (ℕ × TaskOf Arg)) (x : Task) → Some x ≡ option_map handed_out o → (e : ℕ × TaskOf Arg) × (o ≡ Some e) × (handed_out e ≡ x)
 handed None x h = cc
 handed (Some e) x h = (e, refl, sym (same_Some x (handed_out e) h))
