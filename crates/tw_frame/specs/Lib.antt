@@ -4,7 +4,7 @@ pub mod Jobs
 pub mod Ready
 pub mod Drafts
 -- Definitions for private functions.
-pub mod Errands
+pub mod JobBuffers
 pub mod Banks
 pub mod Pieces
 pub mod Standing

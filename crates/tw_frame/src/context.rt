@@ -27,7 +27,7 @@ impl<'a> Context<'a> {
     }
 
     /// Changes the place and the loops, and keeps the values.
-    pub(crate) fn stand_at(&mut self, place: usize, loops: Loops)
+    pub(crate) fn set_position(&mut self, place: usize, loops: Loops)
         ensures { self.new ≡ record self.old { place = place; loops = loops } }
     {
         self.place = place;

@@ -3,43 +3,47 @@
 ghost use Rattle.std.specs.Prelude.{◌≡◌, slice_set};
 ghost use Rattle.tw_frame.specs.Drafts.{MaySet};
 
-use crate::errand::{Did, Errand, NoErrand};
-use crate::job::Lent;
-use crate::rooms::Ahead;
+use crate::frame_buffers::ScratchContexts;
+use crate::job::JobState;
+use crate::job_buffer::{FreeJobBuffer, JobBuffer, JobOutcome};
 use std::marker::Model;
 use tw_types::Value;
 
 /// The values of all of a task's registers. It is made when an allocation may fail, for a call that allocates nothing.
 #[derive(Drop)]
 pub struct Draft<'a> {
-    pub(crate) errand: Box<Option<Errand<'a>>>,
+    pub(crate) job_buffer: Box<Option<JobBuffer<'a>>>,
 }
 
 impl<'a> Model for Draft<'a> {
     ghost use Rattle.tw_frame.specs.Jobs.{DraftView};
-    ghost use Rattle.tw_frame.specs.Errands.{IsThere, draft_in};
+    ghost use Rattle.tw_frame.specs.JobBuffers.{IsThere, draft_in};
 
     ghost Value = { DraftView };
 
-    ghost view = { λ d. draft_in d.errand.value };
+    ghost view = { λ d. draft_in d.job_buffer.value };
 
-    ghost invariant = { λ d. IsThere d.errand.value };
+    ghost invariant = { λ d. IsThere d.job_buffer.value };
 }
 
 impl<'a> Draft<'a> {
     /// Makes the draft for a task's first job, with the memory that a job needs.
-    pub(crate) fn first(lent: Lent<'a>, ahead: Ahead<'a>, place: NoErrand<'a>) -> Draft<'a>
+    pub(crate) fn first(
+        lent: JobState<'a>,
+        scratch: ScratchContexts<'a>,
+        place: FreeJobBuffer<'a>,
+    ) -> Draft<'a>
         ensures { result ≡ record { program = lent.entry.program; procedure = lent.entry.procedure; values = lent.entry.position.values } }
     {
-        let Ahead { after, again } = ahead;
-        let errand = Errand {
+        let ScratchContexts { after, again } = scratch;
+        let job_buffer = JobBuffer {
             lent,
             after,
             again,
-            did: Did::nothing(),
+            outcome: JobOutcome::nothing(),
         };
         Draft {
-            errand: place.hold(errand),
+            job_buffer: place.hold(job_buffer),
         }
     }
 
@@ -48,8 +52,8 @@ impl<'a> Draft<'a> {
         requires { MaySet self.old.values register value }
         ensures { self.new ≡ record self.old { values = slice_set self.old.values register value } }
     {
-        match self.errand.as_mut() {
-            Some(errand) => errand.lent.set(register, value),
+        match self.job_buffer.as_mut() {
+            Some(job_buffer) => job_buffer.lent.set(register, value),
             None => unreachable!(),
         }
     }

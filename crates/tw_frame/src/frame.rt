@@ -10,10 +10,10 @@ ghost use Rattle.tw_frame.specs.Jobs.{AreOf, MayStand, bare_frame, draft_of, job
 
 use crate::context::Context;
 use crate::draft::Draft;
-use crate::errand::{Errand, NoErrand};
-use crate::job::{Done, Job, Lent};
+use crate::frame_buffers::{EmptyFile, FrameBuffers, ScratchContexts};
+use crate::job::{Done, Job, JobState};
+use crate::job_buffer::{FreeJobBuffer, JobBuffer};
 use crate::loops::Loops;
-use crate::rooms::{Ahead, EmptyFile, Rooms};
 use crate::start::Start;
 use std::alloc::Global;
 use std::marker::Model;
@@ -45,7 +45,7 @@ impl<'a> Model for Frame<'a> {
 }
 
 impl<'a> Frame<'a> {
-    /// Starts a task with these values and the rights among its arguments. With the values of `Rooms::start` the frame is the
+    /// Starts a task with these values and the rights among its arguments. With the values of `FrameBuffers::start` the frame is the
     /// machine's. The draft is for its first job.
     pub fn start(
         task: Task,
@@ -78,12 +78,12 @@ impl<'a> Frame<'a> {
             procedure: _,
             mut own,
             lent,
-            ahead,
-            errand,
+            scratch,
+            job_buffer,
             rights,
         } = start;
-        own.stand_at(0, Loops::new());
-        let lent = Lent {
+        own.set_position(0, Loops::new());
+        let lent = JobState {
             verified,
             task: no,
             procedure,
@@ -92,11 +92,11 @@ impl<'a> Frame<'a> {
             at: lent,
         };
         let frame = Frame::of(&lent, own, rights.fill(args));
-        (frame, Draft::first(lent, ahead, errand))
+        (frame, Draft::first(lent, scratch, job_buffer))
     }
 
     /// Makes the frame of an issued task, with its own context and its rights.
-    fn of(lent: &Lent<'a>, own: Box<Context<'a>>, rights: Box<RightFile>) -> Frame<'a>
+    fn of(lent: &JobState<'a>, own: Box<Context<'a>>, rights: Box<RightFile>) -> Frame<'a>
         requires { AreOf lent.now.program.program lent.now.procedure own.value.registers.types }
         ensures { result ≡ record {
           program = lent.now.program;
@@ -122,7 +122,7 @@ impl<'a> Frame<'a> {
     }
 
     /// Returns whether this is the job that was issued last. Compares numbers and place first, then loops, then values.
-    pub fn has_lent(&self, job: &Lent<'_>) -> bool
+    pub fn is_current(&self, job: &JobState<'_>) -> bool
         requires { job.now.program ≡ self.now.program }
         ensures { IsTrue result ↔ (job.now ≡ job_of self.now) }
     {
@@ -158,33 +158,33 @@ impl<'a> Frame<'a> {
         ensures kept { self.new ≡ record self.old { event_no = event_no } }
     {
         self.event_no = event_no;
-        let Draft { mut errand } = draft;
+        let Draft { mut job_buffer } = draft;
         let own: &Context<'a> = &self.own;
         let (place, loops) = (own.place, own.loops.copy());
-        match errand.as_mut() {
-            Some(errand) => errand
+        match job_buffer.as_mut() {
+            Some(job_buffer) => job_buffer
                 .lent
-                .go_out(self.task, self.actor, event_no, place, loops),
+                .reissue(self.task, self.actor, event_no, place, loops),
             None => unreachable!(),
         }
-        Job { errand }
+        Job { job_buffer }
     }
 
     /// Completes the job that was issued last, which `done` must be of. Returns a draft of the values with which the frame continues.
-    pub fn take_back(&mut self, done: Done<'a>) -> Draft<'a>
+    pub fn complete_job(&mut self, done: Done<'a>) -> Draft<'a>
         requires own { done.before ≡ job_of self.old }
         requires spent { self.old.spent < 2 ^ 63 }
         ensures taken { self.new ≡ record self.old { position = done.entry.after; spent = self.old.spent + done.entry.steps } }
         ensures draft { result ≡ draft_of self.new }
     {
         let steps = done.steps();
-        let Done { mut errand } = done;
+        let Done { mut job_buffer } = done;
         self.spent += steps;
-        match errand.as_mut() {
-            Some(errand) => errand.hand_back(&mut self.own),
+        match job_buffer.as_mut() {
+            Some(job_buffer) => job_buffer.commit(&mut self.own),
             None => unreachable!(),
         }
-        Draft { errand }
+        Draft { job_buffer }
     }
 
     /// Completes the job that was issued last, and returns a draft of the values with which the frame continues. Returns any other
@@ -199,10 +199,10 @@ impl<'a> Frame<'a> {
         ensures back { IfErr result (λ back. back ≡ done.entry) }
         ensures foreign { OnErr result (done.entry.before ≡ job_of self.old → ⊥) }
     {
-        if !self.has_lent(done.before()) {
+        if !self.is_current(done.before()) {
             return Err(done);
         }
-        Ok(self.take_back(done))
+        Ok(self.complete_job(done))
     }
 
     /// Completes the job that was issued last. Returns any other `Done` as the error.
@@ -275,24 +275,24 @@ impl<'a> Frame<'a> {
     }
 
     /// Spends every right. Returns its memory and that of a `Done` for the seat's next task.
-    pub fn end(self, alloc: Global, done: Done<'a>) -> Rooms<'a> {
-        let Done { errand } = done;
-        let (there, errand) = NoErrand::of(errand);
+    pub fn end(self, alloc: Global, done: Done<'a>) -> FrameBuffers<'a> {
+        let Done { job_buffer } = done;
+        let (there, job_buffer) = FreeJobBuffer::of(job_buffer);
         let Some(there) = there else {
             unreachable!();
         };
-        let Errand {
+        let JobBuffer {
             lent,
             after,
             again,
-            did: _,
+            outcome: _,
         } = there;
         let (own, rights) = self.spend();
-        let mut rooms = Rooms {
+        let mut rooms = FrameBuffers {
             own,
             lent: lent.at,
-            ahead: Ahead { after, again },
-            errand,
+            scratch: ScratchContexts { after, again },
+            job_buffer,
             rights,
         };
         rooms.empty(alloc);

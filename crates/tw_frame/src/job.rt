@@ -6,11 +6,11 @@ ghost use Rattle.tw_types.specs.ValueOrder.{named};
 ghost use Rattle.tw_types.specs.declared.value.Value.TheVariants as value;
 ghost use Rattle.tw_code.specs.machine.Position.{with_value};
 ghost use Rattle.tw_frame.specs.Drafts.{MaySet};
-ghost use Rattle.tw_frame.specs.Errands.{IsRun, IsRunOf, done_of};
+ghost use Rattle.tw_frame.specs.JobBuffers.{IsRun, IsRunOf, done_of};
 ghost use Rattle.tw_frame.specs.Jobs.{AreOf, IsDone, IsJob, MayStand, position_of};
 
 use crate::context::Context;
-use crate::errand::Errand;
+use crate::job_buffer::JobBuffer;
 use crate::loops::Loops;
 use crate::run::{procedure_of, run_from};
 use std::alloc::{AllocError, Global};
@@ -20,7 +20,7 @@ use tw_verify::Verified;
 
 /// An issued task: its work up to its next instruction that isn't local.
 #[derive(Drop)]
-pub struct Lent<'a> {
+pub struct JobState<'a> {
     pub(crate) verified: &'a Verified,
     pub(crate) task: TaskNo,
     pub(crate) event_no: u64,
@@ -29,7 +29,7 @@ pub struct Lent<'a> {
     pub(crate) actor: Actor,
 }
 
-impl<'a> Model for Lent<'a> {
+impl<'a> Model for JobState<'a> {
     ghost use Rattle.tw_frame.specs.Jobs.{AreOf, JobView, position_of};
 
     ghost Value = { JobView };
@@ -42,38 +42,38 @@ impl<'a> Model for Lent<'a> {
 /// An issued task, with memory for its result. It is executed by `run`.
 #[derive(Drop)]
 pub struct Job<'a> {
-    pub(crate) errand: Box<Option<Errand<'a>>>,
+    pub(crate) job_buffer: Box<Option<JobBuffer<'a>>>,
 }
 
 impl<'a> Model for Job<'a> {
     ghost use Rattle.tw_frame.specs.Jobs.{JobView};
-    ghost use Rattle.tw_frame.specs.Errands.{MayRun, lent_in};
+    ghost use Rattle.tw_frame.specs.JobBuffers.{MayRun, lent_in};
 
     ghost Value = { JobView };
 
-    ghost view = { λ j. lent_in j.errand.value };
+    ghost view = { λ j. lent_in j.job_buffer.value };
 
-    ghost invariant = { λ j. MayRun j.errand.value };
+    ghost invariant = { λ j. MayRun j.job_buffer.value };
 }
 
 /// The result of a job, to be handed to the pool. Only `run` makes one.
 #[derive(Drop)]
 pub struct Done<'a> {
-    pub(crate) errand: Box<Option<Errand<'a>>>,
+    pub(crate) job_buffer: Box<Option<JobBuffer<'a>>>,
 }
 
 impl<'a> Model for Done<'a> {
     ghost use Rattle.tw_frame.specs.Jobs.{DoneView};
-    ghost use Rattle.tw_frame.specs.Errands.{WasRun, done_in};
+    ghost use Rattle.tw_frame.specs.JobBuffers.{WasRun, done_in};
 
     ghost Value = { DoneView };
 
-    ghost view = { λ d. done_in d.errand.value };
+    ghost view = { λ d. done_in d.job_buffer.value };
 
-    ghost invariant = { λ d. WasRun d.errand.value };
+    ghost invariant = { λ d. WasRun d.job_buffer.value };
 }
 
-impl<'a> Lent<'a> {
+impl<'a> JobState<'a> {
     /// Returns the program to which it belongs.
     pub fn program(&self) -> &'a Verified
         ensures { result.now ≡ self.now.program }
@@ -132,7 +132,7 @@ impl<'a> Lent<'a> {
         alloc: Global,
         after: &mut Context<'a>,
         again: &mut Context<'a>,
-    ) -> Went
+    ) -> RunOutcome
         requires { MayStand self.now.program.program self.now.procedure self.now.position }
         ensures { IsRun self.now.program.program self.now.procedure self.now.position after.new again.new result }
     {
@@ -140,7 +140,7 @@ impl<'a> Lent<'a> {
     }
 
     /// Issues it again, with the same values.
-    pub(crate) fn go_out(
+    pub(crate) fn reissue(
         &mut self,
         task: TaskNo,
         actor: Actor,
@@ -153,7 +153,7 @@ impl<'a> Lent<'a> {
         self.task = task;
         self.actor = actor;
         self.event_no = event_no;
-        self.at.stand_at(place, loops);
+        self.at.set_position(place, loops);
     }
 
     /// Swaps its context with another, whose registers have the same types.
@@ -175,9 +175,9 @@ impl<'a> Lent<'a> {
 
 /// The result of a run: after how many steps it stopped, and whether an allocation for the next one failed.
 #[derive(Clone, Copy)]
-pub(crate) enum Went {
-    Nowhere { short: bool },
-    There { steps: u64, short: bool },
+pub(crate) enum RunOutcome {
+    Unmoved { short: bool },
+    Moved { steps: u64, short: bool },
 }
 
 /// Runs a task of a procedure from its position, in a copy of its context, and copies the resulting context once more.
@@ -188,19 +188,19 @@ fn run_in<'a>(
     at: &Context<'a>,
     after: &mut Context<'a>,
     again: &mut Context<'a>,
-) -> Went
+) -> RunOutcome
     requires { IsJob verified.now.program procedure at.now.registers.types (position_of at.now) }
     ensures { IsRun verified.now.program procedure (position_of at.now) after.new again.new result }
 {
     let p = procedure_of(verified, procedure);
     let procedure = usize::from(procedure);
     if !p.code.as_slice()[at.place].is_local() {
-        return Went::Nowhere { short: false };
+        return RunOutcome::Unmoved { short: false };
     }
     let Ok(()) = after.copy_from(alloc, at) else {
-        return Went::Nowhere { short: true };
+        return RunOutcome::Unmoved { short: true };
     };
-    let ran = run_from(
+    let loop_exit = run_from(
         alloc,
         p,
         verified.quick(procedure),
@@ -209,23 +209,23 @@ fn run_in<'a>(
         &mut after.loops,
         at.place,
     );
-    after.place = ran.place;
+    after.place = loop_exit.place;
     let Ok(()) = again.copy_from(alloc, after) else {
-        return Went::Nowhere { short: true };
+        return RunOutcome::Unmoved { short: true };
     };
-    Went::There {
-        steps: ran.steps,
-        short: ran.short,
+    RunOutcome::Moved {
+        steps: loop_exit.steps,
+        short: loop_exit.short,
     }
 }
 
 impl<'a> Job<'a> {
     /// Returns the issued task.
-    pub fn lent(&self) -> &Lent<'a>
+    pub fn lent(&self) -> &JobState<'a>
         ensures { result.now ≡ self.now }
     {
-        match self.errand.as_ref() {
-            Some(errand) => &errand.lent,
+        match self.job_buffer.as_ref() {
+            Some(job_buffer) => &job_buffer.lent,
             None => unreachable!(),
         }
     }
@@ -237,31 +237,31 @@ impl<'a> Job<'a> {
     pub fn run(self, alloc: Global) -> Done<'a>
         ensures { result.before ≡ self.entry }
     {
-        let Job { mut errand } = self;
-        match errand.as_mut() {
-            Some(errand) => errand.run(alloc),
+        let Job { mut job_buffer } = self;
+        match job_buffer.as_mut() {
+            Some(job_buffer) => job_buffer.run(alloc),
             None => unreachable!(),
         }
-        Done { errand }
+        Done { job_buffer }
     }
 }
 
 impl<'a> Done<'a> {
-    fn errand(&self) -> &Errand<'a>
+    fn job_buffer(&self) -> &JobBuffer<'a>
         ensures is { done_of result.now ≡ self.now }
         ensures run { IsRunOf result.now }
     {
-        match self.errand.as_ref() {
-            Some(errand) => errand,
+        match self.job_buffer.as_ref() {
+            Some(job_buffer) => job_buffer,
             None => unreachable!(),
         }
     }
 
     /// Returns the job that was run.
-    pub fn before(&self) -> &Lent<'a>
+    pub fn before(&self) -> &JobState<'a>
         ensures { result.now ≡ self.now.before }
     {
-        &self.errand().lent
+        &self.job_buffer().lent
     }
 
     /// Returns the place that it reached.
@@ -303,11 +303,11 @@ impl<'a> Done<'a> {
     fn context_after(&self) -> &Context<'a>
         ensures { position_of result.now ≡ self.now.after }
     {
-        let errand = self.errand();
-        if errand.did.came {
-            &errand.after
+        let job_buffer = self.job_buffer();
+        if job_buffer.outcome.moved {
+            &job_buffer.after
         } else {
-            &errand.lent.at
+            &job_buffer.lent.at
         }
     }
 
@@ -316,13 +316,13 @@ impl<'a> Done<'a> {
         ensures is { result ≡ self.now.steps }
         ensures done { IsDone self.now.before.program.program self.now.before.procedure self.now.before.position self.now.after self.now.steps self.now.short }
     {
-        self.errand().did.steps
+        self.job_buffer().outcome.steps
     }
 
     /// Returns whether it stopped before a local instruction for which an allocation failed.
     pub fn short(&self) -> bool
         ensures { result ≡ self.now.short }
     {
-        self.errand().did.short
+        self.job_buffer().outcome.short
     }
 }

@@ -5,13 +5,13 @@
 mod context;
 mod dispatch;
 mod draft;
-mod errand;
 mod frame;
+mod frame_buffers;
 mod job;
+mod job_buffer;
 mod loops;
 mod registers;
 mod rights;
-mod rooms;
 mod run;
 mod start;
 mod step;
@@ -19,6 +19,6 @@ mod texts;
 
 pub use draft::Draft;
 pub use frame::Frame;
-pub use job::{Done, Job, Lent};
-pub use rooms::Rooms;
+pub use frame_buffers::FrameBuffers;
+pub use job::{Done, Job, JobState};
 pub use start::Start;

@@ -9,9 +9,9 @@ ghost use Rattle.tw_frame.specs.Banks.{HasText};
 ghost use Rattle.tw_frame.specs.Drafts.{HasTexts, MayStart, started, value_in};
 
 use crate::context::Context;
-use crate::errand::NoErrand;
+use crate::frame_buffers::{EmptyFile, FrameBuffers, ScratchContexts};
+use crate::job_buffer::FreeJobBuffer;
 use crate::registers::Registers;
-use crate::rooms::{Ahead, EmptyFile, Rooms};
 use crate::run::procedure_of;
 use std::alloc::{AllocError, Global};
 use std::marker::Model;
@@ -24,8 +24,8 @@ pub struct Start<'a> {
     pub(crate) verified: &'a Verified,
     pub(crate) own: Box<Context<'a>>,
     pub(crate) lent: Box<Context<'a>>,
-    pub(crate) ahead: Ahead<'a>,
-    pub(crate) errand: NoErrand<'a>,
+    pub(crate) scratch: ScratchContexts<'a>,
+    pub(crate) job_buffer: FreeJobBuffer<'a>,
     pub(crate) rights: EmptyFile,
     pub(crate) procedure: u8,
 }
@@ -108,7 +108,7 @@ fn begin_both<'a>(
     lent.registers.copy_from(alloc, &own.registers)
 }
 
-impl<'a> Rooms<'a> {
+impl<'a> FrameBuffers<'a> {
     /// Makes the values with which the task starts: those among its arguments in the first registers, the others blank. Allocates
     /// nothing if no register is a text. Returns the memory if an allocation fails.
     pub fn start(
@@ -116,7 +116,7 @@ impl<'a> Rooms<'a> {
         alloc: Global,
         task: &Task,
         verified: &'a Verified,
-    ) -> Result<Start<'a>, Rooms<'a>>
+    ) -> Result<Start<'a>, FrameBuffers<'a>>
         requires { MayStart verified.now.program task.now.procedure task.now.args }
         ensures program { IfOk result (λ start. start.program ≡ verified.now) }
         ensures procedure { IfOk result (λ start. start.procedure ≡ task.now.procedure) }
@@ -124,11 +124,11 @@ impl<'a> Rooms<'a> {
             → started task.now.args p.registers ≡ Ok start.values) }
         ensures texts { OnErr result (HasTexts verified.now.program task.now.procedure) }
     {
-        let Rooms {
+        let FrameBuffers {
             mut own,
             mut lent,
-            ahead,
-            errand,
+            scratch,
+            job_buffer,
             rights,
         } = self;
         match begin_both(alloc, &mut own, &mut lent, task, verified) {
@@ -137,15 +137,15 @@ impl<'a> Rooms<'a> {
                 procedure: task.procedure,
                 own,
                 lent,
-                ahead,
-                errand,
+                scratch,
+                job_buffer,
                 rights,
             }),
-            Err(_) => Err(Rooms {
+            Err(_) => Err(FrameBuffers {
                 own,
                 lent,
-                ahead,
-                errand,
+                scratch,
+                job_buffer,
                 rights,
             }),
         }

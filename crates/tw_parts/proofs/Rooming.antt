@@ -5,10 +5,10 @@ use Rattle.tw_parts.proofs.PartNames.{AreKept, FrameView, IsSome}
 abbrev Seats : Type 0
 Seats = List (Option FrameView)
 
-abbrev Rooms : Type 0
-Rooms = List (Option (Unit {0}))
+abbrev FrameBuffers : Type 0
+FrameBuffers = List (Option (Unit {0}))
 
-pub as_many : (seats : Seats) (rooms : Rooms) → AreKept seats rooms → length rooms ≡ length seats
+pub as_many : (seats : Seats) (rooms : FrameBuffers) → AreKept seats rooms → length rooms ≡ length seats
 as_many [] [] kept = refl
 as_many [] (room ∷ rooms) kept = absurd kept
 as_many (seat ∷ seats) [] kept = absurd kept
@@ -16,7 +16,7 @@ as_many (None ∷ seats) (room ∷ rooms) kept = ap suc (as_many seats rooms kep
 as_many (Some f ∷ seats) (room ∷ rooms) kept = ap suc (as_many seats rooms kept)
 
 -- in an empty one
-pub room_there : (seats : Seats) (rooms : Rooms) → AreKept seats rooms → (k : ℕ) → k < length seats → get_or seats k None ≡ None → IsSome (get_or rooms k None)
+pub room_there : (seats : Seats) (rooms : FrameBuffers) → AreKept seats rooms → (k : ℕ) → k < length seats → get_or seats k None ≡ None → IsSome (get_or rooms k None)
 room_there [] rooms kept k inside empty = absurd (omega (arith, inside))
 room_there (seat ∷ seats) [] kept k inside empty = absurd kept
 room_there (None ∷ seats) (room ∷ rooms) kept zero inside empty = kept.0
@@ -25,7 +25,7 @@ room_there (None ∷ seats) (room ∷ rooms) kept (suc k) inside empty = room_th
 room_there (Some f ∷ seats) (room ∷ rooms) kept (suc k) inside empty = room_there seats rooms kept k (omega (arith, inside)) empty
 
 -- somebody sits there
-pub kept_seated : (seats : Seats) (rooms : Rooms) → AreKept seats rooms → (k : ℕ) (f : FrameView) → AreKept (set seats k (Some f)) rooms
+pub kept_seated : (seats : Seats) (rooms : FrameBuffers) → AreKept seats rooms → (k : ℕ) (f : FrameView) → AreKept (set seats k (Some f)) rooms
 kept_seated [] rooms kept k f = kept
 kept_seated (seat ∷ seats) [] kept k f = absurd kept
 kept_seated (None ∷ seats) (room ∷ rooms) kept zero f = kept.1
@@ -33,11 +33,11 @@ kept_seated (Some g ∷ seats) (room ∷ rooms) kept zero f = kept
 kept_seated (None ∷ seats) (room ∷ rooms) kept (suc k) f = (kept.0, kept_seated seats rooms kept.1 k f)
 kept_seated (Some g ∷ seats) (room ∷ rooms) kept (suc k) f = kept_seated seats rooms kept k f
 
-pub still_kept : (seats : Seats) (rooms : Rooms) → AreKept seats rooms → (k : ℕ) (f : FrameView) (new : Seats) → new ≡ set seats k (Some f) → AreKept new rooms
+pub still_kept : (seats : Seats) (rooms : FrameBuffers) → AreKept seats rooms → (k : ℕ) (f : FrameView) (new : Seats) → new ≡ set seats k (Some f) → AreKept new rooms
 still_kept seats rooms kept k f new is = subst (λ (xs : Seats). AreKept xs rooms) (sym is) (kept_seated seats rooms kept k f)
 
 -- and takes the memory
-pub kept_begun : (seats : Seats) (rooms : Rooms) → AreKept seats rooms → (k : ℕ) (f : FrameView) → AreKept (set seats k (Some f)) (set rooms k None)
+pub kept_begun : (seats : Seats) (rooms : FrameBuffers) → AreKept seats rooms → (k : ℕ) (f : FrameView) → AreKept (set seats k (Some f)) (set rooms k None)
 kept_begun [] [] kept k f = tt
 kept_begun [] (room ∷ rooms) kept k f = absurd kept
 kept_begun (seat ∷ seats) [] kept k f = absurd kept
@@ -47,7 +47,7 @@ kept_begun (None ∷ seats) (room ∷ rooms) kept (suc k) f = (kept.0, kept_begu
 kept_begun (Some g ∷ seats) (room ∷ rooms) kept (suc k) f = kept_begun seats rooms kept k f
 
 -- a task that ends leaves its memory
-pub kept_ended : (seats : Seats) (rooms : Rooms) → AreKept seats rooms → (k : ℕ) → AreKept (set seats k None) (set rooms k (Some tt))
+pub kept_ended : (seats : Seats) (rooms : FrameBuffers) → AreKept seats rooms → (k : ℕ) → AreKept (set seats k None) (set rooms k (Some tt))
 kept_ended [] [] kept k = tt
 kept_ended [] (room ∷ rooms) kept k = absurd kept
 kept_ended (seat ∷ seats) [] kept k = absurd kept
@@ -57,7 +57,7 @@ kept_ended (None ∷ seats) (room ∷ rooms) kept (suc k) = (kept.0, kept_ended 
 kept_ended (Some g ∷ seats) (room ∷ rooms) kept (suc k) = kept_ended seats rooms kept k
 
 -- room that was lifted is laid there again
-pub kept_laid : (seats : Seats) (rooms : Rooms) → AreKept seats rooms → (k : ℕ) → AreKept seats (set (set rooms k None) k (Some tt))
+pub kept_laid : (seats : Seats) (rooms : FrameBuffers) → AreKept seats rooms → (k : ℕ) → AreKept seats (set (set rooms k None) k (Some tt))
 kept_laid [] [] kept k = tt
 kept_laid [] (room ∷ rooms) kept k = absurd kept
 kept_laid (seat ∷ seats) [] kept k = absurd kept

@@ -94,7 +94,7 @@ fn run_data<'a>(
         ),
         DataInstr::DropWrite { right } => drop_write(store, frame, done, *right),
         other => {
-            let mut draft = frame.take_back(done);
+            let mut draft = frame.complete_job(done);
             run_at_once(store, frame, &mut draft, other);
             Ok(draft)
         }

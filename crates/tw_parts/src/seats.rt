@@ -22,7 +22,7 @@ use crate::sitters::Sitters;
 use std::alloc::{AllocError, Global};
 use std::marker::Model;
 use tw_code::DataInstr;
-use tw_frame::{Done, Frame, Job, Rooms};
+use tw_frame::{Done, Frame, FrameBuffers, Job};
 use tw_queue::TaskQueues;
 use tw_rights::{Arg, Bundle};
 use tw_store::Store;
@@ -33,7 +33,7 @@ use tw_verify::Verified;
 pub struct Seats<'a> {
     sitters: Sitters<'a>,
     /// Memory for a task, for each empty seat.
-    rooms: Vec<Option<Rooms<'a>>>,
+    rooms: Vec<Option<FrameBuffers<'a>>>,
     taken: usize,
 }
 
@@ -56,7 +56,7 @@ impl<'a> Model for Seats<'a> {
 }
 
 /// Takes the memory that is there.
-fn lift<'a>(rooms: &mut Vec<Option<Rooms<'a>>>, seat: usize) -> Rooms<'a>
+fn lift<'a>(rooms: &mut Vec<Option<FrameBuffers<'a>>>, seat: usize) -> FrameBuffers<'a>
     requires inside { seat < length rooms.old.items }
     requires there { IsSome (slice_index_or rooms.old.items seat None) }
     ensures { rooms.new.items ≡ slice_set rooms.old.items seat None }
@@ -69,7 +69,7 @@ fn lift<'a>(rooms: &mut Vec<Option<Rooms<'a>>>, seat: usize) -> Rooms<'a>
 }
 
 /// Puts memory there, and frees what was there.
-fn lay<'a>(rooms: &mut Vec<Option<Rooms<'a>>>, seat: usize, room: Rooms<'a>)
+fn lay<'a>(rooms: &mut Vec<Option<FrameBuffers<'a>>>, seat: usize, room: FrameBuffers<'a>)
     requires { seat < length rooms.old.items }
     ensures { rooms.new.items ≡ slice_set rooms.old.items seat (Some tt) }
 {
@@ -81,12 +81,12 @@ fn lay<'a>(rooms: &mut Vec<Option<Rooms<'a>>>, seat: usize, room: Rooms<'a>)
 }
 
 /// Allocates memory for each seat.
-fn rooms_for_all<'a>(alloc: Global) -> Result<Vec<Option<Rooms<'a>>>, AllocError>
+fn rooms_for_all<'a>(alloc: Global) -> Result<Vec<Option<FrameBuffers<'a>>>, AllocError>
     ensures { IfOk result (λ rooms. rooms.items ≡ replicate 24 (Some tt)) }
 {
     let mut rooms = Vec::with_capacity(alloc, Sitters::COUNT)?;
     for _index in 0..Sitters::COUNT {
-        let Ok(room) = Rooms::new(alloc) else {
+        let Ok(room) = FrameBuffers::new(alloc) else {
             shut_rooms(rooms);
             return Err(AllocError);
         };
@@ -96,7 +96,7 @@ fn rooms_for_all<'a>(alloc: Global) -> Result<Vec<Option<Rooms<'a>>>, AllocError
 }
 
 /// Frees their memory.
-fn shut_rooms<'a>(mut rooms: Vec<Option<Rooms<'a>>>) {
+fn shut_rooms<'a>(mut rooms: Vec<Option<FrameBuffers<'a>>>) {
     while let Some(room) = rooms.pop() {
         if let Some(room) = room {
             room.shut();

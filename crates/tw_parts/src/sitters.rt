@@ -80,7 +80,7 @@ impl<'a> Sitters<'a> {
         let place = &mut self.frames[seat];
         match place {
             Some(frame) => {
-                let draft = frame.take_back(done);
+                let draft = frame.complete_job(done);
                 frame.lend(event_no, draft)
             }
             None => unreachable!(),
@@ -112,7 +112,7 @@ impl<'a> Sitters<'a> {
         let place = &mut self.frames[seat];
         match place {
             Some(frame) => {
-                let draft = frame.take_back(done);
+                let draft = frame.complete_job(done);
                 let bundle = frame.hand_over(params, args, vals, room);
                 (bundle, frame.lend(event_no, draft))
             }

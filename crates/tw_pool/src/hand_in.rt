@@ -198,7 +198,7 @@ impl<'a> Pool<'a> {
     }
 
     /// Completes the job that is issued to the actor.
-    fn take_back(&mut self, alloc: Global, actor: Actor, done: Done<'a>) -> Turn<'a>
+    fn complete_job(&mut self, alloc: Global, actor: Actor, done: Done<'a>) -> Turn<'a>
         requires actor { is_in self.old.layout actor ≡ true }
         requires room { length self.old.history < self.old.limit }
         requires owed { IsOwedBy self.old actor done }
@@ -224,9 +224,9 @@ impl<'a> Pool<'a> {
         let Some(frame) = self.parts.seats.get(actor) else {
             return Turn::Foreign(done);
         };
-        if !frame.has_lent(done.before()) {
+        if !frame.is_current(done.before()) {
             return Turn::Foreign(done);
         }
-        self.take_back(alloc, actor, done)
+        self.complete_job(alloc, actor, done)
     }
 }

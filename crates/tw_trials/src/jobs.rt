@@ -7,7 +7,7 @@ use crate::stretches::next_program;
 use std::alloc::{AllocError, Global};
 use tw_bytes::decode;
 use tw_code::Procedure;
-use tw_frame::{Done, Frame, Job, Rooms};
+use tw_frame::{Done, Frame, FrameBuffers, Job};
 use tw_instr::{Position, count_local};
 use tw_queue::Task;
 use tw_rights::Bundle;
@@ -60,7 +60,7 @@ pub fn stretch_of(alloc: Global, verified: &Verified) -> Result<Option<Stretch<'
         procedure: 0,
         args: Bundle::new(alloc),
     };
-    let Ok(rooms) = Rooms::new(alloc) else {
+    let Ok(rooms) = FrameBuffers::new(alloc) else {
         shut(task);
         return Err(AllocError);
     };

@@ -33,13 +33,13 @@ pub(crate) fn insert_member<'a>(
     let at = done.look(subscript);
     match store.insert_under(alloc, frame.peek_write(container), at, right) {
         Ok(Inserted::Done) => {
-            let draft = frame.take_back(done);
+            let draft = frame.complete_job(done);
             frame.go_on();
             Ok(draft)
         }
         Ok(Inserted::Present(back)) => {
             frame.fill(member, Held::Read(back));
-            let draft = frame.take_back(done);
+            let draft = frame.complete_job(done);
             frame.skip(skip);
             Ok(draft)
         }
@@ -114,12 +114,12 @@ pub(crate) fn subscript_at<'a>(
                 return Err(done);
             };
             let (value, copy) = copies;
-            let mut draft = frame.take_back(done);
+            let mut draft = frame.complete_job(done);
             give(frame, &mut draft, to, value, copy);
             Ok(draft)
         }
         None => {
-            let draft = frame.take_back(done);
+            let draft = frame.complete_job(done);
             frame.skip(skip);
             Ok(draft)
         }

@@ -30,7 +30,7 @@ pub(crate) fn new_datum<'a>(
         return Err(done);
     };
     let (writes, reads) = rights;
-    let draft = frame.take_back(done);
+    let draft = frame.complete_job(done);
     frame.fill(write, Held::Write(writes));
     frame.fill(read, Held::Read(reads));
     frame.go_on();
@@ -84,7 +84,7 @@ pub(crate) fn drop_write<'a>(
     let right = frame.take_write(datum);
     match store.drop_write(right) {
         Ok(()) => {
-            let draft = frame.take_back(done);
+            let draft = frame.complete_job(done);
             frame.go_on();
             Ok(draft)
         }

@@ -37,7 +37,7 @@ pub(crate) fn store_value<'a>(
     let right = frame.take_write(datum);
     match store.store(right, value) {
         Ok(()) => {
-            let draft = frame.take_back(done);
+            let draft = frame.complete_job(done);
             frame.go_on();
             Ok(draft)
         }
@@ -87,7 +87,7 @@ pub(crate) fn get_value<'a>(
         return Err(done);
     };
     let (value, copy) = copies;
-    let mut draft = frame.take_back(done);
+    let mut draft = frame.complete_job(done);
     give(frame, &mut draft, to, value, copy);
     Ok(draft)
 }

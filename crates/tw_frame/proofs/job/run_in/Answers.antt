@@ -41,18 +41,18 @@ budget-requires c =
     let k = known c.args.verified.now c.args.procedure c.args.at.now.registers.types (position_of c.args.at.now) c.requires c.procedure_of-p.result.now c.procedure_of-p.ensures.is c.procedure_of-p.ensures.accepted in
     omega (arith, c.from-procedure.ensures, k.in_program)
 
-pub run_from-ran-requires-clause-ready : goal.run_from-ran-requires-clause-ready
-run_from-ran-requires-clause-ready c =
+pub run_from-loop_exit-requires-clause-ready : goal.run_from-loop_exit-requires-clause-ready
+run_from-loop_exit-requires-clause-ready c =
     let k = known c.args.verified.now c.args.procedure c.args.at.now.registers.types (position_of c.args.at.now) c.requires c.procedure_of-p.result.now c.procedure_of-p.ensures.is c.procedure_of-p.ensures.accepted in
     ready c.args.verified.now c.args.procedure c.args.at.now.registers.types (position_of c.args.at.now) c.procedure_of-p.result.now k c.from-procedure.result c.from-procedure.ensures c.quick.result.now c.budget.result c.quick.ensures c.budget.ensures.is
 
-pub run_from-ran-requires-clause-typed : goal.run_from-ran-requires-clause-typed
-run_from-ran-requires-clause-typed c =
+pub run_from-loop_exit-requires-clause-typed : goal.run_from-loop_exit-requires-clause-typed
+run_from-loop_exit-requires-clause-typed c =
     let k = known c.args.verified.now c.args.procedure c.args.at.now.registers.types (position_of c.args.at.now) c.requires c.procedure_of-p.result.now c.procedure_of-p.ensures.is c.procedure_of-p.ensures.accepted in
     ap (λ (x : Context). x.registers.types) c.in-Ok.ensures.copy ∙ k.typed
 
-pub run_from-ran-requires-clause-stands : goal.run_from-ran-requires-clause-stands
-run_from-ran-requires-clause-stands c =
+pub run_from-loop_exit-requires-clause-stands : goal.run_from-loop_exit-requires-clause-stands
+run_from-loop_exit-requires-clause-stands c =
     let k = known c.args.verified.now c.args.procedure c.args.at.now.registers.types (position_of c.args.at.now) c.requires c.procedure_of-p.result.now c.procedure_of-p.ensures.is c.procedure_of-p.ensures.accepted in
     rw c.in-Ok.ensures.copy k.stands
 
@@ -60,24 +60,24 @@ pub returns-in_default-copy_from : goal.returns-in_default-copy_from
 returns-in_default-copy_from c =
     let k = known c.args.verified.now c.args.procedure c.args.at.now.registers.types (position_of c.args.at.now) c.requires c.procedure_of-p.result.now c.procedure_of-p.ensures.is c.procedure_of-p.ensures.accepted in
     short_before c.args.verified.now c.args.procedure c.args.at.now.registers.types (position_of c.args.at.now) c.procedure_of-p.result.now k c.index-as_slice-at.result (there c.args.verified.now c.args.procedure c.args.at.now.registers.types (position_of c.args.at.now) c.procedure_of-p.result.now k c.as_slice.result.now c.index-as_slice-at.result c.as_slice.ensures c.index-as_slice-at.is) (sym c.is_local.ensures ∙ c.if-not-is_local.false)
-    (subst (λ (ts : List Scalar). HasText ts) (c.run_from-ran.ensures.typed ∙ sym k.typed) c.in_default-copy_from.ensures.texts)
+    (subst (λ (ts : List Scalar). HasText ts) (c.run_from-loop_exit.ensures.typed ∙ sym k.typed) c.in_default-copy_from.ensures.texts)
 
 pub returns : goal.returns
 returns c =
     let k = known c.args.verified.now c.args.procedure c.args.at.now.registers.types (position_of c.args.at.now) c.requires c.procedure_of-p.result.now c.procedure_of-p.ensures.is c.procedure_of-p.ensures.accepted in
-    let came : Position = standing c.run_from-ran.result.place c.run_from-ran.new.registers c.run_from-ran.new.loops in
-    let reached : IsReached c.procedure_of-p.result.now (position_of c.args.at.now) c.run_from-ran.result.steps came =
-    subst (λ (x : Context). IsReached c.procedure_of-p.result.now (standing c.args.at.now.place x.registers x.loops) c.run_from-ran.result.steps came) c.in-Ok.ensures.copy c.run_from-ran.ensures.reached in
-    let below = is_below c.procedure_of-p.result.now c.quick.result.now c.budget.result (ready c.args.verified.now c.args.procedure c.args.at.now.registers.types (position_of c.args.at.now) c.procedure_of-p.result.now k c.from-procedure.result c.from-procedure.ensures c.quick.result.now c.budget.result c.quick.ensures c.budget.ensures.is) (position_of c.args.at.now) c.run_from-ran.result.steps came reached in (
+    let came : Position = standing c.run_from-loop_exit.result.place c.run_from-loop_exit.new.registers c.run_from-loop_exit.new.loops in
+    let reached : IsReached c.procedure_of-p.result.now (position_of c.args.at.now) c.run_from-loop_exit.result.steps came =
+    subst (λ (x : Context). IsReached c.procedure_of-p.result.now (standing c.args.at.now.place x.registers x.loops) c.run_from-loop_exit.result.steps came) c.in-Ok.ensures.copy c.run_from-loop_exit.ensures.reached in
+    let below = is_below c.procedure_of-p.result.now c.quick.result.now c.budget.result (ready c.args.verified.now c.args.procedure c.args.at.now.registers.types (position_of c.args.at.now) c.procedure_of-p.result.now k c.from-procedure.result c.from-procedure.ensures c.quick.result.now c.budget.result c.quick.ensures c.budget.ensures.is) (position_of c.args.at.now) c.run_from-loop_exit.result.steps came reached in (
       record {
         p = c.procedure_of-p.result.now;
         here = k.here;
         reached = reached;
-        stops = c.run_from-ran.ensures.stops;
+        stops = c.run_from-loop_exit.ensures.stops;
         few = omega (arith, below, c.budget.ensures.within);
       },
       λ q there. record {
-        typed = c.run_from-ran.ensures.typed ∙ done_run c.args.verified.now c.args.procedure c.args.at.now.registers.types (position_of c.args.at.now) c.procedure_of-p.result.now k q there;
+        typed = c.run_from-loop_exit.ensures.typed ∙ done_run c.args.verified.now c.args.procedure c.args.at.now.registers.types (position_of c.args.at.now) c.procedure_of-p.result.now k q there;
         same = ap (λ (x : Context). x.registers) c.in-Ok-copy_from.ensures.copy;
       },
     )

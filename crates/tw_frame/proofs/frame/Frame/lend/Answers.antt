@@ -1,17 +1,17 @@
 use Rattle.std.proofs.Common.{ap, sym, ◌∙◌, List}
 use Rattle.tw_frame.specs.declared.context.Context.{Context}
 use Rattle.tw_code.specs.machine.Position.{Loop}
-use Rattle.tw_frame.specs.Errands.{draft_in}
+use Rattle.tw_frame.specs.JobBuffers.{draft_in}
 use Rattle.tw_frame.specs.Jobs.{FrameView, JobView, position_of}
 use Rattle.tw_frame.proofs.Lending.{sent}
 use Rattle.tw_frame.proofs.frame.Frame.lend.Goals as goal
 
 pub invariant_of-result : goal.invariant_of-result
 invariant_of-result c =
-    let old = c.in-Some.errand.lent in
+    let old = c.in-Some.job_buffer.lent in
     let seen = ap draft_in (sym c.in-Some.is ∙ c.as_mut.ensures.value) ∙ c.draft.view_is in
-    sent c.args.self.now c.args.draft old c.go_out.new.self (position_of c.self.inside.own.value) (ap (λ (f : FrameView). f.position) c.self.view_is) seen
-    c.requires.program c.requires.procedure c.requires.values c.requires.stands (ap (λ (j : JobView). j.program) c.go_out.ensures) (ap (λ (j : JobView). j.procedure) c.go_out.ensures)
-    (ap (λ (j : JobView). j.position) c.go_out.ensures
+    sent c.args.self.now c.args.draft old c.reissue.new.self (position_of c.self.inside.own.value) (ap (λ (f : FrameView). f.position) c.self.view_is) seen
+    c.requires.program c.requires.procedure c.requires.values c.requires.stands (ap (λ (j : JobView). j.program) c.reissue.ensures) (ap (λ (j : JobView). j.procedure) c.reissue.ensures)
+    (ap (λ (j : JobView). j.position) c.reissue.ensures
     ∙ ap (λ (loops : List Loop). record { place = c.deref-own.result.now.place; values = old.position.values; loops = loops }) c.copy-loops.ensures
     ∙ ap (λ (x : Context). record { place = x.place; values = old.position.values; loops = x.loops }) c.deref-own.ensures)

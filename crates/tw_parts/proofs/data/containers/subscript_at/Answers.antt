@@ -35,14 +35,14 @@ pub give-requires-clause-fits : goal.give-requires-clause-fits
 give-requires-clause-fits c =
     let key : to_z w64 (of_z w64 c.number_at-count.result) ≡ c.number_at-count.result = grind (arith, to_z-of_z) in
     let found = ap (λ k. subscript_after k (keys (members_at c.args.store.now.store c.peek_read.result.now.id))) (sym key) ∙ sym c.in-Some.ensures.found ∙ ap Some (sym c.in-Ok.ensures.first) in
-    ap (λ (n : FrameView). option_map scalar_of (slice_get n.position.values c.args.to)) c.take_back-draft.ensures.taken
+    ap (λ (n : FrameView). option_map scalar_of (slice_get n.position.values c.args.to)) c.complete_job-draft.ensures.taken
     ∙ subscript_fits c.args.by c.args.to c.args.container c.args.index c.args.skip c.args.store.now (come c.args.frame.now c.args.done) c.requires.may c.peek_read.result.now c.peek_read.ensures c.number_at-count.result c.number_at-count.ensures c.in-Ok.copies.0 found
 
 pub returns-in-Ok : goal.returns-in-Ok
 returns-in-Ok c =
     let key : to_z w64 (of_z w64 c.number_at-count.result) ≡ c.number_at-count.result = grind (arith, to_z-of_z) in
     let found = ap (λ k. subscript_after k (keys (members_at c.args.store.now.store c.peek_read.result.now.id))) (sym key) ∙ sym c.in-Some.ensures.found ∙ ap Some (sym c.in-Ok.ensures.first) in
-    let is = c.give.ensures.given ∙ ap (λ (n : FrameView). record n { position = at_next_place (with_value n.position c.args.to c.in-Ok.copies.0); spent = n.spent + 1 }) c.take_back-draft.ensures.taken in
+    let is = c.give.ensures.given ∙ ap (λ (n : FrameView). record n { position = at_next_place (with_value n.position c.args.to c.in-Ok.copies.0); spent = n.spent + 1 }) c.complete_job-draft.ensures.taken in
     record {
       is_done = subscript_some c.args.by c.args.to c.args.container c.args.index c.args.skip c.args.store.now (come c.args.frame.now c.args.done) c.requires.may c.peek_read.result.now c.peek_read.ensures c.number_at-count.result c.number_at-count.ensures c.in-Ok.copies.0 found c.give.new.frame is;
       is_draft = c.give.ensures.drafted;
@@ -52,8 +52,8 @@ pub returns-in-None : goal.returns-in-None
 returns-in-None c =
     let key : to_z w64 (of_z w64 c.number_at-count.result) ≡ c.number_at-count.result = grind (arith, to_z-of_z) in
     let none = ap (λ k. subscript_after k (keys (members_at c.args.store.now.store c.peek_read.result.now.id))) (sym key) ∙ sym c.in-None.ensures.found in
-    let is = c.skip.ensures ∙ ap (λ (n : FrameView). record n { position = at_goal n.position c.args.skip; spent = n.spent + 1 }) c.take_back-draft-in-None.ensures.taken in
+    let is = c.skip.ensures ∙ ap (λ (n : FrameView). record n { position = at_goal n.position c.args.skip; spent = n.spent + 1 }) c.complete_job-draft-in-None.ensures.taken in
     record {
       is_done = subscript_none c.args.by c.args.to c.args.container c.args.index c.args.skip c.args.store.now (come c.args.frame.now c.args.done) c.requires.may c.peek_read.result.now c.peek_read.ensures c.number_at-count.result c.number_at-count.ensures none c.skip.new.self is;
-      is_draft = c.take_back-draft-in-None.ensures.draft ∙ ap draft_of c.take_back-draft-in-None.ensures.taken ∙ sym (ap draft_of is);
+      is_draft = c.complete_job-draft-in-None.ensures.draft ∙ ap draft_of c.complete_job-draft-in-None.ensures.taken ∙ sym (ap draft_of is);
     }

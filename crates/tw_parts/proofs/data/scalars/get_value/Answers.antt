@@ -28,12 +28,12 @@ returns-in_default c =
 
 pub give-requires-clause-fits : goal.give-requires-clause-fits
 give-requires-clause-fits c =
-    ap (λ (n : FrameView). option_map scalar_of (slice_get n.position.values c.args.to)) c.take_back-draft.ensures.taken
+    ap (λ (n : FrameView). option_map scalar_of (slice_get n.position.values c.args.to)) c.complete_job-draft.ensures.taken
     ∙ get_fits c.args.to c.args.datum c.args.store.now (come c.args.frame.now c.args.done) c.requires.may c.peek_read.result.now c.peek_read.ensures c.in-Ok.copies.0 c.in-Ok.ensures.first
 
 pub returns : goal.returns
 returns c =
-    let is = c.give.ensures.given ∙ ap (λ (n : FrameView). record n { position = at_next_place (with_value n.position c.args.to c.in-Ok.copies.0); spent = n.spent + 1 }) c.take_back-draft.ensures.taken in
+    let is = c.give.ensures.given ∙ ap (λ (n : FrameView). record n { position = at_next_place (with_value n.position c.args.to c.in-Ok.copies.0); spent = n.spent + 1 }) c.complete_job-draft.ensures.taken in
     record {
       is_done = got_done c.args.to c.args.datum c.args.store.now (come c.args.frame.now c.args.done) c.requires.may c.peek_read.result.now c.peek_read.ensures c.in-Ok.copies.0 c.in-Ok.ensures.first c.give.new.frame is;
       is_draft = c.give.ensures.drafted;

@@ -21,16 +21,16 @@ store-requires-clause-here c = store_here c.args.datum c.args.from c.args.store.
 pub store-requires-clause-allowed : goal.store-requires-clause-allowed
 store-requires-clause-allowed c = store_allowed c.args.datum c.args.from c.args.store.now (come c.args.frame.now c.args.done) c.requires.may c.take_write-right.result c.take_write-right.ensures.taken c.in-Ok.value c.in-Ok.ensures.copy
 
-pub take_back-draft-requires-clause-own : goal.take_back-draft-requires-clause-own
-take_back-draft-requires-clause-own c = c.requires.own ∙ ap job_of (sym c.take_write-right.ensures.rest)
+pub complete_job-draft-requires-clause-own : goal.complete_job-draft-requires-clause-own
+complete_job-draft-requires-clause-own c = c.requires.own ∙ ap job_of (sym c.take_write-right.ensures.rest)
 
 pub returns-in-Ok-store : goal.returns-in-Ok-store
 returns-in-Ok-store c =
-    let came = c.take_back-draft.ensures.taken ∙ ap (λ (n : FrameView). come n c.args.done) c.take_write-right.ensures.rest in
+    let came = c.complete_job-draft.ensures.taken ∙ ap (λ (n : FrameView). come n c.args.done) c.take_write-right.ensures.rest in
     let is = c.go_on.ensures ∙ ap (λ (n : FrameView). record n { position = at_next_place n.position; spent = n.spent + 1 }) came in
     record {
       is_done = stored_done c.args.datum c.args.from c.args.store.now (come c.args.frame.now c.args.done) c.requires.may c.take_write-right.result c.take_write-right.ensures.taken c.in-Ok.value c.in-Ok.ensures.copy c.store.new.self c.in-Ok-store.ensures.stored c.go_on.new.self is;
-      is_draft = c.take_back-draft.ensures.draft ∙ ap draft_of came ∙ sym (ap draft_of is);
+      is_draft = c.complete_job-draft.ensures.draft ∙ ap draft_of came ∙ sym (ap draft_of is);
     }
 
 pub returns-in-Err : goal.returns-in-Err

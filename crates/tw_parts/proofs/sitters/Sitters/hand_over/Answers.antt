@@ -9,5 +9,5 @@ lend-requires-clause-stands c =
     let same : m.0 ≡ c.in-Some.frame = same_Some m.0 c.in-Some.frame (sym m.1 ∙ in_list c.args.self.now.frames.items c.args.seat None c.index_mut-place.result.now c.requires.inside ∙ sym c.index_mut-place.ensures.value ∙ c.in-Some.is) in
     let over = c.hand_over-bundle.new.self in
     subst (λ (f : FrameView). MayStand f.program.program f.procedure f.position)
-    (sym (c.hand_over-bundle.ensures.rest ∙ ap (λ (f : FrameView). record f { held = over.held; position = at_next_place f.position; spent = f.spent + 1 }) c.take_back-draft.ensures.taken))
+    (sym (c.hand_over-bundle.ensures.rest ∙ ap (λ (f : FrameView). record f { held = over.held; position = at_next_place f.position; spent = f.spent + 1 }) c.complete_job-draft.ensures.taken))
     (subst (λ (f : FrameView). MayStand f.program.program f.procedure (at_next_place c.args.done.after)) same m.6)

@@ -7,15 +7,15 @@ returns-in_default c =
     turning.stray_line _ _ _ c.self.inside.stopped c.self.inside.history c.self.inside.parts c.self.invariant c.args.self.now c.self.view_is c.args.actor c.args.done
     (turning.is_free _ _ _ c.self.inside.stopped c.self.inside.history c.self.inside.parts c.self.invariant c.args.self.now c.self.view_is c.args.actor (sym c.in_default.ensures))
 
-pub has_lent-requires : goal.has_lent-requires
-has_lent-requires c = ap (λ j. j.program) c.before-2.ensures ∙ c.requires.program ∙ turning.program_is _ _ _ c.self.inside.stopped c.self.inside.history c.self.inside.parts c.self.invariant c.args.self.now c.self.view_is c.args.actor c.in-Some.frame.now (sym c.in-Some.ensures)
+pub is_current-requires : goal.is_current-requires
+is_current-requires c = ap (λ j. j.program) c.before-2.ensures ∙ c.requires.program ∙ turning.program_is _ _ _ c.self.inside.stopped c.self.inside.history c.self.inside.parts c.self.invariant c.args.self.now c.self.view_is c.args.actor c.in-Some.frame.now (sym c.in-Some.ensures)
 
-pub returns-then-not-has_lent : goal.returns-then-not-has_lent
-returns-then-not-has_lent c = turning.foreign_line _ _ _ c.self.inside.stopped c.self.inside.history c.self.inside.parts c.self.invariant c.args.self.now c.self.view_is c.args.actor c.in-Some.frame.now (sym c.in-Some.ensures) c.args.done (λ own. let no : false ≡ true = c.if-not-has_lent.ensures.1 (c.before-2.ensures ∙ own) in cc)
+pub returns-then-not-is_current : goal.returns-then-not-is_current
+returns-then-not-is_current c = turning.foreign_line _ _ _ c.self.inside.stopped c.self.inside.history c.self.inside.parts c.self.invariant c.args.self.now c.self.view_is c.args.actor c.in-Some.frame.now (sym c.in-Some.ensures) c.args.done (λ own. let no : false ≡ true = c.if-not-is_current.ensures.1 (c.before-2.ensures ∙ own) in cc)
 
-pub take_back-requires-clause-owed : goal.take_back-requires-clause-owed
-take_back-requires-clause-owed c = turning.is_owed _ _ _ c.self.inside.stopped c.self.inside.history c.self.inside.parts c.self.invariant c.args.self.now c.self.view_is c.args.actor c.in-Some.frame.now (sym c.in-Some.ensures) c.args.done (sym c.before-2.ensures ∙ c.if-not-has_lent.ensures.0 refl)
+pub complete_job-requires-clause-owed : goal.complete_job-requires-clause-owed
+complete_job-requires-clause-owed c = turning.is_owed _ _ _ c.self.inside.stopped c.self.inside.history c.self.inside.parts c.self.invariant c.args.self.now c.self.view_is c.args.actor c.in-Some.frame.now (sym c.in-Some.ensures) c.args.done (sym c.before-2.ensures ∙ c.if-not-is_current.ensures.0 refl)
 
 pub returns : goal.returns
 returns c =
-    turning.with_own c.args.self.now _ c.args.actor c.args.done _ (turning.is_owed _ _ _ c.self.inside.stopped c.self.inside.history c.self.inside.parts c.self.invariant c.args.self.now c.self.view_is c.args.actor c.in-Some.frame.now (sym c.in-Some.ensures) c.args.done (sym c.before-2.ensures ∙ c.if-not-has_lent.ensures.0 refl)) c.take_back.ensures
+    turning.with_own c.args.self.now _ c.args.actor c.args.done _ (turning.is_owed _ _ _ c.self.inside.stopped c.self.inside.history c.self.inside.parts c.self.invariant c.args.self.now c.self.view_is c.args.actor c.in-Some.frame.now (sym c.in-Some.ensures) c.args.done (sym c.before-2.ensures ∙ c.if-not-is_current.ensures.0 refl)) c.complete_job.ensures

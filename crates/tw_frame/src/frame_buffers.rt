@@ -4,14 +4,14 @@ ghost use Rattle.std.specs.Prelude.{◌≡◌};
 ghost use Rattle.tw_rights.specs.Filed.{filed, rights_in};
 
 use crate::context::Context;
-use crate::errand::NoErrand;
+use crate::job_buffer::FreeJobBuffer;
 use std::alloc::{AllocError, AllocFailed, Global};
 use std::marker::Model;
 use tw_rights::{Bundle, RightFile};
 
 /// Two contexts that go with a job, for its run: the resulting one, and a copy of it for the next job.
 #[derive(Drop)]
-pub(crate) struct Ahead<'a> {
+pub(crate) struct ScratchContexts<'a> {
     pub(crate) after: Box<Context<'a>>,
     pub(crate) again: Box<Context<'a>>,
 }
@@ -67,45 +67,45 @@ impl EmptyFile {
 
 /// Memory for a task's contexts and rights: the context of its frame, that of its job, and two that the job's run fills. What
 /// an earlier task left in the contexts has no meaning.
-pub struct Rooms<'a> {
+pub struct FrameBuffers<'a> {
     pub(crate) own: Box<Context<'a>>,
     pub(crate) lent: Box<Context<'a>>,
-    pub(crate) ahead: Ahead<'a>,
-    pub(crate) errand: NoErrand<'a>,
+    pub(crate) scratch: ScratchContexts<'a>,
+    pub(crate) job_buffer: FreeJobBuffer<'a>,
     pub(crate) rights: EmptyFile,
 }
 
-impl<'a> Model for Rooms<'a> {
+impl<'a> Model for FrameBuffers<'a> {
     ghost Value = { Unit {0} };
 
     ghost view = { λ r. tt };
 }
 
-impl<'a> Rooms<'a> {
+impl<'a> FrameBuffers<'a> {
     /// Allocates memory for one task at a time.
-    pub fn new(alloc: Global) -> Result<Rooms<'a>, AllocError> {
+    pub fn new(alloc: Global) -> Result<FrameBuffers<'a>, AllocError> {
         let own = Context::boxed(alloc)?;
         let lent = Context::boxed(alloc)?;
         let after = Context::boxed(alloc)?;
         let again = Context::boxed(alloc)?;
-        let errand = NoErrand::new(alloc)?;
+        let job_buffer = FreeJobBuffer::new(alloc)?;
         let rights = EmptyFile::new(alloc)?;
-        Ok(Rooms {
+        Ok(FrameBuffers {
             own,
             lent,
-            ahead: Ahead { after, again },
-            errand,
+            scratch: ScratchContexts { after, again },
+            job_buffer,
             rights,
         })
     }
 
     /// Frees its memory.
     pub fn shut(self) {
-        let Rooms {
+        let FrameBuffers {
             own: _,
             lent: _,
-            ahead: _,
-            errand: _,
+            scratch: _,
+            job_buffer: _,
             rights,
         } = self;
         rights.shut();
@@ -115,7 +115,7 @@ impl<'a> Rooms<'a> {
     pub(crate) fn empty(&mut self, alloc: Global) {
         self.own.registers.empty(alloc);
         self.lent.registers.empty(alloc);
-        self.ahead.after.registers.empty(alloc);
-        self.ahead.again.registers.empty(alloc);
+        self.scratch.after.registers.empty(alloc);
+        self.scratch.again.registers.empty(alloc);
     }
 }

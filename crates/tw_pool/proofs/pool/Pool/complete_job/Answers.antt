@@ -1,5 +1,5 @@
 use Rattle.tw_pool.proofs.Turning as turning
-use Rattle.tw_pool.proofs.pool.Pool.take_back.Goals as goal
+use Rattle.tw_pool.proofs.pool.Pool.complete_job.Goals as goal
 
 pub returns-then-short : goal.returns-then-short
 returns-then-short c = turning.back_short c.args.self.now _ c.args.actor c.args.done _ c.if-short.ensures c.go_on.ensures
