@@ -1,6 +1,6 @@
 mod Law
 mod Seating
-mod Rooming
+mod FrameBufferLists
 mod Notes
 mod Fitting
 mod Delivers

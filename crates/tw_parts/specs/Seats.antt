@@ -27,7 +27,7 @@ pub record AreSeats (seats : List (Option FrameView)) (taken : ℕ) : Type 0 whe
 -- holds if each empty seat has memory for a task
 abbrev pub AreKept : List (Option FrameView) → List (Option (Unit {0})) → Type 0
 AreKept [] [] = Unit {0}
-AreKept [] (room ∷ rooms) = ⊥
+AreKept [] (room ∷ frame_buffers) = ⊥
 AreKept (seat ∷ seats) [] = ⊥
-AreKept (None ∷ seats) (room ∷ rooms) = IsSome room × AreKept seats rooms
-AreKept (Some f ∷ seats) (room ∷ rooms) = AreKept seats rooms
+AreKept (None ∷ seats) (room ∷ frame_buffers) = IsSome room × AreKept seats frame_buffers
+AreKept (Some f ∷ seats) (room ∷ frame_buffers) = AreKept seats frame_buffers

@@ -139,6 +139,6 @@ impl<'a> Parts<'a> {
         ensures memory { OnErr result ((f : FrameView) → IsOwed self.old actor f done.entry → TakesMemory instr.now self.old.store (come f done.entry)) }
     {
         self.seats
-            .data(actor, &mut self.store, alloc, event_no, done, instr)
+            .exec_data(actor, &mut self.store, alloc, event_no, done, instr)
     }
 }

@@ -4,21 +4,21 @@
 
 mod advance;
 mod ask;
-mod copying;
 mod data;
 mod deliver;
 mod end;
 mod givens;
 mod open;
+mod operands;
 mod outputs;
 mod parts;
 mod put;
 mod quiet;
 mod release;
 mod rule;
+mod seat_tasks;
 mod seats;
 mod shut;
-mod sitters;
 mod take;
 mod work;
 

@@ -5,7 +5,7 @@ ghost use Rattle.tw_types.specs.declared.event.Event.TheVariants as event;
 ghost use Rattle.tw_code.specs.declared.instr.Instr.TheVariants as instr;
 ghost use Rattle.tw_parts.specs.Events.{IsLent, MakesBehind, StandsAt, Untouched};
 
-use crate::copying::asked_by;
+use crate::operands::action_operands;
 use crate::parts::Parts;
 use std::alloc::Global;
 use tw_code::Action;
@@ -30,7 +30,7 @@ impl<'a> Parts<'a> {
         ensures refused { OnErr result (Untouched self.old self.new) }
         ensures back { IfErr result (λ back. back ≡ done.entry) }
     {
-        let Ok(asked) = asked_by(alloc, &done, action) else {
+        let Ok(asked) = action_operands(alloc, &done, action) else {
             return Err(done);
         };
         let (callee, priority) = (asked.callee, asked.priority);

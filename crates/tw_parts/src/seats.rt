@@ -17,8 +17,8 @@ ghost use Rattle.tw_parts.specs.Coming.{IsBegun, MayBegin, come, gone_on, lent_a
 ghost use Rattle.tw_parts.specs.Data.{IsLentAnswer, MayDo};
 ghost use Rattle.tw_parts.specs.Memory.{TakesTexts};
 
-use crate::copying::Asked;
-use crate::sitters::Sitters;
+use crate::operands::ActionOperands;
+use crate::seat_tasks::SeatTasks;
 use std::alloc::{AllocError, Global};
 use std::marker::Model;
 use tw_code::DataInstr;
@@ -31,9 +31,9 @@ use tw_verify::Verified;
 
 /// A seat for each actor of the greatest layout: engines, servers, workers.
 pub struct Seats<'a> {
-    sitters: Sitters<'a>,
+    seat_tasks: SeatTasks<'a>,
     /// Memory for a task, for each empty seat.
-    rooms: Vec<Option<FrameBuffers<'a>>>,
+    frame_buffers: Vec<Option<FrameBuffers<'a>>>,
     taken: usize,
 }
 
@@ -50,30 +50,37 @@ impl<'a> Model for Seats<'a> {
 
     ghost use Rattle.tw_parts.specs.Seats.{seated, AreKept, AreSeats};
 
-    ghost view = { λ s. seated s.sitters.frames.items };
+    ghost view = { λ s. seated s.seat_tasks.frames.items };
 
-    ghost invariant = { λ s. AreSeats s.sitters.frames.items s.taken × AreKept s.sitters.frames.items s.rooms.items };
+    ghost invariant = { λ s. AreSeats s.seat_tasks.frames.items s.taken × AreKept s.seat_tasks.frames.items s.frame_buffers.items };
 }
 
 /// Takes the memory that is there.
-fn lift<'a>(rooms: &mut Vec<Option<FrameBuffers<'a>>>, seat: usize) -> FrameBuffers<'a>
-    requires inside { seat < length rooms.old.items }
-    requires there { IsSome (slice_index_or rooms.old.items seat None) }
-    ensures { rooms.new.items ≡ slice_set rooms.old.items seat None }
+fn take_buffers<'a>(
+    frame_buffers: &mut Vec<Option<FrameBuffers<'a>>>,
+    seat: usize,
+) -> FrameBuffers<'a>
+    requires inside { seat < length frame_buffers.old.items }
+    requires there { IsSome (slice_index_or frame_buffers.old.items seat None) }
+    ensures { frame_buffers.new.items ≡ slice_set frame_buffers.old.items seat None }
 {
-    let place = &mut rooms[seat];
+    let place = &mut frame_buffers[seat];
     match place.take() {
-        Some(rooms) => rooms,
+        Some(frame_buffers) => frame_buffers,
         None => unreachable!(),
     }
 }
 
 /// Puts memory there, and frees what was there.
-fn lay<'a>(rooms: &mut Vec<Option<FrameBuffers<'a>>>, seat: usize, room: FrameBuffers<'a>)
-    requires { seat < length rooms.old.items }
-    ensures { rooms.new.items ≡ slice_set rooms.old.items seat (Some tt) }
+fn put_buffers<'a>(
+    frame_buffers: &mut Vec<Option<FrameBuffers<'a>>>,
+    seat: usize,
+    room: FrameBuffers<'a>,
+)
+    requires { seat < length frame_buffers.old.items }
+    ensures { frame_buffers.new.items ≡ slice_set frame_buffers.old.items seat (Some tt) }
 {
-    let place = &mut rooms[seat];
+    let place = &mut frame_buffers[seat];
     match std::mem::replace(place, Some(room)) {
         None => {}
         Some(before) => before.shut(),
@@ -81,28 +88,28 @@ fn lay<'a>(rooms: &mut Vec<Option<FrameBuffers<'a>>>, seat: usize, room: FrameBu
 }
 
 /// Allocates memory for each seat.
-fn rooms_for_all<'a>(alloc: Global) -> Result<Vec<Option<FrameBuffers<'a>>>, AllocError>
-    ensures { IfOk result (λ rooms. rooms.items ≡ replicate 24 (Some tt)) }
+fn all_frame_buffers<'a>(alloc: Global) -> Result<Vec<Option<FrameBuffers<'a>>>, AllocError>
+    ensures { IfOk result (λ frame_buffers. frame_buffers.items ≡ replicate 24 (Some tt)) }
 {
-    let mut rooms = Vec::with_capacity(alloc, Sitters::COUNT)?;
-    for _index in 0..Sitters::COUNT {
+    let mut frame_buffers = Vec::with_capacity(alloc, SeatTasks::COUNT)?;
+    for _index in 0..SeatTasks::COUNT {
         let Ok(room) = FrameBuffers::new(alloc) else {
-            shut_rooms(rooms);
+            drop_frame_buffers(frame_buffers);
             return Err(AllocError);
         };
-        rooms.push_reserved(Some(room));
+        frame_buffers.push_reserved(Some(room));
     }
-    Ok(rooms)
+    Ok(frame_buffers)
 }
 
 /// Frees their memory.
-fn shut_rooms<'a>(mut rooms: Vec<Option<FrameBuffers<'a>>>) {
-    while let Some(room) = rooms.pop() {
+fn drop_frame_buffers<'a>(mut frame_buffers: Vec<Option<FrameBuffers<'a>>>) {
+    while let Some(room) = frame_buffers.pop() {
         if let Some(room) = room {
             room.shut();
         }
     }
-    rooms.destroy_empty();
+    frame_buffers.destroy_empty();
 }
 
 impl<'a> Seats<'a> {
@@ -110,14 +117,14 @@ impl<'a> Seats<'a> {
     pub fn new(alloc: Global) -> Result<Seats<'a>, AllocError>
         ensures { IfOk result (λ seats. seats ≡ map.empty) }
     {
-        let rooms = rooms_for_all(alloc)?;
-        let Ok(sitters) = Sitters::none(alloc) else {
-            shut_rooms(rooms);
+        let frame_buffers = all_frame_buffers(alloc)?;
+        let Ok(seat_tasks) = SeatTasks::none(alloc) else {
+            drop_frame_buffers(frame_buffers);
             return Err(AllocError);
         };
         Ok(Seats {
-            sitters,
-            rooms,
+            seat_tasks,
+            frame_buffers,
             taken: 0,
         })
     }
@@ -125,12 +132,12 @@ impl<'a> Seats<'a> {
     /// Spends every right of every task.
     pub fn shut(self) {
         let Seats {
-            sitters,
-            rooms,
+            seat_tasks,
+            frame_buffers,
             taken: _,
         } = self;
-        sitters.shut();
-        shut_rooms(rooms);
+        seat_tasks.shut();
+        drop_frame_buffers(frame_buffers);
     }
 
     /// Returns the number of running tasks.
@@ -145,7 +152,7 @@ impl<'a> Seats<'a> {
         requires { HasSeat actor }
         ensures { option_copied result ≡ get self.now actor }
     {
-        self.sitters.sitting(actor.place())
+        self.seat_tasks.seated_task(actor.place())
     }
 
     /// Starts the best task of an actor without one, if there is one, and issues its job.
@@ -168,10 +175,12 @@ impl<'a> Seats<'a> {
             return Ok(None);
         };
         let number = actor.place();
-        let start = match lift(&mut self.rooms, number).start(alloc, best, verified) {
+        let start = match take_buffers(&mut self.frame_buffers, number).start(
+            alloc, best, verified,
+        ) {
             Ok(start) => start,
-            Err(rooms) => {
-                lay(&mut self.rooms, number, rooms);
+            Err(frame_buffers) => {
+                put_buffers(&mut self.frame_buffers, number, frame_buffers);
                 return Err(AllocError);
             }
         };
@@ -180,7 +189,7 @@ impl<'a> Seats<'a> {
         };
         let (mut frame, draft) = Frame::start(task, actor, verified, start);
         let job = frame.lend(event_no, draft);
-        self.sitters.seat(number, frame);
+        self.seat_tasks.seat(number, frame);
         self.taken += 1;
         Ok(Some(job))
     }
@@ -192,11 +201,11 @@ impl<'a> Seats<'a> {
         ensures { self.new ≡ remove self.old actor }
     {
         let number = actor.place();
-        let Some(frame) = self.sitters.unseat(number) else {
+        let Some(frame) = self.seat_tasks.take_task(number) else {
             unreachable!();
         };
         self.taken -= 1;
-        lay(&mut self.rooms, number, frame.end(alloc, done));
+        put_buffers(&mut self.frame_buffers, number, frame.end(alloc, done));
     }
 
     /// Completes the actor's job, which `done` must be of, and issues the next one.
@@ -206,7 +215,7 @@ impl<'a> Seats<'a> {
         ensures { (f : FrameView) → get self.old actor ≡ Some f
             → (self.new ≡ insert self.old actor (lent_as event_no (come f done.entry))) × (result ≡ job_of (lent_as event_no (come f done.entry))) }
     {
-        self.sitters.advance(actor.place(), event_no, done)
+        self.seat_tasks.advance(actor.place(), event_no, done)
     }
 
     /// Completes the actor's job, moves arguments out of its registers, moves to the next place, and issues the next job.
@@ -217,7 +226,7 @@ impl<'a> Seats<'a> {
         event_no: u64,
         done: Done<'a>,
         args: &[u8],
-        asked: Asked<'_>,
+        asked: ActionOperands<'_>,
         room: Vec<Arg>,
     ) -> (Bundle, Job<'a>)
         requires seat { HasSeat actor }
@@ -230,18 +239,18 @@ impl<'a> Seats<'a> {
             × (bundled f.held asked.entry.callee.now.params args.now asked.entry.vals.items ≡ Some (record { args = result.0; file = file }))
             × (self.new ≡ insert self.old actor (lent_as event_no (gone_on (come f done.entry) file))) × (result.1 ≡ job_of (lent_as event_no (gone_on (come f done.entry) file))) }
     {
-        let Asked {
+        let ActionOperands {
             callee,
             priority: _,
             vals,
         } = asked;
         let params = callee.params.as_slice();
-        self.sitters
+        self.seat_tasks
             .hand_over(actor.place(), event_no, done, params, args, vals, room)
     }
 
     /// Completes the actor's job, executes an instruction on data, and issues the next job. Returns the `Done` if an allocation fails.
-    pub(crate) fn data(
+    pub(crate) fn exec_data(
         &mut self,
         actor: Actor,
         store: &mut Store,
@@ -255,7 +264,7 @@ impl<'a> Seats<'a> {
         ensures { (f : FrameView) → get self.old actor ≡ Some f → (g : FrameView) × (self.new ≡ insert self.old actor g)
             × IsLentAnswer instr.now store.old store.new f g event_no done.entry result }
     {
-        self.sitters
-            .data(actor.place(), store, alloc, event_no, done, instr)
+        self.seat_tasks
+            .exec_data(actor.place(), store, alloc, event_no, done, instr)
     }
 }

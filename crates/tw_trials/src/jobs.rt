@@ -60,14 +60,14 @@ pub fn stretch_of(alloc: Global, verified: &Verified) -> Result<Option<Stretch<'
         procedure: 0,
         args: Bundle::new(alloc),
     };
-    let Ok(rooms) = FrameBuffers::new(alloc) else {
+    let Ok(frame_buffers) = FrameBuffers::new(alloc) else {
         shut(task);
         return Err(AllocError);
     };
-    let start = match rooms.start(alloc, &task, verified) {
+    let start = match frame_buffers.start(alloc, &task, verified) {
         Ok(start) => start,
-        Err(rooms) => {
-            rooms.shut();
+        Err(frame_buffers) => {
+            frame_buffers.shut();
             shut(task);
             return Err(AllocError);
         }

@@ -10,14 +10,14 @@ use Rattle.tw_parts.proofs.Seating.{again}
 use Rattle.tw_parts.proofs.ValueRegisters.{ok_ints}
 use Rattle.tw_parts.proofs.parts.Parts.put.Goals as goal
 
-pub asked_by-requires-clause-suits : goal.asked_by-requires-clause-suits
-asked_by-requires-clause-suits c =
+pub action_operands-requires-clause-suits : goal.action_operands-requires-clause-suits
+action_operands-requires-clause-suits c =
     let s = c.requires.stands in
     let u = put_named c.args.done.before.program s.layout (there c.args.self.now c.args.actor c.args.done (instr.Put c.args.action.now) c.requires.stands) s.notices s.parts c.args.actor (come s.f c.args.done) s.q c.args.action.now (runs_there c.args.self.now c.args.actor c.args.done (instr.Put c.args.action.now) c.requires.stands) s.here s.behind in
     (u.procedure, u.is, u.long, u.values)
 
-pub asked_by-requires-clause-priority : goal.asked_by-requires-clause-priority
-asked_by-requires-clause-priority c =
+pub action_operands-requires-clause-priority : goal.action_operands-requires-clause-priority
+action_operands-requires-clause-priority c =
     let s = c.requires.stands in
     let u = put_named c.args.done.before.program s.layout (there c.args.self.now c.args.actor c.args.done (instr.Put c.args.action.now) c.requires.stands) s.notices s.parts c.args.actor (come s.f c.args.done) s.q c.args.action.now (runs_there c.args.self.now c.args.actor c.args.done (instr.Put c.args.action.now) c.requires.stands) s.here s.behind in
     (u.priority, u.priority_is)

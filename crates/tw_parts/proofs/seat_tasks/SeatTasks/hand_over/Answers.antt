@@ -1,7 +1,7 @@
 use Rattle.std.proofs.Common.{◌≡◌, ◌+◌, ◌∙◌, None, ap, subst, sym}
 use Rattle.tw_parts.proofs.PartNames.{FrameView, MayStand, at_next_place, same_Some}
 use Rattle.tw_parts.proofs.Seating.{in_list}
-use Rattle.tw_parts.proofs.sitters.Sitters.hand_over.Goals as goal
+use Rattle.tw_parts.proofs.seat_tasks.SeatTasks.hand_over.Goals as goal
 
 pub lend-requires-clause-stands : goal.lend-requires-clause-stands
 lend-requires-clause-stands c =

@@ -1,7 +1,7 @@
 use Rattle.std.proofs.Common.{◌≡◌, ◌∙◌, None, sym, subst}
 use Rattle.tw_parts.proofs.PartNames.{FrameView, MayDo, come, same_Some}
 use Rattle.tw_parts.proofs.Seating.{in_list}
-use Rattle.tw_parts.proofs.sitters.Sitters.data.Goals as goal
+use Rattle.tw_parts.proofs.seat_tasks.SeatTasks.exec_data.Goals as goal
 
 pub run_and_lend-requires-clause-may : goal.run_and_lend-requires-clause-may
 run_and_lend-requires-clause-may c =

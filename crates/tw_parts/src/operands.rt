@@ -14,7 +14,7 @@ use tw_types::{Param, Value};
 
 /// The operands of an action after a job: the procedure that it names, its priority, and copies of the values.
 #[derive(Drop)]
-pub(crate) struct Asked<'a> {
+pub(crate) struct ActionOperands<'a> {
     pub(crate) callee: &'a Procedure,
     pub(crate) priority: i64,
     pub(crate) vals: Vec<Value>,
@@ -55,11 +55,11 @@ pub(crate) fn values_of(
 
 /// Returns the operands of the action at which a task is after the job.
 #[inline(always)]
-pub(crate) fn asked_by<'a>(
+pub(crate) fn action_operands<'a>(
     alloc: Global,
     done: &Done<'a>,
     action: &Action,
-) -> Result<Asked<'a>, AllocError>
+) -> Result<ActionOperands<'a>, AllocError>
     requires suits { (p : Callee) × (slice_get done.now.before.program.program action.now.procedure ≡ Some p) × (length action.now.args ≡ length p.params)
         × (values_suit done.now.after.values p.params action.now.args ≡ true) }
     requires priority { (n : ℤ) × (priority_at done.now.after action.now.priority ≡ Ok n) }
@@ -72,7 +72,7 @@ pub(crate) fn asked_by<'a>(
     let params = callee.params.as_slice();
     let priority = priority_of(done, action.priority);
     let vals = values_of(alloc, done, params, action.args.as_slice())?;
-    Ok(Asked {
+    Ok(ActionOperands {
         callee,
         priority,
         vals,

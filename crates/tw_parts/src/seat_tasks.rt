@@ -19,27 +19,27 @@ use tw_store::Store;
 use tw_types::{Param, Value};
 
 /// The task in each seat, if there is one.
-pub(crate) struct Sitters<'a> {
+pub(crate) struct SeatTasks<'a> {
     pub(crate) frames: Vec<Option<Frame<'a>>>,
 }
 
-impl<'a> Sitters<'a> {
+impl<'a> SeatTasks<'a> {
     /// The number of seats.
     pub(crate) const COUNT: usize = 24;
 
     /// Makes empty seats.
-    pub(crate) fn none(alloc: Global) -> Result<Sitters<'a>, AllocError>
-        ensures { IfOk result (λ sitters. sitters.frames.items ≡ replicate 24 None) }
+    pub(crate) fn none(alloc: Global) -> Result<SeatTasks<'a>, AllocError>
+        ensures { IfOk result (λ seat_tasks. seat_tasks.frames.items ≡ replicate 24 None) }
     {
-        let mut frames = Vec::with_capacity(alloc, Sitters::COUNT)?;
-        for _index in 0..Sitters::COUNT {
+        let mut frames = Vec::with_capacity(alloc, SeatTasks::COUNT)?;
+        for _index in 0..SeatTasks::COUNT {
             frames.push_reserved(None);
         }
-        Ok(Sitters { frames })
+        Ok(SeatTasks { frames })
     }
 
     /// Returns the task in a seat.
-    pub(crate) fn sitting(&self, seat: usize) -> Option<&Frame<'a>>
+    pub(crate) fn seated_task(&self, seat: usize) -> Option<&Frame<'a>>
         requires { seat < length self.now.frames.items }
         ensures { option_copied result ≡ slice_index_or self.now.frames.items seat None }
     {
@@ -47,7 +47,7 @@ impl<'a> Sitters<'a> {
     }
 
     /// Takes the task out of a seat.
-    pub(crate) fn unseat(&mut self, seat: usize) -> Option<Frame<'a>>
+    pub(crate) fn take_task(&mut self, seat: usize) -> Option<Frame<'a>>
         requires { seat < length self.old.frames.items }
         ensures taken { result ≡ slice_index_or self.old.frames.items seat None }
         ensures rest { self.new.frames.items ≡ slice_set self.old.frames.items seat None }
@@ -122,7 +122,7 @@ impl<'a> Sitters<'a> {
 
     /// Completes the job of the task there, executes an instruction on data, and issues the next job. Returns the `Done` if an
     /// allocation fails.
-    pub(crate) fn data(
+    pub(crate) fn exec_data(
         &mut self,
         seat: usize,
         store: &mut Store,
@@ -145,7 +145,7 @@ impl<'a> Sitters<'a> {
 
     /// Spends every right of every task.
     pub(crate) fn shut(self) {
-        let Sitters { mut frames } = self;
+        let SeatTasks { mut frames } = self;
         while let Some(seat) = frames.pop() {
             if let Some(frame) = seat {
                 frame.shut();

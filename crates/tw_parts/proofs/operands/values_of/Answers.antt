@@ -1,7 +1,7 @@
 use Rattle.std.proofs.Common.{◌<◌, ◌∙◌, length, arith, slice_index_or, refl, sym, ap}
 use Rattle.tw_parts.proofs.PartNames.{Param, is_val, slice_get-get_or, slice_get_read}
 use Rattle.tw_parts.proofs.Copied.{is_declared, past, with_value}
-use Rattle.tw_parts.proofs.copying.values_of.Goals as goal
+use Rattle.tw_parts.proofs.operands.values_of.Goals as goal
 
 pub loop-index-preserved-then-not-is_val : goal.loop-index-preserved-then-not-is_val
 loop-index-preserved-then-not-is_val c =

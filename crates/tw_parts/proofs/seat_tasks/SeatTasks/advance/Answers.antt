@@ -2,7 +2,7 @@ use Rattle.std.proofs.Common.{◌≡◌, ◌∙◌, None, ap, subst, sym}
 use Rattle.tw_frame.proofs.Lending.{may_go_on}
 use Rattle.tw_parts.proofs.PartNames.{FrameView, JobView, MayStand, job_of, same_Some}
 use Rattle.tw_parts.proofs.Seating.{in_list}
-use Rattle.tw_parts.proofs.sitters.Sitters.advance.Goals as goal
+use Rattle.tw_parts.proofs.seat_tasks.SeatTasks.advance.Goals as goal
 
 pub lend-requires-clause-stands : goal.lend-requires-clause-stands
 lend-requires-clause-stands c =

@@ -1,7 +1,7 @@
 use Rattle.std.proofs.Common.{◌≡◌, Ok, sym, ap, ◌∙◌, arith, to_z-of_z, to_z, of_z, w64}
 use Rattle.tw_code.specs.machine.Arguments.{priority_at}
 use Rattle.tw_parts.proofs.ValueRegisters.{int_is, int_known}
-use Rattle.tw_parts.proofs.copying.priority_of.Goals as goal
+use Rattle.tw_parts.proofs.operands.priority_of.Goals as goal
 
 pub number_at-requires : goal.number_at-requires
 number_at-requires c = (c.requires.0, int_is c.args.done.now.after c.in-Computed.register c.requires.0 (ap (priority_at c.args.done.now.after) (sym c.in-Computed.is) ∙ c.requires.1))

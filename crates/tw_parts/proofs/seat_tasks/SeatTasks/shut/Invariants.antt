@@ -1,5 +1,5 @@
 use Rattle.std.proofs.Common.{length}
-use Rattle.tw_parts.proofs.sitters.Sitters.shut.Given as goal
+use Rattle.tw_parts.proofs.seat_tasks.SeatTasks.shut.Given as goal
 
 abbrev pub invariant-loop-seat : goal.invariant-loop-seat
 invariant-loop-seat l = Unit {0}
