@@ -12,7 +12,7 @@ ghost use Rattle.tw_pool.specs.PoolView.{HasState};
 
 use crate::answer::Closing;
 use crate::history::History;
-use crate::pending::all_told;
+use crate::pending::all_pending;
 use crate::pool::Pool;
 use std::alloc::{AllocError, Global};
 use std::marker::Model;
@@ -80,7 +80,7 @@ impl Final {
     pub fn pending(&self, alloc: Global) -> Result<Vec<Pending>, AllocError>
         ensures { IfOk result (λ pending. pending.items ≡ self.now.pending) }
     {
-        all_told(alloc, self.remains.pending.as_slice())
+        all_pending(alloc, self.remains.pending.as_slice())
     }
 
     /// Returns why the run is over, if it is.

@@ -4,12 +4,12 @@
 mod answer;
 mod ends;
 mod events;
-mod free;
-mod hand_in;
 mod history;
 mod open;
 mod pending;
 mod pool;
+mod scheduling;
+mod submit;
 mod turn;
 mod words;
 mod work;

@@ -81,7 +81,7 @@ fn pending_told(alloc: Global, rule: &PlainRule) -> Result<Pending, AllocError>
 }
 
 /// Returns the rules with the data for which they wait, and those that they may write.
-pub(crate) fn all_told(alloc: Global, rules: &[PlainRule]) -> Result<Vec<Pending>, AllocError>
+pub(crate) fn all_pending(alloc: Global, rules: &[PlainRule]) -> Result<Vec<Pending>, AllocError>
     ensures { IfOk result (λ pending. pending.items ≡ map pending_told rules.now) }
 {
     let mut pending = Vec::new(alloc);

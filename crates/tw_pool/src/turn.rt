@@ -73,12 +73,12 @@ impl<'a> Pool<'a> {
             return Turn::Over(closing);
         }
         match given {
-            Some(done) => self.hand_in(alloc, actor, done),
+            Some(done) => self.submit(alloc, actor, done),
             None => {
                 if has_task(&self.parts, actor) {
                     Turn::Owed
                 } else {
-                    self.go_free(alloc, actor)
+                    self.schedule(alloc, actor)
                 }
             }
         }

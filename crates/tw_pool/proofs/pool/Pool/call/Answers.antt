@@ -9,8 +9,8 @@ use Rattle.tw_pool.proofs.pool.Pool.call.Goals as goal
 pub event_of-event-requires : goal.event_of-event-requires
 event_of-event-requires c = record { owed = hand.owed_some _ _ _ c.self.inside.stopped c.self.inside.history c.self.inside.parts c.self.invariant c.args.self.now c.self.view_is c.args.actor c.requires.actor c.requires.room c.args.done c.requires.owed }
 
-pub count_behind-event_no-requires : goal.count_behind-event_no-requires
-count_behind-event_no-requires c = record { place = hand.has_seat _ _ _ c.self.inside.stopped c.self.inside.history c.self.inside.parts c.self.invariant c.args.self.now c.self.view_is c.args.actor c.requires.actor c.requires.room c.args.done c.requires.owed; few = omega (arith, c.self.invariant.within, c.self.invariant.few) }
+pub count_after-event_no-requires : goal.count_after-event_no-requires
+count_after-event_no-requires c = record { place = hand.has_seat _ _ _ c.self.inside.stopped c.self.inside.history c.self.inside.parts c.self.invariant c.args.self.now c.self.view_is c.args.actor c.requires.actor c.requires.room c.args.done c.requires.owed; few = omega (arith, c.self.invariant.within, c.self.invariant.few) }
 
 pub call_by-requires-clause-stands : goal.call_by-requires-clause-stands
 call_by-requires-clause-stands c = hand.stands _ _ _ c.self.inside.stopped c.self.inside.history c.self.inside.parts c.self.invariant c.args.self.now c.self.view_is c.args.actor c.requires.actor c.requires.room c.args.done c.requires.owed c.event_of-event.result (hand.has_come _ _ _ c.self.inside.stopped c.self.inside.history c.self.inside.parts c.self.invariant c.args.self.now c.self.view_is c.args.actor c.requires.actor c.requires.room c.args.done c.requires.owed c.steps-steps.ensures.done.few c.event_of-event.result c.event_of-event.ensures) c.args.instr.now c.requires.behind
@@ -23,7 +23,7 @@ returns-in-Err c =
     free.line_still _ _ _ c.self.inside.stopped c.self.inside.history c.self.inside.parts c.self.invariant c.args.self.now c.self.view_is (λ s. OrNoMemory c.args.self.now (Some c.args.done) (steps_of c.args.actor c.args.done) (Call c.args.actor) (Lends c.args.self.now c.args.actor ((steps_of c.args.actor c.args.done) ++ Call c.args.actor ∷ []))) (answer.NoMemory (Some c.in-Err.done)) (inr (hand.wanted _ _ _ c.self.inside.stopped c.self.inside.history c.self.inside.parts c.self.invariant c.args.self.now c.self.view_is c.args.actor c.requires.actor c.requires.room c.args.done c.requires.owed c.event_of-event.result (hand.has_come _ _ _ c.self.inside.stopped c.self.inside.history c.self.inside.parts c.self.invariant c.args.self.now c.self.view_is c.args.actor c.requires.actor c.requires.room c.args.done c.requires.owed c.steps-steps.ensures.done.few c.event_of-event.result c.event_of-event.ensures) c.args.instr.now c.requires.behind c.in-Err.ensures.memory, (ap (λ x. answer.NoMemory (Some x)) c.in-Err.ensures.back, refl)))
 
 pub invariant_of-self-2 : goal.invariant_of-self-2
-invariant_of-self-2 c = hand.kept_called _ _ _ c.self.inside.stopped c.self.inside.history c.self.inside.parts c.self.invariant c.args.self.now c.self.view_is c.args.actor c.requires.actor c.requires.room c.args.done c.requires.owed c.event_of-event.result (hand.has_come _ _ _ c.self.inside.stopped c.self.inside.history c.self.inside.parts c.self.invariant c.args.self.now c.self.view_is c.args.actor c.requires.actor c.requires.room c.args.done c.requires.owed c.steps-steps.ensures.done.few c.event_of-event.result c.event_of-event.ensures) (hand.room_two _ _ _ c.self.inside.stopped c.self.inside.history c.self.inside.parts c.self.invariant c.args.self.now c.self.view_is c.args.actor c.requires.actor c.requires.room c.args.done c.requires.owed c.requires.fits c.event_of-event.result c.event_of-event.ensures) c.tell.new.history c.push.new.self c.tell.ensures c.push.ensures c.count_behind-event_no.result c.count_behind-event_no.ensures c.call_by.new.parts c.in-Ok.ensures.called c.in-Ok.job c.in-Ok.ensures.lent
+invariant_of-self-2 c = hand.kept_called _ _ _ c.self.inside.stopped c.self.inside.history c.self.inside.parts c.self.invariant c.args.self.now c.self.view_is c.args.actor c.requires.actor c.requires.room c.args.done c.requires.owed c.event_of-event.result (hand.has_come _ _ _ c.self.inside.stopped c.self.inside.history c.self.inside.parts c.self.invariant c.args.self.now c.self.view_is c.args.actor c.requires.actor c.requires.room c.args.done c.requires.owed c.steps-steps.ensures.done.few c.event_of-event.result c.event_of-event.ensures) (hand.room_two _ _ _ c.self.inside.stopped c.self.inside.history c.self.inside.parts c.self.invariant c.args.self.now c.self.view_is c.args.actor c.requires.actor c.requires.room c.args.done c.requires.owed c.requires.fits c.event_of-event.result c.event_of-event.ensures) c.record_event.new.history c.push.new.self c.record_event.ensures c.push.ensures c.count_after-event_no.result c.count_after-event_no.ensures c.call_by.new.parts c.in-Ok.ensures.called c.in-Ok.job c.in-Ok.ensures.lent
 
 pub returns : goal.returns
-returns c = hand.or_memory c.args.self.now (Lends c.args.self.now c.args.actor ((steps_of c.args.actor c.args.done) ++ Call c.args.actor ∷ [])) (Some c.args.done) (steps_of c.args.actor c.args.done) (Call c.args.actor) _ _ (answer.Run c.in-Ok.job) (hand.line_called _ _ _ c.self.inside.stopped c.self.inside.history c.self.inside.parts c.self.invariant c.args.self.now c.self.view_is c.args.actor c.requires.actor c.requires.room c.args.done c.requires.owed c.event_of-event.result (hand.has_come _ _ _ c.self.inside.stopped c.self.inside.history c.self.inside.parts c.self.invariant c.args.self.now c.self.view_is c.args.actor c.requires.actor c.requires.room c.args.done c.requires.owed c.steps-steps.ensures.done.few c.event_of-event.result c.event_of-event.ensures) (hand.room_two _ _ _ c.self.inside.stopped c.self.inside.history c.self.inside.parts c.self.invariant c.args.self.now c.self.view_is c.args.actor c.requires.actor c.requires.room c.args.done c.requires.owed c.requires.fits c.event_of-event.result c.event_of-event.ensures) c.tell.new.history c.push.new.self c.tell.ensures c.push.ensures c.count_behind-event_no.result c.count_behind-event_no.ensures c.call_by.new.parts c.in-Ok.ensures.called c.in-Ok.job c.in-Ok.ensures.lent)
+returns c = hand.or_memory c.args.self.now (Lends c.args.self.now c.args.actor ((steps_of c.args.actor c.args.done) ++ Call c.args.actor ∷ [])) (Some c.args.done) (steps_of c.args.actor c.args.done) (Call c.args.actor) _ _ (answer.Run c.in-Ok.job) (hand.line_called _ _ _ c.self.inside.stopped c.self.inside.history c.self.inside.parts c.self.invariant c.args.self.now c.self.view_is c.args.actor c.requires.actor c.requires.room c.args.done c.requires.owed c.event_of-event.result (hand.has_come _ _ _ c.self.inside.stopped c.self.inside.history c.self.inside.parts c.self.invariant c.args.self.now c.self.view_is c.args.actor c.requires.actor c.requires.room c.args.done c.requires.owed c.steps-steps.ensures.done.few c.event_of-event.result c.event_of-event.ensures) (hand.room_two _ _ _ c.self.inside.stopped c.self.inside.history c.self.inside.parts c.self.invariant c.args.self.now c.self.view_is c.args.actor c.requires.actor c.requires.room c.args.done c.requires.owed c.requires.fits c.event_of-event.result c.event_of-event.ensures) c.record_event.new.history c.push.new.self c.record_event.ensures c.push.ensures c.count_after-event_no.result c.count_after-event_no.ensures c.call_by.new.parts c.in-Ok.ensures.called c.in-Ok.job c.in-Ok.ensures.lent)

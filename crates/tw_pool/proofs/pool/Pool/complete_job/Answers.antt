@@ -5,7 +5,7 @@ pub returns-then-short : goal.returns-then-short
 returns-then-short c = turning.back_short c.args.self.now _ c.args.actor c.args.done _ c.if-short.ensures c.go_on.ensures
 
 pub returns-then-is_last : goal.returns-then-is_last
-returns-then-is_last c = turning.back_last c.args.self.now _ c.args.actor c.args.done _ c.if-short.ensures c.if-is_last.ensures c.fill_up.ensures
+returns-then-is_last c = turning.back_last c.args.self.now _ c.args.actor c.args.done _ c.if-short.ensures c.if-is_last.ensures c.stop_at_limit.ensures
 
 pub returns : goal.returns
-returns c = turning.back_past c.args.self.now _ c.args.actor c.args.done _ c.if-short.ensures c.if-is_last.ensures c.go_past.ensures
+returns c = turning.back_past c.args.self.now _ c.args.actor c.args.done _ c.if-short.ensures c.if-is_last.ensures c.execute_next.ensures

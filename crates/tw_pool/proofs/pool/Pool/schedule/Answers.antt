@@ -3,7 +3,7 @@ use Rattle.tw_types.specs.declared.actor.Actor.{Actor}
 use Rattle.tw_types.specs.declared.actor.Actor.TheVariants.{Engine}
 use Rattle.tw_pool.specs.PoolView.{PoolView}
 use Rattle.tw_pool.specs.Turns.{GoesFree, IsTurnBy}
-use Rattle.tw_pool.proofs.pool.Pool.go_free.Goals as goal
+use Rattle.tw_pool.proofs.pool.Pool.schedule.Goals as goal
 
 pub returns-in-Some : goal.returns-in-Some
 returns-in-Some c = subst (λ (a : Actor). IsTurnBy (λ s. GoesFree c.args.self.now s a) c.args.self.now c.in-Some.answer c.ask.new.self) (sym c.in-Engine.is) c.in-Some.ensures

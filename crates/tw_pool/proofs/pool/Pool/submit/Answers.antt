@@ -1,6 +1,6 @@
 use Rattle.std.proofs.Common.{◌≡◌, ◌∙◌, sym, ap, refl, true, false}
 use Rattle.tw_pool.proofs.Turning as turning
-use Rattle.tw_pool.proofs.pool.Pool.hand_in.Goals as goal
+use Rattle.tw_pool.proofs.pool.Pool.submit.Goals as goal
 
 pub returns-in_default : goal.returns-in_default
 returns-in_default c =

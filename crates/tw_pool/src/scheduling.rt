@@ -83,7 +83,7 @@ impl<'a> Pool<'a> {
     }
 
     /// Makes one scheduling step of an actor without a task, without a `Done`.
-    pub(crate) fn go_free(&mut self, alloc: Global, actor: Actor) -> Turn<'a>
+    pub(crate) fn schedule(&mut self, alloc: Global, actor: Actor) -> Turn<'a>
         requires actor { is_in self.old.layout actor ≡ true }
         requires room { length self.old.history < self.old.limit }
         requires free { IsFree self.old actor }

@@ -59,7 +59,7 @@ fn call_by<'a>(
 }
 
 /// Records an event, if there is one.
-fn tell(history: &mut History, event: Option<Event>)
+fn record_event(history: &mut History, event: Option<Event>)
     requires fits { IfSome event FitsWord }
     requires room { length history.old.events < history.old.limit }
     ensures { history.new ≡ record history.old { events = history.old.events ++ option_to_list event } }
@@ -70,7 +70,7 @@ fn tell(history: &mut History, event: Option<Event>)
 }
 
 /// Returns how many events the actor has after those of its `Done` and a Call.
-fn count_behind(history: &History, actor: Actor, done: &Done<'_>) -> u64
+fn count_after(history: &History, actor: Actor, done: &Done<'_>) -> u64
     requires place { HasPlace actor }
     requires few { length history.now.events ≤ 1000000 }
     ensures { result ≡ length (events_of actor (history.now.events ++ (steps_of actor done.now ++ CallBy actor ∷ []))) }
@@ -111,13 +111,13 @@ impl<'a> Pool<'a> {
     {
         let _steps = done.steps();
         let event = self.parts.event_of(actor, &done);
-        tell(&mut self.history, event);
+        record_event(&mut self.history, event);
         let event_no = self.history.count(actor);
         Turn::Run(self.parts.advance(actor, event_no, done))
     }
 
     /// Completes the actor's job, whose steps are the last event up to the limit. Drops the next job.
-    fn fill_up(&mut self, actor: Actor, done: Done<'a>) -> Turn<'a>
+    fn stop_at_limit(&mut self, actor: Actor, done: Done<'a>) -> Turn<'a>
         requires actor { is_in self.old.layout actor ≡ true }
         requires room { length self.old.history < self.old.limit }
         requires owed { IsOwedBy self.old actor done }
@@ -140,12 +140,12 @@ impl<'a> Pool<'a> {
     {
         let _steps = done.steps();
         let event = self.parts.event_of(actor, &done);
-        let event_no = count_behind(&self.history, actor, &done);
+        let event_no = count_after(&self.history, actor, &done);
         let job = match call_by(&mut self.parts, alloc, actor, event_no, instr, done) {
             Ok(job) => job,
             Err(done) => return Turn::NoMemory(Some(done)),
         };
-        tell(&mut self.history, event);
+        record_event(&mut self.history, event);
         self.history.push(Event::Call(actor));
         Turn::Run(job)
     }
@@ -162,13 +162,13 @@ impl<'a> Pool<'a> {
         let _steps = done.steps();
         let event = self.parts.event_of(actor, &done);
         self.parts.end(alloc, actor, done);
-        tell(&mut self.history, event);
+        record_event(&mut self.history, event);
         self.history.push(Event::End(actor));
         Turn::Ended
     }
 
     /// Completes a job that isn't short, if all its events fit the limit.
-    fn go_past(&mut self, alloc: Global, actor: Actor, done: Done<'a>) -> Turn<'a>
+    fn execute_next(&mut self, alloc: Global, actor: Actor, done: Done<'a>) -> Turn<'a>
         requires actor { is_in self.old.layout actor ≡ true }
         requires room { length self.old.history < self.old.limit }
         requires owed { IsOwedBy self.old actor done }
@@ -209,13 +209,13 @@ impl<'a> Pool<'a> {
             return self.go_on(actor, done);
         }
         if self.is_last(&done) {
-            return self.fill_up(actor, done);
+            return self.stop_at_limit(actor, done);
         }
-        self.go_past(alloc, actor, done)
+        self.execute_next(alloc, actor, done)
     }
 
     /// Handles a job's result. Returns it as foreign if no job is issued to the actor, or another one.
-    pub(crate) fn hand_in(&mut self, alloc: Global, actor: Actor, done: Done<'a>) -> Turn<'a>
+    pub(crate) fn submit(&mut self, alloc: Global, actor: Actor, done: Done<'a>) -> Turn<'a>
         requires actor { is_in self.old.layout actor ≡ true }
         requires room { length self.old.history < self.old.limit }
         requires program { done.before.program ≡ self.old.program }
