@@ -143,7 +143,7 @@ fn first_other<N: Named>(
 }
 
 /// Takes the lists of all seats, and their parts of the ledger.
-fn settle<N: Named>(
+fn settle_seats<N: Named>(
     seats: Vec<Seat<N>>,
     mut by_seat: Vec<Events>,
     all: &mut Share<N>,
@@ -194,7 +194,7 @@ impl<'a, N: Named> Locked<'a, N> {
             sleepers: _,
         } = self;
         let other = first_other(seats.as_mut_slice(), pool.layout(), pool.history());
-        let by_seat = settle(seats, by_seat, &mut spare);
+        let by_seat = settle_seats(seats, by_seat, &mut spare);
         book.audit(&mut spare);
         let (outcome, history) = pool.shut();
         match other {

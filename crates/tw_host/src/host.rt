@@ -6,12 +6,12 @@ ghost use Rattle.tw_host.specs.Seats.{actors_of, actor_count};
 ghost use Rattle.tw_host.specs.Holds.{TellsAll, TellsUpTo};
 ghost use Rattle.tw_host.specs.Tells.{IsAnswerOf, IsDoneOf, Tells};
 
-use crate::hold::MOST_TURNS;
+use crate::batch::MOST_TURNS;
 use crate::locked::{Locked, Strange};
 use crate::named::Named;
 use crate::parkers::Parkers;
 use crate::progress::RunProgress;
-use crate::seat::{Seat, rooms, seats_of};
+use crate::seat::{Seat, seat_memory, seats_of};
 use crate::sleepers::Sleepers;
 use crossbeam_utils::{Backoff, CachePadded};
 use std::alloc::Global;
@@ -75,7 +75,7 @@ impl<'a, N: Named> Host<'a, N> {
             let _ = pool.shut();
             return Err(OpenRefusal::NoMemory);
         };
-        let Ok((seats, by_seat)) = rooms(alloc, layout.actor_count()) else {
+        let Ok((seats, by_seat)) = seat_memory(alloc, layout.actor_count()) else {
             let _ = pool.shut();
             return Err(OpenRefusal::NoMemory);
         };
@@ -129,7 +129,7 @@ impl<'a, N: Named> Host<'a, N> {
         let mut guard = locked_soon(&self.locked, rt);
         let locked = &mut **guard;
         locked.check_in(seat, self.progress.is_over());
-        let answer = locked.turns(alloc, seat, done, most);
+        let answer = locked.run_batch(alloc, seat, done, most);
         let events = seat.told.len() - told;
         let due = locked.to_wake(seat, events, &answer);
         self.progress.set_events(locked.len());
@@ -164,7 +164,7 @@ impl<'a, N: Named> Host<'a, N> {
     /// they append. If an allocation for these fails, the pool doesn't change. If the seat's list isn't as long as the pool's, nothing
     /// changes either.
     #[inline(always)]
-    pub fn turns(
+    pub fn run_batch(
         &self,
         rt: &impl Wait,
         alloc: Global,

@@ -1,8 +1,8 @@
 //! A pool under its one lock, and a seat for each actor, from which a driver makes its scheduling steps.
 #![tactic(auto)]
 
+mod batch;
 mod close;
-mod hold;
 mod host;
 mod locked;
 mod named;

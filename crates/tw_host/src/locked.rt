@@ -4,9 +4,9 @@ ghost use Rattle.std.specs.Prelude.{◌≡◌, ◌<◌, ◌≤◌, ◌+◌, ◌*
 ghost use Rattle.tw_host.specs.Holds.{TellsUpTo};
 ghost use Rattle.tw_host.specs.Tells.{IsAnswerOf, IsDoneOf};
 
-use crate::hold::turns;
+use crate::batch::run_batch;
 use crate::named::Named;
-use crate::seat::{Seat, tell};
+use crate::seat::{Seat, record_events};
 use crate::sleepers::Sleepers;
 use std::alloc::Global;
 use std::marker::Model;
@@ -81,7 +81,7 @@ impl<'a, N: Named> Locked<'a, N> {
     }
 
     /// Makes steps of the seat's actor, at most `most`. The seat gets the events that they append.
-    pub(crate) fn turns(
+    pub(crate) fn run_batch(
         &mut self,
         alloc: Global,
         seat: &mut Seat<N>,
@@ -101,8 +101,8 @@ impl<'a, N: Named> Locked<'a, N> {
             return Err(Strange { count, done });
         }
         let before = self.pool.history().len();
-        let answer = turns(&mut self.pool, alloc, seat.actor, done, most);
-        tell(self.pool.history(), before, &mut self.book, seat);
+        let answer = run_batch(&mut self.pool, alloc, seat.actor, done, most);
+        record_events(self.pool.history(), before, &mut self.book, seat);
         Ok(answer)
     }
 }

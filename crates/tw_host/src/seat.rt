@@ -39,7 +39,7 @@ impl<N: Named> Seat<N> {
 }
 
 /// Allocates memory for `count` seats, and for their lists of events.
-pub(crate) fn rooms<N: Named>(
+pub(crate) fn seat_memory<N: Named>(
     alloc: Global,
     count: usize,
 ) -> Result<(Vec<Seat<N>>, Vec<Events>), AllocError>
@@ -81,7 +81,7 @@ pub(crate) fn seats_of<N: Named>(
 }
 
 /// Appends to a seat the events of the run from an index on, and counts them.
-pub(crate) fn tell<N: Named>(
+pub(crate) fn record_events<N: Named>(
     history: &History,
     before: usize,
     book: &mut Book<N>,

@@ -37,7 +37,7 @@ pub trait Desk<'a> {
         ensures program { IfOk result (IsAnswerOf program) };
 
     /// Makes one scheduling step, or a batch.
-    fn turns<R: Wait>(
+    fn run_batch<R: Wait>(
         &self,
         rt: &R,
         alloc: Global,
@@ -90,7 +90,7 @@ impl<'h, 'a, N: Named, G: Gate> Desk<'a> for Guarded<'h, 'a, N, G> {
         self.host.turn(rt, alloc, seat, done)
     }
 
-    fn turns<R: Wait>(
+    fn run_batch<R: Wait>(
         &self,
         rt: &R,
         alloc: Global,
@@ -100,7 +100,7 @@ impl<'h, 'a, N: Named, G: Gate> Desk<'a> for Guarded<'h, 'a, N, G> {
         if self.gate.watches() {
             self.host.turn(rt, alloc, seat, done)
         } else {
-            self.host.turns(rt, alloc, seat, done)
+            self.host.run_batch(rt, alloc, seat, done)
         }
     }
 

@@ -130,7 +130,7 @@ pub fn drive_at<'a, D: Desk<'a>, R: Wait + Clock>(
 {
     let mut done: Option<Done<'a>> = None;
     for _ in rt.forever() {
-        let answer = desk.turns(rt, alloc, seat, done.take());
+        let answer = desk.run_batch(rt, alloc, seat, done.take());
         match go_on(rt, alloc, desk, seat, answer) {
             Ok(next) => done = next,
             Err(End { memory }) => return memory,

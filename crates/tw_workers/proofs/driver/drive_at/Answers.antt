@@ -8,15 +8,15 @@ loop-preserved g c =
     let so_far = c.loop.invariant.driven in
     let behind = c.in-Ok.ensures.steps in
     let given = c.take.result in
-    let answer = c.turns-answer.result in
-    let several = c.turns-answer.ensures.does.0 in
+    let answer = c.run_batch-answer.result in
+    let several = c.run_batch-answer.ensures.does.0 in
     record {
       next = search rules;
       finite = search rules;
       program = c.in-Ok.ensures.program;
       driven = (
         so_far.0 ++ asked several given answer ∷ behind.0,
-        joined g.D.Desk.does _ _ _ so_far.0 (asked several given answer ∷ behind.0) so_far.1 (_, c.turns-answer.ensures.does.1, behind.1),
+        joined g.D.Desk.does _ _ _ so_far.0 (asked several given answer ∷ behind.0) so_far.1 (_, c.run_batch-answer.ensures.does.1, behind.1),
         on _ given c.take.ensures.value so_far.0 so_far.2 several answer behind.0 _ behind.2,
       );
     }
@@ -26,9 +26,9 @@ returns-in-Err g c =
     let so_far = c.loop.invariant.driven in
     let behind = c.in-Err.ensures.steps in
     let given = c.take.result in
-    let answer = c.turns-answer.result in
-    let several = c.turns-answer.ensures.does.0 in (
+    let answer = c.run_batch-answer.result in
+    let several = c.run_batch-answer.ensures.does.0 in (
       so_far.0 ++ asked several given answer ∷ behind.0,
-      joined g.D.Desk.does _ _ _ so_far.0 (asked several given answer ∷ behind.0) so_far.1 (_, c.turns-answer.ensures.does.1, behind.1),
+      joined g.D.Desk.does _ _ _ so_far.0 (asked several given answer ∷ behind.0) so_far.1 (_, c.run_batch-answer.ensures.does.1, behind.1),
       over _ given c.take.ensures.value so_far.0 so_far.2 several answer behind.0 _ behind.2,
     )

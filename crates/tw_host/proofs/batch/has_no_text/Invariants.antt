@@ -1,6 +1,6 @@
 use Rattle.std.proofs.Common.{◌<◌, ℕ}
 use Rattle.tw_frame.specs.Banks.{IsText}
-use Rattle.tw_host.proofs.hold.has_no_text.Given as goal
+use Rattle.tw_host.proofs.batch.has_no_text.Given as goal
 
 abbrev pub invariant-loop-index : goal.invariant-loop-index
 invariant-loop-index l = (register : ℕ) → register < l.index → IsText l.types register → ⊥

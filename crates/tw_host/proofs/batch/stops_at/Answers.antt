@@ -1,7 +1,7 @@
 use Rattle.std.proofs.Common.{Some, sym, ap, ◌∙◌}
 use Rattle.std.proofs.lemmas.Option.{slice_get-get_or}
 use Rattle.tw_host.proofs.Holding.{none_there}
-use Rattle.tw_host.proofs.hold.stops_at.Goals as goal
+use Rattle.tw_host.proofs.batch.stops_at.Goals as goal
 
 pub returns-in-Some : goal.returns-in-Some
 returns-in-Some c = λ holds.

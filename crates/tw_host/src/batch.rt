@@ -118,7 +118,7 @@ fn handed_on<'a>(alloc: Global, answer: Turn<'a>) -> Result<Option<Done<'a>>, Tu
 }
 
 /// Makes steps of an actor, at most `most`, as long as little or nothing has to be run between two of them.
-pub(crate) fn turns<'a>(
+pub(crate) fn run_batch<'a>(
     pool: &mut Pool<'a>,
     alloc: Global,
     actor: Actor,

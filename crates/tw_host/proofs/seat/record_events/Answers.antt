@@ -1,6 +1,6 @@
 use Rattle.std.proofs.Common.{◌+◌, ◌<◌, length, ◌++◌, ap, ◌∙◌, arith, drop}
 use Rattle.tw_host.proofs.Lists.{moved_there, told_there}
-use Rattle.tw_host.proofs.seat.tell.Goals as goal
+use Rattle.tw_host.proofs.seat.record_events.Goals as goal
 
 pub loop-k-preserved : goal.loop-k-preserved
 loop-k-preserved g c =

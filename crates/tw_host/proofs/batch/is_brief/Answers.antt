@@ -7,7 +7,7 @@ use Rattle.tw_code.specs.format.Program.{IsProgram}
 use Rattle.tw_frame.specs.Banks.{HasText}
 use Rattle.tw_frame.specs.Jobs.{JobView}
 use Rattle.tw_host.proofs.Holding as holding
-use Rattle.tw_host.proofs.hold.is_brief.Goals as goal
+use Rattle.tw_host.proofs.batch.is_brief.Goals as goal
 
 pub returns-then-budget-le-FEW_STEPS : goal.returns-then-budget-le-FEW_STEPS
 returns-then-budget-le-FEW_STEPS c = λ holds.
