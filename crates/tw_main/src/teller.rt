@@ -102,7 +102,7 @@ impl Gate for Teller {
     fn after_job<R: Wait>(&self, _rt: &R, _actor: Actor, _task: u64) {}
 
     /// Where the clock or the terminal fails nothing more is told.
-    fn look_on<R: Wait + Clock, P: Progress>(&self, rt: &R, run: &P) {
+    fn monitor<R: Wait + Clock, P: Progress>(&self, rt: &R, run: &P) {
         if !self.is_quiet && self.stderr.is_terminal() {
             let _told = tell(rt, &self.stderr, run);
         }

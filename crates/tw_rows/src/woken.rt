@@ -63,7 +63,7 @@ impl Gate for Onlooker {
 
     fn after_job<R: Wait>(&self, _rt: &R, _actor: Actor, _task: u64) {}
 
-    fn look_on<R: Wait + Clock, P: Progress>(&self, rt: &R, run: &P) {
+    fn monitor<R: Wait + Clock, P: Progress>(&self, rt: &R, run: &P) {
         for _ in 0..MOST_LOOKS {
             if run.events().is_none() {
                 self.saw_end.store(true, Ordering::SeqCst);

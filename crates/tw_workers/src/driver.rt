@@ -8,7 +8,7 @@ ghost use Rattle.tw_host.specs.Tells.{IsAnswerOf, IsDoneOf};
 ghost use Rattle.tw_workers.specs.AtHost.{AtSeat};
 ghost use Rattle.tw_workers.specs.Driving.{Drives, Follows, GivesUp, Step, working};
 
-use crate::desk::{Desk, Guarded};
+use crate::driver_calls::{DriverCalls, ObservedHost};
 use crate::gate::Gate;
 use std::alloc::Global;
 use std::sync::Wait;
@@ -30,10 +30,10 @@ struct End {
 }
 
 /// Runs a job between the two calls of the observer.
-fn run_job<'a, D: Desk<'a>, R: Wait>(
+fn run_job<'a, D: DriverCalls<'a>, R: Wait>(
     rt: &R,
     alloc: Global,
-    desk: &D,
+    driver_calls: &D,
     seat: &mut D::Seat,
     job: Job<'a>,
 ) -> Done<'a>
@@ -42,17 +42,17 @@ fn run_job<'a, D: Desk<'a>, R: Wait>(
 {
     let lent = job.lent();
     let (actor, task) = (lent.actor(), lent.task().number());
-    desk.before_job(rt, seat, actor, task);
-    let done = desk.run(alloc, seat, job);
-    desk.after_job(rt, seat, actor, task);
+    driver_calls.before_job(rt, seat, actor, task);
+    let done = driver_calls.run(alloc, seat, job);
+    driver_calls.after_job(rt, seat, actor, task);
     done
 }
 
 /// Submits a `Done` once more after a failed allocation, and stops the run.
-fn give_up<'a, D: Desk<'a>, R: Wait>(
+fn give_up<'a, D: DriverCalls<'a>, R: Wait>(
     rt: &R,
     alloc: Global,
-    desk: &D,
+    driver_calls: &D,
     seat: &mut D::Seat,
     done: Option<Done<'a>>,
 )
@@ -60,18 +60,18 @@ fn give_up<'a, D: Desk<'a>, R: Wait>(
     ensures { (steps : List Step) × FoldsTo D.does seat.old steps seat.new × GivesUp done.entry steps }
 {
     let Some(done) = done else {
-        desk.stop(rt, seat);
+        driver_calls.stop(rt, seat);
         return;
     };
-    let _ = desk.turn(rt, alloc, seat, Some(done));
-    desk.stop(rt, seat);
+    let _ = driver_calls.turn(rt, alloc, seat, Some(done));
+    driver_calls.stop(rt, seat);
 }
 
 /// Runs a job, whose `Done` is submitted with the next step. A short one ends the driver.
-fn work<'a, D: Desk<'a>, R: Wait>(
+fn work<'a, D: DriverCalls<'a>, R: Wait>(
     rt: &R,
     alloc: Global,
-    desk: &D,
+    driver_calls: &D,
     seat: &mut D::Seat,
     job: Job<'a>,
 ) -> Result<Option<Done<'a>>, End>
@@ -79,19 +79,19 @@ fn work<'a, D: Desk<'a>, R: Wait>(
     ensures program { IfOk result (IsDoneOf D.program) }
     ensures steps { (steps : List Step) × FoldsTo D.does seat.old steps seat.new × Follows (Ok (turn.Run job.entry)) steps result }
 {
-    let done = run_job(rt, alloc, desk, seat, job);
+    let done = run_job(rt, alloc, driver_calls, seat, job);
     if done.short() {
-        give_up(rt, alloc, desk, seat, Some(done));
+        give_up(rt, alloc, driver_calls, seat, Some(done));
         return Err(End { memory: true });
     }
     Ok(Some(done))
 }
 
 /// Handles the result of a step. Returns the `Done` for the next one, or the end of the driver.
-fn go_on<'a, D: Desk<'a>, R: Wait + Clock>(
+fn go_on<'a, D: DriverCalls<'a>, R: Wait + Clock>(
     rt: &R,
     alloc: Global,
-    desk: &D,
+    driver_calls: &D,
     seat: &mut D::Seat,
     answer: Result<Turn<'a>, Strange<'a>>,
 ) -> Result<Option<Done<'a>>, End>
@@ -101,37 +101,37 @@ fn go_on<'a, D: Desk<'a>, R: Wait + Clock>(
 {
     match answer {
         Ok(Turn::Over(_)) => Err(End { memory: false }),
-        Ok(Turn::Run(job)) => work(rt, alloc, desk, seat, job),
+        Ok(Turn::Run(job)) => work(rt, alloc, driver_calls, seat, job),
         Ok(Turn::Ended) | Ok(Turn::Went) => Ok(None),
         Ok(Turn::Idle) => {
-            desk.park(rt, seat);
+            driver_calls.park(rt, seat);
             Ok(None)
         }
         Ok(Turn::NoMemory(done)) => {
-            give_up(rt, alloc, desk, seat, done);
+            give_up(rt, alloc, driver_calls, seat, done);
             Err(End { memory: true })
         }
         Ok(Turn::Foreign(_)) | Ok(Turn::Owed) | Err(_) => {
-            desk.stop(rt, seat);
+            driver_calls.stop(rt, seat);
             Err(End { memory: false })
         }
     }
 }
 
-/// Drives a seat at any desk until the run is over. Stops the run if an allocation fails, or if a result isn't one that this driver
+/// Drives a seat by any `DriverCalls` until the run is over. Stops the run if an allocation fails, or if a result isn't one that this driver
 /// expects. Returns whether an allocation failed.
-pub fn drive_at<'a, D: Desk<'a>, R: Wait + Clock>(
+pub fn drive_at<'a, D: DriverCalls<'a>, R: Wait + Clock>(
     rt: &R,
     alloc: Global,
-    desk: &D,
+    driver_calls: &D,
     seat: &mut D::Seat,
 ) -> bool
     ensures { (steps : List Step) × FoldsTo D.does seat.old steps seat.new × Drives None steps result }
 {
     let mut done: Option<Done<'a>> = None;
     for _ in rt.forever() {
-        let answer = desk.run_batch(rt, alloc, seat, done.take());
-        match go_on(rt, alloc, desk, seat, answer) {
+        let answer = driver_calls.run_batch(rt, alloc, seat, done.take());
+        match go_on(rt, alloc, driver_calls, seat, answer) {
             Ok(next) => done = next,
             Err(End { memory }) => return memory,
         }
@@ -150,7 +150,7 @@ pub(crate) fn drive_lent<'a, N: Named, G: Gate, R: Wait + Clock>(
     ensures actor { seat.new.actor ≡ seat.old.actor }
     ensures driven { (steps : List Step) × FoldsTo (AtSeat N.run G.unwatched) (told_by seat.old.actor seat.old.told.items) steps (told_by seat.new.actor seat.new.told.items) × Drives None steps result }
 {
-    let guarded = Guarded { host, gate };
+    let guarded = ObservedHost { host, gate };
     drive_at(rt, alloc, &guarded, seat)
 }
 

@@ -38,7 +38,7 @@ pub trait Gate {
 
     /// Is called once, in the thread that has started the drivers and waits for them to end. It may monitor the run until that is over,
     /// as often as it likes.
-    fn look_on<R: Wait + Clock, P: Progress>(&self, _rt: &R, _run: &P) {}
+    fn monitor<R: Wait + Clock, P: Progress>(&self, _rt: &R, _run: &P) {}
 
     /// Receives how many wakes of idle threads were lost. It is called once, after the last driver has ended. The number is 0 unless
     /// the host has a bug.

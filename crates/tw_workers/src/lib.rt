@@ -1,12 +1,12 @@
 //! Drivers, which make the scheduling steps of a host's seats, each in its own thread.
 #![tactic(auto)]
 
-mod desk;
 mod driver;
+mod driver_calls;
 mod gate;
 mod threads;
 
-pub use desk::{Desk, Guarded};
 pub use driver::{Driven, drive, drive_at};
+pub use driver_calls::{DriverCalls, ObservedHost};
 pub use gate::{Gate, NoGate, Progress};
 pub use threads::{run, run_all};

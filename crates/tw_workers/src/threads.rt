@@ -23,18 +23,18 @@ use tw_verify::Verified;
 
 /// The promise of a seat's driver: it drove the seat from there, and returns whether an allocation failed.
 #[derive(Drop)]
-struct Begun<N: Named, G: Gate> {
+struct DriverPromise<N: Named, G: Gate> {
     seat: Snapshot<Seat<N>>,
     gate: PhantomData<G>,
 }
 
-impl<N: Named, G: Gate> Promise<bool> for Begun<N, G> {
+impl<N: Named, G: Gate> Promise<bool> for DriverPromise<N, G> {
     ghost kept_by = { λ b memory. Drove N.run G.unwatched (told_by b.seat.value.actor b.seat.value.told.items) memory };
 }
 
 /// A seat that had no thread and was driven by its starter, and whether an allocation failed.
 #[derive(Drop)]
-struct Unthreaded {
+struct SpawnFailed {
     memory: bool,
 }
 
@@ -46,11 +46,11 @@ fn begin<'s, 'e, 'a, N: Named + Send + Sync, G: Gate + Sync, R: Threads + Wait +
     host: &'e Host<'a, N>,
     seat: &'e mut Seat<N>,
     gate: &'e G,
-) -> Result<PromisedHandle<bool, Begun<N, G>>, Unthreaded>
+) -> Result<PromisedHandle<bool, DriverPromise<N, G>>, SpawnFailed>
     ensures there { IfOk result (λ driver. driver.promise.seat.value ≡ seat.old) }
     ensures here { IfErr result (λ here. Drove N.run G.unwatched (told_by seat.old.actor seat.old.told.items) here.memory) }
 {
-    let begun = Begun::<N, G> {
+    let begun = DriverPromise::<N, G> {
         seat: Snapshot::of(seat),
         gate: PhantomData,
     };
@@ -62,7 +62,7 @@ fn begin<'s, 'e, 'a, N: Named + Send + Sync, G: Gate + Sync, R: Threads + Wait +
         Err(back) => {
             host.stop(rt);
             let SpawnError { value: mut work } = back;
-            Err(Unthreaded { memory: work() })
+            Err(SpawnFailed { memory: work() })
         }
     }
 }
@@ -80,7 +80,7 @@ fn drive_each<'s, 'e, 'a, N: Named + Send + Sync, G: Gate + Sync, R: Threads + W
     ensures { AllDrove N.run G.unwatched (map (λ s. told_by s.actor s.told.items) seats.old) result }
 {
     let Some((seat, others)) = seats.split_first_mut() else {
-        gate.look_on(rt, host);
+        gate.monitor(rt, host);
         return false;
     };
     match begin(rt, alloc, scope, host, seat, gate) {

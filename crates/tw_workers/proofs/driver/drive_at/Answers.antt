@@ -16,7 +16,7 @@ loop-preserved g c =
       program = c.in-Ok.ensures.program;
       driven = (
         so_far.0 ++ asked several given answer ∷ behind.0,
-        joined g.D.Desk.does _ _ _ so_far.0 (asked several given answer ∷ behind.0) so_far.1 (_, c.run_batch-answer.ensures.does.1, behind.1),
+        joined g.D.DriverCalls.does _ _ _ so_far.0 (asked several given answer ∷ behind.0) so_far.1 (_, c.run_batch-answer.ensures.does.1, behind.1),
         on _ given c.take.ensures.value so_far.0 so_far.2 several answer behind.0 _ behind.2,
       );
     }
@@ -29,6 +29,6 @@ returns-in-Err g c =
     let answer = c.run_batch-answer.result in
     let several = c.run_batch-answer.ensures.does.0 in (
       so_far.0 ++ asked several given answer ∷ behind.0,
-      joined g.D.Desk.does _ _ _ so_far.0 (asked several given answer ∷ behind.0) so_far.1 (_, c.run_batch-answer.ensures.does.1, behind.1),
+      joined g.D.DriverCalls.does _ _ _ so_far.0 (asked several given answer ∷ behind.0) so_far.1 (_, c.run_batch-answer.ensures.does.1, behind.1),
       over _ given c.take.ensures.value so_far.0 so_far.2 several answer behind.0 _ behind.2,
     )

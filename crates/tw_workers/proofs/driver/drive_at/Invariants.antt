@@ -8,6 +8,6 @@ abbrev pub invariant-loop : goal.invariant-loop
 invariant-loop g l = record {
   next : (goal.iterator-loop g).can_next l.iterator';
   finite : (goal.iterator-loop g).is_finite l.iterator';
-  program : IsDoneOf g.D.Desk.program l.done;
-  driven : (past : List Step) × FoldsTo g.D.Desk.does l.fn.seat past l.seat × ((rest : List Step) (memory : Bool) → Drives l.done rest memory → Drives None (past ++ rest) memory);
+  program : IsDoneOf g.D.DriverCalls.program l.done;
+  driven : (past : List Step) × FoldsTo g.D.DriverCalls.does l.fn.seat past l.seat × ((rest : List Step) (memory : Bool) → Drives l.done rest memory → Drives None (past ++ rest) memory);
 }

@@ -8,7 +8,7 @@ returns-then-short-clause-steps g c =
     let done = c.run_job-done.result in
     let rest = c.give_up.ensures in (
       working c.args.job done ++ rest.0,
-      joined g.D.Desk.does _ _ _ (working c.args.job done) rest.0 c.run_job-done.ensures.steps rest.1,
+      joined g.D.DriverCalls.does _ _ _ (working c.args.job done) rest.0 c.run_job-done.ensures.steps rest.1,
       (done, rest.0, c.run_job-done.ensures.before, search rules, rest.2, refl, refl),
     )
 

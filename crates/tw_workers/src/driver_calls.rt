@@ -17,7 +17,7 @@ use tw_types::Actor;
 
 /// The calls that a driver makes for a seat: of a host, of a job observer (`Gate`), and of a job. Each call is a step of
 /// the seat, so that a driver's contract can list its steps.
-pub trait Desk<'a> {
+pub trait DriverCalls<'a> {
     type Seat;
 
     ghost program: { TypedProgram };
@@ -68,12 +68,12 @@ pub trait Desk<'a> {
 
 /// A host, and the observer of its jobs.
 #[derive(Drop)]
-pub struct Guarded<'h, 'a, N: Named, G: Gate> {
+pub struct ObservedHost<'h, 'a, N: Named, G: Gate> {
     pub host: &'h Host<'a, N>,
     pub gate: &'h G,
 }
 
-impl<'h, 'a, N: Named, G: Gate> Desk<'a> for Guarded<'h, 'a, N, G> {
+impl<'h, 'a, N: Named, G: Gate> DriverCalls<'a> for ObservedHost<'h, 'a, N, G> {
     type Seat = Seat<N>;
 
     ghost program = { N.run.program };
