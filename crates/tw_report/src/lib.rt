@@ -10,8 +10,8 @@ mod lines;
 mod outputs;
 mod pending;
 mod read_event;
+mod report_source;
 mod state_report;
-mod told;
 mod walk;
 mod words;
 
@@ -22,6 +22,6 @@ pub use laws::{events_are_read_back, one_event, one_history};
 pub use lines::{put, put_history_line, put_not_enabled_line, put_numbered, put_trap_line};
 pub use outputs::put_report;
 pub use read_event::event_of;
+pub use report_source::ReportSource;
 pub use state_report::{circle_state, ending_line, report_state};
-pub use told::Told;
 pub use walk::circle_of;

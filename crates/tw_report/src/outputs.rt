@@ -7,7 +7,7 @@ ghost use Rattle.tw_types.specs.StoreCalls.{members_in};
 ghost use Rattle.tw_report.specs.Report.{closed_text, container_head, container_text, datum_text, member_line, member_lines, output_line, output_text, report, scalar_text, subscript_text};
 
 use crate::lines::{put, put_numbered, put_value};
-use crate::told::Told;
+use crate::report_source::ReportSource;
 use std::alloc::{AllocError, Global};
 use tw_datum::{Datum, Member};
 use tw_types::{DataType, DatumId, Scalar, Value};
@@ -109,7 +109,7 @@ fn put_member_line<M: Member>(
 }
 
 /// Appends the lines of a container's members, by rising subscripts.
-fn put_member_lines<T: Told>(
+fn put_member_lines<T: ReportSource>(
     alloc: Global,
     out: &mut Vec<u8>,
     told: &T,
@@ -129,7 +129,7 @@ fn put_member_lines<T: Told>(
 }
 
 /// Appends the line of an output, and those of its members.
-fn put_output<T: Told>(
+fn put_output<T: ReportSource>(
     alloc: Global,
     out: &mut Vec<u8>,
     told: &T,
@@ -148,7 +148,7 @@ fn put_output<T: Told>(
 }
 
 /// Appends a report: the outputs, and its last lines.
-pub fn put_report<T: Told>(
+pub fn put_report<T: ReportSource>(
     alloc: Global,
     out: &mut Vec<u8>,
     told: &T,

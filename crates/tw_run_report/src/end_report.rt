@@ -4,7 +4,7 @@ ghost use Rattle.std.specs.Prelude.{◌≡◌, IfOk, option_map};
 ghost use Rattle.tw_run_report.specs.Ends.{IsEndCircle, IsEndReport, has_ended};
 
 use crate::closing_text::closing_text;
-use crate::left::Left;
+use crate::finished_run::FinishedRun;
 use std::alloc::{AllocError, Global};
 use tw_pool::{Closing, Final};
 use tw_report::{circle_of, put_report};
@@ -36,6 +36,6 @@ pub fn report(alloc: Global, left: &Final) -> Result<Vec<u8>, AllocError>
 {
     let mut text = Vec::new(alloc);
     let closing = closing_text(alloc, left.closing(), circle(alloc, left)?)?;
-    put_report(alloc, &mut text, &Left { of: left }, &closing)?;
+    put_report(alloc, &mut text, &FinishedRun { of: left }, &closing)?;
     Ok(text)
 }

@@ -4,7 +4,7 @@
 mod closing_text;
 mod end_report;
 mod ended;
-mod left;
+mod finished_run;
 mod run_behind;
 
 pub use end_report::{circle, report};

@@ -12,7 +12,7 @@ use tw_machine::State;
 use tw_types::{DatumId, Value};
 
 /// A source of a report: outputs, and the live data.
-pub trait Told {
+pub trait ReportSource {
     /// A member, as its containers store it.
     type Kept: Member;
 
@@ -43,7 +43,7 @@ pub trait Told {
 }
 
 /// A state of the reference machine looks up a member by its id.
-impl Told for State {
+impl ReportSource for State {
     type Kept = DatumId;
 
     ghost live = { λ s. s.store.live };

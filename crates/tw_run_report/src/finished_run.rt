@@ -4,16 +4,16 @@ ghost use Rattle.tw_store.specs.Served.{KnowsPlaces};
 
 use tw_datum::Datum;
 use tw_pool::Final;
-use tw_report::Told;
+use tw_report::ReportSource;
 use tw_types::{DatumId, Value};
 
 /// The end of a run on the pool, which looks a member up at its place.
 #[derive(Drop)]
-pub struct Left<'f> {
+pub struct FinishedRun<'f> {
     pub of: &'f Final,
 }
 
-impl<'f> Told for Left<'f> {
+impl<'f> ReportSource for FinishedRun<'f> {
     type Kept = tw_store::Member;
 
     ghost live = { λ l. l.of.now.store.store.live };
