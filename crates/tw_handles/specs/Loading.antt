@@ -4,7 +4,7 @@ use Rattle.std.specs.Arc.{arc_value}
 use Rattle.tw_bytes.specs.Reading.{program_of}
 use Rattle.tw_code.specs.accepting.WellTyped.{IsAccepted}
 use Rattle.tw_code.specs.format.Program.{Versioned}
-use Rattle.tw_in_turn.specs.declared.run.Left.{Left}
+use Rattle.tw_in_turn.specs.declared.run.InTurnResult.{InTurnResult}
 use Rattle.tw_types.specs.declared.input.Input.{Input}
 use Rattle.tw_verify.specs.Typed.{TypedProgram}
 use Rattle.tw_handles.specs.declared.held.Held.{Held}
@@ -27,7 +27,7 @@ inputs_in (Some (Inputs inputs)) = Some inputs.items
 inputs_in (Some (Report left)) = None
 
 -- what the run left, in a report's handle
-abbrev pub report_in : Option Held → Option Left
+abbrev pub report_in : Option Held → Option InTurnResult
 report_in None = None
 report_in (Some (Program verified)) = None
 report_in (Some (Inputs inputs)) = None

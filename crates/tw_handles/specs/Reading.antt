@@ -3,8 +3,8 @@ use Rattle.std.specs.Prelude.{◌≡◌, ◌≤◌, ◌<◌, ◌⊎◌, ◌++◌
 use Rattle.std.specs.FinMap as map
 use Rattle.std.specs.FinMap.{get}
 use Rattle.std.specs.Option.{option_and_then}
-use Rattle.tw_in_turn.specs.declared.run.Left.{Left}
-use Rattle.tw_in_turn.specs.declared.run.Left.TheVariants as left
+use Rattle.tw_in_turn.specs.declared.run.InTurnResult.{InTurnResult}
+use Rattle.tw_in_turn.specs.declared.run.InTurnResult.TheVariants as left
 use Rattle.tw_pool.specs.declared.answer.Closing.{Closing}
 use Rattle.tw_pool.specs.declared.answer.Closing.TheVariants.{Quiet, Stuck, Stopped, Limit}
 use Rattle.tw_pool.specs.Ends.{FinalView}
@@ -25,11 +25,11 @@ use Rattle.tw_handles.specs.declared.held.Held.{Held}
 use Rattle.tw_handles.specs.declared.item.Item.{Item}
 use Rattle.tw_handles.specs.declared.report.Ending.{Ending}
 
-abbrev pub final_of : Left → FinalView
+abbrev pub final_of : InTurnResult → FinalView
 final_of (left.Over final history) = final
 final_of (left.NoMemory final history) = final
 
-abbrev pub history_of : Left → HistoryView
+abbrev pub history_of : InTurnResult → HistoryView
 history_of (left.Over final history) = history
 history_of (left.NoMemory final history) = history
 
@@ -42,11 +42,11 @@ closing_status (Some Stopped) = 5
 closing_status (Some Limit) = 4
 
 -- 5 if an allocation failed
-abbrev pub end_status : Left → ℕ
+abbrev pub end_status : InTurnResult → ℕ
 end_status (left.Over final history) = closing_status final.closing
 end_status (left.NoMemory final history) = 5
 
-abbrev pub ending_of : Left → Ending
+abbrev pub ending_of : InTurnResult → Ending
 ending_of left = record { events = length (history_of left).events; outputs = length (final_of left).outputs; status = end_status left }
 
 abbrev pub IsEnding : Option Held → Ending → Ending → ℕ → Type 0

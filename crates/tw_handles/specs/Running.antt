@@ -1,7 +1,7 @@
 -- The inputs of a run, and what the run of a loaded program leaves.
 use Rattle.std.specs.Prelude.{◌≡◌, ◌⊎◌, ◌++◌, ◌∷◌, [], ℕ, List, IsUtf8, Option, Some, None, MatchOption}
 use Rattle.tw_in_turn.specs.InTurn.{IsLeft}
-use Rattle.tw_in_turn.specs.declared.run.Left.{Left}
+use Rattle.tw_in_turn.specs.declared.run.InTurnResult.{InTurnResult}
 use Rattle.tw_pool.specs.Openings.{IsRefusal, MayOpen, open_refusal_number, opened}
 use Rattle.tw_pool.specs.declared.open.OpenRefusal.{OpenRefusal}
 use Rattle.tw_types.specs.Layout.{ActorCounts, IsLayout}
@@ -29,7 +29,7 @@ IsTextAdded bytes old new code =
 -- the run as its turns make it; or why it isn't opened
 abbrev pub IsRunOn : TypedProgram → List Input → ActorCounts → ℕ → Option Held → Option Held → ℕ → Type 0
 IsRunOn verified inputs counts limit old new code =
-    ((left : Left) × (report_in new ≡ Some left) × MayOpen verified.program inputs counts limit × IsLeft (opened verified inputs counts limit) left × (code ≡ done))
+    ((left : InTurnResult) × (report_in new ≡ Some left) × MayOpen verified.program inputs counts limit × IsLeft (opened verified inputs counts limit) left × (code ≡ done))
     ⊎ ((why : OpenRefusal) × IsRefusal verified.program inputs counts limit why × Fails (open_refusal_number why) old new code)
 
 -- actors are refused before the run

@@ -1,7 +1,7 @@
 //! The contents of a handle.
 
 use std::sync::Arc;
-use tw_in_turn::Left;
+use tw_in_turn::InTurnResult;
 use tw_types::Input;
 use tw_verify::Verified;
 
@@ -13,5 +13,5 @@ pub enum Held {
     /// Inputs, by the order of main's parameters.
     Inputs(Vec<Input>),
     /// The end of a run.
-    Report(Left),
+    Report(InTurnResult),
 }

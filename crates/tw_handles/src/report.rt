@@ -8,7 +8,7 @@ use crate::handle::Handle;
 use crate::held::Held;
 use crate::item::{Item, item_of, value_of, write_text};
 use std::alloc::Global;
-use tw_in_turn::Left;
+use tw_in_turn::InTurnResult;
 use tw_pool::{Closing, Final, History};
 
 /// How a run ended.
@@ -21,30 +21,30 @@ pub struct Ending {
     pub status: u8,
 }
 
-pub(crate) fn final_of(left: &Left) -> &Final
+pub(crate) fn final_of(left: &InTurnResult) -> &Final
     ensures { result.now ≡ final_is left.now }
 {
     match left {
-        Left::Over {
+        InTurnResult::Over {
             outcome,
             history: _,
         } => outcome,
-        Left::NoMemory {
+        InTurnResult::NoMemory {
             outcome,
             history: _,
         } => outcome,
     }
 }
 
-fn history_of(left: &Left) -> &History
+fn history_of(left: &InTurnResult) -> &History
     ensures { result.now ≡ history_is left.now }
 {
     match left {
-        Left::Over {
+        InTurnResult::Over {
             outcome: _,
             history,
         } => history,
-        Left::NoMemory {
+        InTurnResult::NoMemory {
             outcome: _,
             history,
         } => history,
@@ -62,22 +62,22 @@ fn closing_status(closing: Option<Closing>) -> u8
     }
 }
 
-fn end_status(left: &Left) -> u8
+fn end_status(left: &InTurnResult) -> u8
     ensures { result ≡ end_status_is left.now }
 {
     match left {
-        Left::Over {
+        InTurnResult::Over {
             outcome,
             history: _,
         } => closing_status(outcome.closing()),
-        Left::NoMemory {
+        InTurnResult::NoMemory {
             outcome: _,
             history: _,
         } => 5,
     }
 }
 
-fn ending_of(left: &Left) -> Ending
+fn ending_of(left: &InTurnResult) -> Ending
     ensures { result ≡ ending_is left.now }
 {
     Ending {

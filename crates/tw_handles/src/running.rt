@@ -10,7 +10,7 @@ use crate::codes;
 use crate::handle::Handle;
 use crate::held::Held;
 use std::alloc::Global;
-use tw_in_turn::{Left, run_in_turn};
+use tw_in_turn::{InTurnResult, run_in_turn};
 use tw_pool::OpenRefusal;
 use tw_types::{Input, Layout};
 use tw_verify::Verified;

@@ -14,7 +14,7 @@ use Rattle.tw_pool.specs.Ends.{FinalView}
 use Rattle.tw_pool.specs.History.{HistoryView}
 use Rattle.tw_pool.specs.Openings.{opened}
 use Rattle.tw_pool.specs.PoolView.{PoolView, HasState}
-use Rattle.tw_in_turn.specs.declared.run.Left.TheVariants as left
+use Rattle.tw_in_turn.specs.declared.run.InTurnResult.TheVariants as left
 use Rattle.tw_in_turn.specs.InTurn.{IsLeft}
 
 -- an accepted program, and a bound of the events of main's task, with all tasks that descend from it

@@ -15,8 +15,8 @@ use Rattle.tw_pool.specs.Ends.{FinalView, IsShut}
 use Rattle.tw_pool.specs.History.{HistoryView}
 use Rattle.tw_pool.specs.PoolView.{PoolView, HasState}
 use Rattle.tw_pool.specs.Turns.{IsTurn, lent_to}
-use Rattle.tw_in_turn.specs.declared.run.Left.{Left}
-use Rattle.tw_in_turn.specs.declared.run.Left.TheVariants as left
+use Rattle.tw_in_turn.specs.declared.run.InTurnResult.{InTurnResult}
+use Rattle.tw_in_turn.specs.declared.run.InTurnResult.TheVariants as left
 
 -- ---- a step
 
@@ -107,6 +107,6 @@ pub record IsLeftIn (first p : PoolView) (final : FinalView) (history : HistoryV
   pub ends_well : EndsWell first.program.program shut.state
 
 -- holds for a finished run, from its first pool on
-abbrev pub IsLeft : PoolView → Left → Type 0
+abbrev pub IsLeft : PoolView → InTurnResult → Type 0
 IsLeft first (left.Over final history) = (p : PoolView) × ComesTo first IsOver p × IsLeftIn first p final history × HasEnded final.closing
 IsLeft first (left.NoMemory final history) = (p : PoolView) × ComesTo first IsRefused p × IsLeftIn first p final history

@@ -6,4 +6,4 @@ mod rounds;
 mod run;
 
 pub use laws::{ends_below_limit, one_run};
-pub use run::{Left, run_in_turn};
+pub use run::{InTurnResult, run_in_turn};

@@ -15,7 +15,7 @@ use tw_verify::Verified;
 
 /// A finished run.
 #[derive(Drop)]
-pub enum Left {
+pub enum InTurnResult {
     /// The run has ended by itself, or has reached the limit.
     Over { outcome: Final, history: History },
     /// An allocation failed.
@@ -41,7 +41,7 @@ pub fn run_in_turn(
     inputs: &[Input],
     layout: Layout,
     limit: usize,
-) -> Result<Left, OpenRefusal>
+) -> Result<InTurnResult, OpenRefusal>
     ensures allowed { IfOk result (λ _. MayOpen verified.now.program inputs.now layout limit) }
     ensures left { IfOk result (IsLeft (opened verified.now inputs.now layout limit)) }
     ensures refused { IfErr result (IsRefusal verified.now.program inputs.now layout limit) }
@@ -54,7 +54,7 @@ pub fn run_in_turn(
     let end = turn_all(alloc, &mut pool, kept.as_mut_slice());
     let (outcome, history) = pool.shut();
     match end {
-        End::Over => Ok(Left::Over { outcome, history }),
-        End::NoMemory => Ok(Left::NoMemory { outcome, history }),
+        End::Over => Ok(InTurnResult::Over { outcome, history }),
+        End::NoMemory => Ok(InTurnResult::NoMemory { outcome, history }),
     }
 }

@@ -17,7 +17,7 @@ use crate::run::end_of;
 use crate::shell::unordered_reply;
 use std::alloc::{AllocError, Global};
 use tw_command::{Order, RunOrder, read_order};
-use tw_in_turn::{Left, run_in_turn};
+use tw_in_turn::{InTurnResult, run_in_turn};
 use tw_pool::OpenRefusal;
 use tw_replay::inputs_refused_reply;
 use tw_replies::{Reply, SourceText};
@@ -30,7 +30,7 @@ fn left_reply(
     source: &Option<SourceText<'_>>,
     order: &RunOrder,
     verified: Verified,
-    left: Left,
+    left: InTurnResult,
 ) -> Result<Reply, AllocError>
     requires left { IsLeft (opened verified order.now.inputs order.now.layout order.now.limit) left }
     requires turns { order.now.in_turn ≡ true }
@@ -39,13 +39,13 @@ fn left_reply(
     ensures { IfOk result (λ r. RepliesByRun (text_of source.now) verified.program order.now (reply r.text.items r.close)) }
 {
     match left {
-        Left::Over { outcome, history } => match end_of(outcome.closing()) {
+        InTurnResult::Over { outcome, history } => match end_of(outcome.closing()) {
             Some(closing) => {
                 ended_reply(alloc, source, order, verified, &outcome, &history, closing)
             }
             None => unreachable!(),
         },
-        Left::NoMemory { .. } => Err(AllocError),
+        InTurnResult::NoMemory { .. } => Err(AllocError),
     }
 }
 

@@ -19,7 +19,7 @@ use Rattle.tw_types.specs.contracts.input.Input
 use Rattle.tw_verify.specs.contracts.verified.Verified
 use Rattle.tw_types.proofs.input.Input.TheSendSync as OfInput
 use Rattle.tw_verify.proofs.verified.Verified.TheSendSync as OfVerified
-use Rattle.tw_in_turn.specs.contracts.run.Left
+use Rattle.tw_in_turn.specs.contracts.run.InTurnResult
 use Rattle.tw_datum.proofs.tree.Tree.TheLaws.TheKnot
 use Rattle.tw_store.specs.contracts.store.Store
 use Rattle.tw_pool.specs.contracts.ends.Final
@@ -34,7 +34,7 @@ store = search (crosses, TheKnot.crosses, sendable) depth 60 fits 20000
 outcome : IsSend Final.the_row
 outcome = search (store, crosses, sendable) depth 60 fits 20000
 
-left : IsSend Left.the_row
+left : IsSend InTurnResult.the_row
 left = search (outcome, OfHistory.the_send, sendable) depth 60 fits 20000
 
 program : IsSend (Arc.the_row Verified.the_row heap.the_row ghosts)
