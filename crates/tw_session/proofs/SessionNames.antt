@@ -9,8 +9,8 @@ pub use Rattle.tw_command.specs.declared.command.VerifiedOrder.TheVariants.{Run}
 pub use Rattle.tw_replies.specs.Program.{RepliesBySource, text_told}
 pub use Rattle.tw_replies.specs.Reply.{Reply, reply}
 pub use Rattle.tw_replies.specs.Source.{text_of}
-pub use Rattle.tw_session.specs.Answered.{Comes, Leads}
+pub use Rattle.tw_session.specs.ProgramAction.{Comes, Leads}
 pub use Rattle.tw_session.specs.Session.{AnswersWords, MayAnswer, MayReply, RepliesByInput, RepliesByProgram}
-pub use Rattle.tw_session.specs.declared.order.Step.{Step}
-pub use Rattle.tw_session.specs.declared.programs.Answered.{Answered}
+pub use Rattle.tw_session.specs.declared.order.OrderAction.{OrderAction}
+pub use Rattle.tw_session.specs.declared.programs.ProgramAction.{ProgramAction}
 pub use Rattle.tw_session.specs.declared.status.Status.TheVariants.{NoMemory, WriteFailed}

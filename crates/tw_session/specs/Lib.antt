@@ -4,4 +4,4 @@ pub mod Status
 pub mod Run
 pub mod Session
 -- What the code keeps before a program is run.
-pub mod Answered
+pub mod ProgramAction

@@ -13,7 +13,7 @@ ghost use Rattle.tw_replies.specs.Source.{MayBeSource, text_of};
 
 use crate::input::looked_at;
 use crate::order::reply_in_turn;
-use crate::run::end_of;
+use crate::run::stop_reason;
 use crate::shell::unordered_reply;
 use std::alloc::{AllocError, Global};
 use tw_command::{Order, RunOrder, read_order};
@@ -39,7 +39,7 @@ fn left_reply(
     ensures { IfOk result (λ r. RepliesByRun (text_of source.now) verified.program order.now (reply r.text.items r.close)) }
 {
     match left {
-        InTurnResult::Over { outcome, history } => match end_of(outcome.closing()) {
+        InTurnResult::Over { outcome, history } => match stop_reason(outcome.closing()) {
             Some(closing) => {
                 ended_reply(alloc, source, order, verified, &outcome, &history, closing)
             }
@@ -50,7 +50,7 @@ fn left_reply(
 }
 
 /// Opens and runs an accepted program in this thread.
-pub fn turned_reply(
+pub fn reply_single_threaded(
     alloc: Global,
     source: &Option<SourceText<'_>>,
     order: &RunOrder,

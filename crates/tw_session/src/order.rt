@@ -7,7 +7,7 @@ ghost use Rattle.tw_command.specs.InTurn.{IsInTurn, IsProgramInTurn};
 ghost use Rattle.tw_command.specs.declared.command.InputsOrder.TheVariants.{ToRun};
 ghost use Rattle.tw_command.specs.declared.command.ProgramOrder.TheVariants as ordered;
 ghost use Rattle.tw_command.specs.declared.command.VerifiedOrder.TheVariants.{Run};
-ghost use Rattle.tw_session.specs.Answered.{Comes};
+ghost use Rattle.tw_session.specs.ProgramAction.{Comes};
 ghost use Rattle.tw_replies.specs.Inputs.{RepliesByWords, before_inputs, behind_inputs, words_in};
 ghost use Rattle.tw_replies.specs.Program.{RepliesBySource, text_told};
 ghost use Rattle.tw_replies.specs.Reply.{reply};
@@ -15,10 +15,10 @@ ghost use Rattle.tw_session.specs.Run.{RepliesByOpening};
 ghost use Rattle.tw_replies.specs.Source.{MayBeSource, text_of};
 ghost use Rattle.tw_session.specs.Session.{MayReply, RepliesByInput, RepliesByProgram, RepliesWithInputs};
 
-use crate::in_turn::turned_reply;
+use crate::in_turn::reply_single_threaded;
 use crate::input::MOST_BYTES;
-use crate::programs::{Answered, Ordered, program_reply};
-use crate::run::run_of;
+use crate::programs::{ProgramAction, RunRequest, program_reply};
+use crate::run::reply_threaded;
 use std::alloc::{AllocError, Global};
 use std::sync::Wait;
 use std::thread::Threads;
@@ -33,7 +33,7 @@ use tw_workers::Gate;
 
 /// A program that is to be read, and what is asked for of it.
 #[derive(Drop)]
-pub struct Asking {
+pub struct ProgramRequest {
     pub source: Source,
     pub order: ProgramOrder,
     pub program: Vec<u8>,
@@ -41,9 +41,9 @@ pub struct Asking {
 
 /// What an order comes to: a reply, or a program that is to be read.
 #[derive(Drop)]
-pub enum Step {
+pub enum OrderAction {
     Told(Reply),
-    Asks(Asking),
+    Asks(ProgramRequest),
 }
 
 /// A program that is to be run with the inputs that stand behind it.
@@ -52,21 +52,21 @@ fn inputs_step(
     source: Source,
     options: RunOptions,
     text: &str,
-) -> Result<Step, AllocError>
+) -> Result<OrderAction, AllocError>
     ensures { IfOk result (Comes (options.in_turn ≡ true) (RepliesByWords (words_in (behind_inputs (lines text.now)))
         (λ given. RepliesBySource source (before_inputs (lines text.now))
         (RepliesByProgram (text_told source (before_inputs (lines text.now))) (ordered.Verified (Run (run_with options given))))))) }
 {
     let parts = input_parts(alloc, text)?;
     match inputs_of(alloc, &parts.words) {
-        Ok(inputs) => Ok(Step::Asks(Asking {
+        Ok(inputs) => Ok(OrderAction::Asks(ProgramRequest {
             source,
             order: ProgramOrder::Verified(VerifiedOrder::Run(options.with_inputs(inputs))),
             program: parts.program,
         })),
         Err(why) => {
             let reply = refused_words_reply(alloc, why)?;
-            Ok(Step::Told(reply))
+            Ok(OrderAction::Told(reply))
         }
     }
 }
@@ -77,54 +77,54 @@ fn run_inputs_step(
     source: Source,
     options: RunOptions,
     input: &[u8],
-) -> Result<Step, AllocError>
+) -> Result<OrderAction, AllocError>
     ensures { IfOk result (Comes (options.in_turn ≡ true) (RepliesWithInputs source (ToRun options) input.now)) }
 {
     match str::from_utf8(input) {
         Ok(text) => inputs_step(alloc, source, options, text),
         Err(_) => {
             let reply = not_utf8_reply(alloc)?;
-            Ok(Step::Told(reply))
+            Ok(OrderAction::Told(reply))
         }
     }
 }
 
 /// What an order and bytes that aren't too many come to.
-fn ordered_step(alloc: Global, order: Order, input: Vec<u8>) -> Result<Step, AllocError>
+fn ordered_step(alloc: Global, order: Order, input: Vec<u8>) -> Result<OrderAction, AllocError>
     requires { length input.items ≤ 16777216 }
     ensures { IfOk result (Comes (IsInTurn order) (RepliesByInput order input.items)) }
 {
     match order {
         Order::Assemble(what) => {
             let reply = assembled_reply(alloc, what, &input)?;
-            Ok(Step::Told(reply))
+            Ok(OrderAction::Told(reply))
         }
-        Order::Program(source, order) => Ok(Step::Asks(Asking {
+        Order::Program(source, order) => Ok(OrderAction::Asks(ProgramRequest {
             source,
             order,
             program: input,
         })),
         Order::Replay(source, order) => {
             let reply = replay_reply(alloc, source, &order, &input)?;
-            Ok(Step::Told(reply))
+            Ok(OrderAction::Told(reply))
         }
         Order::Inputs(source, InputsOrder::ToRun(options)) => {
             run_inputs_step(alloc, source, options, &input)
         }
         Order::Inputs(source, InputsOrder::ToReplay(options)) => {
             let reply = replay_inputs_reply(alloc, source, options, &input)?;
-            Ok(Step::Told(reply))
+            Ok(OrderAction::Told(reply))
         }
     }
 }
 
 /// What an order and the bytes that were read come to; refused where memory is.
-fn step_of(alloc: Global, order: Order, input: Vec<u8>) -> Result<Step, AllocError>
+fn step_of(alloc: Global, order: Order, input: Vec<u8>) -> Result<OrderAction, AllocError>
     ensures { IfOk result (Comes (IsInTurn order) (MayReply order input.items)) }
 {
     if input.len() > MOST_BYTES {
         let reply = fixed_reply(alloc, "refused H02\n", Close::Refused)?;
-        Ok(Step::Told(reply))
+        Ok(OrderAction::Told(reply))
     } else {
         ordered_step(alloc, order, input)
     }
@@ -136,16 +136,16 @@ fn run_as_ordered<H: Threads + Wait + Clock + Sync, G: Gate + Sync>(
     alloc: Global,
     gate: &G,
     source: &Option<SourceText<'_>>,
-    ordered: Ordered,
+    ordered: RunRequest,
 ) -> Result<Reply, AllocError>
     requires { MayBeSource source.now ordered.verified.program }
     ensures { IfOk result (λ r. RepliesByOpening (text_of source.now) ordered.verified.program ordered.order (reply r.text.items r.close)) }
 {
-    let Ordered { order, verified } = ordered;
+    let RunRequest { order, verified } = ordered;
     if order.in_turn {
-        turned_reply(alloc, source, &order, verified)
+        reply_single_threaded(alloc, source, &order, verified)
     } else {
-        run_of(rt, alloc, gate, source, &order, verified)
+        reply_threaded(rt, alloc, gate, source, &order, verified)
     }
 }
 
@@ -167,8 +167,8 @@ fn source_reply<H: Threads + Wait + Clock + Sync, G: Gate + Sync>(
                 source: text,
             } = read;
             match program_reply(alloc, &text, order, program)? {
-                Answered::Told(reply) => Ok(reply),
-                Answered::Run(ordered) => run_as_ordered(rt, alloc, gate, &text, ordered),
+                ProgramAction::Told(reply) => Ok(reply),
+                ProgramAction::Run(ordered) => run_as_ordered(rt, alloc, gate, &text, ordered),
             }
         }
         Err(why) => reasoned_reply(alloc, input, why),
@@ -192,10 +192,10 @@ fn source_in_turn(
                 source: text,
             } = read;
             match program_reply(alloc, &text, order, program)? {
-                Answered::Told(reply) => Ok(reply),
-                Answered::Run(ordered) => {
-                    let Ordered { order, verified } = ordered;
-                    turned_reply(alloc, &text, &order, verified)
+                ProgramAction::Told(reply) => Ok(reply),
+                ProgramAction::Run(ordered) => {
+                    let RunRequest { order, verified } = ordered;
+                    reply_single_threaded(alloc, &text, &order, verified)
                 }
             }
         }
@@ -214,9 +214,9 @@ pub fn reply_to<H: Threads + Wait + Clock + Sync, G: Gate + Sync>(
     ensures { IfOk result (λ r. MayReply order input.items (reply r.text.items r.close)) }
 {
     match step_of(alloc, order, input)? {
-        Step::Told(reply) => Ok(reply),
-        Step::Asks(asking) => {
-            let Asking {
+        OrderAction::Told(reply) => Ok(reply),
+        OrderAction::Asks(asking) => {
+            let ProgramRequest {
                 source,
                 order,
                 program,
@@ -232,9 +232,9 @@ pub fn reply_in_turn(alloc: Global, order: Order, input: Vec<u8>) -> Result<Repl
     ensures { IfOk result (λ r. MayReply order input.items (reply r.text.items r.close)) }
 {
     match step_of(alloc, order, input)? {
-        Step::Told(reply) => Ok(reply),
-        Step::Asks(asking) => {
-            let Asking {
+        OrderAction::Told(reply) => Ok(reply),
+        OrderAction::Asks(asking) => {
+            let ProgramRequest {
                 source,
                 order,
                 program,

@@ -1,7 +1,7 @@
 //! What a session answers to a program.
 
 ghost use Rattle.std.specs.Prelude.{◌≡◌, IfOk};
-ghost use Rattle.tw_session.specs.Answered.{Leads};
+ghost use Rattle.tw_session.specs.ProgramAction.{Leads};
 ghost use Rattle.tw_session.specs.Session.{RepliesByAccepted, RepliesByProgram, RepliesByVerified, places_of};
 ghost use Rattle.tw_command.specs.declared.command.ProgramOrder.TheVariants as ordered;
 ghost use Rattle.tw_command.specs.declared.command.VerifiedOrder.TheVariants.{Run};
@@ -16,16 +16,16 @@ use tw_verify::{Verified, VerifyRefusal, verify};
 
 /// An accepted program that is to be run, and how.
 #[derive(Drop)]
-pub struct Ordered {
+pub struct RunRequest {
     pub order: RunOrder,
     pub verified: Verified,
 }
 
 /// What comes of a program: a reply, or a run.
 #[derive(Drop)]
-pub enum Answered {
+pub enum ProgramAction {
     Told(Reply),
-    Run(Ordered),
+    Run(RunRequest),
 }
 
 /// Does what is ordered with an accepted program, up to its run.
@@ -34,17 +34,17 @@ fn accepted_reply(
     source: &Option<SourceText<'_>>,
     order: VerifiedOrder,
     verified: Verified,
-) -> Result<Answered, AllocError>
+) -> Result<ProgramAction, AllocError>
     requires accepted { IsAccepted verified.program }
     requires source { MayBeSource source.now verified.program }
     ensures { IfOk result (Leads (λ run. order ≡ Run run) source.now (RepliesByAccepted (text_of source.now) order verified.program)) }
 {
     match order {
-        VerifiedOrder::Check(order) => Ok(Answered::Told(Reply {
+        VerifiedOrder::Check(order) => Ok(ProgramAction::Told(Reply {
             text: checked_text(alloc, source, order, &verified)?,
             close: Close::Success,
         })),
-        VerifiedOrder::Run(order) => Ok(Answered::Run(Ordered { order, verified })),
+        VerifiedOrder::Run(order) => Ok(ProgramAction::Run(RunRequest { order, verified })),
     }
 }
 
@@ -64,7 +64,7 @@ fn verified_reply(
     source: &Option<SourceText<'_>>,
     order: VerifiedOrder,
     program: Program,
-) -> Result<Answered, AllocError>
+) -> Result<ProgramAction, AllocError>
     requires { MayBeSource source.now program.procedures }
     ensures { IfOk result (Leads (λ run. order ≡ Run run) source.now (RepliesByVerified (text_of source.now) order program.procedures)) }
 {
@@ -75,7 +75,7 @@ fn verified_reply(
             VerifyRefusal::NoMemory => Err(AllocError),
             _ => {
                 let reply = refusal_reply(alloc, source, places, &refused)?;
-                Ok(Answered::Told(reply))
+                Ok(ProgramAction::Told(reply))
             }
         },
     }
@@ -87,12 +87,12 @@ pub fn program_reply(
     source: &Option<SourceText<'_>>,
     order: ProgramOrder,
     program: Program,
-) -> Result<Answered, AllocError>
+) -> Result<ProgramAction, AllocError>
     requires { MayBeSource source.now program.procedures }
     ensures { IfOk result (Leads (λ run. order ≡ ordered.Verified (Run run)) source.now (RepliesByProgram (text_of source.now) order program)) }
 {
     match order {
-        ProgramOrder::Disassemble(places) => Ok(Answered::Told(Reply {
+        ProgramOrder::Disassemble(places) => Ok(ProgramAction::Told(Reply {
             text: disassembled(alloc, places, &program)?,
             close: Close::Success,
         })),

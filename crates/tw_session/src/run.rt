@@ -23,7 +23,7 @@ use tw_verify::Verified;
 use tw_workers::{Gate, run};
 
 /// Why a run is over that wasn't stopped.
-pub fn end_of(closing: Option<Closing>) -> Option<Closing>
+pub fn stop_reason(closing: Option<Closing>) -> Option<Closing>
     ensures same { IfSome result (λ c. closing ≡ Some c) }
     ensures unstopped { IfSome result (λ c. c ≢ Closing.Stopped) }
     ensures none { result ≡ None → HasEnded closing → ⊥ }
@@ -62,7 +62,7 @@ fn closed_reply(
             history,
             outcome,
             by_seat: _,
-        } => match end_of(outcome.closing()) {
+        } => match stop_reason(outcome.closing()) {
             None => threads_reply(alloc),
             Some(closing) => {
                 ended_reply(alloc, source, order, verified, &outcome, &history, closing)
@@ -73,7 +73,7 @@ fn closed_reply(
 }
 
 /// Opens and runs an accepted program in threads, one an actor.
-pub fn run_of<H: Threads + Wait + Clock + Sync, G: Gate + Sync>(
+pub fn reply_threaded<H: Threads + Wait + Clock + Sync, G: Gate + Sync>(
     rt: &H,
     alloc: Global,
     gate: &G,

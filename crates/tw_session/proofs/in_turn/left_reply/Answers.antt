@@ -35,4 +35,4 @@ pub unreachable-requires : goal.unreachable-requires
 unreachable-requires c =
     let order = c.args.order.now in
     let over = subst (λ (x : InTurnResult). IsLeft (opened c.args.verified order.inputs order.layout order.limit) x) c.in-Over.is c.requires.left in
-    c.end_of.ensures.none c.in-None.is (subst HasEnded (sym c.closing.ensures) over.3)
+    c.stop_reason.ensures.none c.in-None.is (subst HasEnded (sym c.closing.ensures) over.3)

@@ -1,5 +1,5 @@
 use Rattle.std.proofs.Common.{◌≡◌, List, ℕ, Option, inl, subst}
-use Rattle.tw_session.proofs.SessionNames.{Answered, IfOk-weaker, Leads, RepliesByProgram, RepliesBySource, Run, RunOrder, Verified, reply, text_of, text_told}
+use Rattle.tw_session.proofs.SessionNames.{ProgramAction, IfOk-weaker, Leads, RepliesByProgram, RepliesBySource, Run, RunOrder, Verified, reply, text_of, text_told}
 use Rattle.tw_command.specs.InTurn.{IsProgramInTurn}
 use Rattle.tw_replies.specs.declared.reply.Reply.{Reply}
 use Rattle.tw_replies.proofs.Nones.{Tells, none_told}
@@ -8,22 +8,22 @@ use Rattle.tw_session.proofs.order.source_in_turn.Goals as goal
 pub program_reply-requires : goal.program_reply-requires
 program_reply-requires c = c.in-Ok.ensures.source
 
-pub turned_reply-requires : goal.turned_reply-requires
-turned_reply-requires c =
-    let run = subst (λ (a : Answered). Leads (λ (run : RunOrder). c.args.order ≡ Verified (Run run)) c.in-Ok.read.source (RepliesByProgram (text_of c.in-Ok.read.source) c.args.order c.in-Ok.read.program) a) c.in-Run.is c.in_ok-reply-in-Ok.ensures in
+pub reply_single_threaded-requires : goal.reply_single_threaded-requires
+reply_single_threaded-requires c =
+    let run = subst (λ (a : ProgramAction). Leads (λ (run : RunOrder). c.args.order ≡ Verified (Run run)) c.in-Ok.read.source (RepliesByProgram (text_of c.in-Ok.read.source) c.args.order c.in-Ok.read.program) a) c.in-Run.is c.in_ok-reply-in-Ok.ensures in
     record { turns = subst IsProgramInTurn run.0 c.requires; source = run.1 }
 
 pub returns-in-Told : goal.returns-in-Told
 returns-in-Told c =
     let r = c.in-Told.reply in
-    let told = subst (λ (a : Answered). Leads (λ (run : RunOrder). c.args.order ≡ Verified (Run run)) c.in-Ok.read.source (RepliesByProgram (text_of c.in-Ok.read.source) c.args.order c.in-Ok.read.program) a) c.in-Told.is c.in_ok-reply-in-Ok.ensures in
+    let told = subst (λ (a : ProgramAction). Leads (λ (run : RunOrder). c.args.order ≡ Verified (Run run)) c.in-Ok.read.source (RepliesByProgram (text_of c.in-Ok.read.source) c.args.order c.in-Ok.read.program) a) c.in-Told.is c.in_ok-reply-in-Ok.ensures in
     inl (c.in-Ok.read.program, c.in-Ok.ensures.spells, subst (λ (t : Option (List ℕ)). RepliesByProgram t c.args.order c.in-Ok.read.program (reply r.text.items r.close)) c.in-Ok.ensures.text told)
 
 pub returns-in-Ok : goal.returns-in-Ok
 returns-in-Ok c =
-    let run = subst (λ (a : Answered). Leads (λ (run : RunOrder). c.args.order ≡ Verified (Run run)) c.in-Ok.read.source (RepliesByProgram (text_of c.in-Ok.read.source) c.args.order c.in-Ok.read.program) a) c.in-Run.is c.in_ok-reply-in-Ok.ensures in
+    let run = subst (λ (a : ProgramAction). Leads (λ (run : RunOrder). c.args.order ≡ Verified (Run run)) c.in-Ok.read.source (RepliesByProgram (text_of c.in-Ok.read.source) c.args.order c.in-Ok.read.program) a) c.in-Run.is c.in_ok-reply-in-Ok.ensures in
     IfOk-weaker _ _ _
-    (λ (r : Reply) h. inl (c.in-Ok.read.program, c.in-Ok.ensures.spells, subst (λ (t : Option (List ℕ)). RepliesByProgram t c.args.order c.in-Ok.read.program (reply r.text.items r.close)) c.in-Ok.ensures.text (run.2 (reply r.text.items r.close) h))) c.turned_reply.ensures
+    (λ (r : Reply) h. inl (c.in-Ok.read.program, c.in-Ok.ensures.spells, subst (λ (t : Option (List ℕ)). RepliesByProgram t c.args.order c.in-Ok.read.program (reply r.text.items r.close)) c.in-Ok.ensures.text (run.2 (reply r.text.items r.close) h))) c.reply_single_threaded.ensures
 
 pub returns : goal.returns
 returns c =

@@ -1,5 +1,5 @@
 use Rattle.std.proofs.Common.{◌≡◌, List, ℕ, Option, inl, rules, subst}
-use Rattle.tw_session.proofs.SessionNames.{Answered, IfOk-weaker, Leads, RepliesByProgram, RepliesBySource, Run, RunOrder, Verified, reply, text_of, text_told}
+use Rattle.tw_session.proofs.SessionNames.{ProgramAction, IfOk-weaker, Leads, RepliesByProgram, RepliesBySource, Run, RunOrder, Verified, reply, text_of, text_told}
 use Rattle.tw_replies.specs.declared.reply.Reply.{Reply}
 use Rattle.tw_replies.proofs.Nones.{Tells, none_told}
 use Rattle.tw_session.proofs.order.source_reply.Goals as goal
@@ -8,17 +8,17 @@ pub program_reply-requires : goal.program_reply-requires
 program_reply-requires g c = c.in-Ok.ensures.source
 
 pub run_as_ordered-requires : goal.run_as_ordered-requires
-run_as_ordered-requires g c = let run = subst (λ (a : Answered). Leads (λ (run : RunOrder). c.args.order ≡ Verified (Run run)) c.in-Ok.read.source (RepliesByProgram (text_of c.in-Ok.read.source) c.args.order c.in-Ok.read.program) a) c.in-Run.is c.in_ok-reply-in-Ok.ensures in (search rules, (search rules, run.1))
+run_as_ordered-requires g c = let run = subst (λ (a : ProgramAction). Leads (λ (run : RunOrder). c.args.order ≡ Verified (Run run)) c.in-Ok.read.source (RepliesByProgram (text_of c.in-Ok.read.source) c.args.order c.in-Ok.read.program) a) c.in-Run.is c.in_ok-reply-in-Ok.ensures in (search rules, (search rules, run.1))
 
 pub returns-in-Told : goal.returns-in-Told
 returns-in-Told g c =
     let r = c.in-Told.reply in
-    let told = subst (λ (a : Answered). Leads (λ (run : RunOrder). c.args.order ≡ Verified (Run run)) c.in-Ok.read.source (RepliesByProgram (text_of c.in-Ok.read.source) c.args.order c.in-Ok.read.program) a) c.in-Told.is c.in_ok-reply-in-Ok.ensures in
+    let told = subst (λ (a : ProgramAction). Leads (λ (run : RunOrder). c.args.order ≡ Verified (Run run)) c.in-Ok.read.source (RepliesByProgram (text_of c.in-Ok.read.source) c.args.order c.in-Ok.read.program) a) c.in-Told.is c.in_ok-reply-in-Ok.ensures in
     inl (c.in-Ok.read.program, c.in-Ok.ensures.spells, subst (λ (t : Option (List ℕ)). RepliesByProgram t c.args.order c.in-Ok.read.program (reply r.text.items r.close)) c.in-Ok.ensures.text told)
 
 pub returns-in-Ok : goal.returns-in-Ok
 returns-in-Ok g c =
-    let run = subst (λ (a : Answered). Leads (λ (run : RunOrder). c.args.order ≡ Verified (Run run)) c.in-Ok.read.source (RepliesByProgram (text_of c.in-Ok.read.source) c.args.order c.in-Ok.read.program) a) c.in-Run.is c.in_ok-reply-in-Ok.ensures in
+    let run = subst (λ (a : ProgramAction). Leads (λ (run : RunOrder). c.args.order ≡ Verified (Run run)) c.in-Ok.read.source (RepliesByProgram (text_of c.in-Ok.read.source) c.args.order c.in-Ok.read.program) a) c.in-Run.is c.in_ok-reply-in-Ok.ensures in
     IfOk-weaker _ _ _
     (λ (r : Reply) h. inl (c.in-Ok.read.program, c.in-Ok.ensures.spells, subst (λ (t : Option (List ℕ)). RepliesByProgram t c.args.order c.in-Ok.read.program (reply r.text.items r.close)) c.in-Ok.ensures.text (run.2 (reply r.text.items r.close) h))) c.run_as_ordered.ensures
 

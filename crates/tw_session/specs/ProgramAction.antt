@@ -2,10 +2,10 @@
 use Rattle.std.specs.Prelude.{◌≡◌, ℕ, List, Option}
 use Rattle.tw_command.specs.InTurn.{IsProgramInTurn}
 use Rattle.tw_command.specs.declared.command.RunOrder.{RunOrder}
-use Rattle.tw_session.specs.declared.order.Step.{Step}
-use Rattle.tw_session.specs.declared.order.Step.TheVariants as step
-use Rattle.tw_session.specs.declared.programs.Answered.{Answered}
-use Rattle.tw_session.specs.declared.programs.Answered.TheVariants as answered
+use Rattle.tw_session.specs.declared.order.OrderAction.{OrderAction}
+use Rattle.tw_session.specs.declared.order.OrderAction.TheVariants as step
+use Rattle.tw_session.specs.declared.programs.ProgramAction.{ProgramAction}
+use Rattle.tw_session.specs.declared.programs.ProgramAction.TheVariants as answered
 use Rattle.tw_replies.specs.Program.{RepliesBySource, text_told}
 use Rattle.tw_replies.specs.Reply.{Reply, reply}
 use Rattle.tw_session.specs.Run.{RepliesByOpening}
@@ -14,13 +14,13 @@ use Rattle.tw_replies.specs.Source.{MayBeSource, text_of}
 use Rattle.tw_replies.specs.declared.source.SourceText.{SourceText}
 
 -- a reply that may be answered so; or the run of such an order, of a program that was read from this text if from one, whose replies may
-abbrev pub Leads : (RunOrder → Type 0) → Option SourceText → (Reply → Type 0) → Answered → Type 0
+abbrev pub Leads : (RunOrder → Type 0) → Option SourceText → (Reply → Type 0) → ProgramAction → Type 0
 Leads IsOrder source Answers (answered.Told r) = Answers (reply r.text.items r.close)
 Leads IsOrder source Answers (answered.Run o) =
     IsOrder o.order × MayBeSource source o.verified.program × ((r : Reply) → RepliesByOpening (text_of source) o.verified.program o.order r → Answers r)
 
 -- the same of a program that is to be read, which is run in turn if that is asked
-abbrev pub Comes : Type 0 → (Reply → Type 0) → Step → Type 0
+abbrev pub Comes : Type 0 → (Reply → Type 0) → OrderAction → Type 0
 Comes InTurn Answers (step.Told r) = Answers (reply r.text.items r.close)
 Comes InTurn Answers (step.Asks a) =
     (InTurn → IsProgramInTurn a.order)
