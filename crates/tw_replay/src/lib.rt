@@ -5,7 +5,7 @@ mod drawn;
 mod numbers;
 mod opening;
 mod replay;
-mod replay_behind;
+mod replay_details;
 mod stuck;
 
 pub use drawn::draw;

@@ -22,15 +22,15 @@ ghost use Rattle.tw_replies.specs.Reply.{Reply as AReply, reply};
 
 use crate::drawn::draw;
 use crate::numbers::{Budgeted, counted_reply, with_budgets};
-use crate::replay_behind::{behind_reply, unopened_reply};
+use crate::replay_details::{behind_reply, unopened_reply};
 use std::alloc::{AllocError, Global};
 use tw_code::Program;
 use tw_command::{Answer, ReplayOptions, ReplayOrder, Source, inputs_of};
 use tw_machine::{Plain, Stopped};
 use tw_names::Symbols;
 use tw_replies::{
-    Close, ReadProgram, Reply, SourceText, input_parts, not_utf8_reply, read_program,
-    reasoned_reply, refused_by, refused_words_reply, symbols_of,
+    Close, ReadProgram, Reply, SourceText, input_parts, not_utf8_reply, parse_error_reply,
+    read_program, refused_by, refused_words_reply, symbols_of,
 };
 use tw_report::{
     HistoryFault, cut_history, put_history_line, put_not_enabled_line, put_trap_line, read_history,
@@ -232,7 +232,7 @@ fn source_reply(
             } = read;
             history_reply(alloc, &text, order, history, program)
         }
-        Err(why) => reasoned_reply(alloc, program, why),
+        Err(why) => parse_error_reply(alloc, program, why),
     }
 }
 

@@ -11,7 +11,7 @@ ghost use Rattle.tw_replies.specs.declared.close.Close.TheVariants.{Refused};
 use crate::close::Close;
 use crate::lines::put_asm_line;
 use crate::names::plain_reply;
-use crate::program::{read_program, reasoned_reply};
+use crate::program::{parse_error_reply, read_program};
 use crate::reply::{Reply, not_utf8_reply, refused_by};
 use std::alloc::{AllocError, Global};
 use tw_asm::{AsmFault, assemble};
@@ -73,7 +73,7 @@ fn named_reply(alloc: Global, input: &[u8]) -> Result<Reply, AllocError>
 {
     match read_program(alloc, Source::Assembly, input) {
         Ok(read) => hex_reply(alloc, &read.program),
-        Err(why) => reasoned_reply(alloc, input, why),
+        Err(why) => parse_error_reply(alloc, input, why),
     }
 }
 

@@ -14,7 +14,7 @@ use crate::bounds::put_asked_bounds;
 use crate::lines::put_verify_line;
 use crate::listing::{refused_text, typed_text};
 use crate::reply::{Reply, refused_by};
-use crate::source::{SourceText, put_behind, symbols_of};
+use crate::source::{SourceText, put_rejection_details, symbols_of};
 use crate::text_listing::{accepted_lines, refused_lines};
 use std::alloc::{AllocError, Global};
 use tw_command::{CheckOrder, Places};
@@ -199,6 +199,6 @@ pub fn refusal_reply(
         refused.procedure,
         refused.place,
     )?;
-    put_behind(alloc, &mut text, source, refused)?;
+    put_rejection_details(alloc, &mut text, source, refused)?;
     Ok(refused_by(text))
 }

@@ -111,7 +111,7 @@ fn put_word_reason(out: &mut Vec<u8>, word: &[u8], no: NameNo) -> Result<(), All
 }
 
 /// Adds the line that is refused as it was written, and what is wrong with which word of it.
-pub fn put_name_behind(
+pub fn put_name_details(
     out: &mut Vec<u8>,
     text: &str,
     refusal: NameRefusal<'_>,
@@ -161,7 +161,7 @@ fn put_written_fault(
 }
 
 /// Adds the line at which what a text stands for is refused, as it was written where there are names, and why it is.
-pub fn put_fault_behind(
+pub fn put_fault_details(
     alloc: Global,
     out: &mut Vec<u8>,
     text: &str,
@@ -185,7 +185,7 @@ fn named_reply(alloc: Global, text: &str, refusal: NameRefusal<'_>) -> Result<Re
 {
     let mut out = Vec::new(alloc);
     put_name_line(alloc, &mut out, refusal)?;
-    put_name_behind(&mut out, text, refusal)?;
+    put_name_details(&mut out, text, refusal)?;
     Ok(refused_by(out))
 }
 

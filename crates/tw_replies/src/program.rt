@@ -20,7 +20,7 @@ ghost use Rattle.tw_replies.specs.declared.close.Close.TheVariants.{Refused};
 
 use crate::digits::digits;
 use crate::lines::{put_asm_line, put_fault_line};
-use crate::names::{put_fault_behind, put_name_behind, put_name_line};
+use crate::names::{put_fault_details, put_name_details, put_name_line};
 use crate::reply::{Reply, refused_by};
 use crate::source::SourceText;
 use hex::FromHexError;
@@ -229,7 +229,7 @@ fn put_fault_reason(
     ensures { OnOk result (IsUtf8 input.now → (plain : List ℕ) → StandsFor input.now plain → (more : List ℕ) × IsFaultBehind input.now fault.no fault.line more × (out.new.items ≡ out.old.items ++ more)) }
 {
     match str::from_utf8(input) {
-        Ok(text) => put_fault_behind(alloc, out, text, fault),
+        Ok(text) => put_fault_details(alloc, out, text, fault),
         Err(_) => Ok(()),
     }
 }
@@ -243,13 +243,13 @@ fn put_refusal_reason(
     ensures { OnOk result (IsUtf8 input.now → out.new.items ≡ out.old.items ++ name_behind input.now refusal.entry.no refusal.entry.line refusal.entry.word.now) }
 {
     match str::from_utf8(input) {
-        Ok(text) => put_name_behind(out, text, refusal),
+        Ok(text) => put_name_details(out, text, refusal),
         Err(_) => Ok(()),
     }
 }
 
 /// Adds what stands behind the line that tells why there is no program.
-fn put_none_behind(
+fn put_parse_error_details(
     alloc: Global,
     out: &mut Vec<u8>,
     input: &[u8],
@@ -265,12 +265,16 @@ fn put_none_behind(
 }
 
 /// The reply where what was read spells no program, with the reason where it is a text.
-pub fn reasoned_reply(alloc: Global, input: &[u8], why: NoProgram<'_>) -> Result<Reply, AllocError>
+pub fn parse_error_reply(
+    alloc: Global,
+    input: &[u8],
+    why: NoProgram<'_>,
+) -> Result<Reply, AllocError>
     ensures { IfOk result (λ r. (why.entry ≢ NoMemory) × ((source : ReadAs) → SpellsNone source input.now why.entry
         → (more : List ℕ) × IsNoneBehind input.now why.entry more × (reply r.text.items r.close ≡ reply (no_program_line why.entry ++ more) Refused))) }
 {
     let mut text = Vec::new(alloc);
     put_no_program(alloc, &mut text, why)?;
-    put_none_behind(alloc, &mut text, input, why)?;
+    put_parse_error_details(alloc, &mut text, input, why)?;
     Ok(refused_by(text))
 }

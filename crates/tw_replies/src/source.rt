@@ -154,7 +154,7 @@ fn put_reason(
 }
 
 /// Adds the line from which the refused instruction comes, and why it is refused.
-fn put_place_behind(
+fn put_place_details(
     alloc: Global,
     out: &mut Vec<u8>,
     source: &SourceText<'_>,
@@ -172,7 +172,7 @@ fn put_place_behind(
 }
 
 /// Adds the line that begins main, and what is wrong with its shape.
-fn put_head_behind(
+fn put_head_details(
     alloc: Global,
     out: &mut Vec<u8>,
     source: &SourceText<'_>,
@@ -194,7 +194,7 @@ fn put_head_behind(
 }
 
 /// Adds what stands behind a refusal of main's shape.
-fn put_main_behind(
+fn put_main_details(
     alloc: Global,
     out: &mut Vec<u8>,
     source: &SourceText<'_>,
@@ -204,13 +204,13 @@ fn put_main_behind(
         → (more : List ℕ) × IsMainBehind source.now.text.now refused.now.program.procedures more × (out.new.items ≡ out.old.items ++ more)) }
 {
     match refused.program.procedures().first() {
-        Some(main) => put_head_behind(alloc, out, source, main),
+        Some(main) => put_head_details(alloc, out, source, main),
         None => Ok(()),
     }
 }
 
 /// Adds what stands behind the line of a refusal of a program that was read from a text.
-fn put_text_behind(
+fn put_text_details(
     alloc: Global,
     out: &mut Vec<u8>,
     source: &SourceText<'_>,
@@ -220,13 +220,13 @@ fn put_text_behind(
         → (more : List ℕ) × IsTextBehind source.now.text.now refused.now.no refused.now.program.procedures refused.now.procedure refused.now.place more × (out.new.items ≡ out.old.items ++ more)) }
 {
     match refused.no {
-        VerifyRefusal::MainShape => put_main_behind(alloc, out, source, refused),
-        _ => put_place_behind(alloc, out, source, refused),
+        VerifyRefusal::MainShape => put_main_details(alloc, out, source, refused),
+        _ => put_place_details(alloc, out, source, refused),
     }
 }
 
 /// Adds what stands behind the line of a refusal.
-pub fn put_behind(
+pub fn put_rejection_details(
     alloc: Global,
     out: &mut Vec<u8>,
     source: &Option<SourceText<'_>>,
@@ -236,7 +236,7 @@ pub fn put_behind(
         → (more : List ℕ) × IsBehind (text_of source.now) refused.now.no refused.now.program.procedures refused.now.procedure refused.now.place more × (out.new.items ≡ out.old.items ++ more)) }
 {
     match source {
-        Some(source) => put_text_behind(alloc, out, source, refused),
+        Some(source) => put_text_details(alloc, out, source, refused),
         None => Ok(()),
     }
 }

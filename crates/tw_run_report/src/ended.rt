@@ -15,7 +15,7 @@ ghost use Rattle.tw_names.specs.Symbols.{AreSymbols};
 ghost use Rattle.tw_replies.specs.Source.{MayBeSource, text_of};
 
 use crate::end_report::report;
-use crate::run_behind::put_run_behind;
+use crate::run_details::put_run_details;
 use std::alloc::{AllocError, Global};
 use tw_code::Program;
 use tw_command::{Answer, RunOrder, Stretch};
@@ -232,7 +232,7 @@ pub fn ended_reply(
     put_told(
         alloc, &mut text, source, order, verified, outcome, history, closing,
     )?;
-    put_run_behind(alloc, &mut text, source, order, history, closing)?;
+    put_run_details(alloc, &mut text, source, order, history, closing)?;
     Ok(Reply {
         text,
         close: close_of(closing),

@@ -5,7 +5,7 @@ mod closing_text;
 mod end_report;
 mod ended;
 mod finished_run;
-mod run_behind;
+mod run_details;
 
 pub use end_report::{circle, report};
 pub use ended::ended_reply;

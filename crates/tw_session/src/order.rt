@@ -27,7 +27,7 @@ use tw_command::{InputsOrder, Order, ProgramOrder, RunOptions, Source, VerifiedO
 use tw_replay::{replay_inputs_reply, replay_reply};
 use tw_replies::{
     Close, ReadProgram, Reply, SourceText, assembled_reply, fixed_reply, input_parts,
-    not_utf8_reply, read_program, reasoned_reply, refused_words_reply,
+    not_utf8_reply, parse_error_reply, read_program, refused_words_reply,
 };
 use tw_workers::Gate;
 
@@ -171,7 +171,7 @@ fn source_reply<H: Threads + Wait + Clock + Sync, G: Gate + Sync>(
                 ProgramAction::Run(ordered) => run_as_ordered(rt, alloc, gate, &text, ordered),
             }
         }
-        Err(why) => reasoned_reply(alloc, input, why),
+        Err(why) => parse_error_reply(alloc, input, why),
     }
 }
 
@@ -199,7 +199,7 @@ fn source_in_turn(
                 }
             }
         }
-        Err(why) => reasoned_reply(alloc, input, why),
+        Err(why) => parse_error_reply(alloc, input, why),
     }
 }
 

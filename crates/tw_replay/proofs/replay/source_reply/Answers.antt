@@ -14,6 +14,6 @@ pub returns-in-Err : goal.returns-in-Err
 returns-in-Err c =
     let input = c.args.program.now in
     let told = lines_in c.args.history.now in
-    IfOk-weaker c.reasoned_reply.result (λ (r : Reply). Tells input c.in-Err.why (reply r.text.items r.close))
+    IfOk-weaker c.parse_error_reply.result (λ (r : Reply). Tells input c.in-Err.why (reply r.text.items r.close))
     (λ (r : Reply). RepliesBySource c.args.source input (RepliesByLines (text_told c.args.source input) c.args.order.now told) (reply r.text.items r.close))
-    (λ (r : Reply) h. none_told c.args.source input c.in-Err.why (RepliesByLines (text_told c.args.source input) c.args.order.now told) (reply r.text.items r.close) c.in-Err.ensures.none h) c.reasoned_reply.ensures
+    (λ (r : Reply) h. none_told c.args.source input c.in-Err.why (RepliesByLines (text_told c.args.source input) c.args.order.now told) (reply r.text.items r.close) c.in-Err.ensures.none h) c.parse_error_reply.ensures

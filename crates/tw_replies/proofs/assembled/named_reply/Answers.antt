@@ -10,5 +10,5 @@ returns-in-Ok c = IfOk-weaker _ _ _ (λ (r : Reply) h. inl (c.in-Ok.read.program
 pub returns-in-Err : goal.returns-in-Err
 returns-in-Err c =
     let input = c.args.input.now in
-    IfOk-weaker c.reasoned_reply.result (λ (r : Reply). Tells input c.in-Err.why (reply r.text.items r.close)) (λ (r : Reply). RepliesBySource Assembly input IsWritten (reply r.text.items r.close))
-    (λ (r : Reply) h. none_told Assembly input c.in-Err.why IsWritten (reply r.text.items r.close) c.in-Err.ensures.none h) c.reasoned_reply.ensures
+    IfOk-weaker c.parse_error_reply.result (λ (r : Reply). Tells input c.in-Err.why (reply r.text.items r.close)) (λ (r : Reply). RepliesBySource Assembly input IsWritten (reply r.text.items r.close))
+    (λ (r : Reply) h. none_told Assembly input c.in-Err.why IsWritten (reply r.text.items r.close) c.in-Err.ensures.none h) c.parse_error_reply.ensures

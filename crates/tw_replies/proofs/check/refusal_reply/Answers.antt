@@ -10,7 +10,7 @@ returns c =
     let number = verify_refusal_number refused.no in
     let before = c.in_ok-text.text.items in
     let line = verify_line number refused.procedure refused.place in
-    let told = c.in_ok-put_behind.ensures (placed c.args.source.now refused.program.procedures number refused.procedure refused.place c.requires.source c.requires.first) in
+    let told = c.in_ok-put_rejection_details.ensures (placed c.args.source.now refused.program.procedures number refused.procedure refused.place c.requires.source c.requires.first) in
     let text =
     told.2
     ∙ ap (λ (t : List ℕ). t ++ told.0) (c.in_ok-put_verify_line.ensures ∙ ap (λ (n : ℕ). before ++ verify_line n refused.procedure refused.place) c.number.ensures)

@@ -5,8 +5,8 @@ use Rattle.tw_replies.proofs.program.put_refusal_reason.Goals as goal
 pub returns-in-Ok : goal.returns-in-Ok
 returns-in-Ok c =
     let refusal = c.args.refusal in
-    on_ok_weaker c.put_name_behind.result
-    (λ told utf8. told ∙ ap (λ (x : List ℕ). c.args.out.now.items ++ name_behind x refusal.no refusal.line refusal.word.now) c.in-Ok.ensures.cases.0) c.put_name_behind.ensures
+    on_ok_weaker c.put_name_details.result
+    (λ told utf8. told ∙ ap (λ (x : List ℕ). c.args.out.now.items ++ name_behind x refusal.no refusal.line refusal.word.now) c.in-Ok.ensures.cases.0) c.put_name_details.ensures
 
 pub returns-in-Err : goal.returns-in-Err
 returns-in-Err c = λ utf8. absurd (c.in-Err.ensures.cases.0 utf8)

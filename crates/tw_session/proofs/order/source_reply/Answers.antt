@@ -25,6 +25,6 @@ returns-in-Ok g c =
 pub returns : goal.returns
 returns g c =
     let input = c.args.input.now in
-    IfOk-weaker c.reasoned_reply.result (λ (r : Reply). Tells input c.in-Err.why (reply r.text.items r.close))
+    IfOk-weaker c.parse_error_reply.result (λ (r : Reply). Tells input c.in-Err.why (reply r.text.items r.close))
     (λ (r : Reply). RepliesBySource c.args.source input (RepliesByProgram (text_told c.args.source input) c.args.order) (reply r.text.items r.close))
-    (λ (r : Reply) h. none_told c.args.source input c.in-Err.why (RepliesByProgram (text_told c.args.source input) c.args.order) (reply r.text.items r.close) c.in-Err.ensures.none h) c.reasoned_reply.ensures
+    (λ (r : Reply) h. none_told c.args.source input c.in-Err.why (RepliesByProgram (text_told c.args.source input) c.args.order) (reply r.text.items r.close) c.in-Err.ensures.none h) c.parse_error_reply.ensures
