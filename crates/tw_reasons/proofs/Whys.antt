@@ -12,8 +12,8 @@ use Rattle.tw_reasons.specs.declared.hints.Hint.{Hint}
 use Rattle.tw_reasons.specs.declared.situation.Situation as declared
 use Rattle.tw_reasons.specs.Told.{AddsPast, AddsWhy, IsBefore, IsLineReason, IsPast, IsPastFirst, TellsFirst, due_said, expected_text, found_word, is_long_label, limit_text, line_text, said_text, stop_line, whole_limit}
 use Rattle.tw_reasons.specs.declared.stop.Stop.{Stop}
-use Rattle.tw_reasons.specs.declared.told.Said.{Said}
-use Rattle.tw_reasons.specs.declared.told.Said.TheVariants.{Expected, Limit}
+use Rattle.tw_reasons.specs.declared.diagnostic.Said.{Said}
+use Rattle.tw_reasons.specs.declared.diagnostic.Said.TheVariants.{Expected, Limit}
 
 abbrev pub StandsThere : List ℕ → ℕ → declared.Situation → Type 0
 StandsThere text number now = (before others : List (List ℕ)) (said : List (Option Statement)) → lines text ≡ before ++ others → number ≡ length before + 1 → LinesSay 1 at_start before said → now ≡ situation_of (situation said)

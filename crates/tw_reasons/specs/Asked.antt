@@ -39,9 +39,9 @@ is_vain number a = (a.number == number) && not a.is_met
 
 -- ---- value registers
 
-abbrev pub wanted_scalar : Option Scalar → Wanted
-wanted_scalar None = wanted.AnyScalar
-wanted_scalar (Some ty) = wanted.Scalar ty
+abbrev pub scalar_requirement : Option Scalar → Wanted
+scalar_requirement None = wanted.AnyScalar
+scalar_requirement (Some ty) = wanted.Scalar ty
 
 abbrev pub is_declared : List Scalar → ℕ → Option Scalar → Asked
 is_declared registers register ty = record {
@@ -49,7 +49,7 @@ is_declared registers register ty = record {
   is_met = is_some (slice_get registers register);
   register = register;
   held = held.Value (slice_get registers register);
-  wanted = wanted_scalar ty;
+  wanted = scalar_requirement ty;
 }
 
 abbrev pub is_of : List Scalar → ℕ → Bool → Option Scalar → Asked
@@ -58,26 +58,26 @@ is_of registers register met ty = record {
   is_met = met;
   register = register;
   held = held.Value (slice_get registers register);
-  wanted = wanted_scalar ty;
+  wanted = scalar_requirement ty;
 }
 
 abbrev pub has_type : List Scalar → ℕ → Scalar → Bool
 has_type registers register ty = passes (λ declared. same_scalar declared ty) (slice_get registers register)
 
-abbrev pub asked_value : List Scalar → ℕ → Scalar → List Asked
-asked_value registers register ty = is_declared registers register (Some ty) ∷ is_of registers register (has_type registers register ty) (Some ty) ∷ []
+abbrev pub checks_value : List Scalar → ℕ → Scalar → List Asked
+checks_value registers register ty = is_declared registers register (Some ty) ∷ is_of registers register (has_type registers register ty) (Some ty) ∷ []
 
 -- of two that are to be of one type, the first is told
-abbrev pub asked_alike : List Scalar → ℕ → ℕ → List Asked
-asked_alike registers first second =
+abbrev pub checks_alike : List Scalar → ℕ → ℕ → List Asked
+checks_alike registers first second =
     is_declared registers first None ∷ is_declared registers second None
     ∷ is_of registers first (passes (λ ty. has_type registers second ty) (slice_get registers first)) (slice_get registers second) ∷ []
 
-abbrev pub asked_two : List Scalar → ℕ → Scalar → ℕ → Scalar → List Asked
-asked_two registers first ty second other = asked_value registers first ty ++ asked_value registers second other
+abbrev pub checks_two : List Scalar → ℕ → Scalar → ℕ → Scalar → List Asked
+checks_two registers first ty second other = checks_value registers first ty ++ checks_value registers second other
 
-abbrev pub asked_three : List Scalar → ℕ → ℕ → ℕ → Scalar → List Asked
-asked_three registers first second third ty = asked_value registers first ty ++ asked_two registers second ty third ty
+abbrev pub checks_three : List Scalar → ℕ → ℕ → ℕ → Scalar → List Asked
+checks_three registers first second third ty = checks_value registers first ty ++ checks_two registers second ty third ty
 
 -- ---- right registers
 
@@ -95,20 +95,20 @@ right_scalar None = None
 right_scalar (Some r) = Some r.ty.scalar
 
 -- a right in the one register that passes, and its datum's type in the other
-abbrev pub asked_value_of : List Scalar → ℕ → (RightType → Bool) → Typing → ℕ → Wanted → List Asked
-asked_value_of registers register test typing datum want =
+abbrev pub checks_value_of : List Scalar → ℕ → (RightType → Bool) → Typing → ℕ → Wanted → List Asked
+checks_value_of registers register test typing datum want =
     holds 4 typing datum (passes test (right_at typing datum)) want
     ∷ is_declared registers register (right_scalar (right_at typing datum))
     ∷ is_of registers register (not (passes test (right_at typing datum)) || passes (λ r. has_type registers register r.ty.scalar) (right_at typing datum)) (right_scalar (right_at typing datum)) ∷ []
 
-abbrev pub asked_read : Typing → ℕ → Asked
-asked_read typing register = holds 4 typing register (passes reads (right_at typing register)) wanted.AnyRead
+abbrev pub checks_read : Typing → ℕ → Asked
+checks_read typing register = holds 4 typing register (passes reads (right_at typing register)) wanted.AnyRead
 
-abbrev pub asked_closed : Scalar → Typing → ℕ → Asked
-asked_closed by typing register = holds 4 typing register (passes (reads_closed_container_by by) (right_at typing register)) (wanted.ClosedContainer by)
+abbrev pub checks_closed : Scalar → Typing → ℕ → Asked
+checks_closed by typing register = holds 4 typing register (passes (reads_closed_container_by by) (right_at typing register)) (wanted.ClosedContainer by)
 
-abbrev pub asked_container_write : Typing → ℕ → List Asked
-asked_container_write typing register =
+abbrev pub checks_container_write : Typing → ℕ → List Asked
+checks_container_write typing register =
     holds 4 typing register (passes writes (right_at typing register)) wanted.AnyWrite
     ∷ holds 15 typing register (not (passes writes_scalar (right_at typing register))) wanted.AnyContainerWrite ∷ []
 
@@ -116,41 +116,41 @@ asked_container_write typing register =
 abbrev pub member_type : Option RightType → Option NestedScalar
 member_type right = option_and_then (λ r. element_of r.ty) right
 
-abbrev pub asked_member : Typing → ℕ → ℕ → Asked
-asked_member typing container member =
+abbrev pub checks_member : Typing → ℕ → ℕ → Asked
+checks_member typing container member =
     holds 4 typing member (passes (λ right. passes (reads_member_of right) (right_at typing member)) (right_at typing container)) (wanted.ReadOf (member_type (right_at typing container)))
 
 -- ---- a line an instruction
 
-abbrev pub asked_local : List Scalar → LocalInstr → List Asked
-asked_local registers (local.Int to n) = asked_value registers to scalar.Int
-asked_local registers (local.Text to text) = asked_value registers to scalar.Text
-asked_local registers (local.Copy to from) = asked_alike registers to from
-asked_local registers (local.Compute operation to left right skip) = asked_three registers to left right scalar.Int
-asked_local registers (local.Concatenate to left right skip) = asked_three registers to left right scalar.Text
-asked_local registers (local.Length to from) = asked_two registers to scalar.Int from scalar.Text
-asked_local registers (local.Show to from) = asked_two registers to scalar.Text from scalar.Int
-asked_local registers (local.ReadInt to from skip) = asked_two registers to scalar.Int from scalar.Text
-asked_local registers (local.Jump skip) = []
-asked_local registers (local.JumpEqual left right skip) = asked_alike registers left right
-asked_local registers (local.JumpLess left right skip) = asked_two registers left scalar.Int right scalar.Int
-asked_local registers (local.Repeat turns) = []
-asked_local registers local.End = []
+abbrev pub checks_local : List Scalar → LocalInstr → List Asked
+checks_local registers (local.Int to n) = checks_value registers to scalar.Int
+checks_local registers (local.Text to text) = checks_value registers to scalar.Text
+checks_local registers (local.Copy to from) = checks_alike registers to from
+checks_local registers (local.Compute operation to left right skip) = checks_three registers to left right scalar.Int
+checks_local registers (local.Concatenate to left right skip) = checks_three registers to left right scalar.Text
+checks_local registers (local.Length to from) = checks_two registers to scalar.Int from scalar.Text
+checks_local registers (local.Show to from) = checks_two registers to scalar.Text from scalar.Int
+checks_local registers (local.ReadInt to from skip) = checks_two registers to scalar.Int from scalar.Text
+checks_local registers (local.Jump skip) = []
+checks_local registers (local.JumpEqual left right skip) = checks_alike registers left right
+checks_local registers (local.JumpLess left right skip) = checks_two registers left scalar.Int right scalar.Int
+checks_local registers (local.Repeat turns) = []
+checks_local registers local.End = []
 
-abbrev pub asked_data : List Scalar → DataInstr → Typing → List Asked
-asked_data registers (on_data.New write read ty) typing = is_empty typing write ∷ is_empty typing read ∷ are_two write read ∷ []
-asked_data registers (on_data.Store datum from) typing = asked_value_of registers from writes_scalar typing datum (wanted.WriteScalar (slice_get registers from))
-asked_data registers (on_data.Get to datum) typing = asked_value_of registers to reads_closed_scalar typing datum (wanted.ClosedScalar (slice_get registers to))
-asked_data registers (on_data.Insert by container subscript member skip) typing =
+abbrev pub checks_data : List Scalar → DataInstr → Typing → List Asked
+checks_data registers (on_data.New write read ty) typing = is_empty typing write ∷ is_empty typing read ∷ are_two write read ∷ []
+checks_data registers (on_data.Store datum from) typing = checks_value_of registers from writes_scalar typing datum (wanted.WriteScalar (slice_get registers from))
+checks_data registers (on_data.Get to datum) typing = checks_value_of registers to reads_closed_scalar typing datum (wanted.ClosedScalar (slice_get registers to))
+checks_data registers (on_data.Insert by container subscript member skip) typing =
     holds 4 typing container (passes (writes_container_by by) (right_at typing container)) (wanted.WriteContainer by)
-    ∷ asked_member typing container member ∷ asked_value registers subscript by
-asked_data registers (on_data.Look by member container subscript skip) typing = is_empty typing member ∷ asked_closed by typing container ∷ asked_value registers subscript by
-asked_data registers (on_data.Size to container) typing = holds 4 typing container (passes reads_closed_container (right_at typing container)) wanted.AnyClosedContainer ∷ asked_value registers to scalar.Int
-asked_data registers (on_data.SubscriptAt by to container index skip) typing = asked_closed by typing container ∷ asked_two registers to by index scalar.Int
-asked_data registers (on_data.CopyRead to from) typing = is_empty typing to ∷ asked_read typing from ∷ []
-asked_data registers (on_data.CopyWrite to from) typing = is_empty typing to ∷ asked_container_write typing from
-asked_data registers (on_data.DropRead right) typing = asked_read typing right ∷ []
-asked_data registers (on_data.DropWrite right) typing = asked_container_write typing right
+    ∷ checks_member typing container member ∷ checks_value registers subscript by
+checks_data registers (on_data.Look by member container subscript skip) typing = is_empty typing member ∷ checks_closed by typing container ∷ checks_value registers subscript by
+checks_data registers (on_data.Size to container) typing = holds 4 typing container (passes reads_closed_container (right_at typing container)) wanted.AnyClosedContainer ∷ checks_value registers to scalar.Int
+checks_data registers (on_data.SubscriptAt by to container index skip) typing = checks_closed by typing container ∷ checks_two registers to by index scalar.Int
+checks_data registers (on_data.CopyRead to from) typing = is_empty typing to ∷ checks_read typing from ∷ []
+checks_data registers (on_data.CopyWrite to from) typing = is_empty typing to ∷ checks_container_write typing from
+checks_data registers (on_data.DropRead right) typing = checks_read typing right ∷ []
+checks_data registers (on_data.DropWrite right) typing = checks_container_write typing right
 
 -- ---- RULE and PUT
 
@@ -158,8 +158,8 @@ asked_data registers (on_data.DropWrite right) typing = asked_container_write ty
 abbrev pub argument_held : ℕ → Typing → Typing → Held
 argument_held arg typing left = if is_none (right_at left arg) && is_some (right_at typing arg) then held.Twice else held.Right (right_at left arg)
 
-abbrev pub asked_right : Bool → Param → ℕ → Typing → Typing → Asked
-asked_right waits p arg typing left = record {
+abbrev pub checks_right : Bool → Param → ℕ → Typing → Typing → Asked
+checks_right waits p arg typing left = record {
   number = 4;
   is_met = passes (may_stand_for waits p) (right_at left arg);
   register = arg;
@@ -167,21 +167,21 @@ asked_right waits p arg typing left = record {
   wanted = wanted.Param waits p;
 }
 
-abbrev pub asked_args : Bool → List Scalar → List Param → List ℕ → Typing → Typing → List Asked
-asked_args waits registers [] args typing left = []
-asked_args waits registers (p ∷ params) [] typing left = []
-asked_args waits registers (p ∷ params) (arg ∷ args) typing left =
+abbrev pub checks_args : Bool → List Scalar → List Param → List ℕ → Typing → Typing → List Asked
+checks_args waits registers [] args typing left = []
+checks_args waits registers (p ∷ params) [] typing left = []
+checks_args waits registers (p ∷ params) (arg ∷ args) typing left =
     if is_val p.mode
-    then asked_value registers arg p.ty.scalar ++ asked_args waits registers params args typing left
-    else asked_right waits p arg typing left ∷ asked_args waits registers params args typing (slice_set left arg None)
+    then checks_value registers arg p.ty.scalar ++ checks_args waits registers params args typing left
+    else checks_right waits p arg typing left ∷ checks_args waits registers params args typing (slice_set left arg None)
 
-abbrev pub asked_priority : List Scalar → Priority → List Asked
-asked_priority registers (Constant n) = []
-asked_priority registers (Computed register) = asked_value registers register scalar.Int
+abbrev pub checks_priority : List Scalar → Priority → List Asked
+checks_priority registers (Constant n) = []
+checks_priority registers (Computed register) = checks_value registers register scalar.Int
 
-abbrev pub asked_action : Bool → List Procedure → List Scalar → Action → Typing → List Asked
-asked_action waits program registers action typing =
-    asked_priority registers action.priority ++ asked_args waits registers (params_of program action.procedure) action.args typing typing
+abbrev pub checks_action : Bool → List Procedure → List Scalar → Action → Typing → List Asked
+checks_action waits program registers action typing =
+    checks_priority registers action.priority ++ checks_args waits registers (params_of program action.procedure) action.args typing typing
 
 -- ---- RET, and the parameters
 
@@ -189,26 +189,26 @@ abbrev pub is_left : Typing → ℕ → Asked
 is_left typing register = holds 10 typing register (is_none (right_at typing register)) wanted.Empty
 
 -- so many registers from this one on are to be empty at RET
-abbrev pub asked_left : ℕ → ℕ → Typing → List Asked
-asked_left zero register typing = []
-asked_left (suc count) register typing = is_left typing register ∷ asked_left count (register + 1) typing
+abbrev pub checks_left : ℕ → ℕ → Typing → List Asked
+checks_left zero register typing = []
+checks_left (suc count) register typing = is_left typing register ∷ checks_left count (register + 1) typing
 
 -- the registers from this one on are to be of these types
-abbrev pub asked_values : List Scalar → ℕ → List Scalar → List Asked
-asked_values registers register [] = []
-asked_values registers register (ty ∷ types) = asked_value registers register ty ++ asked_values registers (register + 1) types
+abbrev pub checks_values : List Scalar → ℕ → List Scalar → List Asked
+checks_values registers register [] = []
+checks_values registers register (ty ∷ types) = checks_value registers register ty ++ checks_values registers (register + 1) types
 
-abbrev pub asked_instr : List Procedure → List Scalar → Instr → Typing → List Asked
-asked_instr program registers (instr.Local i) typing = asked_local registers i
-asked_instr program registers (instr.Data i) typing = asked_data registers i typing
-asked_instr program registers (instr.Rule action) typing = asked_action true program registers action typing
-asked_instr program registers (instr.Put action) typing = asked_action false program registers action typing
-asked_instr program registers instr.Ret typing = asked_left 16 0 typing
+abbrev pub checks_instr : List Procedure → List Scalar → Instr → Typing → List Asked
+checks_instr program registers (instr.Local i) typing = checks_local registers i
+checks_instr program registers (instr.Data i) typing = checks_data registers i typing
+checks_instr program registers (instr.Rule action) typing = checks_action true program registers action typing
+checks_instr program registers (instr.Put action) typing = checks_action false program registers action typing
+checks_instr program registers instr.Ret typing = checks_left 16 0 typing
 
 -- at a place of a procedure; the parameters' values are asked at the first
-abbrev pub asked_at : List Procedure → Procedure → ℕ → Instr → Typing → List Asked
-asked_at program p place i typing = (if place == 0 then asked_values p.registers 0 (value_types p.params) else []) ++ asked_instr program p.registers i typing
+abbrev pub checks_at : List Procedure → Procedure → ℕ → Instr → Typing → List Asked
+checks_at program p place i typing = (if place == 0 then checks_values p.registers 0 (value_types p.params) else []) ++ checks_instr program p.registers i typing
 
 -- the first that is asked in vain with this number
-abbrev pub told : ℕ → List Asked → Option Asked
-told number asked = find (is_vain number) asked
+abbrev pub first_unmet : ℕ → List Asked → Option Asked
+first_unmet number asked = find (is_vain number) asked

@@ -18,7 +18,7 @@ use Rattle.tw_verify.specs.Known.{AreFound}
 use Rattle.tw_verify.specs.Refusal.{verify_refusal_number}
 use Rattle.tw_verify.specs.declared.refusal.VerifyRefusal.{VerifyRefusal}
 use Rattle.tw_verify.specs.declared.refusal.VerifyRefusal.TheVariants as refusal
-use Rattle.tw_reasons.specs.Asked.{asked_at, told}
+use Rattle.tw_reasons.specs.Asked.{checks_at, first_unmet}
 use Rattle.tw_reasons.specs.Meetings.{IsChange, IsMeeting}
 use Rattle.tw_reasons.specs.Words.{asked_line, held_text, param_text, right_text}
 use Rattle.tw_reasons.specs.declared.asked.Asked.{Asked}
@@ -35,7 +35,7 @@ told_line (Some a) = asked_line a
 -- the first register that is asked in vain with this number, where a typing is known
 abbrev pub vain_line : ℕ → List Procedure → Procedure → ℕ → Instr → Option Typing → List ℕ
 vain_line number program p place i None = []
-vain_line number program p place i (Some typing) = told_line (told number (asked_at program p place i typing))
+vain_line number program p place i (Some typing) = told_line (first_unmet number (checks_at program p place i typing))
 
 -- ---- V07
 

@@ -21,8 +21,8 @@ use Rattle.tw_reasons.specs.declared.due.Due.{Due}
 use Rattle.tw_reasons.specs.declared.stop.Found.{Found}
 use Rattle.tw_reasons.specs.declared.stop.Found.TheVariants as found
 use Rattle.tw_reasons.specs.declared.stop.Stop.{Stop}
-use Rattle.tw_reasons.specs.declared.told.Said.{Said}
-use Rattle.tw_reasons.specs.declared.told.Said.TheVariants as said
+use Rattle.tw_reasons.specs.declared.diagnostic.Said.{Said}
+use Rattle.tw_reasons.specs.declared.diagnostic.Said.TheVariants as said
 
 -- ---- words that stood there
 

@@ -1,7 +1,7 @@
 //! What is asked of one register, and what it holds.
 
 ghost use Rattle.std.specs.Prelude.{◌≡◌, ◌<◌, ◌++◌, OnOk, codes, decimal, slice_get};
-ghost use Rattle.tw_reasons.specs.Asked.{are_two, has_type, holds, is_declared, is_empty, is_of, wanted_scalar};
+ghost use Rattle.tw_reasons.specs.Asked.{are_two, has_type, holds, is_declared, is_empty, is_of, scalar_requirement};
 ghost use Rattle.tw_reasons.specs.Words.{asked_line, held_text, scalar_text, stand_in_text, type_text, wanted_text};
 
 use crate::rights::{container_word, put_right, put_type, scalar_word};
@@ -56,8 +56,8 @@ pub(crate) struct Asked {
     pub(crate) wanted: Wanted,
 }
 
-fn wanted_scalar(ty: Option<Scalar>) -> Wanted
-    ensures { result ≡ wanted_scalar ty }
+fn scalar_requirement(ty: Option<Scalar>) -> Wanted
+    ensures { result ≡ scalar_requirement ty }
 {
     match ty {
         Some(ty) => Wanted::Scalar(ty),
@@ -91,7 +91,7 @@ pub(crate) fn is_declared(registers: &[Scalar], register: u8, ty: Option<Scalar>
         is_met: held.is_some(),
         register,
         held: Held::Value(held),
-        wanted: wanted_scalar(ty),
+        wanted: scalar_requirement(ty),
     }
 }
 
@@ -104,7 +104,7 @@ pub(crate) fn is_of(registers: &[Scalar], register: u8, is_met: bool, ty: Option
         is_met,
         register,
         held: Held::Value(declared(registers, register)),
-        wanted: wanted_scalar(ty),
+        wanted: scalar_requirement(ty),
     }
 }
 
@@ -223,7 +223,7 @@ fn put_of_type(out: &mut Vec<u8>, front: &str, ty: DataType) -> Result<(), Alloc
 }
 
 /// Adds what is wanted of a register.
-pub(crate) fn put_wanted(out: &mut Vec<u8>, wanted: Wanted) -> Result<(), AllocError>
+pub(crate) fn put_requirement(out: &mut Vec<u8>, wanted: Wanted) -> Result<(), AllocError>
     ensures { OnOk result (out.new.items ≡ out.old.items ++ wanted_text wanted) }
 {
     match wanted {
@@ -246,11 +246,11 @@ pub(crate) fn put_wanted(out: &mut Vec<u8>, wanted: Wanted) -> Result<(), AllocE
 }
 
 /// Adds what a register holds and what was asked of it.
-pub(crate) fn put_asked(alloc: Global, out: &mut Vec<u8>, asked: &Asked) -> Result<(), AllocError>
+pub(crate) fn put_check(alloc: Global, out: &mut Vec<u8>, asked: &Asked) -> Result<(), AllocError>
     ensures { OnOk result (out.new.items ≡ out.old.items ++ asked_line asked.now) }
 {
     put_held(alloc, out, asked.register, asked.held)?;
     put(out, ", asked: ")?;
-    put_wanted(out, asked.wanted)?;
+    put_requirement(out, asked.wanted)?;
     put(out, "\n")
 }

@@ -6,11 +6,11 @@ ghost use Rattle.tw_code.specs.format.Program.{IsAction, IsInstr, IsRegister};
 ghost use Rattle.tw_code.specs.accepting.Typing.{value_types};
 ghost use Rattle.tw_code.specs.machine.Arguments.{params_of};
 ghost use Rattle.tw_reasons.specs.declared.asked.Asked.{Asked};
-ghost use Rattle.tw_reasons.specs.Asked.{asked_action, asked_args, asked_at, asked_instr, asked_left, asked_priority, asked_right, asked_values, argument_held, is_left, told};
+ghost use Rattle.tw_reasons.specs.Asked.{checks_action, checks_args, checks_at, checks_instr, checks_left, checks_priority, checks_right, checks_values, argument_held, is_left, first_unmet};
 
 use crate::asked::*;
-use crate::data_asked::data_asked;
-use crate::local_asked::{first_of, is_vain, local_asked, value};
+use crate::data_checks::unmet_by_data;
+use crate::local_checks::{first_of, is_vain, unmet_by_local, value};
 use crate::suits::*;
 use tw_code::{Action, Instr, Priority, Procedure};
 use tw_types::{Param, Scalar};
@@ -18,7 +18,7 @@ use tw_verify::Typing;
 
 /// The first of two, if there is one, else the second.
 fn first_or(first: Option<Asked>, second: Option<Asked>) -> Option<Asked>
-    ensures { (number : ℕ) (xs ys : List Asked) → first ≡ told number xs → second ≡ told number ys → result ≡ told number (xs ++ ys) }
+    ensures { (number : ℕ) (xs ys : List Asked) → first ≡ first_unmet number xs → second ≡ first_unmet number ys → result ≡ first_unmet number (xs ++ ys) }
 {
     match first {
         Some(asked) => Some(asked),
@@ -39,9 +39,9 @@ fn held_by(arg: u8, typing: &Typing, left: &Typing) -> Held
 }
 
 /// What is asked of an argument that is a right.
-fn right_asked(waits: bool, param: &Param, arg: u8, typing: &Typing, left: &Typing) -> Asked
+fn right_check(waits: bool, param: &Param, arg: u8, typing: &Typing, left: &Typing) -> Asked
     requires { IsRegister arg }
-    ensures { result ≡ asked_right waits param.now arg typing.now left.now }
+    ensures { result ≡ checks_right waits param.now arg typing.now left.now }
 {
     Asked {
         number: 4,
@@ -52,7 +52,7 @@ fn right_asked(waits: bool, param: &Param, arg: u8, typing: &Typing, left: &Typi
     }
 }
 
-fn argument_asked(
+fn unmet_by_argument(
     number: u8,
     waits: bool,
     registers: &[Scalar],
@@ -62,17 +62,17 @@ fn argument_asked(
     left: &Typing,
 ) -> Option<Asked>
     requires { IsRegister arg }
-    ensures { result ≡ told number (asked_args waits registers.now (param.now ∷ []) (arg ∷ []) typing.now left.now) }
+    ensures { result ≡ first_unmet number (checks_args waits registers.now (param.now ∷ []) (arg ∷ []) typing.now left.now) }
 {
     if param.mode.is_val() {
         value(number, registers, arg, param.ty.scalar())
     } else {
-        first_of(number, &[right_asked(waits, param, arg, typing, left)])
+        first_of(number, &[right_check(waits, param, arg, typing, left)])
     }
 }
 
 /// What is asked of the arguments in order, where those before them have left these rights.
-fn arguments_asked(
+fn unmet_by_arguments(
     number: u8,
     waits: bool,
     registers: &[Scalar],
@@ -82,26 +82,26 @@ fn arguments_asked(
     left: Typing,
 ) -> Option<Asked>
     requires { AllByRecursion IsRegister args.now }
-    ensures { result ≡ told number (asked_args waits registers.now params.now args.now typing.now left) }
+    ensures { result ≡ first_unmet number (checks_args waits registers.now params.now args.now typing.now left) }
 {
     match params {
         [] => None,
         [param, params @ ..] => match args {
             [] => None,
             [arg, args @ ..] => {
-                let own = argument_asked(number, waits, registers, param, *arg, typing, &left);
+                let own = unmet_by_argument(number, waits, registers, param, *arg, typing, &left);
                 let left = left.without(*param, *arg);
                 first_or(
                     own,
-                    arguments_asked(number, waits, registers, params, args, typing, left),
+                    unmet_by_arguments(number, waits, registers, params, args, typing, left),
                 )
             }
         },
     }
 }
 
-fn priority_asked(number: u8, registers: &[Scalar], priority: Priority) -> Option<Asked>
-    ensures { result ≡ told number (asked_priority registers.now priority) }
+fn unmet_by_priority(number: u8, registers: &[Scalar], priority: Priority) -> Option<Asked>
+    ensures { result ≡ first_unmet number (checks_priority registers.now priority) }
 {
     match priority {
         Priority::Constant(_) => None,
@@ -118,7 +118,7 @@ fn params_of(procedures: &[Procedure], number: u8) -> &[Param]
     }
 }
 
-fn action_asked(
+fn unmet_by_action(
     number: u8,
     waits: bool,
     procedures: &[Procedure],
@@ -127,13 +127,13 @@ fn action_asked(
     typing: &Typing,
 ) -> Option<Asked>
     requires { IsAction action.now }
-    ensures { result ≡ told number (asked_action waits procedures.now registers.now action.now typing.now) }
+    ensures { result ≡ first_unmet number (checks_action waits procedures.now registers.now action.now typing.now) }
 {
     let params = params_of(procedures, action.procedure);
     let args = action.args.as_slice();
     first_or(
-        priority_asked(number, registers, action.priority),
-        arguments_asked(number, waits, registers, params, args, typing, *typing),
+        unmet_by_priority(number, registers, action.priority),
+        unmet_by_arguments(number, waits, registers, params, args, typing, *typing),
     )
 }
 
@@ -153,9 +153,9 @@ fn is_left(typing: &Typing, register: u8) -> Asked
 
 /// RET asks that so many right registers from one on are empty.
 #[tactic(auto, using(crate::proofs::Telling::left_more))]
-fn left_asked(number: u8, count: u8, register: u8, typing: &Typing) -> Option<Asked>
+fn unmet_at_end(number: u8, count: u8, register: u8, typing: &Typing) -> Option<Asked>
     requires { register + count ≤ 16 }
-    ensures { result ≡ told number (asked_left count register typing.now) }
+    ensures { result ≡ first_unmet number (checks_left count register typing.now) }
 {
     if count == 0 {
         return None;
@@ -164,28 +164,28 @@ fn left_asked(number: u8, count: u8, register: u8, typing: &Typing) -> Option<As
     if is_vain(number, &asked) {
         return Some(asked);
     }
-    left_asked(number, count - 1, register + 1, typing)
+    unmet_at_end(number, count - 1, register + 1, typing)
 }
 
 /// What is asked of the registers from one on, of the values that a procedure is given.
-fn params_asked(number: u8, registers: &[Scalar], given: u8, params: &[Param]) -> Option<Asked>
+fn unmet_by_params(number: u8, registers: &[Scalar], given: u8, params: &[Param]) -> Option<Asked>
     requires { given + length params.now ≤ 16 }
-    ensures { result ≡ told number (asked_values registers.now given (value_types params.now)) }
+    ensures { result ≡ first_unmet number (checks_values registers.now given (value_types params.now)) }
 {
     match params {
         [] => None,
         [param, others @ ..] => {
             if param.mode.is_val() {
                 let own = value(number, registers, given, param.ty.scalar());
-                first_or(own, params_asked(number, registers, given + 1, others))
+                first_or(own, unmet_by_params(number, registers, given + 1, others))
             } else {
-                params_asked(number, registers, given, others)
+                unmet_by_params(number, registers, given, others)
             }
         }
     }
 }
 
-fn instr_asked(
+fn unmet_by_instr(
     number: u8,
     procedures: &[Procedure],
     registers: &[Scalar],
@@ -193,19 +193,19 @@ fn instr_asked(
     typing: &Typing,
 ) -> Option<Asked>
     requires { IsInstr instr.now }
-    ensures { result ≡ told number (asked_instr procedures.now registers.now instr.now typing.now) }
+    ensures { result ≡ first_unmet number (checks_instr procedures.now registers.now instr.now typing.now) }
 {
     match instr {
-        Instr::Local(instr) => local_asked(number, registers, instr),
-        Instr::Data(instr) => data_asked(number, registers, *instr, typing),
-        Instr::Rule(action) => action_asked(number, true, procedures, registers, action, typing),
-        Instr::Put(action) => action_asked(number, false, procedures, registers, action, typing),
-        Instr::Ret => left_asked(number, 16, 0, typing),
+        Instr::Local(instr) => unmet_by_local(number, registers, instr),
+        Instr::Data(instr) => unmet_by_data(number, registers, *instr, typing),
+        Instr::Rule(action) => unmet_by_action(number, true, procedures, registers, action, typing),
+        Instr::Put(action) => unmet_by_action(number, false, procedures, registers, action, typing),
+        Instr::Ret => unmet_at_end(number, 16, 0, typing),
     }
 }
 
 /// The first register that is asked in vain with this number, at a place of a procedure with its typing.
-pub(crate) fn asked_at(
+pub(crate) fn unmet_at(
     number: u8,
     procedures: &[Procedure],
     procedure: &Procedure,
@@ -215,13 +215,13 @@ pub(crate) fn asked_at(
 ) -> Option<Asked>
     requires instr { IsInstr instr.now }
     requires params { length procedure.now.params ≤ 8 }
-    ensures { result ≡ told number (asked_at procedures.now procedure.now place instr.now typing.now) }
+    ensures { result ≡ first_unmet number (checks_at procedures.now procedure.now place instr.now typing.now) }
 {
     let registers = procedure.registers.as_slice();
-    let own = instr_asked(number, procedures, registers, instr, typing);
+    let own = unmet_by_instr(number, procedures, registers, instr, typing);
     if place == 0 {
         first_or(
-            params_asked(number, registers, 0, procedure.params.as_slice()),
+            unmet_by_params(number, registers, 0, procedure.params.as_slice()),
             own,
         )
     } else {

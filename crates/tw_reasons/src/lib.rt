@@ -6,13 +6,14 @@
 
 mod asked;
 mod breaks;
-mod data_asked;
+mod data_checks;
+mod diagnostic;
 mod due;
 mod find;
 mod hints;
 mod labels;
 mod laws;
-mod local_asked;
+mod local_checks;
 mod loops;
 mod main_reason;
 mod meeting;
@@ -23,7 +24,6 @@ mod step;
 mod stop;
 mod suits;
 mod text_reason;
-mod told;
 mod told_meeting;
 mod words;
 
@@ -31,5 +31,5 @@ pub use laws::asks_the_same;
 pub use main_reason::put_main_reason;
 pub use program_reason::put_program_reason;
 pub use rights::put_type;
-pub use situation::{Says, head_line, line_says};
+pub use situation::{Says, head_line, line_role};
 pub use text_reason::put_text_reason;

@@ -6,8 +6,8 @@ ghost use Rattle.tw_code.specs.machine.Arguments.{params_of};
 ghost use Rattle.tw_verify.specs.declared.refusal.VerifyRefusal.TheVariants as refusal;
 ghost use Rattle.tw_reasons.specs.Reasons.{AddsReason, AddsTold, arguments_text, count_line, goal_line, misplaced_line, named_by, outside_text, skip_of, told_line, unknown_line, unmatched_line, vain_line};
 
-use crate::asked::{Asked, put_asked};
-use crate::find::asked_at;
+use crate::asked::{Asked, put_check};
+use crate::find::unmet_at;
 use crate::loops::changed_at;
 use crate::meeting::meeting_at;
 use crate::told_meeting::{put_changed, put_meeting};
@@ -19,24 +19,24 @@ use tw_words::{put, put_decimal, put_numbered};
 
 // ---- a register that is asked in vain
 
-fn put_told(alloc: Global, out: &mut Vec<u8>, asked: Option<Asked>) -> Result<(), AllocError>
+fn put_unmet(alloc: Global, out: &mut Vec<u8>, asked: Option<Asked>) -> Result<(), AllocError>
     ensures { OnOk result (out.new.items ≡ out.old.items ++ told_line asked) }
 {
     match asked {
-        Some(asked) => put_asked(alloc, out, &asked),
+        Some(asked) => put_check(alloc, out, &asked),
         None => Ok(()),
     }
 }
 
 /// What a place asks a register in vain.
 #[rattlefmt::skip]
-fn put_vain(alloc: Global, out: &mut Vec<u8>, number: u8, procedures: &[Procedure], procedure: &Procedure, place: usize, instr: &Instr, typings: &[Typing]) -> Result<(), AllocError>
+fn put_unmet_at(alloc: Global, out: &mut Vec<u8>, number: u8, procedures: &[Procedure], procedure: &Procedure, place: usize, instr: &Instr, typings: &[Typing]) -> Result<(), AllocError>
     requires is { IsProcedure procedure.now }
     requires instr { IsInstr instr.now }
     ensures { OnOk result (out.new.items ≡ out.old.items ++ vain_line number procedures.now procedure.now place instr.now (slice_get typings.now place)) }
 {
     match typings.get(place) {
-        Some(typing) => put_told(alloc, out, asked_at(number, procedures, procedure, place, instr, typing)),
+        Some(typing) => put_unmet(alloc, out, unmet_at(number, procedures, procedure, place, instr, typing)),
         None => Ok(()),
     }
 }
@@ -193,21 +193,21 @@ fn put_at(alloc: Global, out: &mut Vec<u8>, lines: &LineNumbers, refused: &Refus
     let procedures = refused.program.procedures();
     let place = refused.place;
     match refused.no {
-        VerifyRefusal::UndeclaredValue => put_vain(alloc, out, 1, procedures, procedure, place, instr, typings),
-        VerifyRefusal::WrongValueType => put_vain(alloc, out, 2, procedures, procedure, place, instr, typings),
-        VerifyRefusal::RightNotEmpty => put_vain(alloc, out, 3, procedures, procedure, place, instr, typings),
-        VerifyRefusal::WrongRight => put_vain(alloc, out, 4, procedures, procedure, place, instr, typings),
+        VerifyRefusal::UndeclaredValue => put_unmet_at(alloc, out, 1, procedures, procedure, place, instr, typings),
+        VerifyRefusal::WrongValueType => put_unmet_at(alloc, out, 2, procedures, procedure, place, instr, typings),
+        VerifyRefusal::RightNotEmpty => put_unmet_at(alloc, out, 3, procedures, procedure, place, instr, typings),
+        VerifyRefusal::WrongRight => put_unmet_at(alloc, out, 4, procedures, procedure, place, instr, typings),
         VerifyRefusal::SkipLeavesBlock => put_goal(alloc, out, place + 1 + skip_of(instr.flow()), procedure.code.as_slice().len()),
         VerifyRefusal::Unmatched => put_unmatched(out, instr.flow()),
         VerifyRefusal::TypingsDiffer => put_differing(alloc, out, lines, procedures, refused.procedure, procedure, place, instr, typings),
         VerifyRefusal::TypingChanged => put_loop(alloc, out, lines, procedures, refused.procedure, procedure, place, instr, typings),
         VerifyRefusal::Unreached => put(out, "no way leads here\n"),
-        VerifyRefusal::RightLeft => put_vain(alloc, out, 10, procedures, procedure, place, instr, typings),
+        VerifyRefusal::RightLeft => put_unmet_at(alloc, out, 10, procedures, procedure, place, instr, typings),
         VerifyRefusal::MisplacedRet => put_misplaced(out, instr.flow()),
         VerifyRefusal::UnknownProcedure => put_unknown(alloc, out, named_by(instr).0, last_of(procedures)),
         VerifyRefusal::ArgumentCount => put_count(alloc, out, named_by(instr).1, param_count(procedures, named_by(instr).0)),
         VerifyRefusal::ActionInLeaf => put(out, "the procedure is a leaf, asked: control\n"),
-        VerifyRefusal::ScalarWrite => put_vain(alloc, out, 15, procedures, procedure, place, instr, typings),
+        VerifyRefusal::ScalarWrite => put_unmet_at(alloc, out, 15, procedures, procedure, place, instr, typings),
         VerifyRefusal::BudgetTooLarge => put(out, "some walk is longer than 1000000000 instructions\n"),
         VerifyRefusal::MainShape | VerifyRefusal::NoMemory => Ok(()),
     }

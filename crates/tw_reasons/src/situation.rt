@@ -104,7 +104,7 @@ fn before_colon(word: &[u8]) -> Option<&[u8]>
 }
 
 /// What these words say, if they are a statement.
-fn words_say(first: &[u8], others: &[Word<'_>]) -> Says
+fn words_role(first: &[u8], others: &[Word<'_>]) -> Says
     ensures { (version : AVersion) (statement : Statement) → Say version statement (Bare first.now ∷ map seen others.now) → result ≡ says_of (Some statement) }
 {
     if first == b"version".as_slice() {
@@ -129,14 +129,14 @@ fn said_in(words: &[Word<'_>]) -> Says
     match words {
         [] => Says::Nothing,
         [first, others @ ..] => match first {
-            Word::Bare(word) => words_say(word, others),
+            Word::Bare(word) => words_role(word, others),
             Word::Quoted(_) => Says::Code,
         },
     }
 }
 
 /// What a line says, if it can follow the ones before it.
-pub fn line_says(alloc: Global, line: &str) -> Result<Says, AllocError>
+pub fn line_role(alloc: Global, line: &str) -> Result<Says, AllocError>
     ensures { IfOk result (λ says. (s : Standing) (said : Option Statement) → LineSays s line.now said → says ≡ says_of said) }
 {
     let read = words_of(alloc, line.as_bytes())?;
@@ -191,7 +191,7 @@ pub(crate) fn situation_before(
         if index + 1 >= number {
             return Ok(standing);
         }
-        let says = line_says(alloc, line)?;
+        let says = line_role(alloc, line)?;
         standing = behind(standing, says);
     }
     Ok(standing)
@@ -211,7 +211,7 @@ pub fn head_line(alloc: Global, text: &str) -> Result<Option<usize>, AllocError>
     ensures { IfOk result (λ found. (said : List (Option Statement)) → LinesSay 1 at_start (lines text.now) said → MatchOption found (HasNoHead said) (IsFirstHead text.now)) }
 {
     for (index, line) in text.lines().enumerate() {
-        let says = line_says(alloc, line)?;
+        let says = line_role(alloc, line)?;
         if is_head(says) {
             return Ok(Some(index + 1));
         }

@@ -6,12 +6,12 @@ ghost use Rattle.tw_reasons.specs.Told.{AddsPast, AddsWhy, IsTextReason, due_sai
 ghost use Rattle.tw_reasons.specs.Hints.{hint_text, word_hint};
 ghost use Rattle.tw_reasons.specs.declared.stop.Found.{Found as AFound};
 
+use crate::diagnostic::{Said, put_stop, put_whole};
 use crate::due::{Due, limit_of};
 use crate::hints::{Hint, first_hint, word_hint};
 use crate::labels::{label_before, twin_before};
 use crate::situation::situation_before;
 use crate::stop::{first_stop, found_word, is_long_label, last_stop, line_stop};
-use crate::told::{Said, put_stop, put_whole};
 use crate::words::Ask;
 use std::alloc::{AllocError, Global};
 use tw_asm::{AsmFault, FaultNo};

@@ -15,7 +15,7 @@ ghost use Rattle.tw_verify.specs.Typed.{typings_of};
 use crate::listing::{put_beside, put_place, rights_at};
 use crate::source::SourceText;
 use std::alloc::{AllocError, Global};
-use tw_reasons::{Says, line_says};
+use tw_reasons::{Says, line_role};
 use tw_types::Items;
 use tw_verify::{Refused, Typing, Verified};
 use tw_words::{put, put_numbered};
@@ -127,7 +127,7 @@ fn said_text(
         instructions: 0,
     };
     for (line, own) in text.lines().zip(plain.lines()) {
-        let says = line_says(alloc, own)?;
+        let says = line_role(alloc, own)?;
         put_said_line(alloc, &mut out, all, counts, line, says)?;
         counts = counts.behind(says);
     }

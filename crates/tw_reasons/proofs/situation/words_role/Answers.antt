@@ -1,7 +1,7 @@
 use Rattle.std.proofs.Common.{◌≡◌, true, false, map, codes, rules}
 use Rattle.tw_reasons.proofs.ReasonNames.{bytes_eq, seen}
 use Rattle.tw_reasons.proofs.Saying.{apart, code_tells, head_tells, is_word, label_tells, registers_tell, version_tells}
-use Rattle.tw_reasons.proofs.situation.words_say.Goals as goal
+use Rattle.tw_reasons.proofs.situation.words_role.Goals as goal
 
 pub returns-then-eq : goal.returns-then-eq
 returns-then-eq c = λ version statement say.

@@ -2,7 +2,7 @@
 
 ghost use Rattle.std.specs.Prelude.{◌≡◌, Some, slice_get};
 ghost use Rattle.tw_code.specs.accepting.Question.{passes};
-ghost use Rattle.tw_reasons.specs.Asked.{asked_alike, asked_local, asked_three, asked_two, asked_value, has_type, is_of, is_vain, told};
+ghost use Rattle.tw_reasons.specs.Asked.{checks_alike, checks_local, checks_three, checks_two, checks_value, has_type, is_of, is_vain, first_unmet};
 
 use crate::asked::*;
 use tw_code::LocalInstr;
@@ -16,7 +16,7 @@ pub(crate) fn is_vain(number: u8, asked: &Asked) -> bool
 
 /// The first of these that is asked in vain with a number.
 pub(crate) fn first_of(number: u8, asked: &[Asked]) -> Option<Asked>
-    ensures { result ≡ told number asked.now }
+    ensures { result ≡ first_unmet number asked.now }
 {
     asked.iter().copied().find(|asked| is_vain(number, asked))
 }
@@ -43,7 +43,7 @@ pub(crate) fn value_is(registers: &[Scalar], register: u8, ty: Scalar) -> Asked
 }
 
 pub(crate) fn value(number: u8, registers: &[Scalar], register: u8, ty: Scalar) -> Option<Asked>
-    ensures { result ≡ told number (asked_value registers.now register ty) }
+    ensures { result ≡ first_unmet number (checks_value registers.now register ty) }
 {
     first_of(
         number,
@@ -56,7 +56,7 @@ pub(crate) fn value(number: u8, registers: &[Scalar], register: u8, ty: Scalar) 
 
 #[rattlefmt::skip]
 fn two_values(number: u8, registers: &[Scalar], first: u8, ty: Scalar, second: u8, other: Scalar) -> Option<Asked>
-    ensures { result ≡ told number (asked_two registers.now first ty second other) }
+    ensures { result ≡ first_unmet number (checks_two registers.now first ty second other) }
 {
     first_of(number, &[
         is_declared(registers, first, Some(ty)), value_is(registers, first, ty),
@@ -66,7 +66,7 @@ fn two_values(number: u8, registers: &[Scalar], first: u8, ty: Scalar, second: u
 
 #[rattlefmt::skip]
 fn three_values(number: u8, registers: &[Scalar], to: u8, left: u8, right: u8, ty: Scalar) -> Option<Asked>
-    ensures { result ≡ told number (asked_three registers.now to left right ty) }
+    ensures { result ≡ first_unmet number (checks_three registers.now to left right ty) }
 {
     first_of(number, &[
         is_declared(registers, to, Some(ty)), value_is(registers, to, ty),
@@ -77,7 +77,7 @@ fn three_values(number: u8, registers: &[Scalar], to: u8, left: u8, right: u8, t
 
 #[rattlefmt::skip]
 fn alike(number: u8, registers: &[Scalar], first: u8, second: u8) -> Option<Asked>
-    ensures { result ≡ told number (asked_alike registers.now first second) }
+    ensures { result ≡ first_unmet number (checks_alike registers.now first second) }
 {
     let met = are_alike(registers, first, second);
     first_of(number, &[
@@ -88,8 +88,8 @@ fn alike(number: u8, registers: &[Scalar], first: u8, second: u8) -> Option<Aske
 
 /// What a local instruction asks, a row an instruction.
 #[rattlefmt::skip]
-pub(crate) fn local_asked(number: u8, registers: &[Scalar], instr: &LocalInstr) -> Option<Asked>
-    ensures { result ≡ told number (asked_local registers.now instr.now) }
+pub(crate) fn unmet_by_local(number: u8, registers: &[Scalar], instr: &LocalInstr) -> Option<Asked>
+    ensures { result ≡ first_unmet number (checks_local registers.now instr.now) }
 {
     match instr {
         LocalInstr::Int { to, .. } => value(number, registers, *to, Scalar::Int),

@@ -120,7 +120,7 @@ fn put_line_of(alloc: Global, out: &mut Vec<u8>, line: Option<usize>) -> Result<
     }
 }
 
-fn put_said(
+fn put_diagnostic(
     alloc: Global,
     out: &mut Vec<u8>,
     said: &Said<'_>,
@@ -155,7 +155,7 @@ pub(crate) fn put_stop(
     ensures { OnOk result (out.new.items ≡ out.old.items ++ stop_line stop.now (said_text said.now stop.now.found)) }
 {
     put_where(alloc, out, stop)?;
-    put_said(alloc, out, said, &stop.found)?;
+    put_diagnostic(alloc, out, said, &stop.found)?;
     put(out, "\n")
 }
 

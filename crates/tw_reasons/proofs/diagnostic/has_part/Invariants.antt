@@ -1,6 +1,6 @@
 use Rattle.std.proofs.Common.{◌≡◌, length}
 use Rattle.tw_reasons.specs.Told.{has_part}
-use Rattle.tw_reasons.proofs.told.has_part.Given as goal
+use Rattle.tw_reasons.proofs.diagnostic.has_part.Given as goal
 
 abbrev pub invariant-bytes : goal.invariant-bytes
 invariant-bytes l = has_part l.part l.bytes ≡ has_part l.part l.rest

@@ -2,7 +2,7 @@ use Rattle.std.proofs.Common.{◌≡◌, ◌∙◌, List, ℕ, map, subst, sym}
 use Rattle.tw_reasons.proofs.ReasonNames.{IsRead, Say, seen}
 use Rattle.tw_words.specs.declared.word.Word as words
 use Rattle.tw_reasons.proofs.Saying.{line_told}
-use Rattle.tw_reasons.proofs.situation.line_says.Goals as goal
+use Rattle.tw_reasons.proofs.situation.line_role.Goals as goal
 
 pub returns : goal.returns
 returns c =

@@ -5,10 +5,10 @@ ghost use Rattle.tw_code.specs.format.Program.{IsDataInstr};
 ghost use Rattle.tw_code.specs.accepting.Typing.{reads_closed_container, reads_closed_scalar, writes, writes_container_by, writes_scalar};
 ghost use Rattle.tw_code.specs.accepting.Question.{passes};
 ghost use Rattle.tw_code.specs.machine.Rights.{right_at};
-ghost use Rattle.tw_reasons.specs.Asked.{asked_closed, asked_data, asked_member, asked_read, asked_value_of, has_type, holds, member_type, right_scalar, told};
+ghost use Rattle.tw_reasons.specs.Asked.{checks_closed, checks_data, checks_member, checks_read, checks_value_of, has_type, holds, member_type, right_scalar, first_unmet};
 
 use crate::asked::*;
-use crate::local_asked::{first_of, value_is};
+use crate::local_checks::{first_of, value_is};
 use crate::suits::*;
 use tw_code::DataInstr;
 use tw_types::{DataType, Scalar};
@@ -34,7 +34,7 @@ fn has_type_of(registers: &[Scalar], register: u8, right: Option<RightType>) -> 
 }
 
 /// STORE: a right to write a scalar, and a value of its type.
-fn store_asked(
+fn unmet_by_store(
     number: u8,
     registers: &[Scalar],
     typing: &Typing,
@@ -42,7 +42,7 @@ fn store_asked(
     from: u8,
 ) -> Option<Asked>
     requires { datum < 16 }
-    ensures { result ≡ told number (asked_value_of registers.now from writes_scalar typing.now datum (Wanted.WriteScalar (slice_get registers.now from))) }
+    ensures { result ≡ first_unmet number (checks_value_of registers.now from writes_scalar typing.now datum (Wanted.WriteScalar (slice_get registers.now from))) }
 {
     let met = writes_scalar(typing.right_at(datum));
     let ty = right_scalar(typing.right_at(datum));
@@ -68,9 +68,15 @@ fn store_asked(
 }
 
 /// GET: a right to read a closed scalar, and a register of its type.
-fn get_asked(number: u8, registers: &[Scalar], typing: &Typing, to: u8, datum: u8) -> Option<Asked>
+fn unmet_by_get(
+    number: u8,
+    registers: &[Scalar],
+    typing: &Typing,
+    to: u8,
+    datum: u8,
+) -> Option<Asked>
     requires { datum < 16 }
-    ensures { result ≡ told number (asked_value_of registers.now to reads_closed_scalar typing.now datum (Wanted.ClosedScalar (slice_get registers.now to))) }
+    ensures { result ≡ first_unmet number (checks_value_of registers.now to reads_closed_scalar typing.now datum (Wanted.ClosedScalar (slice_get registers.now to))) }
 {
     let met = reads_closed_scalar(typing.right_at(datum));
     let ty = right_scalar(typing.right_at(datum));
@@ -107,7 +113,7 @@ fn member_type(right: Option<RightType>) -> Option<DataType>
 fn member(typing: &Typing, container: u8, member: u8) -> Asked
     requires container { container < 16 }
     requires member { member < 16 }
-    ensures { result ≡ asked_member typing.now container member }
+    ensures { result ≡ checks_member typing.now container member }
 {
     let met = reads_member_of(typing.right_at(container), typing.right_at(member));
     let members = member_type(typing.right_at(container));
@@ -124,7 +130,7 @@ fn container_write(by: Scalar, typing: &Typing, container: u8) -> Asked
 
 fn closed_container(by: Scalar, typing: &Typing, container: u8) -> Asked
     requires { container < 16 }
-    ensures { result ≡ asked_closed by typing.now container }
+    ensures { result ≡ checks_closed by typing.now container }
 {
     let met = reads_closed_container_by(by, typing.right_at(container));
     holds(4, typing, container, met, Wanted::ClosedContainer(by))
@@ -140,7 +146,7 @@ fn any_closed_container(typing: &Typing, container: u8) -> Asked
 
 fn any_read(typing: &Typing, register: u8) -> Asked
     requires { register < 16 }
-    ensures { result ≡ asked_read typing.now register }
+    ensures { result ≡ checks_read typing.now register }
 {
     let met = reads(typing.right_at(register));
     holds(4, typing, register, met, Wanted::AnyRead)
@@ -165,14 +171,14 @@ fn no_scalar_write(typing: &Typing, register: u8) -> Asked
 
 /// What an instruction on data asks, a row an instruction.
 #[rattlefmt::skip]
-pub(crate) fn data_asked(number: u8, registers: &[Scalar], instr: DataInstr, typing: &Typing) -> Option<Asked>
+pub(crate) fn unmet_by_data(number: u8, registers: &[Scalar], instr: DataInstr, typing: &Typing) -> Option<Asked>
     requires { IsDataInstr instr }
-    ensures { result ≡ told number (asked_data registers.now instr typing.now) }
+    ensures { result ≡ first_unmet number (checks_data registers.now instr typing.now) }
 {
     match instr {
         DataInstr::New { write, read, .. } => first_of(number, &[is_empty(typing, write), is_empty(typing, read), are_two(write, read)]),
-        DataInstr::Store { datum, from } => store_asked(number, registers, typing, datum, from),
-        DataInstr::Get { to, datum } => get_asked(number, registers, typing, to, datum),
+        DataInstr::Store { datum, from } => unmet_by_store(number, registers, typing, datum, from),
+        DataInstr::Get { to, datum } => unmet_by_get(number, registers, typing, to, datum),
         DataInstr::Insert { by, container, subscript, member: inner, .. } => first_of(number, &[container_write(by, typing, container), member(typing, container, inner), is_declared(registers, subscript, Some(by)), value_is(registers, subscript, by)]),
         DataInstr::Look { by, member, container, subscript, .. } => first_of(number, &[is_empty(typing, member), closed_container(by, typing, container), is_declared(registers, subscript, Some(by)), value_is(registers, subscript, by)]),
         DataInstr::Size { to, container } => first_of(number, &[any_closed_container(typing, container), is_declared(registers, to, Some(Scalar::Int)), value_is(registers, to, Scalar::Int)]),
