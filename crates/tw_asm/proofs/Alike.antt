@@ -1,6 +1,6 @@
 -- Statements of the same words differ in skips alone.
 use Rattle.std.proofs.Common.{◌≡◌, ℕ, List, [], ◌∷◌, ◌++◌, codes, refl, sym, ap, subst, ◌∙◌}
-use Rattle.tw_asm.proofs.AsmNames.{Bare, Code, Goals, Head, Label, OfVersion, Registers, Situation, SpellParts, Spells, SpellsDigits, Statement, Version, Word, after, append_cancel_right, statement_parts, version_parts}
+use Rattle.tw_asm.proofs.AsmNames.{Bare, Code, Goals, Head, Label, OfVersion, Registers, ParserState, SpellParts, Spells, SpellsDigits, Statement, Version, Word, after, append_cancel_right, statement_parts, version_parts}
 use Rattle.tw_words.proofs.Numerals.{one_size}
 use Rattle.tw_asm.proofs.Once.{begins, class_of, same_class, same_word}
 use Rattle.tw_asm.proofs.Rows.{different}
@@ -38,7 +38,7 @@ alike G H s t words a b = by s t a.parts b.parts (same_class G H s t words a b) 
     by (Code i) (Code j) p q class word = tt
     by u v p q class word = different (class_of u) (class_of v) class refl
 
-pub after_alike : (number : ℕ) (s t : Statement) (x : Situation) → AreAlike s t → after number s x ≡ after number t x
+pub after_alike : (number : ℕ) (s t : Statement) (x : ParserState) → AreAlike s t → after number s x ≡ after number t x
 after_alike number (OfVersion n) (OfVersion m) x a = ap (λ (k : ℕ). after number (OfVersion k) x) a
 after_alike number (Head kind params) (Head k ps) x a = refl
 after_alike number (Registers registers) (Registers others) x a = refl

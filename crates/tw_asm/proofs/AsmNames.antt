@@ -35,7 +35,7 @@ pub use Rattle.tw_words.specs.declared.numbers.Flaw.{Flaw}
 pub use Rattle.tw_words.specs.declared.numbers.Flaw.TheVariants.{Form, Limit}
 pub use Rattle.tw_asm.specs.declared.statement.First.{First}
 pub use Rattle.tw_asm.specs.Disassembly.{code_lines, disassembly, first_ones, goal_from, goals_from, label_at, label_line, label_places, procedure_lines, version_line}
-pub use Rattle.tw_asm.specs.Fault.{AfterHead, AfterVersion, Begins, GoalFault, HasWords, InBody, IsEmpty, IsEndFault, IsFirstFault, IsFirstGoalFault, IsLineFault, IsOutset, IsUnfinished, IsWhole, LineFault, LineSays, LinesSay, MayBegin, MayStand, Situation, Stage, Start, after, after_line, at_start, empty, instructions, label_twice, labels_ahead, limit, not_forward, operand, procedures, situation, situation_from, unknown, word}
+pub use Rattle.tw_asm.specs.Fault.{AfterHead, AfterVersion, Begins, GoalFault, HasWords, InBody, IsEmpty, IsEndFault, IsFirstFault, IsFirstGoalFault, IsLineFault, IsOutset, IsUnfinished, IsWhole, LineFault, LineSays, LinesSay, MayBegin, MayStand, ParserState, Stage, Start, after, after_line, at_start, empty, instructions, label_twice, labels_ahead, limit, not_forward, operand, procedures, situation, situation_from, unknown, word}
 pub use Rattle.tw_asm.specs.Parts.{Literal, Name, Natural, Number, Part, Right, Skip, Target, TypeOf, Value, container_word, head_parts, instr_parts, kind_word, mode_word, operand_parts, param_parts, register_part, registers_parts, scalar_word, skip_among, skip_of, version_parts}
 pub use Rattle.tw_asm.specs.Seen.{IsRead, NoName, OnlyName, Read, bytes_of, with_skip}
 pub use Rattle.tw_asm.specs.Spelling.{AreCode, GoesTo, HaveWords, Placed, SpellProcedures, SpellsProcedure, SpellsProgram, SpellsVersion}

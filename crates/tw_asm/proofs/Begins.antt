@@ -1,6 +1,6 @@
 -- What the first word of a line lets expect.
 use Rattle.std.proofs.Common.{◌≡◌, ℕ, List, ◌∷◌, refl, subst}
-use Rattle.tw_asm.proofs.AsmNames.{Bare, Begins, Code, First, Goals, Head, IsExpected, IsFirstWord, IsLine, Label, MayBegin, OfVersion, Registers, Situation, Spells, Statement, Version, Word}
+use Rattle.tw_asm.proofs.AsmNames.{Bare, Begins, Code, First, Goals, Head, IsExpected, IsFirstWord, IsLine, Label, MayBegin, OfVersion, Registers, ParserState, Spells, Statement, Version, Word}
 use Rattle.tw_asm.proofs.Once.{begins, first_word, expected_of, expected}
 use Rattle.tw_asm.specs.reading.Expected.{expectation}
 
@@ -44,7 +44,7 @@ first_in_line goals statement words line l s =
     let r = front_of (Bare f.word) f.others line (subst (λ (ws : List Word). IsLine ws line) f.parts l) in
     record { word = f.word; rest = r.0; first = r.1; expected = f.expected }
 
-pub line_begins : (goals : Goals) (statement : Statement) (words : List Word) (s : Situation) (line : List ℕ) → IsLine words line → Spells s.version goals statement words
+pub line_begins : (goals : Goals) (statement : Statement) (words : List Word) (s : ParserState) (line : List ℕ) → IsLine words line → Spells s.version goals statement words
     → MayBegin s.stage (expectation statement) → Begins s line (expectation statement)
 line_begins goals statement words s line l spells may =
     let f = first_in_line goals statement words line l spells in

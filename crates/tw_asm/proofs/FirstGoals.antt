@@ -1,6 +1,6 @@
 -- The first goal that isn't found is the first fault of its text.
 use Rattle.std.proofs.Common.{◌≡◌, ℕ, zero, suc, ◌+◌, ◌<◌, ◌≤◌, List, [], ◌∷◌, ◌++◌, length, map, take, drop, Option, Some, None, inl, inr, refl, sym, subst, ap, ◌∙◌, arith}
-use Rattle.tw_asm.proofs.AsmNames.{AllByRecursion, AnyShortName, AsmFault, Code, Contains, FaultNo, GoalFault, HasSections, Head, Instr, IsFirstGoalFault, IsLine, IsRead, IsWhole, Label, LineRead, LineSays, LinesRead, LinesSay, MayStand, NamesLabel, OfVersion, Placed, Progress, Read, Registers, Section, Situation, Statement, Version, Word, after, after_line, at_start, flat_map, labels_ahead, line_once, line_step, lines, map-append, not_forward, outset, situation_from, situation_of, slice_get, slice_index_or, unknown}
+use Rattle.tw_asm.proofs.AsmNames.{AllByRecursion, AnyShortName, AsmFault, Code, Contains, FaultNo, GoalFault, HasSections, Head, Instr, IsFirstGoalFault, IsLine, IsRead, IsWhole, Label, LineRead, LineSays, LinesRead, LinesSay, MayStand, NamesLabel, OfVersion, Placed, Progress, Read, Registers, Section, ParserState, Statement, Version, Word, after, after_line, at_start, flat_map, labels_ahead, line_once, line_step, lines, map-append, not_forward, outset, situation_from, situation_of, slice_get, slice_index_or, unknown}
 use Rattle.std.proofs.lemmas.List.Elements.{Contains-append_cases, Contains-append_left, Contains-append_right}
 use Rattle.tw_asm.specs.reading.Goals.{FirstUnlinked, Goal, IsNoGoal, StandsAt, section_goals}
 use Rattle.tw_asm.proofs.Alike.{AreAlike, alike}
@@ -17,7 +17,7 @@ name_in labels name place c = name_among labels (record { name = name; place = p
 
 -- ---- lines that are read, by their situations
 
-abbrev pub AreRead : ℕ → Situation → List (List ℕ) → List (Option Read) → Type 0
+abbrev pub AreRead : ℕ → ParserState → List (List ℕ) → List (Option Read) → Type 0
 AreRead number s [] [] = Unit {0}
 AreRead number s [] (read ∷ others) = ⊥
 AreRead number s (line ∷ more) [] = ⊥
@@ -28,7 +28,7 @@ are_read number p [] [] r = tt
 are_read number p [] (read ∷ others) r = absurd r
 are_read number p (line ∷ more) [] r = absurd r
 are_read number p (line ∷ more) (read ∷ others) r =
-    (r.0, subst (λ (s : Situation). AreRead (number + 1) s more others) (line_after number p line read r.0) (are_read (number + 1) (line_step number read p) more others r.1))
+    (r.0, subst (λ (s : ParserState). AreRead (number + 1) s more others) (line_after number p line read r.0) (are_read (number + 1) (line_step number read p) more others r.1))
 
 -- ---- labels ahead
 
@@ -65,7 +65,7 @@ ahead_above place (Some read ∷ others) = above_by read.statement place (ahead 
 -- ---- labels behind
 
 -- these are the situation's labels, none past the place
-pub record Behind (labels : List Placed) (place : ℕ) (s : Situation) : Type 0 where
+pub record Behind (labels : List Placed) (place : ℕ) (s : ParserState) : Type 0 where
   pub names : map (λ label. label.name) labels ≡ s.labels
   pub low : AllByRecursion (λ label. label.place ≤ place) labels
 
@@ -73,7 +73,7 @@ low_more : (name : List ℕ) (place : ℕ) (labels : List Placed) → AllByRecur
 low_more name place [] a = (omega arith, tt)
 low_more name place (l ∷ labels) a = (a.0, low_more name place labels a.1)
 
-behind_more : (number : ℕ) (statement : Statement) (labels : List Placed) (place : ℕ) (s : Situation) → Behind labels place s → Behind (labels_after statement place labels) (place_after statement place) (after number statement s)
+behind_more : (number : ℕ) (statement : Statement) (labels : List Placed) (place : ℕ) (s : ParserState) → Behind labels place s → Behind (labels_after statement place labels) (place_after statement place) (after number statement s)
 behind_more number (OfVersion version) labels place s b = record { names = b.names; low = b.low }
 behind_more number (Head kind params) labels place s b = record { names = refl; low = tt }
 behind_more number (Registers registers) labels place s b = record { names = b.names; low = b.low }
@@ -84,12 +84,12 @@ behind_more number (Label name) labels place s b = record {
 behind_more number (Code i) labels place s b = record { names = b.names; low = higher place (place + 1) labels (omega arith) b.low }
 
 -- a name behind isn't ahead
-label_again : (s : Situation) (other : List ℕ) (said : List (Option Statement)) (name : List ℕ) → (Contains s.labels other → ⊥) → (Contains (s.labels ++ (other ∷ [])) name → Contains (labels_ahead said) name → ⊥)
+label_again : (s : ParserState) (other : List ℕ) (said : List (Option Statement)) (name : List ℕ) → (Contains s.labels other → ⊥) → (Contains (s.labels ++ (other ∷ [])) name → Contains (labels_ahead said) name → ⊥)
     → Contains s.labels name → (k : ℕ) → k < suc (length (labels_ahead said)) → slice_index_or (other ∷ labels_ahead said) k name ≡ name → ⊥
 label_again s other said name new others c zero low e = new (subst (Contains s.labels) (sym e) c)
 label_again s other said name new others c (suc k) low e = others (Contains-append_left s.labels (other ∷ []) name c) (k, omega (arith, low), e)
 
-again_by : (number : ℕ) (s : Situation) (statement : Statement) (said : List (Option Statement)) (name : List ℕ) → MayStand statement s
+again_by : (number : ℕ) (s : ParserState) (statement : Statement) (said : List (Option Statement)) (name : List ℕ) → MayStand statement s
     → (Contains (after number statement s).labels name → Contains (labels_ahead said) name → ⊥) → Contains s.labels name → Contains (labels_ahead (Some statement ∷ said)) name → ⊥
 again_by number s (OfVersion version) said name m others c d = others c d
 again_by number s (Head kind params) said name m others c d = contains_none name d
@@ -97,7 +97,7 @@ again_by number s (Registers registers) said name m others c d = others c d
 again_by number s (Code i) said name m others c d = others c d
 again_by number s (Label other) said name m others c d = label_again s other said name m.1 others c d.0 d.1 d.2
 
-not_again : (number : ℕ) (s : Situation) (ls : List (List ℕ)) (reads : List (Option Read)) (name : List ℕ) → AreRead number s ls reads → Contains s.labels name → Contains (labels_ahead (said_by reads)) name → ⊥
+not_again : (number : ℕ) (s : ParserState) (ls : List (List ℕ)) (reads : List (Option Read)) (name : List ℕ) → AreRead number s ls reads → Contains s.labels name → Contains (labels_ahead (said_by reads)) name → ⊥
 not_again number s [] [] name r c d = contains_none name d
 not_again number s [] (read ∷ others) name r c d = absurd r
 not_again number s (line ∷ more) [] name r c d = absurd r
@@ -107,10 +107,10 @@ not_again number s (line ∷ more) (Some read ∷ others) name r c d =
 
 -- ---- two readings of the same lines
 
-line_alike : (number : ℕ) (s : Situation) (line : List ℕ) (read : Option Read) (said : Option Statement) → LineRead s line read → LineSays s line said → after_line number said s ≡ after_line number (statement_of read) s
+line_alike : (number : ℕ) (s : ParserState) (line : List ℕ) (read : Option Read) (said : Option Statement) → LineRead s line read → LineSays s line said → after_line number said s ≡ after_line number (statement_of read) s
 line_alike number s line read said r l = both_alike number s line said (statement_of read) l (line_says s line read r)
 
-reads_say : (number : ℕ) (s : Situation) (ls : List (List ℕ)) (reads : List (Option Read)) → AreRead number s ls reads → LinesSay number s ls (said_by reads)
+reads_say : (number : ℕ) (s : ParserState) (ls : List (List ℕ)) (reads : List (Option Read)) → AreRead number s ls reads → LinesSay number s ls (said_by reads)
 reads_say number s [] [] r = tt
 reads_say number s [] (read ∷ others) r = absurd r
 reads_say number s (line ∷ more) [] r = absurd r
@@ -118,7 +118,7 @@ reads_say number s (line ∷ more) (read ∷ others) r = (line_says s line read 
 
 -- ---- a goal that isn't found
 
-no_goal_fault : (s : Situation) (labels : List Placed) (place : ℕ) (others : List (Option Read)) (line : List ℕ) (name : List ℕ) (words : List Word) (which : FaultNo) → Behind labels place s
+no_goal_fault : (s : ParserState) (labels : List Placed) (place : ℕ) (others : List (Option Read)) (line : List ℕ) (name : List ℕ) (words : List Word) (which : FaultNo) → Behind labels place s
     → IsLine words line → NamesLabel s.version name words → IsNoGoal (labels ++ ahead (place + 1) others) place name which → GoalFault s (labels_ahead (said_by others)) line which
 no_goal_fault s labels place others line name words which b l n (inl u) =
     let names = λ (label : Placed). label.name in
@@ -154,14 +154,14 @@ one_on : (k : ℕ) → suc k + 1 ≡ suc (k + 1)
 one_on k = omega arith
 
 -- where the first goal that isn't found stands
-pub record Located (number : ℕ) (s : Situation) (ls : List (List ℕ)) (said : List (Option Statement)) (f : AsmFault) : Type 0 where
+pub record Located (number : ℕ) (s : ParserState) (ls : List (List ℕ)) (said : List (Option Statement)) (f : AsmFault) : Type 0 where
   pub index : ℕ
   pub at_is : f.line ≡ number + index
   pub line : List ℕ
   pub line_is : slice_get ls index ≡ Some line
   pub wrong : GoalFault (situation_from number s (take index said)) (labels_ahead (drop (index + 1) said)) line f.no
 
-located_more : (number : ℕ) (s : Situation) (line : List ℕ) (x : Option Statement) (ls : List (List ℕ)) (said : List (Option Statement)) (f : AsmFault) → Located (number + 1) (after_line number x s) ls said f → Located number s (line ∷ ls) (x ∷ said) f
+located_more : (number : ℕ) (s : ParserState) (line : List ℕ) (x : Option Statement) (ls : List (List ℕ)) (said : List (Option Statement)) (f : AsmFault) → Located (number + 1) (after_line number x s) ls said f → Located number s (line ∷ ls) (x ∷ said) f
 located_more number s line x ls said f l =
     record {
       index = suc l.index;
@@ -177,7 +177,7 @@ names_it version i (Some other) words name e r = subst (λ (n : List ℕ). Names
   some_is : (a b : List ℕ) → ◌≡◌ {A = Option (List ℕ)} (Some a) (Some b) → a ≡ b
   some_is a b p = cc
 
-located_at : (number : ℕ) (s : Situation) (labels : List Placed) (place : ℕ) (line : List ℕ) (more : List (List ℕ)) (others : List (Option Read)) (f : AsmFault) (statement : Statement) (goal : Option (List ℕ)) (words : List Word)
+located_at : (number : ℕ) (s : ParserState) (labels : List Placed) (place : ℕ) (line : List ℕ) (more : List (List ℕ)) (others : List (Option Read)) (f : AsmFault) (statement : Statement) (goal : Option (List ℕ)) (words : List Word)
     → Behind labels place s → IsLine words line → IsRead s.version (record { statement = statement; goal = goal }) words
     → (FirstUnlinked (goals_from (number + 1) (labels_after statement place labels) (place_after statement place) others) f → Located (number + 1) (after number statement s) more (said_by others) f)
     → FirstUnlinked (goals_from number labels place (Some (record { statement = statement; goal = goal }) ∷ others)) f → Located number s (line ∷ more) (Some statement ∷ said_by others) f
@@ -194,7 +194,7 @@ located_at number s labels place line more others f (Code i) goal words b l q la
   wrong = no_goal_fault s labels place others line u.0 words f.no b l (names_it s.version i goal words u.0 u.1 q) u.2;
 }
 
-pub located : (number : ℕ) (s : Situation) (labels : List Placed) (place : ℕ) (ls : List (List ℕ)) (reads : List (Option Read)) (f : AsmFault) → AreRead number s ls reads → Behind labels place s
+pub located : (number : ℕ) (s : ParserState) (labels : List Placed) (place : ℕ) (ls : List (List ℕ)) (reads : List (Option Read)) (f : AsmFault) → AreRead number s ls reads → Behind labels place s
     → FirstUnlinked (goals_from number labels place reads) f → Located number s ls (said_by reads) f
 located number s labels place [] [] f r b u = absurd u
 located number s labels place [] (read ∷ others) f r b u = absurd r
@@ -207,7 +207,7 @@ located number s labels place (line ∷ more) (Some read ∷ others) f r b u =
 
 -- ---- no goal before it has a fault
 
-found_no_fault : (s : Situation) (labels : List Placed) (place skip : ℕ) (number : ℕ) (more : List (List ℕ)) (others : List (Option Read)) (ahead_said : List (List ℕ)) (line : List ℕ) (name : List ℕ) (words : List Word) (which : FaultNo) → Behind labels place s
+found_no_fault : (s : ParserState) (labels : List Placed) (place skip : ℕ) (number : ℕ) (more : List (List ℕ)) (others : List (Option Read)) (ahead_said : List (List ℕ)) (line : List ℕ) (name : List ℕ) (words : List Word) (which : FaultNo) → Behind labels place s
     → IsLine words line → NamesLabel s.version name words → StandsAt (labels ++ ahead (place + 1) others) name (place + 1 + skip) → ahead_said ≡ labels_ahead (said_by others)
     → (Contains s.labels name → Contains (labels_ahead (said_by others)) name → ⊥) → GoalFault s ahead_said line which → ⊥
 found_no_fault s labels place skip number more others ahead_said line name words _ b l n at same once (unknown other ws k m behind forward) =
@@ -230,7 +230,7 @@ record AtName (version : Version) (line : List ℕ) : Type 0 where
   is_line : IsLine words line
   names : NamesLabel version name words
 
-at_name : (s : Situation) (said : List (List ℕ)) (line : List ℕ) (which : FaultNo) → GoalFault s said line which → AtName s.version line
+at_name : (s : ParserState) (said : List (List ℕ)) (line : List ℕ) (which : FaultNo) → GoalFault s said line which → AtName s.version line
 at_name s said line _ (unknown name words l n behind forward) = record { name = name; words = words; is_line = l; names = n }
 at_name s said line _ (not_forward name words l n behind) = record { name = name; words = words; is_line = l; names = n }
 
@@ -243,7 +243,7 @@ other_statement version statement goal words line l q a =
 no_label_named : (version : Version) (i : Instr) (words : List Word) (line : List ℕ) → IsLine words line → IsRead version (record { statement = Code i; goal = None }) words → AtName version line → ⊥
 no_label_named version i words line l q a = (subst (λ (ws : List Word). NamesLabel version a.name ws) (line_once a.words words line a.is_line l) a.names).names i q.1
 
-first_here : (number : ℕ) (s : Situation) (labels : List Placed) (place : ℕ) (line : List ℕ) (more : List (List ℕ)) (others : List (Option Read)) (ahead_said : List (List ℕ)) (f : AsmFault) (which : FaultNo) (statement : Statement) (goal : Option (List ℕ)) (words : List Word)
+first_here : (number : ℕ) (s : ParserState) (labels : List Placed) (place : ℕ) (line : List ℕ) (more : List (List ℕ)) (others : List (Option Read)) (ahead_said : List (List ℕ)) (f : AsmFault) (which : FaultNo) (statement : Statement) (goal : Option (List ℕ)) (words : List Word)
     → Behind labels place s → IsLine words line → IsRead s.version (record { statement = statement; goal = goal }) words → ahead_said ≡ labels_ahead (said_by others) → AreRead (number + 1) (after number statement s) more others
     → FirstUnlinked (goals_from number labels place (Some (record { statement = statement; goal = goal }) ∷ others)) f → GoalFault s ahead_said line which → f.line ≤ number
 first_here number s labels place line more others ahead_said f which (OfVersion version) goal words b l q same a u g = absurd ((other_statement s.version (OfVersion version) goal words line l q (at_name s ahead_said line which g)).1)
@@ -265,7 +265,7 @@ first_later number k labels place others f (Label name) goal later u = one_later
 first_later number k labels place others f (Code i) goal later (inl u) = no_later f.line number k u.3
 first_later number k labels place others f (Code i) goal later (inr u) = one_later f.line number k (later u.1)
 
-pub first_at : (number : ℕ) (s : Situation) (labels : List Placed) (place : ℕ) (ls : List (List ℕ)) (reads : List (Option Read)) (said : List (Option Statement)) (f : AsmFault) (index : ℕ) (line : List ℕ) (which : FaultNo)
+pub first_at : (number : ℕ) (s : ParserState) (labels : List Placed) (place : ℕ) (ls : List (List ℕ)) (reads : List (Option Read)) (said : List (Option Statement)) (f : AsmFault) (index : ℕ) (line : List ℕ) (which : FaultNo)
     → AreRead number s ls reads → LinesSay number s ls said → Behind labels place s → FirstUnlinked (goals_from number labels place reads) f
     → slice_get ls index ≡ Some line → GoalFault (situation_from number s (take index said)) (labels_ahead (drop (index + 1) said)) line which → f.line ≤ number + index
 first_at number s labels place [] [] said f index line which r l b u e g = absurd u
@@ -276,20 +276,20 @@ first_at number s labels place (x ∷ more) (None ∷ others) (y ∷ said) f zer
     let a = at_name s (labels_ahead said) line which g in
     absurd (none_spelled (λ skip word. word ≡ a.name) (Code a.names.i) a.words (line_once a.words [] x (subst (IsLine a.words) (line_is_same x line e) a.is_line) r.0) a.names.spells)
 first_at number s labels place (x ∷ more) (Some read ∷ others) (y ∷ said) f zero line which r l b u e g =
-    let same = same_ahead (number + 1) (after number read.statement s) more said (said_by others) (subst (λ (t : Situation). LinesSay (number + 1) t more said) (line_alike number s x (Some read) y r.0 l.0) l.1) (reads_say (number + 1) (after number read.statement s) more others r.1) in
+    let same = same_ahead (number + 1) (after number read.statement s) more said (said_by others) (subst (λ (t : ParserState). LinesSay (number + 1) t more said) (line_alike number s x (Some read) y r.0 l.0) l.1) (reads_say (number + 1) (after number read.statement s) more others r.1) in
     from_here f.line number (first_here number s labels place x more others (labels_ahead said) f which read.statement read.goal r.0.0.0 b r.0.0.1 r.0.0.2 same r.1 u (subst (λ (z : List ℕ). GoalFault s (labels_ahead said) z which) (line_is_same x line e) g))
 first_at number s labels place (x ∷ more) (None ∷ others) (y ∷ said) f (suc k) line which r l b u e g =
     let t = line_alike number s x None y r.0 l.0 in
     let g2 = subst (λ (j : ℕ). GoalFault (situation_from (number + 1) (after_line number y s) (take k said)) (labels_ahead (drop j (y ∷ said))) line which) (one_on k) g in
-    one_later f.line number k (first_at (number + 1) s labels place more others said f k line which r.1 (subst (λ (z : Situation). LinesSay (number + 1) z more said) t l.1) (record { names = b.names; low = b.low }) u e
-    (subst (λ (z : Situation). GoalFault (situation_from (number + 1) z (take k said)) (labels_ahead (drop (k + 1) said)) line which) t g2))
+    one_later f.line number k (first_at (number + 1) s labels place more others said f k line which r.1 (subst (λ (z : ParserState). LinesSay (number + 1) z more said) t l.1) (record { names = b.names; low = b.low }) u e
+    (subst (λ (z : ParserState). GoalFault (situation_from (number + 1) z (take k said)) (labels_ahead (drop (k + 1) said)) line which) t g2))
 first_at number s labels place (x ∷ more) (Some read ∷ others) (y ∷ said) f (suc k) line which r l b u e g =
     let t = line_alike number s x (Some read) y r.0 l.0 in
     let g2 = subst (λ (j : ℕ). GoalFault (situation_from (number + 1) (after_line number y s) (take k said)) (labels_ahead (drop j (y ∷ said))) line which) (one_on k) g in
     first_later number k labels place others f read.statement read.goal
     (λ v. first_at (number + 1) (after number read.statement s) (labels_after read.statement place labels) (place_after read.statement place) more others said f k line which r.1
-    (subst (λ (z : Situation). LinesSay (number + 1) z more said) t l.1) (behind_more number read.statement labels place s b) v e
-    (subst (λ (z : Situation). GoalFault (situation_from (number + 1) z (take k said)) (labels_ahead (drop (k + 1) said)) line which) t g2)) u
+    (subst (λ (z : ParserState). LinesSay (number + 1) z more said) t l.1) (behind_more number read.statement labels place s b) v e
+    (subst (λ (z : ParserState). GoalFault (situation_from (number + 1) z (take k said)) (labels_ahead (drop (k + 1) said)) line which) t g2)) u
 
 -- ---- the whole text
 

@@ -1,6 +1,6 @@
 -- A text has one first fault.
 use Rattle.std.proofs.Common.{◌≡◌, ℕ, zero, suc, ◌+◌, ◌<◌, ◌≤◌, ◌⊎◌, List, [], ◌∷◌, ◌++◌, length, take, drop, Option, inl, inr, refl, sym, subst, ap, ◌∙◌, arith}
-use Rattle.tw_asm.proofs.AsmNames.{AnyShortName, Bare, Begins, Code, Contains, FaultNo, First, GoalFault, HasWords, InBody, Instr, IsEmpty, IsEndFault, IsExpected, IsFirstFault, IsFirstGoalFault, IsLine, IsLineFault, IsUnfinished, Label, LineFault, LineSays, LinesSay, MayBegin, NamesLabel, Say, Situation, Stage, Statement, Version, Word, after_line, at_start, cases_lt, first_word_once, labels_ahead, line_once, lines, not_forward, situation, situation_from, slice_get, unknown}
+use Rattle.tw_asm.proofs.AsmNames.{AnyShortName, Bare, Begins, Code, Contains, FaultNo, First, GoalFault, HasWords, InBody, Instr, IsEmpty, IsEndFault, IsExpected, IsFirstFault, IsFirstGoalFault, IsLine, IsLineFault, IsUnfinished, Label, LineFault, LineSays, LinesSay, MayBegin, NamesLabel, Say, ParserState, Stage, Statement, Version, Word, after_line, at_start, cases_lt, first_word_once, labels_ahead, line_once, lines, not_forward, situation, situation_from, slice_get, unknown}
 use Rattle.tw_asm.specs.declared.statement.First.TheVariants as first
 use Rattle.tw_asm.specs.declared.fault.FaultNo.TheVariants as fault
 use Rattle.tw_asm.proofs.Begins.{line_begins}
@@ -12,7 +12,7 @@ use Rattle.tw_asm.proofs.Spelled.{bare_is}
 
 -- ---- faults of one line
 
-begins_once : (s : Situation) (line : List ℕ) (p q : First) → Begins s line p → Begins s line q → p ≡ q
+begins_once : (s : ParserState) (line : List ℕ) (p q : First) → Begins s line p → Begins s line q → p ≡ q
 begins_once s line p q b c =
     let same = bare_is b.0 c.0 (first_word_once (Bare b.0) (Bare c.0) line b.1 c.1 b.2 c.2).0 in
     one_expected s.version p q c.0 (subst (IsExpected s.version p) same b.3) c.3
@@ -20,18 +20,18 @@ begins_once s line p q b c =
 body_head : {Z : Type 0} → ◌≡◌ {A = First} first.Body first.Head → Z
 body_head e = absurd cc
 
-body_may : (s : Situation) → s.stage ≡ InBody → MayBegin s.stage first.Body
+body_may : (s : ParserState) → s.stage ≡ InBody → MayBegin s.stage first.Body
 body_may s body = subst (λ (stage : Stage). MayBegin stage first.Body) (sym body) (inr refl)
 
-label_begins : (s : Situation) (line name : List ℕ) (words : List Word) → s.stage ≡ InBody → IsLine words line → Say s.version (Label name) words → Begins s line first.Body
+label_begins : (s : ParserState) (line name : List ℕ) (words : List Word) → s.stage ≡ InBody → IsLine words line → Say s.version (Label name) words → Begins s line first.Body
 label_begins s line name words body is say = line_begins AnyShortName (Label name) words s line is say.0 (body_may s body)
 
-code_begins : (s : Situation) (line : List ℕ) (i : Instr) (words : List Word) → s.stage ≡ InBody → IsLine words line → Say s.version (Code i) words → Begins s line first.Body
+code_begins : (s : ParserState) (line : List ℕ) (i : Instr) (words : List Word) → s.stage ≡ InBody → IsLine words line → Say s.version (Code i) words → Begins s line first.Body
 code_begins s line i words body is say = line_begins AnyShortName (Code i) words s line is say.0 (body_may s body)
 
 -- What is so of a line by the kind of its fault. The kinds stand in the order in which a line is asked: no first word, no
 -- form, an empty procedure before a head, a label that stands twice, and any other limit.
-abbrev IsSo : Situation → List ℕ → ℕ → Type 0
+abbrev IsSo : ParserState → List ℕ → ℕ → Type 0
 IsSo s line zero = (expected : First) → Begins s line expected → ⊥
 IsSo s line (suc zero) = HasWords s.version line → ⊥
 IsSo s line (suc (suc zero)) = Begins s line first.Head × IsEmpty s
@@ -39,11 +39,11 @@ IsSo s line (suc (suc (suc zero))) = (name : List ℕ) × (words : List Word) ×
 IsSo s line (suc (suc (suc (suc k)))) = Unit {0}
 
 -- nothing is so by the kinds before this one
-abbrev NoneBefore : Situation → List ℕ → ℕ → Type 0
+abbrev NoneBefore : ParserState → List ℕ → ℕ → Type 0
 NoneBefore s line zero = Unit {0}
 NoneBefore s line (suc k) = NoneBefore s line k × (IsSo s line k → ⊥)
 
-none_before : (s : Situation) (line : List ℕ) (j k : ℕ) → j < k → NoneBefore s line k → IsSo s line j → ⊥
+none_before : (s : ParserState) (line : List ℕ) (j k : ℕ) → j < k → NoneBefore s line k → IsSo s line j → ⊥
 none_before s line j zero less none so = absurd (omega (arith, less))
 none_before s line j (suc k) less none so = by (λ earlier. none_before s line j k earlier none.0 so) (cases_lt j k)
   where
@@ -58,21 +58,21 @@ fault_of (suc (suc zero)) = fault.Limit
 fault_of (suc (suc (suc zero))) = fault.LabelTwice
 fault_of (suc (suc (suc (suc k)))) = fault.Limit
 
-abbrev line_of : ℕ → Situation → ℕ → ℕ
+abbrev line_of : ℕ → ParserState → ℕ → ℕ
 line_of number s zero = number
 line_of number s (suc zero) = number
 line_of number s (suc (suc zero)) = s.head_line
 line_of number s (suc (suc (suc k))) = number
 
 -- a fault with its kind, which gives its number and its line
-record HasKind (number : ℕ) (s : Situation) (line : List ℕ) (which : FaultNo) (at : ℕ) : Type 0 where
+record HasKind (number : ℕ) (s : ParserState) (line : List ℕ) (which : FaultNo) (at : ℕ) : Type 0 where
   kind : ℕ
   which_is : which ≡ fault_of kind
   at_is : at ≡ line_of number s kind
   so : IsSo s line kind
   none : NoneBefore s line kind
 
-limit_kind : (number : ℕ) (s : Situation) (line : List ℕ) (p : First) → Begins s line p → HasWords s.version line → (Begins s line first.Head × IsEmpty s → ⊥) → (IsSo s line 3 → ⊥) → HasKind number s line fault.Limit number
+limit_kind : (number : ℕ) (s : ParserState) (line : List ℕ) (p : First) → Begins s line p → HasWords s.version line → (Begins s line first.Head × IsEmpty s → ⊥) → (IsSo s line 3 → ⊥) → HasKind number s line fault.Limit number
 limit_kind number s line p b has full unlabelled = record {
   kind = 4;
   which_is = refl;
@@ -81,7 +81,7 @@ limit_kind number s line p b has full unlabelled = record {
   none = ((((tt, λ none. none p b), λ formless. formless has), full), unlabelled);
 }
 
-kind_of : (number : ℕ) (s : Situation) (line : List ℕ) (a : FaultNo) (m : ℕ) → LineFault number s line a m → HasKind number s line a m
+kind_of : (number : ℕ) (s : ParserState) (line : List ℕ) (a : FaultNo) (m : ℕ) → LineFault number s line a m → HasKind number s line a m
 kind_of number s line _ _ (LineFault.word some none) = record { kind = 0; which_is = refl; at_is = refl; so = none; none = tt }
 kind_of number s line _ _ (LineFault.operand p b formless) = record { kind = 1; which_is = refl; at_is = refl; so = formless; none = (tt, λ none. none p b) }
 kind_of number s line _ _ (LineFault.empty b has e) = record {
@@ -108,7 +108,7 @@ kind_of number s line _ _ (LineFault.instructions i words body is say many) =
     let b = code_begins s line i words body is say in
     limit_kind number s line first.Body b (has_words s.version (Code i) words line is say) (λ e. body_head (begins_once s line first.Body first.Head b e.0)) (λ l. says_alike s.version (Label l.0) (Code i) l.1 words line l.3 l.4 is say)
 
-line_faults : (number : ℕ) (s : Situation) (line : List ℕ) (a b : FaultNo) (m n : ℕ) → LineFault number s line a m → LineFault number s line b n → (a ≡ b) × (m ≡ n)
+line_faults : (number : ℕ) (s : ParserState) (line : List ℕ) (a b : FaultNo) (m n : ℕ) → LineFault number s line a m → LineFault number s line b n → (a ≡ b) × (m ≡ n)
 line_faults number s line a b m n f g = by (cases_lt x.kind y.kind) (cases_lt y.kind x.kind)
   where
     x : HasKind number s line a m
@@ -126,7 +126,7 @@ line_faults number s line a b m n f g = by (cases_lt x.kind y.kind) (cases_lt y.
 
 -- ---- two readings of the same lines
 
-same_end : (number : ℕ) (s : Situation) (ls : List (List ℕ)) (said told : List (Option Statement)) → LinesSay number s ls said → LinesSay number s ls told
+same_end : (number : ℕ) (s : ParserState) (ls : List (List ℕ)) (said told : List (Option Statement)) → LinesSay number s ls said → LinesSay number s ls told
     → situation_from number s said ≡ situation_from number s told
 same_end number s [] [] [] h l = refl
 same_end number s [] (x ∷ said) told h l = absurd h
@@ -135,9 +135,9 @@ same_end number s (line ∷ more) [] told h l = absurd h
 same_end number s (line ∷ more) (x ∷ said) [] h l = absurd l
 same_end number s (line ∷ more) (x ∷ said) (y ∷ told) h l =
     same_end (number + 1) (after_line number x s) more said told h.1 (others_say number s line more x y told h.0 l.0 l.1)
-    ∙ ap (λ (t : Situation). situation_from (number + 1) t told) (both_alike number s line x y h.0 l.0)
+    ∙ ap (λ (t : ParserState). situation_from (number + 1) t told) (both_alike number s line x y h.0 l.0)
 
-same_at : (index number : ℕ) (s : Situation) (ls : List (List ℕ)) (said told : List (Option Statement)) → LinesSay number s ls said → LinesSay number s ls told
+same_at : (index number : ℕ) (s : ParserState) (ls : List (List ℕ)) (said told : List (Option Statement)) → LinesSay number s ls said → LinesSay number s ls told
     → situation_from number s (take index said) ≡ situation_from number s (take index told)
 same_at zero number s ls said told h l = refl
 same_at (suc k) number s [] [] [] h l = refl
@@ -147,7 +147,7 @@ same_at (suc k) number s (line ∷ more) [] told h l = absurd h
 same_at (suc k) number s (line ∷ more) (x ∷ said) [] h l = absurd l
 same_at (suc k) number s (line ∷ more) (x ∷ said) (y ∷ told) h l =
     same_at k (number + 1) (after_line number x s) more said told h.1 (others_say number s line more x y told h.0 l.0 l.1)
-    ∙ ap (λ (t : Situation). situation_from (number + 1) t (take k told)) (both_alike number s line x y h.0 l.0)
+    ∙ ap (λ (t : ParserState). situation_from (number + 1) t (take k told)) (both_alike number s line x y h.0 l.0)
 
 -- ---- the first line that can't follow
 
@@ -157,11 +157,11 @@ head_line_is x y xs ys e = cc
 more_lines_are : (x y : List ℕ) (xs ys : List (List ℕ)) → ◌≡◌ {A = List (List ℕ)} (x ∷ xs) (y ∷ ys) → xs ≡ ys
 more_lines_are x y xs ys e = cc
 
-line_fault_at : (k l : ℕ) (t u : Situation) (line next : List ℕ) (which : FaultNo) (at : ℕ) → l ≡ k → u ≡ t → next ≡ line → LineFault l u next which at → LineFault k t line which at
+line_fault_at : (k l : ℕ) (t u : ParserState) (line next : List ℕ) (which : FaultNo) (at : ℕ) → l ≡ k → u ≡ t → next ≡ line → LineFault l u next which at → LineFault k t line which at
 line_fault_at k l t u line next which at e f g h =
-    subst (λ (z : List ℕ). LineFault k t z which at) g (subst (λ (v : Situation). LineFault k v next which at) f (subst (λ (j : ℕ). LineFault j u next which at) e h))
+    subst (λ (z : List ℕ). LineFault k t z which at) g (subst (λ (v : ParserState). LineFault k v next which at) f (subst (λ (j : ℕ). LineFault j u next which at) e h))
 
-one_line_fault : (number : ℕ) (s : Situation) (before after : List (List ℕ)) (line next : List ℕ) (others more : List (List ℕ)) (said told : List (Option Statement)) (k l : ℕ) (t u : Situation) (a b : FaultNo) (m n : ℕ)
+one_line_fault : (number : ℕ) (s : ParserState) (before after : List (List ℕ)) (line next : List ℕ) (others more : List (List ℕ)) (said told : List (Option Statement)) (k l : ℕ) (t u : ParserState) (a b : FaultNo) (m n : ℕ)
     → before ++ (line ∷ others) ≡ after ++ (next ∷ more) → LinesSay number s before said → LinesSay number s after told → k ≡ length before + number → l ≡ length after + number
     → situation_from number s said ≡ t → situation_from number s told ≡ u → LineFault k t line a m → LineFault l u next b n → (a ≡ b) × (m ≡ n)
 one_line_fault number s [] [] line next others more [] [] k l t u a b m n e h j ke le te ue f g =
@@ -183,9 +183,9 @@ one_line_fault number s (first ∷ before) (second ∷ after) line next others m
     let here : LineSays s first y = subst (λ (z : List ℕ). LineSays s z y) (sym same) j.0 in
     one_line_fault (number + 1) (after_line number x s) before after line next others more said told k l t u a b m n
     (more_lines_are first second (before ++ (line ∷ others)) (after ++ (next ∷ more)) e) h.1 (others_say number s first after x y told h.0 here j.1)
-    (omega (arith, ke)) (omega (arith, le)) te (ap (λ (v : Situation). situation_from (number + 1) v told) (both_alike number s first x y h.0 here) ∙ ue) f g
+    (omega (arith, ke)) (omega (arith, le)) te (ap (λ (v : ParserState). situation_from (number + 1) v told) (both_alike number s first x y h.0 here) ∙ ue) f g
 
-next_said : (number : ℕ) (s : Situation) (before : List (List ℕ)) (line : List ℕ) (more : List (List ℕ)) (said told : List (Option Statement)) → LinesSay number s (before ++ (line ∷ more)) said → LinesSay number s before told
+next_said : (number : ℕ) (s : ParserState) (before : List (List ℕ)) (line : List ℕ) (more : List (List ℕ)) (said told : List (Option Statement)) → LinesSay number s (before ++ (line ∷ more)) said → LinesSay number s before told
     → (x : Option Statement) × LineSays (situation_from number s told) line x
 next_said number s [] line more [] told h l = absurd h
 next_said number s [] line more (x ∷ said) [] h l = (x, h.0)
@@ -194,7 +194,7 @@ next_said number s (first ∷ before) line more [] told h l = absurd h
 next_said number s (first ∷ before) line more (x ∷ said) [] h l = absurd l
 next_said number s (first ∷ before) line more (x ∷ said) (y ∷ told) h l =
     let r = next_said (number + 1) (after_line number x s) before line more said told h.1 (others_say number s first before x y told h.0 l.0 l.1) in
-    (r.0, subst (λ (t : Situation). LineSays (situation_from (number + 1) t told) line r.0) (both_alike number s first x y h.0 l.0) r.1)
+    (r.0, subst (λ (t : ParserState). LineSays (situation_from (number + 1) t told) line r.0) (both_alike number s first x y h.0 l.0) r.1)
 
 -- where all lines can follow, no line has a fault
 no_line_fault : {Z : Type 0} (text : List ℕ) (which : FaultNo) (at : ℕ) (said : List (Option Statement)) → LinesSay 1 at_start (lines text) said → IsLineFault text which at → Z
@@ -204,7 +204,7 @@ no_line_fault text which at said h f =
 
 -- ---- the text's end
 
-unfinished_once : (s : Situation) (m n : ℕ) → IsUnfinished s m → IsUnfinished s n → m ≡ n
+unfinished_once : (s : ParserState) (m n : ℕ) → IsUnfinished s m → IsUnfinished s n → m ≡ n
 unfinished_once s m n (inl a) (inl b) = a.1 ∙ sym b.1
 unfinished_once s m n (inl a) (inr b) = absurd (b.0 a.0)
 unfinished_once s m n (inr a) (inl b) = absurd (a.0 b.0)
@@ -212,14 +212,14 @@ unfinished_once s m n (inr a) (inr b) = a.2 ∙ sym b.2
 
 no_end_fault : {Z : Type 0} (text : List ℕ) (which other : FaultNo) (at number : ℕ) → IsEndFault text which at → IsFirstGoalFault text other number → Z
 no_end_fault text which other at number f g =
-    absurd (finished (situation g.0.said) at g.0.whole (subst (λ (t : Situation). IsUnfinished t at) (same_end 1 at_start (lines text) f.said g.0.said f.say g.0.say) f.unfinished))
+    absurd (finished (situation g.0.said) at g.0.whole (subst (λ (t : ParserState). IsUnfinished t at) (same_end 1 at_start (lines text) f.said g.0.said f.say g.0.say) f.unfinished))
 
 -- ---- goals
 
 name_once : (version : Version) (line name other : List ℕ) (words others : List Word) → IsLine words line → NamesLabel version name words → IsLine others line → NamesLabel version other others → name ≡ other
 name_once version line name other words others is n other_is o = named_once name other words n (subst (λ (ws : List Word). NamesLabel version other ws) (line_once others words line other_is is) o)
 
-goal_faults : (s : Situation) (ahead behind : List (List ℕ)) (line : List ℕ) (a b : FaultNo) → GoalFault s ahead line a → GoalFault s behind line b → a ≡ b
+goal_faults : (s : ParserState) (ahead behind : List (List ℕ)) (line : List ℕ) (a b : FaultNo) → GoalFault s ahead line a → GoalFault s behind line b → a ≡ b
 goal_faults s ahead behind line _ _ (unknown name words is n before absent) (unknown other others other_is o before2 absent2) = refl
 goal_faults s ahead behind line _ _ (unknown name words is n before absent) (not_forward other others other_is o there) =
     absurd (before (subst (Contains s.labels) (sym (name_once s.version line name other words others is n other_is o)) there))
@@ -227,8 +227,8 @@ goal_faults s ahead behind line _ _ (not_forward name words is n there) (unknown
     absurd (before (subst (Contains s.labels) (name_once s.version line name other words others is n other_is o) there))
 goal_faults s ahead behind line _ _ (not_forward name words is n there) (not_forward other others other_is o there2) = refl
 
-goal_fault_at : (s t : Situation) (ahead : List (List ℕ)) (line next : List ℕ) (which : FaultNo) → s ≡ t → next ≡ line → GoalFault s ahead next which → GoalFault t ahead line which
-goal_fault_at s t ahead line next which e f g = subst (λ (z : List ℕ). GoalFault t ahead z which) f (subst (λ (v : Situation). GoalFault v ahead next which) e g)
+goal_fault_at : (s t : ParserState) (ahead : List (List ℕ)) (line next : List ℕ) (which : FaultNo) → s ≡ t → next ≡ line → GoalFault s ahead next which → GoalFault t ahead line which
+goal_fault_at s t ahead line next which e f g = subst (λ (z : List ℕ). GoalFault t ahead z which) f (subst (λ (v : ParserState). GoalFault v ahead next which) e g)
 
 one_goal_fault : (text : List ℕ) (a b : FaultNo) (m n : ℕ) → IsFirstGoalFault text a m → IsFirstGoalFault text b n → (a ≡ b) × (m ≡ n)
 one_goal_fault text a b m n f g =
@@ -255,7 +255,7 @@ one_first_fault text which other line number (inr (inl f)) (inl g) = no_line_fau
 one_first_fault text which other line number (inr (inr f)) (inl g) = no_line_fault text other number f.0.said f.0.say g
 one_first_fault text which other line number (inr (inl f)) (inr (inl g)) = (
   f.number ∙ sym g.number,
-  unfinished_once (situation g.said) line number (subst (λ (t : Situation). IsUnfinished t line) (same_end 1 at_start (lines text) f.said g.said f.say g.say) f.unfinished) g.unfinished,
+  unfinished_once (situation g.said) line number (subst (λ (t : ParserState). IsUnfinished t line) (same_end 1 at_start (lines text) f.said g.said f.say g.say) f.unfinished) g.unfinished,
 )
 one_first_fault text which other line number (inr (inl f)) (inr (inr g)) = no_end_fault text which other line number f g
 one_first_fault text which other line number (inr (inr f)) (inr (inl g)) = no_end_fault text other which number line g f

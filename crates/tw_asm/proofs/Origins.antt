@@ -1,6 +1,6 @@
 -- The numbers that are kept of instructions are those of their lines.
 use Rattle.std.proofs.Common.{◌≡◌, ◌⊎◌, ℕ, zero, suc, ◌+◌, ◌<◌, List, [], ◌∷◌, ◌++◌, length, map, get_or, take, Option, Some, None, MatchOption, inl, inr, refl, sym, subst, ap, ◌∙◌, append_assoc, arith}
-use Rattle.tw_asm.proofs.AsmNames.{AtStart, BehindHead, BehindVersion, Code, Drafted, HasSections, Head, Instr, Kind, Label, LineRead, LinesRead, MayStand, OfVersion, Param, Place, Procedure, Progress, Read, Registers, Section, Situation, Statement, Version, Within, after_line, append-nil, ended, length-append, length-map, line_step, lines, map-append, outset, progress_from, section_numbers, situation, situation_from, situation_of, slice_get, step}
+use Rattle.tw_asm.proofs.AsmNames.{AtStart, BehindHead, BehindVersion, Code, Drafted, HasSections, Head, Instr, Kind, Label, LineRead, LinesRead, MayStand, OfVersion, Param, Place, Procedure, Progress, Read, Registers, Section, ParserState, Statement, Version, Within, after_line, append-nil, ended, length-append, length-map, line_step, lines, map-append, outset, progress_from, section_numbers, situation, situation_from, situation_of, slice_get, step}
 use Rattle.tw_asm.specs.Origins.{AreOrigins, ComesFrom, at_place, instr_at}
 use Rattle.tw_asm.specs.reading.Goals.{AreLinkedProcedures}
 use Rattle.tw_asm.proofs.Linked.{linked_length}
@@ -66,7 +66,7 @@ said_before said more procedure place number s = record {
   place_is = s.place_is;
 }
 
-situation_more : (number : ℕ) (s : Situation) (said : List (Option Statement)) (more : Option Statement) → situation_from number s (said ++ (more ∷ [])) ≡ after_line (number + length said) more (situation_from number s said)
+situation_more : (number : ℕ) (s : ParserState) (said : List (Option Statement)) (more : Option Statement) → situation_from number s (said ++ (more ∷ [])) ≡ after_line (number + length said) more (situation_from number s said)
 situation_more number s [] more =
     let e : number ≡ number + 0 = omega arith in
     ap (λ (n : ℕ). after_line n more s) e
@@ -109,8 +109,8 @@ code_said i goal number version sections head_line section said a number_is is k
         after = [];
         parts = refl;
         number_is = new.2 ∙ number_is;
-        procedure_is = ap (λ (s : Situation). s.procedures) (sym is) ∙ ap (λ (c : ℕ). c + 1) (sym (new.0 ∙ length-map sections section_numbers));
-        place_is = ap (λ (s : Situation). s.instructions) (sym is) ∙ sym (new.1 ∙ length-map section.drafts (λ (d : Drafted). d.number));
+        procedure_is = ap (λ (s : ParserState). s.procedures) (sym is) ∙ ap (λ (c : ℕ). c + 1) (sym (new.0 ∙ length-map sections section_numbers));
+        place_is = ap (λ (s : ParserState). s.instructions) (sym is) ∙ sym (new.1 ∙ length-map section.drafts (λ (d : Drafted). d.number));
       }
     ]
 
@@ -155,13 +155,13 @@ lines_said number p said (line ∷ more) (read ∷ others) a r number_is is =
     let next = line_step number read p in
     let on : number ≡ 1 + length said = omega (arith, number_is) in
     let now : situation_of next ≡ situation (said ++ (statement_of read ∷ [])) =
-    line_after number p line read r.0 ∙ ap (λ (s : Situation). after_line number (statement_of read) s) is
+    line_after number p line read r.0 ∙ ap (λ (s : ParserState). after_line number (statement_of read) s) is
     ∙ ap (λ (n : ℕ). after_line n (statement_of read) (situation said)) on ∙ sym (situation_more 1 situation_start said (statement_of read)) in
     subst (λ (x : List (Option Statement)). AreSaid x (kept (progress_from (number + 1) next others).sections (progress_from (number + 1) next others).place)) (append_assoc said (statement_of read ∷ []) (said_by others))
     (lines_said (number + 1) next (said ++ (statement_of read ∷ [])) more others (line_said number line read p said a r.0 number_is is) r.1
     (omega (arith, number_is, length-append said (statement_of read ∷ []))) now)
   where
-    situation_start : Situation
+    situation_start : ParserState
     situation_start = situation []
 
 none_said : AreSaid [] (kept [] AtStart)

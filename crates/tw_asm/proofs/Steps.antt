@@ -1,6 +1,6 @@
 -- One line more.
 use Rattle.std.proofs.Common.{◌≡◌, ◌⊎◌, ℕ, suc, ◌+◌, List, [], ◌∷◌, ◌++◌, length, map, Option, Some, None, Result, Ok, Err, MatchResult, inl, inr, refl, sym, subst, ap, ◌∙◌, arith}
-use Rattle.tw_asm.proofs.AsmNames.{AfterHead, AnyShortName, AreNotRead, AreTextRead, AsmFault, AtStart, BehindHead, BehindVersion, Code, FaultNo, Head, InBody, IsLineFault, IsMemory, IsNotFinished, IsRead, IsShortName, IsUnfinished, Label, LineFault, LineRead, LineSays, LinesRead, LinesSay, MayStand, NoName, OfVersion, OnlyName, Place, Placed, Progress, Read, Registers, Say, Section, Situation, Stage, Statement, Version, Within, Word, after, after_line, enumerate_from, length-append, line_step, lines, map-append, outset, progress_from, situation_from, situation_of, step}
+use Rattle.tw_asm.proofs.AsmNames.{AfterHead, AnyShortName, AreNotRead, AreTextRead, AsmFault, AtStart, BehindHead, BehindVersion, Code, FaultNo, Head, InBody, IsLineFault, IsMemory, IsNotFinished, IsRead, IsShortName, IsUnfinished, Label, LineFault, LineRead, LineSays, LinesRead, LinesSay, MayStand, NoName, OfVersion, OnlyName, Place, Placed, Progress, Read, Registers, Say, Section, ParserState, Stage, Statement, Version, Within, Word, after, after_line, enumerate_from, length-append, line_step, lines, map-append, outset, progress_from, situation_from, situation_of, step}
 use denote.Ref.{Bor}
 use Rattle.tw_words.proofs.LineLoops.{StandsAtLine, all_lines}
 use Rattle.tw_asm.proofs.Once.{spells_more}
@@ -8,7 +8,7 @@ use Rattle.tw_asm.proofs.Stages.{body_head, body_start, head_body, head_start, p
 
 -- ---- the situation after a statement
 
-abbrev counted : Version → Stage → ℕ → List (List ℕ) → ℕ → ℕ → Situation
+abbrev counted : Version → Stage → ℕ → List (List ℕ) → ℕ → ℕ → ParserState
 counted version stage head_line labels procedures instructions = record { version = version; stage = stage; procedures = procedures; head_line = head_line; labels = labels; instructions = instructions }
 
 step_at : (number : ℕ) (statement : Statement) (goal : Option (List ℕ)) (version : Version) (sections : List Section) (head_line : ℕ) (place : Place) → MayStand statement (situation_of (progress version sections head_line place))
@@ -67,7 +67,7 @@ statement_of (Some read) = Some read.statement
 abbrev pub said_by : List (Option Read) → List (Option Statement)
 said_by reads = map statement_of reads
 
-pub line_says : (s : Situation) (line : List ℕ) (read : Option Read) → LineRead s line read → LineSays s line (statement_of read)
+pub line_says : (s : ParserState) (line : List ℕ) (read : Option Read) → LineRead s line read → LineSays s line (statement_of read)
 line_says s line None r = r
 line_says s line (Some read) r = ((r.0.0, r.0.1, read_says s.version read r.0.0 r.0.2), r.1)
 
@@ -80,14 +80,14 @@ lines_say number p [] [] r = tt
 lines_say number p [] (read ∷ others) r = absurd r
 lines_say number p (line ∷ after) [] r = absurd r
 lines_say number p (line ∷ after) (read ∷ others) r =
-    (line_says (situation_of p) line read r.0, subst (λ (s : Situation). LinesSay (number + 1) s after (said_by others)) (line_after number p line read r.0) (lines_say (number + 1) (line_step number read p) after others r.1))
+    (line_says (situation_of p) line read r.0, subst (λ (s : ParserState). LinesSay (number + 1) s after (said_by others)) (line_after number p line read r.0) (lines_say (number + 1) (line_step number read p) after others r.1))
 
 pub situation_is : (number : ℕ) (p : Progress) (ls : List (List ℕ)) (reads : List (Option Read)) → LinesRead number p ls reads → situation_of (progress_from number p reads) ≡ situation_from number (situation_of p) (said_by reads)
 situation_is number p [] [] r = refl
 situation_is number p [] (read ∷ others) r = absurd r
 situation_is number p (line ∷ after) [] r = absurd r
 situation_is number p (line ∷ after) (read ∷ others) r =
-    situation_is (number + 1) (line_step number read p) after others r.1 ∙ ap (λ (s : Situation). situation_from (number + 1) s (said_by others)) (line_after number p line read r.0)
+    situation_is (number + 1) (line_step number read p) after others r.1 ∙ ap (λ (s : ParserState). situation_from (number + 1) s (said_by others)) (line_after number p line read r.0)
 
 progress_more : (number : ℕ) (p : Progress) (reads : List (Option Read)) (read : Option Read) → progress_from number p (reads ++ (read ∷ [])) ≡ line_step (number + length reads) read (progress_from number p reads)
 progress_more number p [] read =
@@ -131,7 +131,7 @@ fault_there text before line others p which at parts a f = record {
   parts = parts;
   said = said_by a.reads;
   say = lines_say 1 outset before a.reads a.are_read;
-  wrong = subst (λ (s : Situation). LineFault (length before + 1) s line which at) (ap situation_of a.progress ∙ situation_is 1 outset before a.reads a.are_read) f;
+  wrong = subst (λ (s : ParserState). LineFault (length before + 1) s line which at) (ap situation_of a.progress ∙ situation_is 1 outset before a.reads a.are_read) f;
 }
 
 -- the text may not end there
@@ -141,7 +141,7 @@ not_finished text p f a (inr e) = inr (inr (record {
   said = said_by a.reads;
   say = lines_say 1 outset (lines text) a.reads a.are_read;
   number = e.0;
-  unfinished = subst (λ (s : Situation). IsUnfinished s f.line) (ap situation_of a.progress ∙ situation_is 1 outset (lines text) a.reads a.are_read) e.1;
+  unfinished = subst (λ (s : ParserState). IsUnfinished s f.line) (ap situation_of a.progress ∙ situation_is 1 outset (lines text) a.reads a.are_read) e.1;
 }))
 
 pub match_more : {A E : Type 0} {P Q : A → Type 0} {R S : E → Type 0} (r : Result A E) → ((a : A) → P a → Q a) → ((e : E) → R e → S e) → MatchResult r P R → MatchResult r Q S

@@ -1,5 +1,5 @@
 -- What is wrong with a line, by its words.
-use Rattle.tw_asm.proofs.AsmNames.{AnyName, AnyShortName, AreClosed, AreFinished, AsmFault, AtStart, Bare, Begins, BehindHead, BehindVersion, Code, Contains, FaultNo, First, HasWords, HaveForm, Head, InBody, Instr, IsBrokenLine, IsEmptyAt, IsExpected, IsFirstWord, IsGoalOf, IsLimit, IsLimitLine, IsLine, IsLineRead, IsMemory, IsNotClosed, IsNotFinished, IsOutset, Kind, Label, LineFault, MayBegin, MayStand, Param, Place, Progress, Quoted, Say, Section, Situation, Stage, Statement, Stopped, TakenLine, TakenStatement, Version, Within, Word, WordsRead, begun, blank_no_word, broken_here, broken_no_line, drafts_at, empty, ended, first_word_once, instructions, label_twice, length-append, limit, line_blank, line_once, operand, procedures, situation_of, slice_get, stage_of, step, word}
+use Rattle.tw_asm.proofs.AsmNames.{AnyName, AnyShortName, AreClosed, AreFinished, AsmFault, AtStart, Bare, Begins, BehindHead, BehindVersion, Code, Contains, FaultNo, First, HasWords, HaveForm, Head, InBody, Instr, IsBrokenLine, IsEmptyAt, IsExpected, IsFirstWord, IsGoalOf, IsLimit, IsLimitLine, IsLine, IsLineRead, IsMemory, IsNotClosed, IsNotFinished, IsOutset, Kind, Label, LineFault, MayBegin, MayStand, Param, Place, Progress, Quoted, Say, Section, ParserState, Stage, Statement, Stopped, TakenLine, TakenStatement, Version, Within, Word, WordsRead, begun, blank_no_word, broken_here, broken_no_line, drafts_at, empty, ended, first_word_once, instructions, label_twice, length-append, limit, line_blank, line_once, operand, procedures, situation_of, slice_get, stage_of, step, word}
 use Rattle.tw_asm.specs.declared.statement.Statement as statements
 use Rattle.tw_asm.specs.declared.statement.Statement.TheVariants as statement
 use Rattle.tw_asm.specs.declared.reading.Reading as readings
@@ -13,35 +13,35 @@ use Rattle.tw_asm.proofs.Stages.{head_body, progress, start_body, version_body}
 use Rattle.tw_asm.proofs.Steps.{read_says}
 use Rattle.tw_asm.proofs.Once.{one_expected, spells_more}
 
-begins : (s : Situation) (line : List ℕ) (w : Word) (rest : List ℕ) (expected : First) → IsFirstWord w line rest → IsExpectedBy s.version w expected → MayBegin s.stage expected → Begins s line expected
+begins : (s : ParserState) (line : List ℕ) (w : Word) (rest : List ℕ) (expected : First) → IsFirstWord w line rest → IsExpectedBy s.version w expected → MayBegin s.stage expected → Begins s line expected
 begins s line (Bare bytes) rest expected f p m = (bytes, rest, f, p, m)
 begins s line (Quoted text) rest expected f p m = absurd p
 
 broken_front : (w : Word) (others : List Word) (line : List ℕ) → IsBrokenLine (w ∷ others) line → (rest : List ℕ) × IsFirstWord w line rest
 broken_front w others line l = (l.1.0, l.1.1)
 
-pub broken_fault : (number : ℕ) (s : Situation) (line : List ℕ) → IsBrokenLine [] line → LineFault number s line fault.Word number
+pub broken_fault : (number : ℕ) (s : ParserState) (line : List ℕ) → IsBrokenLine [] line → LineFault number s line fault.Word number
 broken_fault number s line b =
     let n = broken_here line b in
     word (λ l. n.0 (line_blank line l)) (λ expected x. n.1 (Bare x.0) x.1 x.2)
 
-word_fault : (number : ℕ) (s : Situation) (line : List ℕ) (w : Word) (rest : List ℕ) → IsFirstWord w line rest → ((expected : First) → IsExpectedBy s.version w expected → MayBegin s.stage expected → ⊥) → LineFault number s line fault.Word number
+word_fault : (number : ℕ) (s : ParserState) (line : List ℕ) (w : Word) (rest : List ℕ) → IsFirstWord w line rest → ((expected : First) → IsExpectedBy s.version w expected → MayBegin s.stage expected → ⊥) → LineFault number s line fault.Word number
 word_fault number s line w rest f none =
     word (λ l. blank_no_word w line rest (line_blank line l) f)
     (λ expected x. none expected (subst (λ (v : Word). IsExpectedBy s.version v expected) (sym (first_word_once w (Bare x.0) line rest x.1 f x.2).0) x.3) x.4)
 
-pub line_word_fault : (number : ℕ) (s : Situation) (line : List ℕ) (w : Word) (others : List Word) → IsLine (w ∷ others) line → ((expected : First) → IsExpectedBy s.version w expected → MayBegin s.stage expected → ⊥) → LineFault number s line fault.Word number
+pub line_word_fault : (number : ℕ) (s : ParserState) (line : List ℕ) (w : Word) (others : List Word) → IsLine (w ∷ others) line → ((expected : First) → IsExpectedBy s.version w expected → MayBegin s.stage expected → ⊥) → LineFault number s line fault.Word number
 line_word_fault number s line w others l none = let f = front_of w others line l in word_fault number s line w f.0 f.1 none
 
-pub broken_word_fault : (number : ℕ) (s : Situation) (line : List ℕ) (w : Word) (others : List Word) → IsBrokenLine (w ∷ others) line → ((expected : First) → IsExpectedBy s.version w expected → MayBegin s.stage expected → ⊥) → LineFault number s line fault.Word number
+pub broken_word_fault : (number : ℕ) (s : ParserState) (line : List ℕ) (w : Word) (others : List Word) → IsBrokenLine (w ∷ others) line → ((expected : First) → IsExpectedBy s.version w expected → MayBegin s.stage expected → ⊥) → LineFault number s line fault.Word number
 broken_word_fault number s line w others l none = let f = broken_front w others line l in word_fault number s line w f.0 f.1 none
 
-pub broken_operand : (number : ℕ) (s : Situation) (line : List ℕ) (w : Word) (others : List Word) (expected : First) → IsBrokenLine (w ∷ others) line → IsExpectedBy s.version w expected → MayBegin s.stage expected → LineFault number s line fault.Operand number
+pub broken_operand : (number : ℕ) (s : ParserState) (line : List ℕ) (w : Word) (others : List Word) (expected : First) → IsBrokenLine (w ∷ others) line → IsExpectedBy s.version w expected → MayBegin s.stage expected → LineFault number s line fault.Operand number
 broken_operand number s line w others expected l p m =
     let f = broken_front w others line l in
     operand expected (begins s line w f.0 expected f.1 p m) (λ h. broken_no_line (w ∷ others) h.0 line l h.1)
 
-pub form_fault : (number : ℕ) (s : Situation) (line : List ℕ) (w : Word) (others : List Word) (expected : First) → IsLine (w ∷ others) line → IsExpectedBy s.version w expected → MayBegin s.stage expected → (HaveForm s.version (w ∷ others) → ⊥) → LineFault number s line fault.Operand number
+pub form_fault : (number : ℕ) (s : ParserState) (line : List ℕ) (w : Word) (others : List Word) (expected : First) → IsLine (w ∷ others) line → IsExpectedBy s.version w expected → MayBegin s.stage expected → (HaveForm s.version (w ∷ others) → ⊥) → LineFault number s line fault.Operand number
 form_fault number s line w others expected l p m none =
     let f = front_of w others line l in
     operand expected (begins s line w f.0 expected f.1 p m) (λ h. none (subst (HaveForm s.version) (line_once h.0 (w ∷ others) line h.1 l) h.2))
@@ -192,6 +192,6 @@ line_taken p number line said (Ok reading) w give =
     (Some (seen said), (w.0, t.0, goal_is said), t.1)
 line_taken p number line said (Err f) w give = elim (give w.1) [ inl x ↦ inl x | inr x ↦ inr (x line w.0.0 w.0.1 w.0.2) ]
 
-pub any_word_fault : (number : ℕ) (s : Situation) (line : List ℕ) (w : Word) (others : List Word) (whole : Bool) → IsLineRead (w ∷ others) whole line → ((expected : First) → IsExpectedBy s.version w expected → MayBegin s.stage expected → ⊥) → LineFault number s line fault.Word number
+pub any_word_fault : (number : ℕ) (s : ParserState) (line : List ℕ) (w : Word) (others : List Word) (whole : Bool) → IsLineRead (w ∷ others) whole line → ((expected : First) → IsExpectedBy s.version w expected → MayBegin s.stage expected → ⊥) → LineFault number s line fault.Word number
 any_word_fault number s line w others true r none = line_word_fault number s line w others r none
 any_word_fault number s line w others false r none = broken_word_fault number s line w others r none

@@ -1,13 +1,13 @@
 -- A text that isn't assembled has its first fault told.
 use Rattle.std.proofs.Common.{◌≡◌, ◌⊎◌, ℕ, List, inl, inr, refl}
-use Rattle.tw_asm.proofs.AsmNames.{AreNotRead, AsmFault, FaultNo, GoalFault, HasSections, IsFirstFault, IsMemory, LineFault, Section, Situation, Version, empty, flat_map, instructions, label_twice, limit, not_forward, operand, procedures, unknown, word}
+use Rattle.tw_asm.proofs.AsmNames.{AreNotRead, AsmFault, FaultNo, GoalFault, HasSections, IsFirstFault, IsMemory, LineFault, Section, ParserState, Version, empty, flat_map, instructions, label_twice, limit, not_forward, operand, procedures, unknown, word}
 use Rattle.tw_asm.specs.Answers.{IsFault}
 use Rattle.tw_asm.specs.declared.fault.FaultNo.TheVariants as fault
 use Rattle.tw_asm.specs.reading.Goals.{FirstUnlinked, section_goals}
 use Rattle.tw_asm.proofs.FirstGoals.{first_goal_fault}
 use Rattle.tw_asm.proofs.Unspelled.{fault_none}
 
-line_no : (number : ℕ) (s : Situation) (line : List ℕ) (which : FaultNo) (at : ℕ) → LineFault number s line which at → which ≡ fault.NoMemory → ⊥
+line_no : (number : ℕ) (s : ParserState) (line : List ℕ) (which : FaultNo) (at : ℕ) → LineFault number s line which at → which ≡ fault.NoMemory → ⊥
 line_no number s line _ _ (word a b) e = absurd cc
 line_no number s line _ _ (operand p a b) e = absurd cc
 line_no number s line _ _ (label_twice n ws a b c d) e = absurd cc
@@ -16,7 +16,7 @@ line_no number s line _ _ (limit p a b c d) e = absurd cc
 line_no number s line _ _ (procedures a b c d) e = absurd cc
 line_no number s line _ _ (instructions i ws a b c d) e = absurd cc
 
-goal_no : (s : Situation) (said : List (List ℕ)) (line : List ℕ) (which : FaultNo) → GoalFault s said line which → which ≡ fault.NoMemory → ⊥
+goal_no : (s : ParserState) (said : List (List ℕ)) (line : List ℕ) (which : FaultNo) → GoalFault s said line which → which ≡ fault.NoMemory → ⊥
 goal_no s said line _ (unknown n ws a b c d) e = absurd cc
 goal_no s said line _ (not_forward n ws a b c) e = absurd cc
 

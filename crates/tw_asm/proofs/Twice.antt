@@ -1,6 +1,6 @@
 -- Two readings of the same lines are alike.
 use Rattle.std.proofs.Common.{◌≡◌, ℕ, ◌+◌, List, [], ◌∷◌, Option, Some, None, refl, sym, subst, ap, ◌∙◌}
-use Rattle.tw_asm.proofs.AsmNames.{AnyShortName, Bare, Code, Goals, Head, IsLine, Label, LineSays, LinesSay, OfVersion, Registers, Say, Situation, Spells, Statement, Version, Word, after_line, labels_ahead, line_once}
+use Rattle.tw_asm.proofs.AsmNames.{AnyShortName, Bare, Code, Goals, Head, IsLine, Label, LineSays, LinesSay, OfVersion, Registers, Say, ParserState, Spells, Statement, Version, Word, after_line, labels_ahead, line_once}
 use Rattle.tw_asm.proofs.Once.{begins, first_word}
 use Rattle.tw_asm.proofs.Spelled.{never_cons}
 use Rattle.tw_asm.proofs.Alike.{AreAlike, after_alike, alike}
@@ -17,7 +17,7 @@ pub says_alike : (version : Version) (s t : Statement) (words others : List Word
 says_alike version s t words others line is say other_is other =
     alike AnyShortName AnyShortName s t words say.0 (subst (λ (ws : List Word). Spells version AnyShortName t ws) (line_once others words line other_is is) other.0)
 
-pub both_alike : (number : ℕ) (s : Situation) (line : List ℕ) (a b : Option Statement) → LineSays s line a → LineSays s line b → after_line number a s ≡ after_line number b s
+pub both_alike : (number : ℕ) (s : ParserState) (line : List ℕ) (a b : Option Statement) → LineSays s line a → LineSays s line b → after_line number a s ≡ after_line number b s
 both_alike number s line None None h k = refl
 both_alike number s line None (Some statement) h k = nothing_says s.version statement k.0.0 line h k.0.1 k.0.2
 both_alike number s line (Some statement) None h k = nothing_says s.version statement h.0.0 line k h.0.1 h.0.2
@@ -31,18 +31,18 @@ ahead_by (Label name) (Label other) a b x e = ap (λ (n : List ℕ). n ∷ label
 ahead_by (Code i) (Code j) a b x e = e
 ahead_by s t a b x e = absurd x
 
-ahead_alike : (s : Situation) (line : List ℕ) (x y : Option Statement) (a b : List (Option Statement)) → LineSays s line x → LineSays s line y → labels_ahead a ≡ labels_ahead b → labels_ahead (x ∷ a) ≡ labels_ahead (y ∷ b)
+ahead_alike : (s : ParserState) (line : List ℕ) (x y : Option Statement) (a b : List (Option Statement)) → LineSays s line x → LineSays s line y → labels_ahead a ≡ labels_ahead b → labels_ahead (x ∷ a) ≡ labels_ahead (y ∷ b)
 ahead_alike s line None None a b h k e = e
 ahead_alike s line None (Some statement) a b h k e = nothing_says s.version statement k.0.0 line h k.0.1 k.0.2
 ahead_alike s line (Some statement) None a b h k e = nothing_says s.version statement h.0.0 line k h.0.1 h.0.2
 ahead_alike s line (Some statement) (Some other) a b h k e = ahead_by statement other a b (says_alike s.version statement other h.0.0 k.0.0 line h.0.1 h.0.2 k.0.1 k.0.2) e
 
 -- the rest of another reading, from the situation of this one
-pub others_say : (number : ℕ) (s : Situation) (line : List ℕ) (more : List (List ℕ)) (x y : Option Statement) (others : List (Option Statement)) → LineSays s line x → LineSays s line y
+pub others_say : (number : ℕ) (s : ParserState) (line : List ℕ) (more : List (List ℕ)) (x y : Option Statement) (others : List (Option Statement)) → LineSays s line x → LineSays s line y
     → LinesSay (number + 1) (after_line number y s) more others → LinesSay (number + 1) (after_line number x s) more others
-others_say number s line more x y others h k l = subst (λ (t : Situation). LinesSay (number + 1) t more others) (sym (both_alike number s line x y h k)) l
+others_say number s line more x y others h k l = subst (λ (t : ParserState). LinesSay (number + 1) t more others) (sym (both_alike number s line x y h k)) l
 
-pub same_ahead : (number : ℕ) (s : Situation) (ls : List (List ℕ)) (a b : List (Option Statement)) → LinesSay number s ls a → LinesSay number s ls b → labels_ahead a ≡ labels_ahead b
+pub same_ahead : (number : ℕ) (s : ParserState) (ls : List (List ℕ)) (a b : List (Option Statement)) → LinesSay number s ls a → LinesSay number s ls b → labels_ahead a ≡ labels_ahead b
 same_ahead number s [] [] [] h l = refl
 same_ahead number s [] (x ∷ a) b h l = absurd h
 same_ahead number s [] [] (y ∷ b) h l = absurd l

@@ -1,6 +1,6 @@
 -- A text with a fault spells no program.
 use Rattle.std.proofs.Common.{◌≡◌, ◌⊎◌, ℕ, zero, suc, ◌+◌, ◌<◌, List, [], ◌∷◌, ◌++◌, length, take, drop, Option, Some, None, inl, inr, refl, sym, subst, arith}
-use Rattle.tw_asm.proofs.AsmNames.{AfterHead, AfterVersion, AnyName, AnyShortName, Bare, Begins, Code, Contains, FaultNo, First, GoalFault, HasWords, Head, InBody, Instr, IsEmpty, IsExpected, IsFirstFault, IsLine, IsLineFault, IsOutset, IsUnfinished, IsWhole, Label, LineFault, LineSays, LinesSay, MayBegin, MayStand, NamesLabel, OfVersion, Registers, Say, Situation, SpellsProgram, Stage, Start, Statement, Version, Versioned, Word, after_line, at_start, blank_no_word, first_word_once, labels_ahead, line_blank, lines, not_forward, situation, situation_from, slice_get, unknown}
+use Rattle.tw_asm.proofs.AsmNames.{AfterHead, AfterVersion, AnyName, AnyShortName, Bare, Begins, Code, Contains, FaultNo, First, GoalFault, HasWords, Head, InBody, Instr, IsEmpty, IsExpected, IsFirstFault, IsLine, IsLineFault, IsOutset, IsUnfinished, IsWhole, Label, LineFault, LineSays, LinesSay, MayBegin, MayStand, NamesLabel, OfVersion, Registers, Say, ParserState, SpellsProgram, Stage, Start, Statement, Version, Versioned, Word, after_line, at_start, blank_no_word, first_word_once, labels_ahead, line_blank, lines, not_forward, situation, situation_from, slice_get, unknown}
 use Rattle.tw_code.proofs.Widening.{widened}
 use Rattle.tw_asm.specs.declared.statement.First.TheVariants as first
 use Rattle.tw_asm.specs.reading.Expected.{expectation}
@@ -13,10 +13,10 @@ use Rattle.tw_asm.proofs.Walk.{LinesHold, lines_hold, procedures_said, program_s
 
 -- ---- stages
 
-whole_not_empty : (s : Situation) → IsWhole s → s.instructions ≡ 0 → ⊥
+whole_not_empty : (s : ParserState) → IsWhole s → s.instructions ≡ 0 → ⊥
 whole_not_empty s w e = omega (arith, w.1, e)
 
-not_outset : (s : Situation) → s.stage ≡ InBody → IsOutset s.stage → ⊥
+not_outset : (s : ParserState) → s.stage ≡ InBody → IsOutset s.stage → ⊥
 not_outset s body outset = subst IsOutset body outset
 
 -- a head may begin where no procedure has begun
@@ -27,7 +27,7 @@ begins_outset AfterHead outset = absurd outset
 begins_outset InBody outset = absurd outset
 
 -- what may stand may begin
-may_begin : (statement : Statement) (s : Situation) → MayStand statement s → MayBegin s.stage (expectation statement)
+may_begin : (statement : Statement) (s : ParserState) → MayStand statement s → MayBegin s.stage (expectation statement)
 may_begin (OfVersion version) s start = subst (λ (stage : Stage). MayBegin stage first.Version) (sym start) (inl refl)
 may_begin (Head kind params) s (inl outset, few) = begins_outset s.stage outset
 may_begin (Head kind params) s (inr whole, few) = subst (λ (stage : Stage). MayBegin stage first.Head) (sym whole.0) (inl refl)
@@ -37,11 +37,11 @@ may_begin (Code i) s may = subst (λ (stage : Stage). MayBegin stage first.Body)
 
 -- ---- what a line says has no fault
 
-nothing_begins : {Z : Type 0} (s : Situation) (line : List ℕ) (expected : First) → IsLine [] line → Begins s line expected → Z
+nothing_begins : {Z : Type 0} (s : ParserState) (line : List ℕ) (expected : First) → IsLine [] line → Begins s line expected → Z
 nothing_begins s line expected blank b = absurd (blank_no_word (Bare b.0) line b.1 (line_blank line blank) b.2)
 
 -- the line's first word lets expect its statement
-is_expectation : (s : Situation) (line : List ℕ) (statement : Statement) (words : List Word) (expected : First) → IsLine words line → Say s.version statement words → Begins s line expected → expected ≡ expectation statement
+is_expectation : (s : ParserState) (line : List ℕ) (statement : Statement) (words : List Word) (expected : First) → IsLine words line → Say s.version statement words → Begins s line expected → expected ≡ expectation statement
 is_expectation s line statement words expected is say b =
     let f = first_in_line AnyShortName statement words line is say.0 in
     let same = bare_is b.0 f.word (first_word_once (Bare b.0) (Bare f.word) line b.1 f.rest b.2 f.first).0 in
@@ -56,29 +56,29 @@ version_head e = absurd cc
 body_head : {Z : Type 0} → ◌≡◌ {A = First} first.Head first.Body → Z
 body_head e = absurd cc
 
-head_may : (statement : Statement) (s : Situation) → first.Head ≡ expectation statement → MayStand statement s → (IsOutset s.stage ⊎ IsWhole s) × (s.procedures < 64)
+head_may : (statement : Statement) (s : ParserState) → first.Head ≡ expectation statement → MayStand statement s → (IsOutset s.stage ⊎ IsWhole s) × (s.procedures < 64)
 head_may (OfVersion version) s e may = version_head e
 head_may (Head kind params) s e may = may
 head_may (Registers registers) s e may = registers_head e
 head_may (Label name) s e may = body_head e
 head_may (Code i) s e may = body_head e
 
-not_empty : (s : Situation) → IsOutset s.stage ⊎ IsWhole s → IsEmpty s → ⊥
+not_empty : (s : ParserState) → IsOutset s.stage ⊎ IsWhole s → IsEmpty s → ⊥
 not_empty s (inl outset) e = not_outset s e.0 outset
 not_empty s (inr whole) e = whole_not_empty s whole e.1
 
-label_may : (statement : Statement) (name : List ℕ) (s : Situation) → AreAlike statement (Label name) → MayStand statement s → Contains s.labels name → ⊥
+label_may : (statement : Statement) (name : List ℕ) (s : ParserState) → AreAlike statement (Label name) → MayStand statement s → Contains s.labels name → ⊥
 label_may (Label other) name s a may c = may.1 (subst (Contains s.labels) (sym a) c)
 label_may statement name s a may c = absurd a
 
-code_may : (statement : Statement) (i : Instr) (s : Situation) → AreAlike statement (Code i) → MayStand statement s → s.instructions < 4096
+code_may : (statement : Statement) (i : Instr) (s : ParserState) → AreAlike statement (Code i) → MayStand statement s → s.instructions < 4096
 code_may (Code j) i s a may = may.1
 code_may statement i s a may = absurd a
 
 pub has_words : (version : Version) (statement : Statement) (words : List Word) (line : List ℕ) → IsLine words line → Say version statement words → HasWords version line
 has_words version statement words line is say = (words, is, (statement, spells_more AnyShortName AnyName (λ skip name short. short.0) statement words say.0))
 
-blank_no_fault : (number : ℕ) (s : Situation) (line : List ℕ) (which : FaultNo) (at : ℕ) → IsLine [] line → LineFault number s line which at → ⊥
+blank_no_fault : (number : ℕ) (s : ParserState) (line : List ℕ) (which : FaultNo) (at : ℕ) → IsLine [] line → LineFault number s line which at → ⊥
 blank_no_fault number s line _ _ blank (LineFault.word some none) = some blank
 blank_no_fault number s line _ _ blank (LineFault.operand expected b formless) = nothing_begins s line expected blank b
 blank_no_fault number s line _ _ blank (LineFault.label_twice name words body is say c) = nothing_says s.version (Label name) words line blank is say
@@ -87,7 +87,7 @@ blank_no_fault number s line _ _ blank (LineFault.limit expected b has e unsaid)
 blank_no_fault number s line _ _ blank (LineFault.procedures b has e many) = nothing_begins s line first.Head blank b
 blank_no_fault number s line _ _ blank (LineFault.instructions i words body is say many) = nothing_says s.version (Code i) words line blank is say
 
-said_no_fault : (number : ℕ) (s : Situation) (line : List ℕ) (statement : Statement) (ws : List Word) (which : FaultNo) (at : ℕ) → IsLine ws line → Say s.version statement ws → MayStand statement s → LineFault number s line which at → ⊥
+said_no_fault : (number : ℕ) (s : ParserState) (line : List ℕ) (statement : Statement) (ws : List Word) (which : FaultNo) (at : ℕ) → IsLine ws line → Say s.version statement ws → MayStand statement s → LineFault number s line which at → ⊥
 said_no_fault number s line statement ws _ _ l h may (LineFault.word some none) = none (expectation statement) (line_begins AnyShortName statement ws s line l h.0 (may_begin statement s may))
 said_no_fault number s line statement ws _ _ l h may (LineFault.operand expected b formless) = formless (has_words s.version statement ws line l h)
 said_no_fault number s line statement ws _ _ l h may (LineFault.label_twice name words body is say c) = label_may statement name s (says_alike s.version statement (Label name) ws words line l h is say) may c
@@ -96,14 +96,14 @@ said_no_fault number s line statement ws _ _ l h may (LineFault.limit expected b
 said_no_fault number s line statement ws _ _ l h may (LineFault.procedures b has e many) = omega (arith, many, (head_may statement s (is_expectation s line statement ws first.Head l h b) may).1)
 said_no_fault number s line statement ws _ _ l h may (LineFault.instructions i words body is say many) = omega (arith, many, code_may statement i s (says_alike s.version statement (Code i) ws words line l h is say) may)
 
-pub line_no_fault : (number : ℕ) (s : Situation) (line : List ℕ) (said : Option Statement) (which : FaultNo) (at : ℕ) → LineSays s line said → LineFault number s line which at → ⊥
+pub line_no_fault : (number : ℕ) (s : ParserState) (line : List ℕ) (said : Option Statement) (which : FaultNo) (at : ℕ) → LineSays s line said → LineFault number s line which at → ⊥
 line_no_fault number s line None which at l f = blank_no_fault number s line which at l f
 line_no_fault number s line (Some statement) which at l f = said_no_fault number s line statement l.0.0 which at l.0.1 l.0.2 l.1 f
 
 -- ---- two readings of the same lines
 
 -- what holds is said
-hold_say : (number : ℕ) (s : Situation) (ls : List (List ℕ)) (held : List (Option Statement)) → LinesHold number s ls held → LinesSay number s ls held
+hold_say : (number : ℕ) (s : ParserState) (ls : List (List ℕ)) (held : List (Option Statement)) → LinesHold number s ls held → LinesSay number s ls held
 hold_say number s [] [] h = tt
 hold_say number s [] (x ∷ held) h = absurd h
 hold_say number s (line ∷ more) [] h = absurd h
@@ -111,7 +111,7 @@ hold_say number s (line ∷ more) (x ∷ held) h = (h.0, hold_say (number + 1) (
 
 -- ---- no fault of a line
 
-next_says : (number : ℕ) (s : Situation) (before : List (List ℕ)) (line : List ℕ) (more : List (List ℕ)) (held said : List (Option Statement)) → LinesHold number s (before ++ (line ∷ more)) held → LinesSay number s before said
+next_says : (number : ℕ) (s : ParserState) (before : List (List ℕ)) (line : List ℕ) (more : List (List ℕ)) (held said : List (Option Statement)) → LinesHold number s (before ++ (line ∷ more)) held → LinesSay number s before said
     → (x : Option Statement) × LineSays (situation_from number s said) line x
 next_says number s [] line more [] said h l = absurd h
 next_says number s [] line more (x ∷ held) [] h l = (x, h.0)
@@ -120,27 +120,27 @@ next_says number s (first ∷ before) line more [] said h l = absurd h
 next_says number s (first ∷ before) line more (x ∷ held) [] h l = absurd l
 next_says number s (first ∷ before) line more (x ∷ held) (y ∷ said) h l =
     let r = next_says (number + 1) (after_line number x s) before line more held said h.2 (others_say number s first before x y said h.0 l.0 l.1) in
-    (r.0, subst (λ (t : Situation). LineSays (situation_from (number + 1) t said) line r.0) (both_alike number s first x y h.0 l.0) r.1)
+    (r.0, subst (λ (t : ParserState). LineSays (situation_from (number + 1) t said) line r.0) (both_alike number s first x y h.0 l.0) r.1)
 
 -- ---- no fault at the end
 
-ends_whole : (number : ℕ) (s : Situation) (ls : List (List ℕ)) (held said : List (Option Statement)) → LinesHold number s ls held → LinesSay number s ls said → IsWhole (situation_from number s said)
+ends_whole : (number : ℕ) (s : ParserState) (ls : List (List ℕ)) (held said : List (Option Statement)) → LinesHold number s ls held → LinesSay number s ls said → IsWhole (situation_from number s said)
 ends_whole number s [] [] [] h l = h
 ends_whole number s [] (x ∷ held) said h l = absurd h
 ends_whole number s [] [] (y ∷ said) h l = absurd l
 ends_whole number s (line ∷ more) [] said h l = absurd h
 ends_whole number s (line ∷ more) (x ∷ held) [] h l = absurd l
 ends_whole number s (line ∷ more) (x ∷ held) (y ∷ said) h l =
-    subst (λ (t : Situation). IsWhole (situation_from (number + 1) t said)) (both_alike number s line x y h.0 l.0)
+    subst (λ (t : ParserState). IsWhole (situation_from (number + 1) t said)) (both_alike number s line x y h.0 l.0)
     (ends_whole (number + 1) (after_line number x s) more held said h.2 (others_say number s line more x y said h.0 l.0 l.1))
 
-pub finished : (s : Situation) (at : ℕ) → IsWhole s → IsUnfinished s at → ⊥
+pub finished : (s : ParserState) (at : ℕ) → IsWhole s → IsUnfinished s at → ⊥
 finished s at whole (inl outset) = not_outset s whole.0 outset.0
 finished s at whole (inr empty) = whole_not_empty s whole empty.1
 
 -- ---- no fault of a goal
 
-ahead_no_fault : (s : Situation) (ahead others : List (List ℕ)) (line : List ℕ) (which : FaultNo)
+ahead_no_fault : (s : ParserState) (ahead others : List (List ℕ)) (line : List ℕ) (which : FaultNo)
     → ((name : List ℕ) (words : List Word) → IsLine words line → NamesLabel s.version name words → (Contains s.labels name → ⊥) × Contains ahead name) → ahead ≡ others → GoalFault s others line which → ⊥
 ahead_no_fault s ahead others line _ named e (unknown name words is n before absent) = absent (subst (λ (names : List (List ℕ)). Contains names name) e (named name words is n).1)
 ahead_no_fault s ahead others line _ named e (not_forward name words is n before) = (named name words is n).0 before
@@ -149,7 +149,7 @@ no_line : (line : List ℕ) (k : ℕ) → slice_get {X = List ℕ} [] k ≡ Some
 no_line line zero e = absurd cc
 no_line line (suc k) e = absurd cc
 
-no_goal_fault : (number : ℕ) (s : Situation) (ls : List (List ℕ)) (held said : List (Option Statement)) (index : ℕ) (line : List ℕ) (which : FaultNo) → LinesHold number s ls held → LinesSay number s ls said
+no_goal_fault : (number : ℕ) (s : ParserState) (ls : List (List ℕ)) (held said : List (Option Statement)) (index : ℕ) (line : List ℕ) (which : FaultNo) → LinesHold number s ls held → LinesSay number s ls said
     → slice_get ls index ≡ Some line → GoalFault (situation_from number s (take index said)) (labels_ahead (drop (index + 1) said)) line which → ⊥
 no_goal_fault number s [] [] said index line which h l e g = no_line line index e
 no_goal_fault number s [] (x ∷ held) said index line which h l e g = absurd h
@@ -162,7 +162,7 @@ no_goal_fault number s (first ∷ more) (x ∷ held) (y ∷ said) (suc k) line w
     let n : suc k + 1 ≡ suc (k + 1) = omega arith in
     let here = subst (λ (j : ℕ). GoalFault (situation_from (number + 1) (after_line number y s) (take k said)) (labels_ahead (drop j (y ∷ said))) line which) n g in
     no_goal_fault (number + 1) (after_line number x s) more held said k line which h.2 (others_say number s first more x y said h.0 l.0 l.1) e
-    (subst (λ (t : Situation). GoalFault (situation_from (number + 1) t (take k said)) (labels_ahead (drop (k + 1) said)) line which) (sym (both_alike number s first x y h.0 l.0)) here)
+    (subst (λ (t : ParserState). GoalFault (situation_from (number + 1) t (take k said)) (labels_ahead (drop (k + 1) said)) line which) (sym (both_alike number s first x y h.0 l.0)) here)
 
 -- ---- no fault at all
 

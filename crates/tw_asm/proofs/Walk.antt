@@ -1,7 +1,7 @@
 -- The lines of a text that spells a program can follow, one after the other, and each goal is ahead.
 use Rattle.std.proofs.Common.{◌≡◌, ◌≢◌, ◌⊎◌, ℕ, zero, suc, ◌+◌, ◌<◌, ◌≤◌, List, [], ◌∷◌, ◌++◌, length, map, Option, Some, None, inl, inr, refl, sym, subst, ap, ◌∙◌, arith}
 use Rattle.std.proofs.lemmas.List.Elements.{All-contains, All-from_recursion, Contains-push_cases}
-use Rattle.tw_asm.proofs.AsmNames.{AllByRecursion, AllPairs, AnyShortName, AreCode, Code, Contains, Goals, GoesTo, HaveWords, Head, InBody, Instr, IsInstr, IsLine, IsOutset, IsProcedure, IsShortName, IsWhole, Label, LineSays, MayStand, NamesLabel, OfVersion, One, Placed, Procedure, Registers, Say, Situation, SpellProcedures, Spells, SpellsProcedure, SpellsVersion, Statement, Version, Word, after, after_line, at_start, labels_ahead, line_once, slice_index_or, version_number}
+use Rattle.tw_asm.proofs.AsmNames.{AllByRecursion, AllPairs, AnyShortName, AreCode, Code, Contains, Goals, GoesTo, HaveWords, Head, InBody, Instr, IsInstr, IsLine, IsOutset, IsProcedure, IsShortName, IsWhole, Label, LineSays, MayStand, NamesLabel, OfVersion, One, Placed, Procedure, Registers, Say, ParserState, SpellProcedures, Spells, SpellsProcedure, SpellsVersion, Statement, Version, Word, after, after_line, at_start, labels_ahead, line_once, slice_index_or, version_number}
 use Rattle.tw_asm.proofs.Alike.{AreAlike, alike}
 use Rattle.tw_asm.proofs.NamedLabels.{named_goal}
 use Rattle.tw_asm.proofs.Twice.{none_spelled}
@@ -67,18 +67,18 @@ ahead_of (Label name ∷ others) = name ∷ ahead_of others
 ahead_of (Code i ∷ others) = ahead_of others
 
 -- a label that the words name is ahead, and not before
-abbrev pub NamesAhead : Situation → List (List ℕ) → List Word → Type 0
+abbrev pub NamesAhead : ParserState → List (List ℕ) → List Word → Type 0
 NamesAhead s ahead words = (name : List ℕ) → NamesLabel s.version name words → (Contains s.labels name → ⊥) × Contains ahead name
 
 -- these words say these statements up to the end, each where it can follow, and their goals are ahead
-abbrev pub WordsSay : Situation → List (List Word) → List Statement → Type 0
+abbrev pub WordsSay : ParserState → List (List Word) → List Statement → Type 0
 WordsSay s [] [] = IsWhole s
 WordsSay s [] (statement ∷ others) = ⊥
 WordsSay s (words ∷ more) [] = ⊥
 WordsSay s (words ∷ more) (statement ∷ others) =
     Say s.version statement words × MayStand statement s × NamesAhead s (ahead_of others) words × ((number : ℕ) → WordsSay (after number statement s) more others)
 
-no_code : (G : Goals) (statement : Statement) (words : List Word) (s : Situation) (ahead : List (List ℕ)) → Spells s.version G statement words → ((i : Instr) → AreAlike statement (Code i) → ⊥) → NamesAhead s ahead words
+no_code : (G : Goals) (statement : Statement) (words : List Word) (s : ParserState) (ahead : List (List ℕ)) → Spells s.version G statement words → ((i : Instr) → AreAlike statement (Code i) → ⊥) → NamesAhead s ahead words
 no_code G statement words s ahead h apart name n = absurd (apart n.i (alike G (λ skip word. word ≡ name) statement (Code n.i) words h n.spells))
 
 -- ---- the statements of a body
@@ -104,7 +104,7 @@ labels_short version all _ _ _ _ (AreCode.label place name words labels code oth
 labels_short version all _ _ _ _ (AreCode.instruction place i words labels code others h more) label c = labels_short version all (place + 1) labels code others more label c
 
 -- within a body, with these labels and so many instructions still ahead
-record Within (version : Version) (all : List Placed) (place : ℕ) (labels : List Placed) (count : ℕ) (s : Situation) : Type 0 where
+record Within (version : Version) (all : List Placed) (place : ℕ) (labels : List Placed) (count : ℕ) (s : ParserState) : Type 0 where
   version_is : s.version ≡ version
   stage : s.stage ≡ InBody
   here : s.instructions ≡ place
@@ -118,7 +118,7 @@ says_short : (version : Version) (all : List Placed) (place : ℕ) (statement : 
     → Spells version AnyShortName statement words
 says_short version all place statement words short h = spells_more (GoesTo all place) AnyShortName (λ skip name goal. short (record { name = name; place = place + 1 + skip }) goal) statement words h
 
-within_label : (version : Version) (all : List Placed) (place : ℕ) (name : List ℕ) (labels : List Placed) (count number : ℕ) (s : Situation) → Within version all place (record { name = name; place = place } ∷ labels) count s
+within_label : (version : Version) (all : List Placed) (place : ℕ) (name : List ℕ) (labels : List Placed) (count number : ℕ) (s : ParserState) → Within version all place (record { name = name; place = place } ∷ labels) count s
     → Within version all place labels count (after number (Label name) s)
 within_label version all place name labels count number s w = record {
   version_is = w.version_is;
@@ -142,7 +142,7 @@ within_label version all place name labels count number s w = record {
   once = w.once.1;
 }
 
-within_code : (version : Version) (all : List Placed) (place : ℕ) (labels : List Placed) (count number : ℕ) (i : Instr) (s : Situation) → Within version all place labels (suc count) s → Within version all (place + 1) labels count (after number (Code i) s)
+within_code : (version : Version) (all : List Placed) (place : ℕ) (labels : List Placed) (count number : ℕ) (i : Instr) (s : ParserState) → Within version all place labels (suc count) s → Within version all (place + 1) labels count (after number (Code i) s)
 within_code version all place labels count number i s w = record {
   version_is = w.version_is;
   stage = w.stage;
@@ -159,7 +159,7 @@ within_code version all place labels count number i s w = record {
 }
 
 -- the goal of an instruction is ahead
-goal_ahead : (version : Version) (all : List Placed) (place : ℕ) (labels : List Placed) (count : ℕ) (i : Instr) (words : List Word) (s : Situation) (ahead : List (List ℕ)) → Within version all place labels count s → Spells version (GoesTo all place) (Code i) words
+goal_ahead : (version : Version) (all : List Placed) (place : ℕ) (labels : List Placed) (count : ℕ) (i : Instr) (words : List Word) (s : ParserState) (ahead : List (List ℕ)) → Within version all place labels count s → Spells version (GoesTo all place) (Code i) words
     → ahead ≡ names_of labels → NamesAhead s ahead words
 goal_ahead version all place labels count i words s ahead w h is name n =
     let goal = named_goal (GoesTo all place) i name words (subst (λ (v : Version). NamesLabel v name words) w.version_is n) h in
@@ -170,15 +170,15 @@ goal_ahead version all place labels count i words s ahead w h is name n =
     ]
 
 -- where the version is this one
-say_here : (version : Version) (s : Situation) (statement : Statement) (words : List Word) → s.version ≡ version → Say version statement words → Say s.version statement words
+say_here : (version : Version) (s : ParserState) (statement : Statement) (words : List Word) → s.version ≡ version → Say version statement words → Say s.version statement words
 say_here version s statement words e h = subst (λ (v : Version). Say v statement words) (sym e) h
 
-spells_here : (version : Version) (s : Situation) (G : Goals) (statement : Statement) (words : List Word) → s.version ≡ version → Spells version G statement words → Spells s.version G statement words
+spells_here : (version : Version) (s : ParserState) (G : Goals) (statement : Statement) (words : List Word) → s.version ≡ version → Spells version G statement words → Spells s.version G statement words
 spells_here version s G statement words e h = subst (λ (v : Version). Spells v G statement words) (sym e) h
 
-code_says : (version : Version) (all : List Placed) (place : ℕ) (labels : List Placed) (code : List Instr) (body : List (List Word)) (c : AreCode version all place labels code body) (s : Situation) (behind : List (List Word)) (rest : List Statement)
+code_says : (version : Version) (all : List Placed) (place : ℕ) (labels : List Placed) (code : List Instr) (body : List (List Word)) (c : AreCode version all place labels code body) (s : ParserState) (behind : List (List Word)) (rest : List Statement)
     → Within version all place labels (length code) s → AllByRecursion IsInstr code → ahead_of rest ≡ []
-    → ((t : Situation) → t.version ≡ version → t.stage ≡ InBody → t.instructions ≡ place + length code → t.procedures ≡ s.procedures → WordsSay t behind rest)
+    → ((t : ParserState) → t.version ≡ version → t.stage ≡ InBody → t.instructions ≡ place + length code → t.procedures ≡ s.procedures → WordsSay t behind rest)
     → WordsSay s (body ++ behind) (said_in version all place labels code body c ++ rest)
 code_says version all _ _ _ _ (AreCode.end place) s behind rest w fits none then =
     let e : place ≡ place + 0 = omega arith in
@@ -206,7 +206,7 @@ procedure_said version p words h = Head p.kind p.params ∷ Registers p.register
 says_plain : (version : Version) (statement : Statement) (words : List Word) → Spells version (GoesTo [] 0) statement words → Spells version AnyShortName statement words
 says_plain version statement words h = spells_more (GoesTo [] 0) AnyShortName (λ skip name goal. contains_none {X = Placed} (record { name = name; place = 0 + 1 + skip }) goal) statement words h
 
-within_start : (version : Version) (p : Procedure) (words : List (List Word)) (h : SpellsProcedure version p words) (s : Situation) (number other : ℕ) → s.version ≡ version → IsProcedure p
+within_start : (version : Version) (p : Procedure) (words : List (List Word)) (h : SpellsProcedure version p words) (s : ParserState) (number other : ℕ) → s.version ≡ version → IsProcedure p
     → Within version h.labels 0 h.labels (length p.code) (after other (Registers p.registers) (after number (Head p.kind p.params) s))
 within_start version p words h s number other is fits = record {
   version_is = is;
@@ -219,8 +219,8 @@ within_start version p words h s number other is fits = record {
   once = once_by_pairs (names_of h.labels) h.once;
 }
 
-procedure_says : (version : Version) (p : Procedure) (words : List (List Word)) (h : SpellsProcedure version p words) (s : Situation) (behind : List (List Word)) (rest : List Statement) → s.version ≡ version → IsProcedure p → IsOutset s.stage ⊎ IsWhole s
-    → s.procedures < 64 → ahead_of rest ≡ [] → ((t : Situation) → t.version ≡ version → IsWhole t → t.procedures ≡ s.procedures + 1 → WordsSay t behind rest) → WordsSay s (words ++ behind) (procedure_said version p words h ++ rest)
+procedure_says : (version : Version) (p : Procedure) (words : List (List Word)) (h : SpellsProcedure version p words) (s : ParserState) (behind : List (List Word)) (rest : List Statement) → s.version ≡ version → IsProcedure p → IsOutset s.stage ⊎ IsWhole s
+    → s.procedures < 64 → ahead_of rest ≡ [] → ((t : ParserState) → t.version ≡ version → IsWhole t → t.procedures ≡ s.procedures + 1 → WordsSay t behind rest) → WordsSay s (words ++ behind) (procedure_said version p words h ++ rest)
 procedure_says version p words h s behind rest is fits may few none then =
     let body = said_in version h.labels 0 h.labels p.code h.body h.body_is in
     subst (λ (x : List (List Word)). WordsSay s (x ++ behind) (procedure_said version p words h ++ rest)) (sym h.parts) (
@@ -247,7 +247,7 @@ none_ahead : (version : Version) (procedures : List Procedure) (words : List (Li
 none_ahead version _ _ SpellProcedures.end = refl
 none_ahead version _ _ (SpellProcedures.one_more p others first behind h more) = refl
 
-pub procedures_say : (version : Version) (procedures : List Procedure) (words : List (List Word)) (h : SpellProcedures version procedures words) (s : Situation) → s.version ≡ version → AllByRecursion IsProcedure procedures
+pub procedures_say : (version : Version) (procedures : List Procedure) (words : List (List Word)) (h : SpellProcedures version procedures words) (s : ParserState) → s.version ≡ version → AllByRecursion IsProcedure procedures
     → s.procedures + length procedures ≤ 64 → IsWhole s ⊎ (IsOutset s.stage × (1 ≤ length procedures)) → WordsSay s words (procedures_said version procedures words h)
 procedures_say version _ _ SpellProcedures.end s is fits few (inl whole) = whole
 procedures_say version _ _ SpellProcedures.end s is fits few (inr outset) = absurd (omega (arith, outset.1))
@@ -276,17 +276,17 @@ program_says _ _ (SpellsVersion.said version line f) procedures words h fits som
 
 -- ---- lines
 
-abbrev pub LineNamesAhead : Situation → List (List ℕ) → List ℕ → Type 0
+abbrev pub LineNamesAhead : ParserState → List (List ℕ) → List ℕ → Type 0
 LineNamesAhead s ahead line = (name : List ℕ) (words : List Word) → IsLine words line → NamesLabel s.version name words → (Contains s.labels name → ⊥) × Contains ahead name
 
 -- these lines say this up to the end, each where it can follow, and their goals are ahead
-abbrev pub LinesHold : ℕ → Situation → List (List ℕ) → List (Option Statement) → Type 0
+abbrev pub LinesHold : ℕ → ParserState → List (List ℕ) → List (Option Statement) → Type 0
 LinesHold number s [] [] = IsWhole s
 LinesHold number s [] (said ∷ others) = ⊥
 LinesHold number s (line ∷ more) [] = ⊥
 LinesHold number s (line ∷ more) (said ∷ others) = LineSays s line said × LineNamesAhead s (labels_ahead others) line × LinesHold (number + 1) (after_line number said s) more others
 
-pub record Held (number : ℕ) (s : Situation) (ls : List (List ℕ)) (statements : List Statement) : Type 0 where
+pub record Held (number : ℕ) (s : ParserState) (ls : List (List ℕ)) (statements : List Statement) : Type 0 where
   pub said : List (Option Statement)
   pub hold : LinesHold number s ls said
   pub ahead : labels_ahead said ≡ ahead_of statements
@@ -298,15 +298,15 @@ ahead_more (Registers registers) said others e = e
 ahead_more (Label name) said others e = ap (λ (names : List (List ℕ)). name ∷ names) e
 ahead_more (Code i) said others e = e
 
-blank_names : (s : Situation) (ahead : List (List ℕ)) (line : List ℕ) → IsLine [] line → LineNamesAhead s ahead line
+blank_names : (s : ParserState) (ahead : List (List ℕ)) (line : List ℕ) → IsLine [] line → LineNamesAhead s ahead line
 blank_names s ahead line blank name words is n = absurd (none_spelled (λ skip word. word ≡ name) (Code n.i) words (line_once words [] line is blank) n.spells)
 
-line_names : (s : Situation) (ahead names : List (List ℕ)) (line : List ℕ) (words : List Word) → IsLine words line → ahead ≡ names → NamesAhead s names words → LineNamesAhead s ahead line
+line_names : (s : ParserState) (ahead names : List (List ℕ)) (line : List ℕ) (words : List Word) → IsLine words line → ahead ≡ names → NamesAhead s names words → LineNamesAhead s ahead line
 line_names s ahead names line words is e named name others other_is n =
     let found = named name (subst (λ (ws : List Word). NamesLabel s.version name ws) (line_once others words line other_is is) n) in
     (found.0, subst (λ (x : List (List ℕ)). Contains x name) (sym e) found.1)
 
-pub lines_hold : (number : ℕ) (s : Situation) (ls : List (List ℕ)) (words : List (List Word)) (statements : List Statement) → HaveWords ls words → WordsSay s words statements → Held number s ls statements
+pub lines_hold : (number : ℕ) (s : ParserState) (ls : List (List ℕ)) (words : List (List Word)) (statements : List Statement) → HaveWords ls words → WordsSay s words statements → Held number s ls statements
 lines_hold number s _ _ [] HaveWords.end w = record { said = []; hold = w; ahead = refl }
 lines_hold number s _ _ (statement ∷ others) HaveWords.end w = absurd w
 lines_hold number s _ _ statements (HaveWords.blank line ls words none more) w =

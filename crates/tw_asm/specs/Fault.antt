@@ -37,7 +37,7 @@ pub data Stage : Type 0 where
   AfterHead : Stage
   InBody : Stage
 
-pub record Situation : Type 0 where
+pub record ParserState : Type 0 where
   pub version : Version
   pub stage : Stage
   -- how many procedures have begun, and the line at which the last one did
@@ -47,11 +47,11 @@ pub record Situation : Type 0 where
   pub labels : List (List ℕ)
   pub instructions : ℕ
 
-abbrev pub at_start : Situation
+abbrev pub at_start : ParserState
 at_start = record { version = One; stage = Start; procedures = 0; head_line = 0; labels = []; instructions = 0 }
 
 -- after a statement in the line of this number
-abbrev pub after : ℕ → Statement → Situation → Situation
+abbrev pub after : ℕ → Statement → ParserState → ParserState
 after number (OfVersion version) s = record s { version = version_by version; stage = AfterVersion }
 after number (Head kind params) s = record { version = s.version; stage = AfterHead; procedures = s.procedures + 1; head_line = number; labels = []; instructions = 0 }
 after number (Registers registers) s = record s { stage = InBody }
@@ -66,10 +66,10 @@ IsOutset AfterHead = ⊥
 IsOutset InBody = ⊥
 
 -- the last procedure may end here: it has an instruction
-abbrev pub IsWhole : Situation → Type 0
+abbrev pub IsWhole : ParserState → Type 0
 IsWhole s = (s.stage ≡ InBody) × (0 < s.instructions)
 
-abbrev pub MayStand : Statement → Situation → Type 0
+abbrev pub MayStand : Statement → ParserState → Type 0
 MayStand (OfVersion version) s = s.stage ≡ Start
 MayStand (Head kind params) s = (IsOutset s.stage ⊎ IsWhole s) × (s.procedures < 64)
 MayStand (Registers registers) s = s.stage ≡ AfterHead
@@ -79,28 +79,28 @@ MayStand (Code i) s = (s.stage ≡ InBody) × (s.instructions < 4096)
 -- ---- lines that can follow
 
 -- what a line says that can follow, if anything
-abbrev pub LineSays : Situation → List ℕ → Option Statement → Type 0
+abbrev pub LineSays : ParserState → List ℕ → Option Statement → Type 0
 LineSays s line None = IsLine [] line
 LineSays s line (Some statement) = ((words : List Word) × IsLine words line × Say s.version statement words) × MayStand statement s
 
-abbrev pub after_line : ℕ → Option Statement → Situation → Situation
+abbrev pub after_line : ℕ → Option Statement → ParserState → ParserState
 after_line number None s = s
 after_line number (Some statement) s = after number statement s
 
 -- Lines from this number on say this, one after the other, each where it can follow.
-abbrev pub LinesSay : ℕ → Situation → List (List ℕ) → List (Option Statement) → Type 0
+abbrev pub LinesSay : ℕ → ParserState → List (List ℕ) → List (Option Statement) → Type 0
 LinesSay number s [] [] = Unit {0}
 LinesSay number s [] (said ∷ others) = ⊥
 LinesSay number s (line ∷ after) [] = ⊥
 LinesSay number s (line ∷ after) (said ∷ others) = LineSays s line said × LinesSay (number + 1) (after_line number said s) after others
 
 -- the situation after lines from this number on, which say this
-abbrev pub situation_from : ℕ → Situation → List (Option Statement) → Situation
+abbrev pub situation_from : ℕ → ParserState → List (Option Statement) → ParserState
 situation_from number s [] = s
 situation_from number s (said ∷ others) = situation_from (number + 1) (after_line number said s) others
 
 -- the situation after the first lines of a text
-abbrev pub situation : List (Option Statement) → Situation
+abbrev pub situation : List (Option Statement) → ParserState
 situation said = situation_from 1 at_start said
 
 -- ---- what is wrong with a line
@@ -113,7 +113,7 @@ MayBegin AfterHead expected = expected ≡ first.Registers
 MayBegin InBody expected = (expected ≡ first.Head) ⊎ (expected ≡ first.Body)
 
 -- the line's first word lets expect what may stand here
-abbrev pub Begins : Situation → List ℕ → First → Type 0
+abbrev pub Begins : ParserState → List ℕ → First → Type 0
 Begins s line expected = (word rest : List ℕ) × IsFirstWord (Bare word) line rest × IsExpected s.version expected word × MayBegin s.stage expected
 
 -- the line's words have a form, within the limits or not
@@ -121,11 +121,11 @@ abbrev pub HasWords : Version → List ℕ → Type 0
 HasWords version line = (words : List Word) × IsLine words line × HaveForm version words
 
 -- a procedure has begun, and has no instruction
-abbrev pub IsEmpty : Situation → Type 0
+abbrev pub IsEmpty : ParserState → Type 0
 IsEmpty s = (s.stage ≡ InBody) × (s.instructions ≡ 0)
 
 -- what is wrong with the line of this number, and at which line it is told
-pub data LineFault (number : ℕ) (s : Situation) (line : List ℕ) : FaultNo → ℕ → Type 0 where
+pub data LineFault (number : ℕ) (s : ParserState) (line : List ℕ) : FaultNo → ℕ → Type 0 where
   -- it has something, but no first word that may stand here
   word : (IsLine [] line → ⊥) → ((expected : First) → Begins s line expected → ⊥) → LineFault number s line fault.Word number
   operand : (expected : First) → Begins s line expected → (HasWords s.version line → ⊥) → LineFault number s line fault.Operand number
@@ -151,7 +151,7 @@ pub record IsLineFault (text : List ℕ) (no : FaultNo) (at : ℕ) : Type 0 wher
   pub wrong : LineFault (length before + 1) (situation said) line no at
 
 -- There is no procedure, or the last one has no instruction.
-abbrev pub IsUnfinished : Situation → ℕ → Type 0
+abbrev pub IsUnfinished : ParserState → ℕ → Type 0
 IsUnfinished s at = (IsOutset s.stage × (at ≡ 1)) ⊎ ((IsOutset s.stage → ⊥) × (s.instructions ≡ 0) × (at ≡ s.head_line))
 
 -- all lines can follow, but the text may not end there
@@ -174,7 +174,7 @@ labels_ahead (Some (Label name) ∷ others) = name ∷ labels_ahead others
 labels_ahead (Some (Code i) ∷ others) = labels_ahead others
 
 -- the line names a label as a goal that is neither before it nor ahead, or one that is before it
-pub data GoalFault (s : Situation) (ahead : List (List ℕ)) (line : List ℕ) : FaultNo → Type 0 where
+pub data GoalFault (s : ParserState) (ahead : List (List ℕ)) (line : List ℕ) : FaultNo → Type 0 where
   unknown : (name : List ℕ) (words : List Word) → IsLine words line → NamesLabel s.version name words → (Contains s.labels name → ⊥)
       → (Contains ahead name → ⊥) → GoalFault s ahead line fault.UnknownLabel
   not_forward : (name : List ℕ) (words : List Word) → IsLine words line → NamesLabel s.version name words → Contains s.labels name

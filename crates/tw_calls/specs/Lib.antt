@@ -1,3 +1,3 @@
--- What a program in another language is told: a session's answer (Told), and a verdict (Verdict).
-pub mod Told
+-- What a program in another language is told: a session's answer (SessionAnswers), and a verdict (Verdict).
+pub mod SessionAnswers
 pub mod Verdict

@@ -3,7 +3,7 @@
 ghost use Rattle.std.specs.Prelude.{◌≡◌, ◌==◌, IfOk, map, string_bytes};
 ghost use Rattle.std.specs.Io.BufRead.{strip_last};
 ghost use Rattle.std.specs.List.{slice_split};
-ghost use Rattle.tw_calls.specs.Told.{arguments_in};
+ghost use Rattle.tw_calls.specs.SessionAnswers.{arguments_in};
 
 use std::alloc::{AllocError, Global};
 

@@ -6,7 +6,7 @@ ghost use Rattle.tw_command.specs.InTurn.{turned};
 ghost use Rattle.tw_replies.specs.Reply.{reply};
 ghost use Rattle.tw_session.specs.Session.{AnswersWords};
 ghost use Rattle.tw_session.specs.Status.{code_of};
-ghost use Rattle.tw_calls.specs.Told.{IsTold, arguments_in, filled};
+ghost use Rattle.tw_calls.specs.SessionAnswers.{IsTold, arguments_in, filled};
 
 use crate::arguments::arguments_of;
 use std::alloc::{AllocError, Global};

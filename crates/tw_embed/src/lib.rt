@@ -7,7 +7,7 @@
 //! No call keeps anything but what its handles hold, starts a thread or waits for one. `tw_calls` and `tw_handles` have the bodies.
 #![tactic(auto)]
 
-ghost use Rattle.tw_calls.specs.Told.{IsTold};
+ghost use Rattle.tw_calls.specs.SessionAnswers.{IsTold};
 ghost use Rattle.tw_calls.specs.Verdict.{IsVerdict};
 
 mod handles;

@@ -8,4 +8,4 @@ pub mod JobBuffers
 pub mod Banks
 pub mod Pieces
 pub mod Standing
-pub mod Asked
+pub mod Requirements

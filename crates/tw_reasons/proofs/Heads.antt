@@ -1,8 +1,8 @@
 -- The first line that begins a procedure, and lines up to one.
 use Rattle.std.proofs.Common.{◌≡◌, ◌+◌, ℕ, suc, true, false, List, [], ◌∷◌, ◌++◌, length, Option, Some, None, refl, sym, ap, subst, ◌∙◌, arith}
-use Rattle.tw_reasons.proofs.ReasonNames.{AllByRecursion, Code, Head, Label, LineSays, LinesSay, OfVersion, Registers, Situation, Statement, after_line, at_start, lines, situation, situation_from}
-use Rattle.tw_reasons.specs.Says.{HasNoHead, IsFirstHead, is_head, says_of}
-use Rattle.tw_reasons.specs.declared.situation.Says.{Says}
+use Rattle.tw_reasons.proofs.ReasonNames.{AllByRecursion, Code, Head, Label, LineSays, LinesSay, OfVersion, Registers, ParserState, Statement, after_line, at_start, lines, situation, situation_from}
+use Rattle.tw_reasons.specs.LineRole.{HasNoHead, IsFirstHead, is_head, says_of}
+use Rattle.tw_reasons.specs.declared.parser_state.LineRole.{LineRole}
 use Rattle.tw_reasons.proofs.Saying.{split_last}
 
 untrue : true ≡ false → ⊥
@@ -25,7 +25,7 @@ front_is {A} (x ∷ a) (y ∷ b) c d e l =
 -- ---- lines before one
 
 -- what they say up to a line, what that says, and what those behind it say
-pub record SplitAt (number : ℕ) (s : Situation) (ls : List (List ℕ)) (line : List ℕ) (said : List (Option Statement)) : Type 0 where
+pub record SplitAt (number : ℕ) (s : ParserState) (ls : List (List ℕ)) (line : List ℕ) (said : List (Option Statement)) : Type 0 where
   pub before : List (Option Statement)
   pub here : Option Statement
   pub after : List (Option Statement)
@@ -34,7 +34,7 @@ pub record SplitAt (number : ℕ) (s : Situation) (ls : List (List ℕ)) (line :
   pub says : LineSays (situation_from number s before) line here
   pub count : length before ≡ length ls
 
-pub split_at : (number : ℕ) (s : Situation) (ls : List (List ℕ)) (line : List ℕ) (others : List (List ℕ)) (said : List (Option Statement)) → LinesSay number s (ls ++ (line ∷ others)) said → SplitAt number s ls line said
+pub split_at : (number : ℕ) (s : ParserState) (ls : List (List ℕ)) (line : List ℕ) (others : List (List ℕ)) (said : List (Option Statement)) → LinesSay number s (ls ++ (line ∷ others)) said → SplitAt number s ls line said
 split_at number s [] line others [] h = absurd h
 split_at number s [] line others (x ∷ said) h = record { before = []; here = x; after = said; is = refl; say = tt; says = h.0; count = refl }
 split_at number s (l ∷ ls) line others [] h = absurd h
@@ -59,13 +59,13 @@ pub all_more : {A : Type 0} (P : A → Type 0) (xs : List A) (x : A) → AllByRe
 all_more P [] x all p = (p, tt)
 all_more P (y ∷ xs) x all p = (all.0, all_more P xs x all.1 p)
 
-pub none_on : (ls : List (List ℕ)) (line : List ℕ) (told : Says) → NoHeads ls → ((s : Situation) (said : Option Statement) → LineSays s line said → told ≡ says_of said) → is_head told ≡ false → NoHeads (ls ++ (line ∷ []))
+pub none_on : (ls : List (List ℕ)) (line : List ℕ) (told : LineRole) → NoHeads ls → ((s : ParserState) (said : Option Statement) → LineSays s line said → told ≡ says_of said) → is_head told ≡ false → NoHeads (ls ++ (line ∷ []))
 none_on ls line told before tells nohead said say =
     let split = split_last 1 at_start ls line said say in
     let here : is_head (says_of split.last) ≡ false = ap is_head (sym (tells (situation split.before) split.last split.says)) ∙ nohead in
     subst HasNoHead (sym split.is) (all_more (λ (s : Option Statement). is_head (says_of s) ≡ false) split.before split.last (before split.before split.say) here)
 
-none_begun : (number : ℕ) (s : Situation) (said : List (Option Statement)) → HasNoHead said → (situation_from number s said).procedures ≡ s.procedures
+none_begun : (number : ℕ) (s : ParserState) (said : List (Option Statement)) → HasNoHead said → (situation_from number s said).procedures ≡ s.procedures
 none_begun number s [] h = refl
 none_begun number s (x ∷ said) h = none_begun (number + 1) (after_line number x s) said h.1 ∙ by x h.0
   where
@@ -88,8 +88,8 @@ front_none (x ∷ xs) ys h = (h.0, front_none xs ys h.1)
 pub front_no_procedure : (before after : List (Option Statement)) → HasNoHead (before ++ after) → (situation before).procedures ≡ 0
 front_no_procedure before after h = no_procedure before (front_none before after h)
 
-pub first_head : (text : List ℕ) (ls : List (List ℕ)) (line : List ℕ) (others : List (List ℕ)) (told : Says) (index : ℕ) (said : List (Option Statement)) → lines text ≡ ls ++ (line ∷ others) → index ≡ length ls → NoHeads ls
-    → ((s : Situation) (x : Option Statement) → LineSays s line x → told ≡ says_of x) → is_head told ≡ true → LinesSay 1 at_start (lines text) said → IsFirstHead text (index + 1)
+pub first_head : (text : List ℕ) (ls : List (List ℕ)) (line : List ℕ) (others : List (List ℕ)) (told : LineRole) (index : ℕ) (said : List (Option Statement)) → lines text ≡ ls ++ (line ∷ others) → index ≡ length ls → NoHeads ls
+    → ((s : ParserState) (x : Option Statement) → LineSays s line x → told ≡ says_of x) → is_head told ≡ true → LinesSay 1 at_start (lines text) said → IsFirstHead text (index + 1)
 first_head text ls line others told index said parts index_is none tells headed say = by split.here (ap is_head (sym (tells (situation split.before) split.here split.says)) ∙ headed) split.is
   where
     split : SplitAt 1 at_start ls line said

@@ -1,7 +1,7 @@
 -- Parts of a word.
 use Rattle.std.proofs.Common.{◌≡◌, ℕ, Bool, true, ◌||◌, List, [], ◌∷◌, ap}
 use Rattle.tw_reasons.proofs.ReasonNames.{nat_eq, starts_with}
-use Rattle.tw_reasons.specs.Told.{has_part}
+use Rattle.tw_reasons.specs.Diagnostics.{has_part}
 
 pub has_part_here : (part rest : List ℕ) → starts_with nat_eq rest part ≡ true → has_part part rest ≡ true
 has_part_here part [] e = e

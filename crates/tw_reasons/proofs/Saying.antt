@@ -1,6 +1,6 @@
 -- A line's first word tells what the line says.
 use Rattle.std.proofs.Common.{◌≡◌, ◌≢◌, ◌+◌, ℕ, suc, Bool, true, false, List, [], ◌∷◌, ◌++◌, length, map, codes, Option, Some, None, refl, sym, ap, subst, ◌∙◌, arith}
-use Rattle.tw_reasons.proofs.ReasonNames.{AnyShortName, Bare, Code, Head, IsLine, IsRead, Label, LineSays, LinesSay, OfVersion, Quoted, Registers, Say, Situation, SpellParts, Spells, Statement, Version, Word, after_line, at_start, before_colon, broken_no_line, bytes_eq, flat_map, line_once, opcode_in, seen, situation, situation_from, version_by}
+use Rattle.tw_reasons.proofs.ReasonNames.{AnyShortName, Bare, Code, Head, IsLine, IsRead, Label, LineSays, LinesSay, OfVersion, Quoted, Registers, Say, ParserState, SpellParts, Spells, Statement, Version, Word, after_line, at_start, before_colon, broken_no_line, bytes_eq, flat_map, line_once, opcode_in, seen, situation, situation_from, version_by}
 use Rattle.std.proofs.lemmas.Slice.Eq.{bytes_eq-Decides}
 use Rattle.tw_code.specs.declared.opcode.Opcode.{Opcode}
 use Rattle.tw_code.specs.format.Program.{IsWithin}
@@ -12,10 +12,10 @@ use Rattle.tw_asm.proofs.Answered.{first_is, none_some, proc_is_none, regs_is_no
 use Rattle.tw_asm.proofs.Sayings.{code_first, no_label}
 use Rattle.tw_asm.proofs.Spelled.{bare_is}
 use Rattle.tw_asm.proofs.Table.{found_back, no_colon}
-use Rattle.tw_reasons.specs.Says.{behind, says_of, situation_of}
-use Rattle.tw_reasons.specs.declared.situation.Says.{Says}
-use Rattle.tw_reasons.specs.declared.situation.Says.TheVariants as says
-use Rattle.tw_reasons.specs.declared.situation.Situation as declared
+use Rattle.tw_reasons.specs.LineRole.{behind, says_of, situation_of}
+use Rattle.tw_reasons.specs.declared.parser_state.LineRole.{LineRole}
+use Rattle.tw_reasons.specs.declared.parser_state.LineRole.TheVariants as says
+use Rattle.tw_reasons.specs.declared.parser_state.ParserState as declared
 
 -- ---- the first word of a statement
 
@@ -57,7 +57,7 @@ apart a b isnt e = no (sym isnt ∙ (bytes_eq-Decides a b).1 e)
 pub is_word : (a b : List ℕ) → bytes_eq a b ≡ true → a ≡ b
 is_word a b e = (bytes_eq-Decides a b).0 e
 
-abbrev pub Tells : Version → List ℕ → List Word → Says → Type 0
+abbrev pub Tells : Version → List ℕ → List Word → LineRole → Type 0
 Tells version first ws said = (statement : Statement) → Say version statement (Bare first ∷ ws) → said ≡ says_of (Some statement)
 
 -- a word that is none of an instruction
@@ -127,15 +127,15 @@ nothing_seen : (ws : List words.Word) → map seen ws ≡ [] → ws ≡ []
 nothing_seen [] e = refl
 nothing_seen (w ∷ ws) e = absurd cc
 
-pub line_told : (ws : List words.Word) (whole : Bool) (line : List ℕ) (told : Says) → IsRead (map seen ws) whole line → (ws ≡ [] → told ≡ says_of None)
-    → ((version : Version) (statement : Statement) → Say version statement (map seen ws) → told ≡ says_of (Some statement)) → (s : Situation) (said : Option Statement) → LineSays s line said → told ≡ says_of said
+pub line_told : (ws : List words.Word) (whole : Bool) (line : List ℕ) (told : LineRole) → IsRead (map seen ws) whole line → (ws ≡ [] → told ≡ says_of None)
+    → ((version : Version) (statement : Statement) → Say version statement (map seen ws) → told ≡ says_of (Some statement)) → (s : ParserState) (said : Option Statement) → LineSays s line said → told ≡ says_of said
 line_told ws whole line told read nothing says s None is = nothing (nothing_seen ws (words_are (map seen ws) [] whole line read is))
 line_told ws whole line told read nothing says s (Some statement) ((vs, is, say), may) =
     says s.version statement (subst (λ (us : List Word). Say s.version statement us) (sym (words_are (map seen ws) vs whole line read is)) say)
 
 -- ---- situations, line by line
 
-pub behind_is : (number : ℕ) (s : Situation) (said : Option Statement) (line : List ℕ) → LineSays s line said → behind (situation_of s) (says_of said) ≡ situation_of (after_line number said s)
+pub behind_is : (number : ℕ) (s : ParserState) (said : Option Statement) (line : List ℕ) → LineSays s line said → behind (situation_of s) (says_of said) ≡ situation_of (after_line number said s)
 behind_is number s None line says = refl
 behind_is number s (Some (OfVersion version)) line says = refl
 behind_is number s (Some (Head kind params)) line says = refl
@@ -144,7 +144,7 @@ behind_is number s (Some (Label name)) line says = refl
 behind_is number s (Some (Code i)) line says = refl
 
 -- what the lines up to the last one say, and what it says there
-pub record SplitLast (number : ℕ) (s : Situation) (ls : List (List ℕ)) (line : List ℕ) (said : List (Option Statement)) : Type 0 where
+pub record SplitLast (number : ℕ) (s : ParserState) (ls : List (List ℕ)) (line : List ℕ) (said : List (Option Statement)) : Type 0 where
   pub before : List (Option Statement)
   pub last : Option Statement
   pub is : said ≡ before ++ (last ∷ [])
@@ -152,7 +152,7 @@ pub record SplitLast (number : ℕ) (s : Situation) (ls : List (List ℕ)) (line
   pub says : LineSays (situation_from number s before) line last
   pub leads : situation_from number s said ≡ after_line (number + length before) last (situation_from number s before)
 
-pub split_last : (number : ℕ) (s : Situation) (ls : List (List ℕ)) (line : List ℕ) (said : List (Option Statement)) → LinesSay number s (ls ++ (line ∷ [])) said → SplitLast number s ls line said
+pub split_last : (number : ℕ) (s : ParserState) (ls : List (List ℕ)) (line : List ℕ) (said : List (Option Statement)) → LinesSay number s (ls ++ (line ∷ [])) said → SplitLast number s ls line said
 split_last number s [] line [] h = absurd h
 split_last number s [] line (x ∷ []) h =
     let e : number ≡ number + 0 = omega arith in
@@ -172,16 +172,16 @@ split_last number s (l ∷ ls) line (x ∷ said) h =
     }
 
 -- the situation behind these lines, whatever they say that can follow
-abbrev pub Stands : List (List ℕ) → declared.Situation → Type 0
+abbrev pub Stands : List (List ℕ) → declared.ParserState → Type 0
 Stands ls now = (said : List (Option Statement)) → LinesSay 1 at_start ls said → now ≡ situation_of (situation said)
 
-pub stands_on : (ls : List (List ℕ)) (line : List ℕ) (now next : declared.Situation) (told : Says) → Stands ls now → ((s : Situation) (said : Option Statement) → LineSays s line said → told ≡ says_of said) → next ≡ behind now told
+pub stands_on : (ls : List (List ℕ)) (line : List ℕ) (now next : declared.ParserState) (told : LineRole) → Stands ls now → ((s : ParserState) (said : Option Statement) → LineSays s line said → told ≡ says_of said) → next ≡ behind now told
     → Stands (ls ++ (line ∷ [])) next
 stands_on ls line now next told before tells is said say =
     let split = split_last 1 at_start ls line said say in
     let here = before split.before split.say in
     is
-    ∙ ap (λ (x : declared.Situation). behind x told) here
+    ∙ ap (λ (x : declared.ParserState). behind x told) here
     ∙ ap (behind (situation_of (situation split.before))) (tells (situation split.before) split.last split.says)
     ∙ behind_is (1 + length split.before) (situation split.before) split.last line split.says
     ∙ ap situation_of (sym split.leads)

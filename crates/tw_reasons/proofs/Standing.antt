@@ -2,7 +2,7 @@
 use Rattle.std.proofs.Common.{◌≡◌, ℕ, ◌+◌, ◌-◌, ◌<◌, ◌≤◌, List, [], ◌∷◌, ◌++◌, length, take, Option, None, Some, refl, sym, ap, ◌∙◌, append_assoc, arith}
 use Rattle.std.proofs.lemmas.List.{take_at}
 use Rattle.tw_reasons.proofs.ReasonNames.{AreFirstWords, IsBlank, IsBroken, IsFirstWord, IsLine, IsWord, MatchOption, Stands, Word, broken_no_line, first_words_more, length-append, line_once, word_here}
-use Rattle.tw_reasons.specs.declared.stop.Stop.{Stop}
+use Rattle.tw_reasons.specs.declared.error_position.ErrorPosition.{ErrorPosition}
 use Rattle.tw_words.specs.reading.Next.{IsAfterGap}
 
 -- what stands before a back
@@ -71,7 +71,7 @@ one_room word line rest after before room first = let less = rest_shorter word r
 -- ---- the last word
 
 -- nothing follows the words that are passed, so that they are all
-pub last_of : (line rest : List ℕ) (before : ℕ) (last : Option Stop) → Passed line rest before → MatchOption last (before ≡ 0) (λ stop. stop.word ≡ before) → IsBlank rest
+pub last_of : (line rest : List ℕ) (before : ℕ) (last : Option ErrorPosition) → Passed line rest before → MatchOption last (before ≡ 0) (λ stop. stop.word ≡ before) → IsBlank rest
     → (words : List Word) → IsLine words line → MatchOption last (words ≡ []) (λ stop. stop.word ≡ length words)
 last_of line rest before last (passed, are, count) known blank words is = by last known
   where
@@ -85,7 +85,7 @@ last_of line rest before last (passed, are, count) known blank words is = by las
     none [] e = refl
     none (w ∷ ws) e = absurd cc
 
-    by : (l : Option Stop) → MatchOption l (before ≡ 0) (λ stop. stop.word ≡ before) → MatchOption l (words ≡ []) (λ stop. stop.word ≡ length words)
+    by : (l : Option ErrorPosition) → MatchOption l (before ≡ 0) (λ stop. stop.word ≡ before) → MatchOption l (words ≡ []) (λ stop. stop.word ≡ length words)
     by None e = none words (sym all ∙ e)
     by (Some stop) e = e ∙ all
 

@@ -7,9 +7,9 @@ use Rattle.tw_asm.specs.declared.statement.First.{First}
 use Rattle.tw_asm.proofs.OperandWords.{IsFine}
 use Rattle.tw_reasons.specs.Going.{after, first_read, go_on, goes, has_form, may_end}
 use Rattle.tw_reasons.specs.declared.step.Read.{Read}
-use Rattle.tw_reasons.specs.declared.stop.Found.{Found}
-use Rattle.tw_reasons.specs.declared.stop.Found.TheVariants as found
-use Rattle.tw_reasons.specs.declared.stop.Stop.{Stop}
+use Rattle.tw_reasons.specs.declared.error_position.Token.{Token}
+use Rattle.tw_reasons.specs.declared.error_position.Token.TheVariants as found
+use Rattle.tw_reasons.specs.declared.error_position.ErrorPosition.{ErrorPosition}
 use Rattle.tw_reasons.proofs.Judging.{formed, unformed}
 use Rattle.tw_reasons.proofs.Starting.{can_end, starts}
 
@@ -57,7 +57,7 @@ follows_on version first line rest behind count now next w f is fine e = record 
 }
 
 -- what there is where nothing is told, of another thing
-pub ended : (P Q : Type 0) (R : Stop → Type 0) (o : Option Stop) → (P → Q) → MatchOption o P R → MatchOption o Q R
+pub ended : (P Q : Type 0) (R : ErrorPosition → Type 0) (o : Option ErrorPosition) → (P → Q) → MatchOption o P R → MatchOption o Q R
 ended P Q R None f h = f h
 ended P Q R (Some stop) f h = h
 
@@ -75,7 +75,7 @@ module _ (version : Version) (expected : First) (first line rest : List ℕ) (co
       (unformed version f.word.now (f.others ++ w ∷ others) (fine_both f.others (w ∷ others) f.fine (fine, fine_text others texts)) (form_is (w ∷ others) ∙ ap (λ (o : Option Read). go_on o (λ r. goes version r others)) none))
 
   -- what is found where such a word stands
-  pub vain_found : (x : Found) (here behind : List ℕ) (w : Word) → IsFound x here → IsFirstWord w here behind → IsFine w → after version now w ≡ None → Ends version (Bare f.word.now ∷ f.others) here x
+  pub vain_found : (x : Token) (here behind : List ℕ) (w : Word) → IsFound x here → IsFirstWord w here behind → IsFine w → after version now w ≡ None → Ends version (Bare f.word.now ∷ f.others) here x
   vain_found found.End here behind w blank first_is fine none = absurd (blank_no_word w here behind blank first_is)
   vain_found (found.Word text) here behind w stands first_is fine none = vain_word text here behind w first_is fine none
   vain_found (found.Broken broken) here behind w stands first_is fine none = tt

@@ -1,25 +1,25 @@
 -- The first that is asked in vain, among lists one behind the other.
 use Rattle.std.proofs.Common.{◌≡◌, ℕ, zero, suc, ◌+◌, ◌-◌, ◌≢◌, Bool, true, false, cond, List, [], ◌∷◌, ◌++◌, None, Some, refl, sym, ap, subst, ◌∙◌, arith, length, take, drop, get_or, ◌≤◌}
 use Rattle.std.proofs.lemmas.Option.{none-some}
-use Rattle.tw_reasons.proofs.ReasonNames.{Scalar, Typing, checks_args, checks_left, checks_right, checks_value, checks_values, is_left, is_vain, slice_set, take_all, first_unmet, value_types, without_args}
+use Rattle.tw_reasons.proofs.ReasonNames.{Scalar, Typing, checks_args, checks_left, checks_right, checks_value, checks_values, is_left, is_unmet, slice_set, take_all, first_unmet, value_types, without_args}
 use Rattle.tw_words.proofs.Texts.{slice_tail}
 use Rattle.tw_types.specs.declared.param.Param.{Param}
 use Rattle.tw_types.specs.Mode.{is_val}
-use Rattle.tw_reasons.specs.declared.asked.Asked.{Asked}
+use Rattle.tw_reasons.specs.declared.register_check.RegisterCheck.{RegisterCheck}
 use Rattle.tw_reasons.proofs.GoingOn.{untrue}
 
 module _ (number : ℕ) where
-  pub told_first : (xs ys : List Asked) (a : Asked) → first_unmet number xs ≡ Some a → first_unmet number (xs ++ ys) ≡ Some a
+  pub told_first : (xs ys : List RegisterCheck) (a : RegisterCheck) → first_unmet number xs ≡ Some a → first_unmet number (xs ++ ys) ≡ Some a
   told_first [] ys a e = absurd (none-some a e)
-  told_first (x ∷ xs) ys a e = by (is_vain number x) (told_first xs ys a) e
+  told_first (x ∷ xs) ys a e = by (is_unmet number x) (told_first xs ys a) e
     where
       by : (b : Bool) → (first_unmet number xs ≡ Some a → first_unmet number (xs ++ ys) ≡ Some a) → cond b (Some x) (first_unmet number xs) ≡ Some a → cond b (Some x) (first_unmet number (xs ++ ys)) ≡ Some a
       by true more f = f
       by false more f = more f
 
-  pub told_later : (xs ys : List Asked) → first_unmet number xs ≡ None → first_unmet number (xs ++ ys) ≡ first_unmet number ys
+  pub told_later : (xs ys : List RegisterCheck) → first_unmet number xs ≡ None → first_unmet number (xs ++ ys) ≡ first_unmet number ys
   told_later [] ys e = refl
-  told_later (x ∷ xs) ys e = by (is_vain number x) (told_later xs ys) e
+  told_later (x ∷ xs) ys e = by (is_unmet number x) (told_later xs ys) e
     where
       by : (b : Bool) → (first_unmet number xs ≡ None → first_unmet number (xs ++ ys) ≡ first_unmet number ys) → cond b (Some x) (first_unmet number xs) ≡ None → cond b (Some x) (first_unmet number (xs ++ ys)) ≡ first_unmet number ys
       by true more f = absurd (none-some x (sym f))

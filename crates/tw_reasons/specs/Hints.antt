@@ -14,8 +14,8 @@ use Rattle.tw_reasons.specs.declared.due.Due.{Due}
 use Rattle.tw_reasons.specs.declared.due.Due.TheVariants as due
 use Rattle.tw_reasons.specs.declared.hints.Hint.{Hint}
 use Rattle.tw_reasons.specs.declared.hints.Hint.TheVariants as hint
-use Rattle.tw_reasons.specs.declared.situation.Stage.{Stage}
-use Rattle.tw_reasons.specs.declared.situation.Stage.TheVariants as stage
+use Rattle.tw_reasons.specs.declared.parser_state.Stage.{Stage}
+use Rattle.tw_reasons.specs.declared.parser_state.Stage.TheVariants as stage
 
 -- ---- words with at most one mistake
 

@@ -1,5 +1,5 @@
--- What stands behind a refusal. Asked has what an instruction asks of its registers, and Words how that is told.
-pub mod Asked
+-- What stands behind a refusal. RegisterCheck has what an instruction asks of its registers, and Words how that is told.
+pub mod RegisterCheck
 pub mod Bringing
 pub mod DueWords
 pub mod Going
@@ -9,7 +9,7 @@ pub mod Labels
 pub mod Meetings
 pub mod Reasons
 pub mod Same
-pub mod Says
+pub mod LineRole
 pub mod Stops
-pub mod Told
+pub mod Diagnostics
 pub mod Words

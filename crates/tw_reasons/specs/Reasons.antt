@@ -18,17 +18,17 @@ use Rattle.tw_verify.specs.Known.{AreFound}
 use Rattle.tw_verify.specs.Refusal.{verify_refusal_number}
 use Rattle.tw_verify.specs.declared.refusal.VerifyRefusal.{VerifyRefusal}
 use Rattle.tw_verify.specs.declared.refusal.VerifyRefusal.TheVariants as refusal
-use Rattle.tw_reasons.specs.Asked.{checks_at, first_unmet}
+use Rattle.tw_reasons.specs.RegisterCheck.{checks_at, first_unmet}
 use Rattle.tw_reasons.specs.Meetings.{IsChange, IsMeeting}
 use Rattle.tw_reasons.specs.Words.{asked_line, held_text, param_text, right_text}
-use Rattle.tw_reasons.specs.declared.asked.Asked.{Asked}
-use Rattle.tw_reasons.specs.declared.asked.Held.TheVariants as held
+use Rattle.tw_reasons.specs.declared.register_check.RegisterCheck.{RegisterCheck}
+use Rattle.tw_reasons.specs.declared.register_check.RegisterState.TheVariants as held
 use Rattle.tw_reasons.specs.declared.meeting.Difference.{Difference}
 use Rattle.tw_reasons.specs.declared.meeting.Meeting.{Meeting}
 
 -- ---- V01 to V04, V10, V15
 
-abbrev pub told_line : Option Asked → List ℕ
+abbrev pub told_line : Option RegisterCheck → List ℕ
 told_line None = []
 told_line (Some a) = asked_line a
 

@@ -7,7 +7,7 @@ use Rattle.tw_code.specs.declared.instr.LocalInstr.{LocalInstr}
 use Rattle.tw_code.specs.declared.instr.Priority.{Priority}
 use Rattle.tw_code.specs.accepting.Typing.{asks_args, asks_data, asks_local, asks_priority}
 use Rattle.tw_code.specs.machine.Rights.{Typing}
-use Rattle.tw_reasons.specs.Asked.{checks_args, checks_data, checks_local, checks_priority, question_of}
+use Rattle.tw_reasons.specs.RegisterCheck.{checks_args, checks_data, checks_local, checks_priority, question_of}
 
 pub record AsksTheSame : Type 0 where
   pub local : (registers : List Scalar) (i : LocalInstr) → map question_of (checks_local registers i) ≡ asks_local registers i

@@ -6,9 +6,9 @@ use Rattle.tw_code.specs.declared.version.Version.{Version}
 use Rattle.tw_words.specs.Words.{AreFirstWords, Bare, IsBlank, IsBroken, IsFirstWord, Quoted, Word}
 use Rattle.tw_words.specs.Shown.{begins_character}
 use Rattle.tw_words.specs.reading.Next.{IsAfterGap}
-use Rattle.tw_reasons.specs.declared.stop.Found.{Found}
-use Rattle.tw_reasons.specs.declared.stop.Found.TheVariants as found
-use Rattle.tw_reasons.specs.declared.stop.Stop.{Stop}
+use Rattle.tw_reasons.specs.declared.error_position.Token.{Token}
+use Rattle.tw_reasons.specs.declared.error_position.Token.TheVariants as found
+use Rattle.tw_reasons.specs.declared.error_position.ErrorPosition.{ErrorPosition}
 
 -- ---- columns
 
@@ -26,7 +26,7 @@ pub record Stands (line : List ℕ) (before : List Word) (front rest : List ℕ)
   pub gap : IsAfterGap after rest
 
 -- what stands first in the rest: nothing, a word as it stands there, or something that is no word
-abbrev pub IsFound : Found → List ℕ → Type 0
+abbrev pub IsFound : Token → List ℕ → Type 0
 IsFound found.End rest = IsBlank rest
 IsFound (found.Word text) rest = (word : Word) × (after : List ℕ) × IsFirstWord word rest after × (rest ≡ text.now ++ after)
 IsFound (found.Broken broken) rest = IsBroken rest
@@ -34,7 +34,7 @@ IsFound (found.Broken broken) rest = IsBroken rest
 -- ---- a stop
 
 -- a stop in a line: which word it is, from 1, its column, and what stands there
-pub record IsStop (line : List ℕ) (stop : Stop) : Type 0 where
+pub record IsStop (line : List ℕ) (stop : ErrorPosition) : Type 0 where
   pub before : List Word
   pub front : List ℕ
   pub rest : List ℕ
@@ -55,13 +55,13 @@ abbrev pub Begin : Version → List Word → Type 0
 Begin version words = (others : List Word) × HaveForm version (words ++ others)
 
 -- with what stands first in the rest these words begin none, or where nothing stands there are none
-abbrev pub Ends : Version → List Word → List ℕ → Found → Type 0
+abbrev pub Ends : Version → List Word → List ℕ → Token → Type 0
 Ends version before rest found.End = HaveForm version before → ⊥
 Ends version before rest (found.Word text) = (word : Word) (after : List ℕ) (others : List Word) → IsFirstWord word rest after → AllByRecursion IsText others → HaveForm version (before ++ word ∷ others) → ⊥
 Ends version before rest (found.Broken broken) = Unit {0}
 
 -- the first stop at which the line goes on as no statement
-pub record IsFirstStop (version : Version) (line : List ℕ) (stop : Stop) : Type 0 where
+pub record IsFirstStop (version : Version) (line : List ℕ) (stop : ErrorPosition) : Type 0 where
   pub stands : IsStop line stop
   pub begin : Begin version stands.before
   pub ends : Ends version stands.before stands.rest stop.found

@@ -8,11 +8,11 @@ use Rattle.tw_types.specs.declared.param.Mode.TheVariants.{Val, Closed, Ref, Wri
 use Rattle.tw_types.specs.declared.param.Param.{Param}
 use Rattle.tw_asm.specs.Parts.{container_word, mode_word, scalar_word, type_words}
 use Rattle.tw_code.specs.machine.Rights.{RightType}
-use Rattle.tw_reasons.specs.declared.asked.Asked.{Asked}
-use Rattle.tw_reasons.specs.declared.asked.Held.{Held}
-use Rattle.tw_reasons.specs.declared.asked.Held.TheVariants as held
-use Rattle.tw_reasons.specs.declared.asked.Wanted.{Wanted}
-use Rattle.tw_reasons.specs.declared.asked.Wanted.TheVariants as wanted
+use Rattle.tw_reasons.specs.declared.register_check.RegisterCheck.{RegisterCheck}
+use Rattle.tw_reasons.specs.declared.register_check.RegisterState.{RegisterState}
+use Rattle.tw_reasons.specs.declared.register_check.RegisterState.TheVariants as held
+use Rattle.tw_reasons.specs.declared.register_check.Requirement.{Requirement}
+use Rattle.tw_reasons.specs.declared.register_check.Requirement.TheVariants as wanted
 
 -- ---- types and rights
 
@@ -33,7 +33,7 @@ scalar_text (Some ty) = scalar_word ty
 
 -- ---- what a register holds
 
-abbrev pub held_text : ℕ → Held → List ℕ
+abbrev pub held_text : ℕ → RegisterState → List ℕ
 held_text register (held.Value None) = codes "v" ++ (decimal register ++ codes " isn't declared")
 held_text register (held.Value (Some ty)) = codes "v" ++ (decimal register ++ (codes " is " ++ scalar_word ty))
 held_text register (held.Right None) = codes "d" ++ (decimal register ++ codes " is empty")
@@ -49,7 +49,7 @@ stand_in_text waits Closed = if waits then codes "closed or ref" else codes "clo
 stand_in_text waits Ref = codes "closed or ref"
 stand_in_text waits Write = codes "write"
 
-abbrev pub wanted_text : Wanted → List ℕ
+abbrev pub wanted_text : Requirement → List ℕ
 wanted_text wanted.AnyScalar = codes "int or text"
 wanted_text (wanted.Scalar ty) = scalar_word ty
 wanted_text wanted.Empty = codes "empty"
@@ -67,5 +67,5 @@ wanted_text (wanted.ReadOf (Some ty)) = codes "closed or ref " ++ type_text ty
 wanted_text (wanted.Param waits param) = stand_in_text waits param.mode ++ (codes " " ++ type_text param.ty)
 
 -- the line of a question that is asked in vain
-abbrev pub asked_line : Asked → List ℕ
+abbrev pub asked_line : RegisterCheck → List ℕ
 asked_line a = held_text a.register a.held ++ (codes ", asked: " ++ (wanted_text a.wanted ++ codes "\n"))

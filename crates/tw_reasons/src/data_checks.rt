@@ -5,10 +5,10 @@ ghost use Rattle.tw_code.specs.format.Program.{IsDataInstr};
 ghost use Rattle.tw_code.specs.accepting.Typing.{reads_closed_container, reads_closed_scalar, writes, writes_container_by, writes_scalar};
 ghost use Rattle.tw_code.specs.accepting.Question.{passes};
 ghost use Rattle.tw_code.specs.machine.Rights.{right_at};
-ghost use Rattle.tw_reasons.specs.Asked.{checks_closed, checks_data, checks_member, checks_read, checks_value_of, has_type, holds, member_type, right_scalar, first_unmet};
+ghost use Rattle.tw_reasons.specs.RegisterCheck.{checks_closed, checks_data, checks_member, checks_read, checks_value_of, has_type, holds, member_type, right_scalar, first_unmet};
 
-use crate::asked::*;
 use crate::local_checks::{first_of, value_is};
+use crate::register_check::*;
 use crate::suits::*;
 use tw_code::DataInstr;
 use tw_types::{DataType, Scalar};
@@ -40,9 +40,9 @@ fn unmet_by_store(
     typing: &Typing,
     datum: u8,
     from: u8,
-) -> Option<Asked>
+) -> Option<RegisterCheck>
     requires { datum < 16 }
-    ensures { result ≡ first_unmet number (checks_value_of registers.now from writes_scalar typing.now datum (Wanted.WriteScalar (slice_get registers.now from))) }
+    ensures { result ≡ first_unmet number (checks_value_of registers.now from writes_scalar typing.now datum (Requirement.WriteScalar (slice_get registers.now from))) }
 {
     let met = writes_scalar(typing.right_at(datum));
     let ty = right_scalar(typing.right_at(datum));
@@ -54,7 +54,7 @@ fn unmet_by_store(
                 typing,
                 datum,
                 met,
-                Wanted::WriteScalar(declared(registers, from)),
+                Requirement::WriteScalar(declared(registers, from)),
             ),
             is_declared(registers, from, ty),
             is_of(
@@ -74,9 +74,9 @@ fn unmet_by_get(
     typing: &Typing,
     to: u8,
     datum: u8,
-) -> Option<Asked>
+) -> Option<RegisterCheck>
     requires { datum < 16 }
-    ensures { result ≡ first_unmet number (checks_value_of registers.now to reads_closed_scalar typing.now datum (Wanted.ClosedScalar (slice_get registers.now to))) }
+    ensures { result ≡ first_unmet number (checks_value_of registers.now to reads_closed_scalar typing.now datum (Requirement.ClosedScalar (slice_get registers.now to))) }
 {
     let met = reads_closed_scalar(typing.right_at(datum));
     let ty = right_scalar(typing.right_at(datum));
@@ -88,7 +88,7 @@ fn unmet_by_get(
                 typing,
                 datum,
                 met,
-                Wanted::ClosedScalar(declared(registers, to)),
+                Requirement::ClosedScalar(declared(registers, to)),
             ),
             is_declared(registers, to, ty),
             is_of(
@@ -110,68 +110,68 @@ fn member_type(right: Option<RightType>) -> Option<DataType>
     }
 }
 
-fn member(typing: &Typing, container: u8, member: u8) -> Asked
+fn member(typing: &Typing, container: u8, member: u8) -> RegisterCheck
     requires container { container < 16 }
     requires member { member < 16 }
     ensures { result ≡ checks_member typing.now container member }
 {
     let met = reads_member_of(typing.right_at(container), typing.right_at(member));
     let members = member_type(typing.right_at(container));
-    holds(4, typing, member, met, Wanted::ReadOf(members))
+    holds(4, typing, member, met, Requirement::ReadOf(members))
 }
 
-fn container_write(by: Scalar, typing: &Typing, container: u8) -> Asked
+fn container_write(by: Scalar, typing: &Typing, container: u8) -> RegisterCheck
     requires { container < 16 }
-    ensures { result ≡ holds 4 typing.now container (passes (writes_container_by by) (right_at typing.now container)) (Wanted.WriteContainer by) }
+    ensures { result ≡ holds 4 typing.now container (passes (writes_container_by by) (right_at typing.now container)) (Requirement.WriteContainer by) }
 {
     let met = writes_container_by(by, typing.right_at(container));
-    holds(4, typing, container, met, Wanted::WriteContainer(by))
+    holds(4, typing, container, met, Requirement::WriteContainer(by))
 }
 
-fn closed_container(by: Scalar, typing: &Typing, container: u8) -> Asked
+fn closed_container(by: Scalar, typing: &Typing, container: u8) -> RegisterCheck
     requires { container < 16 }
     ensures { result ≡ checks_closed by typing.now container }
 {
     let met = reads_closed_container_by(by, typing.right_at(container));
-    holds(4, typing, container, met, Wanted::ClosedContainer(by))
+    holds(4, typing, container, met, Requirement::ClosedContainer(by))
 }
 
-fn any_closed_container(typing: &Typing, container: u8) -> Asked
+fn any_closed_container(typing: &Typing, container: u8) -> RegisterCheck
     requires { container < 16 }
-    ensures { result ≡ holds 4 typing.now container (passes reads_closed_container (right_at typing.now container)) Wanted.AnyClosedContainer }
+    ensures { result ≡ holds 4 typing.now container (passes reads_closed_container (right_at typing.now container)) Requirement.AnyClosedContainer }
 {
     let met = reads_closed_container(typing.right_at(container));
-    holds(4, typing, container, met, Wanted::AnyClosedContainer)
+    holds(4, typing, container, met, Requirement::AnyClosedContainer)
 }
 
-fn any_read(typing: &Typing, register: u8) -> Asked
+fn any_read(typing: &Typing, register: u8) -> RegisterCheck
     requires { register < 16 }
     ensures { result ≡ checks_read typing.now register }
 {
     let met = reads(typing.right_at(register));
-    holds(4, typing, register, met, Wanted::AnyRead)
+    holds(4, typing, register, met, Requirement::AnyRead)
 }
 
-fn any_write(typing: &Typing, register: u8) -> Asked
+fn any_write(typing: &Typing, register: u8) -> RegisterCheck
     requires { register < 16 }
-    ensures { result ≡ holds 4 typing.now register (passes writes (right_at typing.now register)) Wanted.AnyWrite }
+    ensures { result ≡ holds 4 typing.now register (passes writes (right_at typing.now register)) Requirement.AnyWrite }
 {
     let met = writes(typing.right_at(register));
-    holds(4, typing, register, met, Wanted::AnyWrite)
+    holds(4, typing, register, met, Requirement::AnyWrite)
 }
 
 /// Of a scalar's write right V15 alone is said.
-fn no_scalar_write(typing: &Typing, register: u8) -> Asked
+fn no_scalar_write(typing: &Typing, register: u8) -> RegisterCheck
     requires { register < 16 }
-    ensures { result ≡ holds 15 typing.now register (not (passes writes_scalar (right_at typing.now register))) Wanted.AnyContainerWrite }
+    ensures { result ≡ holds 15 typing.now register (not (passes writes_scalar (right_at typing.now register))) Requirement.AnyContainerWrite }
 {
     let met = !writes_scalar(typing.right_at(register));
-    holds(15, typing, register, met, Wanted::AnyContainerWrite)
+    holds(15, typing, register, met, Requirement::AnyContainerWrite)
 }
 
 /// What an instruction on data asks, a row an instruction.
 #[rattlefmt::skip]
-pub(crate) fn unmet_by_data(number: u8, registers: &[Scalar], instr: DataInstr, typing: &Typing) -> Option<Asked>
+pub(crate) fn unmet_by_data(number: u8, registers: &[Scalar], instr: DataInstr, typing: &Typing) -> Option<RegisterCheck>
     requires { IsDataInstr instr }
     ensures { result ≡ first_unmet number (checks_data registers.now instr typing.now) }
 {

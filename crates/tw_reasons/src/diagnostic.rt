@@ -1,11 +1,11 @@
 //! What is told of the place at which a line stops.
 
 ghost use Rattle.std.specs.Prelude.{◌≡◌, ◌++◌, OnOk, codes};
-ghost use Rattle.tw_reasons.specs.Told.{break_text, expected_text, found_text, has_part, hidden_text, line_text, said_text, stop_line, where_text, word_text};
+ghost use Rattle.tw_reasons.specs.Diagnostics.{break_text, expected_text, found_text, has_part, hidden_text, line_text, said_text, stop_line, where_text, word_text};
 
 use crate::breaks::Break;
+use crate::error_position::{ErrorPosition, Token};
 use crate::hints::{Hint, put_hint};
-use crate::stop::{Found, Stop};
 use std::alloc::{AllocError, Global};
 use tw_words::{put, put_both, put_numbered, put_shortened};
 
@@ -62,7 +62,7 @@ fn break_text(broken: Break) -> &'static str
 // ---- what is said of them
 
 /// Adds at which word and column a line stops.
-fn put_where(alloc: Global, out: &mut Vec<u8>, stop: &Stop<'_>) -> Result<(), AllocError>
+fn put_where(alloc: Global, out: &mut Vec<u8>, stop: &ErrorPosition<'_>) -> Result<(), AllocError>
     ensures { OnOk result (out.new.items ≡ out.old.items ++ where_text stop.now) }
 {
     put_numbered(alloc, out, "word ", stop.word)?;
@@ -71,40 +71,40 @@ fn put_where(alloc: Global, out: &mut Vec<u8>, stop: &Stop<'_>) -> Result<(), Al
 }
 
 /// Adds what was expected, and what stood there.
-fn put_expected(out: &mut Vec<u8>, expected: &str, found: &Found<'_>) -> Result<(), AllocError>
+fn put_expected(out: &mut Vec<u8>, expected: &str, found: &Token<'_>) -> Result<(), AllocError>
     ensures { OnOk result (out.new.items ≡ out.old.items ++ expected_text expected.now found.now) }
 {
     match found {
-        Found::End => {
+        Token::End => {
             put(out, "the line ends too early, expected ")?;
             put(out, expected)
         }
-        Found::Word(word) => {
+        Token::Word(word) => {
             put(out, "expected ")?;
             put(out, expected)?;
             put(out, ", found ")?;
             put_word(out, word)
         }
-        Found::Broken(broken) => put(out, break_text(*broken)),
+        Token::Broken(broken) => put(out, break_text(*broken)),
     }
 }
 
-fn put_found(out: &mut Vec<u8>, found: &Found<'_>) -> Result<(), AllocError>
+fn put_found(out: &mut Vec<u8>, found: &Token<'_>) -> Result<(), AllocError>
     ensures { OnOk result (out.new.items ≡ out.old.items ++ found_text found.now) }
 {
     match found {
-        Found::Word(word) => {
+        Token::Word(word) => {
             put(out, ", found ")?;
             put_word(out, word)
         }
-        Found::End => Ok(()),
-        Found::Broken(_) => Ok(()),
+        Token::End => Ok(()),
+        Token::Broken(_) => Ok(()),
     }
 }
 
 /// What is said of a stop.
 #[derive(Clone, Copy)]
-pub(crate) enum Said<'a> {
+pub(crate) enum Diagnostic<'a> {
     /// This was expected; the line of a label; and the word that was meant.
     Expected(&'a str, Option<usize>, Hint),
     TooMany,
@@ -123,22 +123,22 @@ fn put_line_of(alloc: Global, out: &mut Vec<u8>, line: Option<usize>) -> Result<
 fn put_diagnostic(
     alloc: Global,
     out: &mut Vec<u8>,
-    said: &Said<'_>,
-    found: &Found<'_>,
+    said: &Diagnostic<'_>,
+    found: &Token<'_>,
 ) -> Result<(), AllocError>
     ensures { OnOk result (out.new.items ≡ out.old.items ++ said_text said.now found.now) }
 {
     match said {
-        Said::Expected(expected, line, hint) => {
+        Diagnostic::Expected(expected, line, hint) => {
             put_expected(out, expected, found)?;
             put_line_of(alloc, out, *line)?;
             put_hint(out, *hint)
         }
-        Said::TooMany => {
+        Diagnostic::TooMany => {
             put(out, "one word too many")?;
             put_found(out, found)
         }
-        Said::Limit(limit) => {
+        Diagnostic::Limit(limit) => {
             put_both(out, "the limit is ", limit)?;
             put_found(out, found)
         }
@@ -149,8 +149,8 @@ fn put_diagnostic(
 pub(crate) fn put_stop(
     alloc: Global,
     out: &mut Vec<u8>,
-    stop: &Stop<'_>,
-    said: &Said<'_>,
+    stop: &ErrorPosition<'_>,
+    said: &Diagnostic<'_>,
 ) -> Result<(), AllocError>
     ensures { OnOk result (out.new.items ≡ out.old.items ++ stop_line stop.now (said_text said.now stop.now.found)) }
 {

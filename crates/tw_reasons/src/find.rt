@@ -5,50 +5,50 @@ ghost use Rattle.std.specs.List.{AllByRecursion};
 ghost use Rattle.tw_code.specs.format.Program.{IsAction, IsInstr, IsRegister};
 ghost use Rattle.tw_code.specs.accepting.Typing.{value_types};
 ghost use Rattle.tw_code.specs.machine.Arguments.{params_of};
-ghost use Rattle.tw_reasons.specs.declared.asked.Asked.{Asked};
-ghost use Rattle.tw_reasons.specs.Asked.{checks_action, checks_args, checks_at, checks_instr, checks_left, checks_priority, checks_right, checks_values, argument_held, is_left, first_unmet};
+ghost use Rattle.tw_reasons.specs.declared.register_check.RegisterCheck.{RegisterCheck};
+ghost use Rattle.tw_reasons.specs.RegisterCheck.{checks_action, checks_args, checks_at, checks_instr, checks_left, checks_priority, checks_right, checks_values, argument_held, is_left, first_unmet};
 
-use crate::asked::*;
 use crate::data_checks::unmet_by_data;
-use crate::local_checks::{first_of, is_vain, unmet_by_local, value};
+use crate::local_checks::{first_of, is_unmet, unmet_by_local, value};
+use crate::register_check::*;
 use crate::suits::*;
 use tw_code::{Action, Instr, Priority, Procedure};
 use tw_types::{Param, Scalar};
 use tw_verify::Typing;
 
 /// The first of two, if there is one, else the second.
-fn first_or(first: Option<Asked>, second: Option<Asked>) -> Option<Asked>
-    ensures { (number : ℕ) (xs ys : List Asked) → first ≡ first_unmet number xs → second ≡ first_unmet number ys → result ≡ first_unmet number (xs ++ ys) }
+fn first_or(first: Option<RegisterCheck>, second: Option<RegisterCheck>) -> Option<RegisterCheck>
+    ensures { (number : ℕ) (xs ys : List RegisterCheck) → first ≡ first_unmet number xs → second ≡ first_unmet number ys → result ≡ first_unmet number (xs ++ ys) }
 {
     match first {
-        Some(asked) => Some(asked),
+        Some(check) => Some(check),
         None => second,
     }
 }
 
 /// What the register of an argument holds, where the ones before it have left their registers.
-fn held_by(arg: u8, typing: &Typing, left: &Typing) -> Held
+fn held_by(arg: u8, typing: &Typing, left: &Typing) -> RegisterState
     requires { IsRegister arg }
     ensures { result ≡ argument_held arg typing.now left.now }
 {
     if left.right_at(arg).is_none() && typing.right_at(arg).is_some() {
-        Held::Twice
+        RegisterState::Twice
     } else {
-        Held::Right(left.right_at(arg))
+        RegisterState::Right(left.right_at(arg))
     }
 }
 
 /// What is asked of an argument that is a right.
-fn right_check(waits: bool, param: &Param, arg: u8, typing: &Typing, left: &Typing) -> Asked
+fn right_check(waits: bool, param: &Param, arg: u8, typing: &Typing, left: &Typing) -> RegisterCheck
     requires { IsRegister arg }
     ensures { result ≡ checks_right waits param.now arg typing.now left.now }
 {
-    Asked {
+    RegisterCheck {
         number: 4,
         is_met: may_stand_for(waits, *param, left.right_at(arg)),
         register: arg,
         held: held_by(arg, typing, left),
-        wanted: Wanted::Param(waits, *param),
+        wanted: Requirement::Param(waits, *param),
     }
 }
 
@@ -60,7 +60,7 @@ fn unmet_by_argument(
     arg: u8,
     typing: &Typing,
     left: &Typing,
-) -> Option<Asked>
+) -> Option<RegisterCheck>
     requires { IsRegister arg }
     ensures { result ≡ first_unmet number (checks_args waits registers.now (param.now ∷ []) (arg ∷ []) typing.now left.now) }
 {
@@ -80,7 +80,7 @@ fn unmet_by_arguments(
     args: &[u8],
     typing: &Typing,
     left: Typing,
-) -> Option<Asked>
+) -> Option<RegisterCheck>
     requires { AllByRecursion IsRegister args.now }
     ensures { result ≡ first_unmet number (checks_args waits registers.now params.now args.now typing.now left) }
 {
@@ -100,7 +100,7 @@ fn unmet_by_arguments(
     }
 }
 
-fn unmet_by_priority(number: u8, registers: &[Scalar], priority: Priority) -> Option<Asked>
+fn unmet_by_priority(number: u8, registers: &[Scalar], priority: Priority) -> Option<RegisterCheck>
     ensures { result ≡ first_unmet number (checks_priority registers.now priority) }
 {
     match priority {
@@ -125,7 +125,7 @@ fn unmet_by_action(
     registers: &[Scalar],
     action: &Action,
     typing: &Typing,
-) -> Option<Asked>
+) -> Option<RegisterCheck>
     requires { IsAction action.now }
     ensures { result ≡ first_unmet number (checks_action waits procedures.now registers.now action.now typing.now) }
 {
@@ -138,7 +138,7 @@ fn unmet_by_action(
 }
 
 /// RET asks that a right register is empty.
-fn is_left(typing: &Typing, register: u8) -> Asked
+fn is_left(typing: &Typing, register: u8) -> RegisterCheck
     requires { register < 16 }
     ensures { result ≡ is_left typing.now register }
 {
@@ -147,28 +147,33 @@ fn is_left(typing: &Typing, register: u8) -> Asked
         typing,
         register,
         typing.right_at(register).is_none(),
-        Wanted::Empty,
+        Requirement::Empty,
     )
 }
 
 /// RET asks that so many right registers from one on are empty.
 #[tactic(auto, using(crate::proofs::Telling::left_more))]
-fn unmet_at_end(number: u8, count: u8, register: u8, typing: &Typing) -> Option<Asked>
+fn unmet_at_end(number: u8, count: u8, register: u8, typing: &Typing) -> Option<RegisterCheck>
     requires { register + count ≤ 16 }
     ensures { result ≡ first_unmet number (checks_left count register typing.now) }
 {
     if count == 0 {
         return None;
     }
-    let asked = is_left(typing, register);
-    if is_vain(number, &asked) {
-        return Some(asked);
+    let check = is_left(typing, register);
+    if is_unmet(number, &check) {
+        return Some(check);
     }
     unmet_at_end(number, count - 1, register + 1, typing)
 }
 
 /// What is asked of the registers from one on, of the values that a procedure is given.
-fn unmet_by_params(number: u8, registers: &[Scalar], given: u8, params: &[Param]) -> Option<Asked>
+fn unmet_by_params(
+    number: u8,
+    registers: &[Scalar],
+    given: u8,
+    params: &[Param],
+) -> Option<RegisterCheck>
     requires { given + length params.now ≤ 16 }
     ensures { result ≡ first_unmet number (checks_values registers.now given (value_types params.now)) }
 {
@@ -191,7 +196,7 @@ fn unmet_by_instr(
     registers: &[Scalar],
     instr: &Instr,
     typing: &Typing,
-) -> Option<Asked>
+) -> Option<RegisterCheck>
     requires { IsInstr instr.now }
     ensures { result ≡ first_unmet number (checks_instr procedures.now registers.now instr.now typing.now) }
 {
@@ -212,7 +217,7 @@ pub(crate) fn unmet_at(
     place: usize,
     instr: &Instr,
     typing: &Typing,
-) -> Option<Asked>
+) -> Option<RegisterCheck>
     requires instr { IsInstr instr.now }
     requires params { length procedure.now.params ≤ 8 }
     ensures { result ≡ first_unmet number (checks_at procedures.now procedure.now place instr.now typing.now) }

@@ -5,7 +5,7 @@ ghost use Rattle.tw_reasons.specs.Hints.{container_hint, due_hint, first_hint, h
 ghost use Rattle.tw_reasons.specs.declared.due.Due.TheVariants as dues;
 
 use crate::due::Due;
-use crate::situation::{Situation, Stage};
+use crate::parser_state::{ParserState, Stage};
 use std::alloc::{AllocError, Global};
 use tw_code::{Form, OPCODES, Opcode, Version, opcode_in, word_of};
 use tw_words::put;
@@ -105,7 +105,7 @@ fn instruction_hint(alloc: Global, version: Version, word: &[u8]) -> Result<Hint
 /// Returns what was meant by the first word of a line.
 pub(crate) fn first_hint(
     alloc: Global,
-    situation: Situation,
+    situation: ParserState,
     word: &[u8],
 ) -> Result<Hint, AllocError>
     ensures { IfOk result (λ hint. hint_text hint ≡ first_hint situation.stage situation.version word.now) }

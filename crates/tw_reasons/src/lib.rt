@@ -4,11 +4,11 @@
 //! * Of a program: `put_program_reason` tells the register that is wrong, what it holds and what was asked of it.
 #![tactic(auto)]
 
-mod asked;
 mod breaks;
 mod data_checks;
 mod diagnostic;
 mod due;
+mod error_position;
 mod find;
 mod hints;
 mod labels;
@@ -17,11 +17,11 @@ mod local_checks;
 mod loops;
 mod main_reason;
 mod meeting;
+mod parser_state;
 mod program_reason;
+mod register_check;
 mod rights;
-mod situation;
 mod step;
-mod stop;
 mod suits;
 mod text_reason;
 mod told_meeting;
@@ -29,7 +29,7 @@ mod words;
 
 pub use laws::asks_the_same;
 pub use main_reason::put_main_reason;
+pub use parser_state::{LineRole, head_line, line_role};
 pub use program_reason::put_program_reason;
 pub use rights::put_type;
-pub use situation::{Says, head_line, line_role};
 pub use text_reason::put_text_reason;

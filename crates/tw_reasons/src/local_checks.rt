@@ -2,23 +2,23 @@
 
 ghost use Rattle.std.specs.Prelude.{◌≡◌, Some, slice_get};
 ghost use Rattle.tw_code.specs.accepting.Question.{passes};
-ghost use Rattle.tw_reasons.specs.Asked.{checks_alike, checks_local, checks_three, checks_two, checks_value, has_type, is_of, is_vain, first_unmet};
+ghost use Rattle.tw_reasons.specs.RegisterCheck.{checks_alike, checks_local, checks_three, checks_two, checks_value, has_type, is_of, is_unmet, first_unmet};
 
-use crate::asked::*;
+use crate::register_check::*;
 use tw_code::LocalInstr;
 use tw_types::Scalar;
 
-pub(crate) fn is_vain(number: u8, asked: &Asked) -> bool
-    ensures { result ≡ is_vain number asked.now }
+pub(crate) fn is_unmet(number: u8, check: &RegisterCheck) -> bool
+    ensures { result ≡ is_unmet number check.now }
 {
-    asked.number == number && !asked.is_met
+    check.number == number && !check.is_met
 }
 
 /// The first of these that is asked in vain with a number.
-pub(crate) fn first_of(number: u8, asked: &[Asked]) -> Option<Asked>
-    ensures { result ≡ first_unmet number asked.now }
+pub(crate) fn first_of(number: u8, check: &[RegisterCheck]) -> Option<RegisterCheck>
+    ensures { result ≡ first_unmet number check.now }
 {
-    asked.iter().copied().find(|asked| is_vain(number, asked))
+    check.iter().copied().find(|check| is_unmet(number, check))
 }
 
 /// Whether two value registers are declared, and of one type.
@@ -31,7 +31,7 @@ fn are_alike(registers: &[Scalar], first: u8, second: u8) -> bool
     }
 }
 
-pub(crate) fn value_is(registers: &[Scalar], register: u8, ty: Scalar) -> Asked
+pub(crate) fn value_is(registers: &[Scalar], register: u8, ty: Scalar) -> RegisterCheck
     ensures { result ≡ is_of registers.now register (has_type registers.now register ty) (Some ty) }
 {
     is_of(
@@ -42,7 +42,12 @@ pub(crate) fn value_is(registers: &[Scalar], register: u8, ty: Scalar) -> Asked
     )
 }
 
-pub(crate) fn value(number: u8, registers: &[Scalar], register: u8, ty: Scalar) -> Option<Asked>
+pub(crate) fn value(
+    number: u8,
+    registers: &[Scalar],
+    register: u8,
+    ty: Scalar,
+) -> Option<RegisterCheck>
     ensures { result ≡ first_unmet number (checks_value registers.now register ty) }
 {
     first_of(
@@ -55,7 +60,7 @@ pub(crate) fn value(number: u8, registers: &[Scalar], register: u8, ty: Scalar) 
 }
 
 #[rattlefmt::skip]
-fn two_values(number: u8, registers: &[Scalar], first: u8, ty: Scalar, second: u8, other: Scalar) -> Option<Asked>
+fn two_values(number: u8, registers: &[Scalar], first: u8, ty: Scalar, second: u8, other: Scalar) -> Option<RegisterCheck>
     ensures { result ≡ first_unmet number (checks_two registers.now first ty second other) }
 {
     first_of(number, &[
@@ -65,7 +70,7 @@ fn two_values(number: u8, registers: &[Scalar], first: u8, ty: Scalar, second: u
 }
 
 #[rattlefmt::skip]
-fn three_values(number: u8, registers: &[Scalar], to: u8, left: u8, right: u8, ty: Scalar) -> Option<Asked>
+fn three_values(number: u8, registers: &[Scalar], to: u8, left: u8, right: u8, ty: Scalar) -> Option<RegisterCheck>
     ensures { result ≡ first_unmet number (checks_three registers.now to left right ty) }
 {
     first_of(number, &[
@@ -76,7 +81,7 @@ fn three_values(number: u8, registers: &[Scalar], to: u8, left: u8, right: u8, t
 }
 
 #[rattlefmt::skip]
-fn alike(number: u8, registers: &[Scalar], first: u8, second: u8) -> Option<Asked>
+fn alike(number: u8, registers: &[Scalar], first: u8, second: u8) -> Option<RegisterCheck>
     ensures { result ≡ first_unmet number (checks_alike registers.now first second) }
 {
     let met = are_alike(registers, first, second);
@@ -88,7 +93,7 @@ fn alike(number: u8, registers: &[Scalar], first: u8, second: u8) -> Option<Aske
 
 /// What a local instruction asks, a row an instruction.
 #[rattlefmt::skip]
-pub(crate) fn unmet_by_local(number: u8, registers: &[Scalar], instr: &LocalInstr) -> Option<Asked>
+pub(crate) fn unmet_by_local(number: u8, registers: &[Scalar], instr: &LocalInstr) -> Option<RegisterCheck>
     ensures { result ≡ first_unmet number (checks_local registers.now instr.now) }
 {
     match instr {

@@ -6,10 +6,10 @@ ghost use Rattle.tw_code.specs.machine.Arguments.{params_of};
 ghost use Rattle.tw_verify.specs.declared.refusal.VerifyRefusal.TheVariants as refusal;
 ghost use Rattle.tw_reasons.specs.Reasons.{AddsReason, AddsTold, arguments_text, count_line, goal_line, misplaced_line, named_by, outside_text, skip_of, told_line, unknown_line, unmatched_line, vain_line};
 
-use crate::asked::{Asked, put_check};
 use crate::find::unmet_at;
 use crate::loops::changed_at;
 use crate::meeting::meeting_at;
+use crate::register_check::{RegisterCheck, put_check};
 use crate::told_meeting::{put_changed, put_meeting};
 use std::alloc::{AllocError, Global};
 use tw_asm::LineNumbers;
@@ -19,11 +19,15 @@ use tw_words::{put, put_decimal, put_numbered};
 
 // ---- a register that is asked in vain
 
-fn put_unmet(alloc: Global, out: &mut Vec<u8>, asked: Option<Asked>) -> Result<(), AllocError>
-    ensures { OnOk result (out.new.items ≡ out.old.items ++ told_line asked) }
+fn put_unmet(
+    alloc: Global,
+    out: &mut Vec<u8>,
+    check: Option<RegisterCheck>,
+) -> Result<(), AllocError>
+    ensures { OnOk result (out.new.items ≡ out.old.items ++ told_line check) }
 {
-    match asked {
-        Some(asked) => put_check(alloc, out, &asked),
+    match check {
+        Some(check) => put_check(alloc, out, &check),
         None => Ok(()),
     }
 }

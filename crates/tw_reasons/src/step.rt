@@ -35,7 +35,7 @@ pub(crate) enum Read<'a> {
 
 /// What has been read of a line, with how many items, and how many containers in the last of them.
 #[derive(Clone, Copy)]
-pub(crate) struct Ahead<'a> {
+pub(crate) struct LineProgress<'a> {
     read: Read<'a>,
     items: usize,
     depth: usize,
@@ -64,12 +64,12 @@ fn ends_at(form: Option<Form>) -> bool
     }
 }
 
-impl<'a> Ahead<'a> {
+impl<'a> LineProgress<'a> {
     /// Behind the first word of a statement.
-    pub(crate) fn behind_first(word: &'a [u8]) -> Ahead<'a>
+    pub(crate) fn behind_first(word: &'a [u8]) -> LineProgress<'a>
         ensures { result.read ≡ first_read word.entry }
     {
-        Ahead {
+        LineProgress {
             read: first_read(word),
             items: 0,
             depth: 0,
@@ -104,10 +104,10 @@ impl<'a> Ahead<'a> {
         }
     }
 
-    fn with(self, read: Read<'a>) -> Ahead<'a>
+    fn with(self, read: Read<'a>) -> LineProgress<'a>
         ensures { result.read ≡ read.entry }
     {
-        Ahead {
+        LineProgress {
             read,
             items: self.items,
             depth: 0,
@@ -115,19 +115,25 @@ impl<'a> Ahead<'a> {
     }
 
     /// That, if it may be.
-    fn only_if(self, passes: bool, read: Read<'a>) -> Option<Ahead<'a>>
+    fn only_if(self, passes: bool, read: Read<'a>) -> Option<LineProgress<'a>>
         ensures { option_map (λ a. a.read) result ≡ only_if passes read.entry }
     {
         if passes { Some(self.with(read)) } else { None }
     }
 
     /// One item more of several, if it may be.
-    fn one_more(self, ask: Ask, most: usize, passes: bool, read: Read<'a>) -> Option<Ahead<'a>>
+    fn one_more(
+        self,
+        ask: Ask,
+        most: usize,
+        passes: bool,
+        read: Read<'a>,
+    ) -> Option<LineProgress<'a>>
         ensures { ask ≡ asked.Form → option_map (λ a. a.read) result ≡ only_if passes read.entry }
     {
         let items = self.items.saturating_add(1);
         if passes && ask.has_room(items, most) {
-            Some(Ahead {
+            Some(LineProgress {
                 read,
                 items,
                 depth: 0,
@@ -138,12 +144,12 @@ impl<'a> Ahead<'a> {
     }
 
     /// One container more, if it may be.
-    fn deeper(self, ask: Ask, passes: bool) -> Option<Ahead<'a>>
+    fn deeper(self, ask: Ask, passes: bool) -> Option<LineProgress<'a>>
         ensures { ask ≡ asked.Form → option_map (λ a. a.read) result ≡ only_if passes self.entry.read }
     {
         let depth = self.depth.saturating_add(1);
         if passes && ask.has_room(depth, 3) {
-            Some(Ahead {
+            Some(LineProgress {
                 read: self.read,
                 items: self.items,
                 depth,
@@ -160,7 +166,7 @@ impl<'a> Ahead<'a> {
         version: Version,
         word: &Word<'_>,
         whole: Read<'a>,
-    ) -> Option<Ahead<'a>>
+    ) -> Option<LineProgress<'a>>
         ensures { ask ≡ asked.Form → option_map (λ a. a.read) result ≡ behind_type version (seen word.now) self.entry.read whole.entry }
     {
         if is_scalar(word) {
@@ -178,7 +184,7 @@ impl<'a> Ahead<'a> {
         place: usize,
         form: Option<Form>,
         word: &Word<'_>,
-    ) -> Option<Ahead<'a>>
+    ) -> Option<LineProgress<'a>>
         requires read { self.read ≡ read.Operands name place }
         requires few { IfSome form (λ _. place < 4) }
         ensures { ask ≡ asked.Form → option_map (λ a. a.read) result ≡ behind_operand version name.entry place (seen word.now) form }
@@ -195,7 +201,7 @@ impl<'a> Ahead<'a> {
         }
     }
 
-    fn behind_mode(self, ask: Ask, mode: Option<Mode>) -> Option<Ahead<'a>>
+    fn behind_mode(self, ask: Ask, mode: Option<Mode>) -> Option<LineProgress<'a>>
         ensures { ask ≡ asked.Form → option_map (λ a. a.read) result ≡ behind_mode mode }
     {
         match mode {
@@ -209,7 +215,7 @@ impl<'a> Ahead<'a> {
 
     /// Behind one word more, if that may stand here.
     #[rattlefmt::skip]
-    pub(crate) fn behind(self, ask: Ask, version: Version, word: &Word<'_>) -> Option<Ahead<'a>>
+    pub(crate) fn behind(self, ask: Ask, version: Version, word: &Word<'_>) -> Option<LineProgress<'a>>
         ensures { ask ≡ asked.Form → option_map (λ a. a.read) result ≡ after version self.entry.read (seen word.now) }
     {
         match self.read {

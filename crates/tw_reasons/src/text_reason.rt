@@ -2,16 +2,16 @@
 
 ghost use Rattle.std.specs.Prelude.{◌≡◌, ◌++◌, ℕ, List, OnOk};
 ghost use Rattle.tw_asm.specs.declared.fault.FaultNo.TheVariants as fault;
-ghost use Rattle.tw_reasons.specs.Told.{AddsPast, AddsWhy, IsTextReason, due_said, found_word, said_text, whole_limit};
+ghost use Rattle.tw_reasons.specs.Diagnostics.{AddsPast, AddsWhy, IsTextReason, due_said, found_word, said_text, whole_limit};
 ghost use Rattle.tw_reasons.specs.Hints.{hint_text, word_hint};
-ghost use Rattle.tw_reasons.specs.declared.stop.Found.{Found as AFound};
+ghost use Rattle.tw_reasons.specs.declared.error_position.Token.{Token as AFound};
 
-use crate::diagnostic::{Said, put_stop, put_whole};
+use crate::diagnostic::{Diagnostic, put_stop, put_whole};
 use crate::due::{Due, limit_of};
+use crate::error_position::{first_stop, found_word, is_long_label, last_stop, line_stop};
 use crate::hints::{Hint, first_hint, word_hint};
 use crate::labels::{label_before, twin_before};
-use crate::situation::situation_before;
-use crate::stop::{first_stop, found_word, is_long_label, last_stop, line_stop};
+use crate::parser_state::situation_before;
 use crate::words::Ask;
 use std::alloc::{AllocError, Global};
 use tw_asm::{AsmFault, FaultNo};
@@ -34,16 +34,16 @@ fn put_first(
         alloc,
         out,
         &stop,
-        &Said::Expected(situation.stage.text(), None, hint),
+        &Diagnostic::Expected(situation.stage.text(), None, hint),
     )
 }
 
-fn said_of(due: Option<Due>, hint: Hint) -> Said<'static>
+fn said_of(due: Option<Due>, hint: Hint) -> Diagnostic<'static>
     ensures { (found : AFound) → hint_text hint ≡ word_hint due (found_word found) → said_text result found ≡ due_said due found }
 {
     match due {
-        Some(due) => Said::Expected(due.text(), None, hint),
-        None => Said::TooMany,
+        Some(due) => Diagnostic::Expected(due.text(), None, hint),
+        None => Diagnostic::TooMany,
     }
 }
 
@@ -76,7 +76,7 @@ fn put_unknown(alloc: Global, out: &mut Vec<u8>, line: &str) -> Result<(), Alloc
             alloc,
             out,
             &stop,
-            &Said::Expected("a label of this procedure", None, Hint::Nothing),
+            &Diagnostic::Expected("a label of this procedure", None, Hint::Nothing),
         ),
         None => Ok(()),
     }
@@ -98,7 +98,7 @@ fn put_twice(
         alloc,
         out,
         &stop,
-        &Said::Expected("a new label", at, Hint::Nothing),
+        &Diagnostic::Expected("a new label", at, Hint::Nothing),
     )
 }
 
@@ -119,7 +119,7 @@ fn put_backward(
                 alloc,
                 out,
                 &stop,
-                &Said::Expected("a label behind this line", at, Hint::Nothing),
+                &Diagnostic::Expected("a label behind this line", at, Hint::Nothing),
             )
         }
         None => Ok(()),
@@ -152,7 +152,7 @@ fn put_limit(
 {
     let situation = situation_before(alloc, text, number)?;
     match line_stop(alloc, Ask::Limits, situation.version, line)? {
-        Some(stop) => put_stop(alloc, out, &stop, &Said::Limit(limit_of(stop.due))),
+        Some(stop) => put_stop(alloc, out, &stop, &Diagnostic::Limit(limit_of(stop.due))),
         None => put_whole(out, whole_limit(first)),
     }
 }
@@ -169,7 +169,7 @@ fn put_past(
 {
     let first = first_stop(alloc, line)?;
     if is_long_label(found_word(&first.found)) {
-        put_stop(alloc, out, &first, &Said::Limit("64 bytes"))
+        put_stop(alloc, out, &first, &Diagnostic::Limit("64 bytes"))
     } else {
         put_limit(alloc, out, text, number, line, found_word(&first.found))
     }

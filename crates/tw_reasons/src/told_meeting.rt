@@ -4,8 +4,8 @@ ghost use Rattle.std.specs.Prelude.{◌≡◌, ◌++◌, OnOk};
 ghost use Rattle.tw_asm.specs.Origins.{at_place};
 ghost use Rattle.tw_reasons.specs.Reasons.{changed_line, holding_text, meeting_line, place_text, side_text};
 
-use crate::asked::{Held, put_held};
 use crate::meeting::{Difference, Meeting};
+use crate::register_check::{RegisterState, put_held};
 use crate::rights::put_right;
 use std::alloc::{AllocError, Global};
 use tw_asm::LineNumbers;
@@ -93,7 +93,12 @@ pub(crate) fn put_changed(
 ) -> Result<(), AllocError>
     ensures { OnOk result (out.new.items ≡ out.old.items ++ changed_line found.now) }
 {
-    put_held(alloc, out, found.register, Held::Right(found.first))?;
+    put_held(
+        alloc,
+        out,
+        found.register,
+        RegisterState::Right(found.first),
+    )?;
     put(out, ", asked: ")?;
     put_holding(out, found.second)?;
     put(out, ", as where the loop begins\n")

@@ -1,15 +1,15 @@
 -- A text's own lines in a listing, one line more.
 use Rattle.std.proofs.Common.{◌≡◌, ◌<◌, ◌≤◌, ◌+◌, ◌⊎◌, inl, inr, ℕ, suc, List, [], ◌∷◌, ◌++◌, length, get_or, map, Option, refl, sym, ap, subst, ◌∙◌, append_assoc, arith}
 use Rattle.std.proofs.lemmas.Bool.{cases_lt}
-use Rattle.tw_replies.proofs.ReplyNames.{IsSource, LineSays, LinesSay, Procedure, Situation, Typing, after_line, append-nil, at_start, counts_of, get_or_append_left, length-append, lines, plain_of, said_line, said_lines, situation, situation_from, slice_get_within, typings_in, zip}
+use Rattle.tw_replies.proofs.ReplyNames.{IsSource, LineSays, LinesSay, Procedure, ParserState, Typing, after_line, append-nil, at_start, counts_of, get_or_append_left, length-append, lines, plain_of, said_line, said_lines, situation, situation_from, slice_get_within, typings_in, zip}
 use Rattle.std.proofs.Math.Seq.{get_or-append_seam}
 use denote.Ref.{Bor}
 use Rattle.tw_asm.specs.Statement.{Statement}
 use Rattle.tw_code.specs.accepting.WellTyped.{IsWellTyped}
 use Rattle.tw_code.specs.machine.Holders.{Typings}
 use Rattle.tw_no_trap.specs.NoTrap.{AreRight}
-use Rattle.tw_reasons.specs.Says.{says_of}
-use Rattle.tw_reasons.specs.declared.situation.Says.{Says}
+use Rattle.tw_reasons.specs.LineRole.{says_of}
+use Rattle.tw_reasons.specs.declared.parser_state.LineRole.{LineRole}
 use Rattle.tw_reasons.proofs.Saying.{split_last}
 use Rattle.tw_replies.specs.declared.source.SourceText.{SourceText}
 use Rattle.tw_replies.specs.declared.text_listing.Counts.{Counts}
@@ -17,7 +17,7 @@ use Rattle.tw_replies.proofs.Places.{main_there}
 use Rattle.tw_replies.proofs.Sources.{said_length, some_origin}
 
 -- what lines say, and one line more
-said_more : (typings : Typings) (number : ℕ) (s : Situation) (ls : List (List ℕ)) (line : List ℕ) (before : List (Option Statement)) (x : Option Statement) → length before ≡ length ls
+said_more : (typings : Typings) (number : ℕ) (s : ParserState) (ls : List (List ℕ)) (line : List ℕ) (before : List (Option Statement)) (x : Option Statement) → length before ≡ length ls
     → said_lines typings number s (ls ++ line ∷ []) (before ++ x ∷ []) ≡ said_lines typings number s ls before ++ said_line typings (situation_from number s before) line (says_of x)
 said_more typings number s [] line [] x e = append-nil (said_line typings s line (says_of x))
 said_more typings number s [] line (y ∷ before) x e = absurd (omega (arith, e))
@@ -36,10 +36,10 @@ pub none_listed_yet : (typings : Typings) (counts : Counts) (out : List ℕ) →
 none_listed_yet typings counts out is none [] h = (is, none)
 none_listed_yet typings counts out is none (x ∷ said) h = absurd h
 
-pub line_listed : (typings : Typings) (ls owns : List (List ℕ)) (line own : List ℕ) (counts next : Counts) (out new : List ℕ) (told : Says) → length owns ≡ length ls → AreLinesListed typings ls owns counts out
-    → ((s : Situation) (said : Option Statement) → LineSays s own said → told ≡ says_of said)
-    → ((s : Situation) → counts ≡ counts_of s → new ≡ out ++ said_line typings s line told)
-    → ((number : ℕ) (s : Situation) (l : List ℕ) (said : Option Statement) → counts ≡ counts_of s → LineSays s l said → told ≡ says_of said → next ≡ counts_of (after_line number said s))
+pub line_listed : (typings : Typings) (ls owns : List (List ℕ)) (line own : List ℕ) (counts next : Counts) (out new : List ℕ) (told : LineRole) → length owns ≡ length ls → AreLinesListed typings ls owns counts out
+    → ((s : ParserState) (said : Option Statement) → LineSays s own said → told ≡ says_of said)
+    → ((s : ParserState) → counts ≡ counts_of s → new ≡ out ++ said_line typings s line told)
+    → ((number : ℕ) (s : ParserState) (l : List ℕ) (said : Option Statement) → counts ≡ counts_of s → LineSays s l said → told ≡ says_of said → next ≡ counts_of (after_line number said s))
     → AreLinesListed typings (ls ++ line ∷ []) (owns ++ own ∷ []) next new
 line_listed typings ls owns line own counts next out new told same before tells puts counts_on said say =
     let split = split_last 1 at_start owns own said say in
@@ -49,7 +49,7 @@ line_listed typings ls owns line own counts next out new told same before tells 
       counts_on (1 + length split.before) s own split.last here.0 split.says what ∙ ap counts_of (sym split.leads),
       puts s here.0
           ∙ ap (λ (t : List ℕ). t ++ said_line typings s line told) here.1
-          ∙ ap (λ (w : Says). said_lines typings 1 at_start ls split.before ++ said_line typings s line w) what
+          ∙ ap (λ (w : LineRole). said_lines typings 1 at_start ls split.before ++ said_line typings s line w) what
           ∙ sym (said_more typings 1 at_start ls line split.before split.last (said_length 1 at_start owns split.before split.say ∙ same))
           ∙ ap (said_lines typings 1 at_start (ls ++ line ∷ [])) (sym split.is),
     )

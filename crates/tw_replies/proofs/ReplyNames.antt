@@ -13,7 +13,7 @@ pub use Rattle.tw_replies.specs.declared.close.Close.TheVariants.{Refused, Succe
 pub use Rattle.tw_replies.specs.declared.inputs.Section.TheVariants.{Inputs, Program, Rest}
 pub use Rattle.tw_replies.specs.declared.program.NoProgram.{NoProgram}
 pub use Rattle.tw_replies.specs.declared.reply.Reply.{Reply}
-pub use Rattle.tw_asm.specs.Fault.{LineSays, LinesSay, Situation, after_line, at_start, situation, situation_from}
+pub use Rattle.tw_asm.specs.Fault.{LineSays, LinesSay, ParserState, after_line, at_start, situation, situation_from}
 pub use Rattle.tw_asm.specs.Origins.{AreOrigins, ComesFrom, at_place, instr_at}
 pub use Rattle.tw_names.specs.Standing.{HasNames, IsFirstRefusal, StandsFor}
 pub use Rattle.tw_replies.specs.Listed.{counts_of, typings_in}

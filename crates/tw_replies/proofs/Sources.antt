@@ -1,16 +1,16 @@
 -- Which line of a text is told.
 use Rattle.std.proofs.Common.{◌≡◌, ℕ, zero, suc, ◌+◌, ◌-◌, ◌<◌, List, [], ◌∷◌, length, Option, Some, None, MatchOption, refl, subst, ap, ◌∙◌, arith}
-use Rattle.tw_replies.proofs.ReplyNames.{AreOrigins, ComesFrom, IsPlaceBehind, IsTextBehind, LinesSay, Procedure, Situation, StandsFor, after_line, at_place, at_start, instr_at, length-append, lines}
+use Rattle.tw_replies.proofs.ReplyNames.{AreOrigins, ComesFrom, IsPlaceBehind, IsTextBehind, LinesSay, Procedure, ParserState, StandsFor, after_line, at_place, at_start, instr_at, length-append, lines}
 use Rattle.std.specs.List.{slice_get}
 use Rattle.tw_asm.specs.Statement.{Statement, Code, Head}
 use Rattle.tw_reasons.proofs.Heads.{front_no_procedure}
-use Rattle.tw_reasons.specs.Says.{HasNoHead, IsFirstHead}
+use Rattle.tw_reasons.specs.LineRole.{HasNoHead, IsFirstHead}
 use Rattle.tw_names.proofs.LineByLine.{as_many}
 use Rattle.tw_verify.specs.declared.refusal.VerifyRefusal.{VerifyRefusal}
 use Rattle.tw_verify.specs.declared.refusal.VerifyRefusal.TheVariants as refusal
 
 -- lines that say so many things are so many
-pub said_length : (number : ℕ) (s : Situation) (ls : List (List ℕ)) (said : List (Option Statement)) → LinesSay number s ls said → length said ≡ length ls
+pub said_length : (number : ℕ) (s : ParserState) (ls : List (List ℕ)) (said : List (Option Statement)) → LinesSay number s ls said → length said ≡ length ls
 said_length number s [] [] h = refl
 said_length number s [] (x ∷ said) h = absurd h
 said_length number s (line ∷ ls) [] h = absurd h

@@ -7,12 +7,12 @@ use Rattle.tw_code.specs.format.Program.{Versioned}
 use Rattle.tw_code.specs.machine.Holders.{Typings}
 use Rattle.tw_code.specs.machine.Rights.{RightType, Typing, right_at}
 use Rattle.std.specs.Str.Lines.{lines}
-use Rattle.tw_asm.specs.Fault.{LinesSay, Situation, after_line, at_start}
+use Rattle.tw_asm.specs.Fault.{LinesSay, ParserState, after_line, at_start}
 use Rattle.tw_asm.specs.Statement.{Statement}
 use Rattle.tw_names.specs.Standing.{StandsFor}
-use Rattle.tw_reasons.specs.Says.{says_of}
-use Rattle.tw_reasons.specs.declared.situation.Says.{Says}
-use Rattle.tw_reasons.specs.declared.situation.Says.TheVariants as says
+use Rattle.tw_reasons.specs.LineRole.{says_of}
+use Rattle.tw_reasons.specs.declared.parser_state.LineRole.{LineRole}
+use Rattle.tw_reasons.specs.declared.parser_state.LineRole.TheVariants as says
 use Rattle.tw_no_trap.specs.NoTrap.{AreRight}
 use Rattle.tw_asm.specs.Disassembly.{disassembly, label_at, label_line, label_places}
 use Rattle.tw_asm.specs.Listing.{head_lines, instr_text, right_text}
@@ -87,13 +87,13 @@ disassembled Shown program = listing_from no_typings 0 program.procedures
 
 -- a line by what it says, in its situation: an instruction with its place and what the right registers hold there, and behind the
 -- number of a procedure its first line
-abbrev pub said_line : Typings → Situation → List ℕ → Says → List ℕ
+abbrev pub said_line : Typings → ParserState → List ℕ → LineRole → List ℕ
 said_line typings s line says.Head = (codes "procedure " ++ decimal s.procedures) ++ (codes "\n" ++ (line ++ codes "\n"))
 said_line typings s line says.Code = place_column s.instructions ++ (beside line (rights_text (slice_get (typings (s.procedures - 1)) s.instructions)) ++ codes "\n")
 said_line typings s line other = line ++ codes "\n"
 
 -- the lines from this number on, which say this
-abbrev pub said_lines : Typings → ℕ → Situation → List (List ℕ) → List (Option Statement) → List ℕ
+abbrev pub said_lines : Typings → ℕ → ParserState → List (List ℕ) → List (Option Statement) → List ℕ
 said_lines typings number s [] said = []
 said_lines typings number s (line ∷ ls) [] = []
 said_lines typings number s (line ∷ ls) (x ∷ said) = said_line typings s line (says_of x) ++ said_lines typings (number + 1) (after_line number x s) ls said

@@ -12,7 +12,7 @@ use Rattle.tw_names.specs.declared.meaning.Thing.{Thing}
 use Rattle.tw_names.specs.declared.meaning.Thing.TheVariants as thing
 use Rattle.tw_names.specs.declared.refusal.NameNo.{NameNo}
 use Rattle.tw_names.specs.declared.refusal.NameNo.TheVariants as no
-use Rattle.tw_reasons.specs.Told.{IsTextReason}
+use Rattle.tw_reasons.specs.Diagnostics.{IsTextReason}
 use Rattle.tw_words.specs.Shown.{shortened}
 use Rattle.tw_replies.specs.Reply.{Reply, reply}
 use Rattle.tw_replies.specs.Text.{RepliesByUtf8}

@@ -8,7 +8,7 @@ use Rattle.tw_names.specs.Registers.{IsWithName}
 use Rattle.tw_names.specs.Symbols.{AreNames, name_at}
 use Rattle.tw_names.specs.Standing.{StandsFor}
 use Rattle.tw_reasons.specs.Reasons.{TellsReason, shape_line}
-use Rattle.tw_reasons.specs.Says.{IsFirstHead}
+use Rattle.tw_reasons.specs.LineRole.{IsFirstHead}
 use Rattle.tw_words.specs.Shown.{shortened}
 use Rattle.tw_verify.specs.declared.refusal.VerifyRefusal.{VerifyRefusal}
 use Rattle.tw_verify.specs.declared.refusal.VerifyRefusal.TheVariants as refusal

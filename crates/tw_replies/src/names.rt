@@ -2,7 +2,7 @@
 
 ghost use Rattle.std.specs.Prelude.{◌≡◌, ◌++◌, ◌-◌, ℕ, List, IfOk, OnOk, codes, decimal, option_map, slice_get};
 ghost use Rattle.std.specs.Str.Lines.{lines};
-ghost use Rattle.tw_reasons.specs.Told.{IsTextReason};
+ghost use Rattle.tw_reasons.specs.Diagnostics.{IsTextReason};
 ghost use Rattle.tw_names.specs.Answers.{told};
 ghost use Rattle.tw_names.specs.Standing.{IsFirstRefusal, StandsFor};
 ghost use Rattle.tw_replies.specs.Names.{IsFaultBehind, RepliesByPlain, asked_words, fixed_reason, is_same_line, kind_reason, line_text, name_behind, name_line, name_reason, thing_words, written_text};

@@ -9,7 +9,7 @@ ghost use Rattle.tw_names.specs.Registers.{IsWithName};
 ghost use Rattle.tw_names.specs.Standing.{StandsFor};
 ghost use Rattle.tw_names.specs.Symbols.{AreSymbols};
 ghost use Rattle.tw_reasons.specs.Reasons.{TellsReason, shape_line};
-ghost use Rattle.tw_reasons.specs.Says.{IsFirstHead};
+ghost use Rattle.tw_reasons.specs.LineRole.{IsFirstHead};
 ghost use Rattle.tw_replies.specs.Text.{IsBehind, IsLineOf, IsMainBehind, IsPlaceBehind, IsTextBehind, in_name, line_in_text, text_line};
 
 use crate::text_lines::TextLines;

@@ -2,9 +2,9 @@
 
 ghost use Rattle.std.specs.Prelude.{◌≡◌, ◌<◌, ◌++◌, ◌-◌, ℕ, List, [], Option, Some, IfOk, OnOk, codes, decimal, get_or, length, slice_get};
 ghost use Rattle.std.specs.Str.Lines.{lines};
-ghost use Rattle.tw_asm.specs.Fault.{LineSays, LinesSay, Situation, after_line, at_start};
+ghost use Rattle.tw_asm.specs.Fault.{LineSays, LinesSay, ParserState, after_line, at_start};
 ghost use Rattle.tw_asm.specs.Statement.{Statement};
-ghost use Rattle.tw_reasons.specs.Says.{says_of};
+ghost use Rattle.tw_reasons.specs.LineRole.{says_of};
 ghost use Rattle.tw_replies.specs.Listed.{counts_of, typings_in};
 ghost use Rattle.tw_replies.specs.Listing.{IsListing, IsRefusedListing, beside, place_column, rights_text, said_line, said_lines};
 ghost use Rattle.tw_replies.specs.Source.{IsSource};
@@ -15,7 +15,7 @@ ghost use Rattle.tw_verify.specs.Typed.{typings_of};
 use crate::listing::{put_beside, put_place, rights_at};
 use crate::source::SourceText;
 use std::alloc::{AllocError, Global};
-use tw_reasons::{Says, line_role};
+use tw_reasons::{LineRole, line_role};
 use tw_types::Items;
 use tw_verify::{Refused, Typing, Verified};
 use tw_words::{put, put_numbered};
@@ -29,20 +29,21 @@ struct Counts {
 
 impl Counts {
     /// Those behind a line that says this. No text that spells a program has so many that they stop.
-    fn behind(self, says: Says) -> Counts
-        ensures { (number : ℕ) (s : Situation) (line : List ℕ) (said : Option Statement) → self ≡ counts_of s → LineSays s line said → says ≡ says_of said
+    fn behind(self, says: LineRole) -> Counts
+        ensures { (number : ℕ) (s : ParserState) (line : List ℕ) (said : Option Statement) → self ≡ counts_of s → LineSays s line said → says ≡ says_of said
             → result ≡ counts_of (after_line number said s) }
     {
         match says {
-            Says::Head => Counts {
+            LineRole::Head => Counts {
                 procedures: self.procedures.saturating_add(1),
                 instructions: 0,
             },
-            Says::Code => Counts {
+            LineRole::Code => Counts {
                 procedures: self.procedures,
                 instructions: self.instructions.saturating_add(1),
             },
-            Says::Nothing | Says::Version(_) | Says::Registers | Says::Label => self,
+            LineRole::Nothing | LineRole::Version(_) | LineRole::Registers | LineRole::Label =>
+                self,
         }
     }
 }
@@ -96,17 +97,18 @@ fn put_said_line(
     all: &[Items<Typing>],
     counts: Counts,
     line: &str,
-    says: Says,
+    says: LineRole,
 ) -> Result<(), AllocError>
-    ensures { OnOk result ((s : Situation) → counts ≡ counts_of s → out.new.items ≡ out.old.items ++ said_line (typings_in all.now) s line.now says) }
+    ensures { OnOk result ((s : ParserState) → counts ≡ counts_of s → out.new.items ≡ out.old.items ++ said_line (typings_in all.now) s line.now says) }
 {
     match says {
-        Says::Head => put_head(alloc, out, counts.procedures, line),
-        Says::Code => {
+        LineRole::Head => put_head(alloc, out, counts.procedures, line),
+        LineRole::Code => {
             let typings = typings_at(all, counts.procedures.saturating_sub(1));
             put_code(alloc, out, counts.instructions, line, typings)
         }
-        Says::Nothing | Says::Version(_) | Says::Registers | Says::Label => put_line(out, line),
+        LineRole::Nothing | LineRole::Version(_) | LineRole::Registers | LineRole::Label =>
+            put_line(out, line),
     }
 }
 

@@ -22,7 +22,7 @@ use Rattle.tw_asm.specs.declared.reading.Reading as readings
 use Rattle.tw_asm.specs.declared.reading.Section as sections
 use Rattle.tw_asm.specs.declared.reading.Stage as stages
 use Rattle.tw_asm.specs.declared.reading.Stage.TheVariants as stage
-use Rattle.tw_asm.specs.Fault.{Stage, Start, AfterVersion, AfterHead, InBody, Situation, MayBegin, MayStand, LineFault, IsEndFault, IsLineFault, IsUnfinished, IsWhole}
+use Rattle.tw_asm.specs.Fault.{Stage, Start, AfterVersion, AfterHead, InBody, ParserState, MayBegin, MayStand, LineFault, IsEndFault, IsLineFault, IsUnfinished, IsWhole}
 use Rattle.tw_asm.specs.Spelling.{Placed}
 use Rattle.tw_asm.specs.reading.Expected.{expectation}
 
@@ -101,7 +101,7 @@ drafts_at BehindVersion = []
 drafts_at (BehindHead kind params) = []
 drafts_at (Within section) = section.drafts
 
-abbrev pub situation_of : Progress → Situation
+abbrev pub situation_of : Progress → ParserState
 situation_of p = record { version = p.version; stage = stage_of p.place; procedures = length p.sections + begun p.place; head_line = p.head_line; labels = map (λ label. label.name) (labels_at p.place); instructions = length (drafts_at p.place) }
 
 -- ---- steps
@@ -160,7 +160,7 @@ IsGoalOf (Registers registers) goal = goal ≡ None
 IsGoalOf (Label name) goal = goal ≡ None
 IsGoalOf (Code i) goal = Unit {0}
 
-abbrev pub LineRead : Situation → List ℕ → Option Read → Type 0
+abbrev pub LineRead : ParserState → List ℕ → Option Read → Type 0
 LineRead s line None = IsLine [] line
 LineRead s line (Some read) = ((words : List Word) × IsLine words line × IsRead s.version read words) × MayStand read.statement s × IsGoalOf read.statement read.goal
 

@@ -5,7 +5,7 @@ use Rattle.tw_replies.specs.Reply.{reply}
 use Rattle.tw_session.specs.Session.{AnswersWords}
 use Rattle.tw_replies.specs.declared.close.Close.TheVariants.{CommandLine}
 use Rattle.tw_session.specs.declared.status.Status.TheVariants.{Ended}
-use Rattle.tw_calls.specs.Told.{Answers, arguments_in}
+use Rattle.tw_calls.specs.SessionAnswers.{Answers, arguments_in}
 use Rattle.tw_calls.proofs.sessions.session.Goals as goal
 
 pub returns-in_default : goal.returns-in_default

@@ -1,5 +1,5 @@
 use Rattle.std.proofs.Common.{◌≡◌, length}
-use Rattle.tw_reasons.specs.Told.{has_part}
+use Rattle.tw_reasons.specs.Diagnostics.{has_part}
 use Rattle.tw_reasons.proofs.diagnostic.has_part.Given as goal
 
 abbrev pub invariant-bytes : goal.invariant-bytes

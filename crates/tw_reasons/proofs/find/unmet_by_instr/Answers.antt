@@ -1,5 +1,5 @@
 use Rattle.std.proofs.Common.{sym, ap, ◌∙◌}
-use Rattle.tw_reasons.specs.Asked.{checks_instr, first_unmet}
+use Rattle.tw_reasons.specs.RegisterCheck.{checks_instr, first_unmet}
 use Rattle.tw_reasons.proofs.find.unmet_by_instr.Goals as goal
 
 pub returns-in-Ret : goal.returns-in-Ret

@@ -1,6 +1,6 @@
 use Rattle.std.proofs.Common.{[], OnOk, inl, refl, subst, sym}
 use Rattle.tw_asm.specs.declared.fault.FaultNo.{FaultNo}
-use Rattle.tw_reasons.specs.Told.{AddsWhy}
+use Rattle.tw_reasons.specs.Diagnostics.{AddsWhy}
 use Rattle.tw_reasons.proofs.ReasonNames.{append-nil}
 use Rattle.tw_reasons.proofs.Reasoning.{on_ok}
 use Rattle.tw_reasons.proofs.text_reason.put_line_reason.Goals as goal

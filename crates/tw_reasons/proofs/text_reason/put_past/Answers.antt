@@ -1,6 +1,6 @@
 use Rattle.std.proofs.Common.{ℕ, List, ap, codes, refl, subst, sym, ◌∙◌}
 use Rattle.tw_words.specs.Names.{before_colon}
-use Rattle.tw_reasons.specs.Told.{AddsPast, is_long_label}
+use Rattle.tw_reasons.specs.Diagnostics.{AddsPast, is_long_label}
 use Rattle.tw_reasons.proofs.Reasoning.{on_ok}
 use Rattle.tw_reasons.proofs.Whys.{literal, long_why, past_why}
 use Rattle.tw_reasons.proofs.text_reason.put_past.Goals as goal
