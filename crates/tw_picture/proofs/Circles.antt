@@ -21,7 +21,7 @@ abbrev Leads : List Link → ℕ → Type 0
 Leads [] at = Unit {0}
 Leads (l ∷ links) at = nexts (l ∷ links) ≡ rules_of links ++ at ∷ []
 
-leads_on : (trail : List Link) (s : Link) (at to : ℕ) → Leads trail at → s.rule ≡ at → s.next ≡ to → Leads (trail ++ s ∷ []) to
+leads_on : (timeline_builder : List Link) (s : Link) (at to : ℕ) → Leads timeline_builder at → s.rule ≡ at → s.next ≡ to → Leads (timeline_builder ++ s ∷ []) to
 leads_on [] s at to h from next = ap (λ (n : ℕ). n ∷ []) next
 leads_on (l ∷ links) s at to h from next =
     map-append (λ (m : Link). m.next) (l ∷ links) (s ∷ [])
@@ -32,12 +32,12 @@ leads_behind : (l : Link) (links : List Link) (at : ℕ) → Leads (l ∷ links)
 leads_behind l [] at h = tt
 leads_behind l (m ∷ links) at h = cc
 
-round_since : (rule : ℕ) (trail : List Link) → Leads trail rule → IsRound (since rule trail)
+round_since : (rule : ℕ) (timeline_builder : List Link) → Leads timeline_builder rule → IsRound (since rule timeline_builder)
 round_since rule [] h = tt
-round_since rule (l ∷ trail) h = by (l.rule == rule) refl (round_since rule trail (leads_behind l trail rule h))
+round_since rule (l ∷ timeline_builder) h = by (l.rule == rule) refl (round_since rule timeline_builder (leads_behind l timeline_builder rule h))
   where
-    by : (b : Bool) → (l.rule == rule) ≡ b → IsRound (since rule trail) → IsRound (if b then l ∷ trail else since rule trail)
-    by true here later = h ∙ ap (λ (n : ℕ). rules_of trail ++ n ∷ []) (sym (eqb-true l.rule rule here))
+    by : (b : Bool) → (l.rule == rule) ≡ b → IsRound (since rule timeline_builder) → IsRound (if b then l ∷ timeline_builder else since rule timeline_builder)
+    by true here later = h ∙ ap (λ (n : ℕ). rules_of timeline_builder ++ n ∷ []) (sym (eqb-true l.rule rule here))
     by false other later = later
 
 abbrev RoundIn : Option (List Link) → Type 0
@@ -58,20 +58,20 @@ stepped rules at s e = by (slice_get at.waits 0) refl
             let same : s ≡ (record { rule = at.number; datum = datum; next = next.number }, next) = cc in
             (ap (λ (x : Link × Pending). x.0.rule) same, ap (λ (x : Link × Pending). x.0.next) same ∙ sym (ap (λ (x : Link × Pending). x.1.number) same))
 
-walk_round : (steps : ℕ) (rules : List Pending) (trail : List Link) (at : Pending) → Leads trail at.number → RoundIn (walk steps rules trail at)
-walk_round zero rules trail at h = by (is_met at.number trail)
+walk_round : (steps : ℕ) (rules : List Pending) (timeline_builder : List Link) (at : Pending) → Leads timeline_builder at.number → RoundIn (walk steps rules timeline_builder at)
+walk_round zero rules timeline_builder at h = by (is_met at.number timeline_builder)
   where
-    by : (b : Bool) → RoundIn (if b then Some (since at.number trail) else None)
-    by true = round_since at.number trail h
+    by : (b : Bool) → RoundIn (if b then Some (since at.number timeline_builder) else None)
+    by true = round_since at.number timeline_builder h
     by false = tt
-walk_round (suc steps) rules trail at h = by (is_met at.number trail) (λ s e. let from = stepped rules at s e in walk_round steps rules (trail ++ s.0 ∷ []) s.1 (leads_on trail s.0 at.number s.1.number h from.0 from.1))
+walk_round (suc steps) rules timeline_builder at h = by (is_met at.number timeline_builder) (λ s e. let from = stepped rules at s e in walk_round steps rules (timeline_builder ++ s.0 ∷ []) s.1 (leads_on timeline_builder s.0 at.number s.1.number h from.0 from.1))
   where
-    by : (b : Bool) → ((s : Link × Pending) → step_from rules at ≡ Some s → RoundIn (walk steps rules (trail ++ s.0 ∷ []) s.1))
-        → RoundIn (if b then Some (since at.number trail) else option_and_then (λ (s : Link × Pending). walk steps rules (trail ++ s.0 ∷ []) s.1) (step_from rules at))
-    by true later = round_since at.number trail h
+    by : (b : Bool) → ((s : Link × Pending) → step_from rules at ≡ Some s → RoundIn (walk steps rules (timeline_builder ++ s.0 ∷ []) s.1))
+        → RoundIn (if b then Some (since at.number timeline_builder) else option_and_then (λ (s : Link × Pending). walk steps rules (timeline_builder ++ s.0 ∷ []) s.1) (step_from rules at))
+    by true later = round_since at.number timeline_builder h
     by false later = on (step_from rules at) refl
       where
-        on : (o : Option (Link × Pending)) → step_from rules at ≡ o → RoundIn (option_and_then (λ (s : Link × Pending). walk steps rules (trail ++ s.0 ∷ []) s.1) o)
+        on : (o : Option (Link × Pending)) → step_from rules at ≡ o → RoundIn (option_and_then (λ (s : Link × Pending). walk steps rules (timeline_builder ++ s.0 ∷ []) s.1) o)
         on None e = tt
         on (Some s) e = later s e
 

@@ -30,7 +30,7 @@ use Rattle.tw_machine.proofs.Moments.{moments_more}
 use Rattle.tw_picture.specs.declared.drawing.Bar.{Bar}
 use Rattle.tw_picture.specs.declared.drawing.Mark.{Mark}
 use Rattle.tw_picture.specs.declared.drawing.Place.{Place}
-use Rattle.tw_picture.specs.declared.trail.Trail.{Trail}
+use Rattle.tw_picture.specs.declared.timeline_builder.TimelineBuilder.{TimelineBuilder}
 use Rattle.tw_picture.specs.History.{HasEarlier, IsOpening, IsTrail, begun, begun_at, in_order, made, maker, numbered}
 
 pub numbered_more : (number : ℕ) (events : List Event) (event : Event) → numbered number (events ++ event ∷ []) ≡ numbered number events ++ record { number = number + length events; event = event } ∷ []
@@ -46,7 +46,7 @@ length-numbered number [] = refl
 length-numbered number (e ∷ events) = ap suc (length-numbered (suc number) events)
 
 -- how many events there are
-pub trail_length : (first : PlainView) (events : List Event) (s : State) (t : Trail) → IsTrail first events s t → length t.marks.items ≡ length events
+pub trail_length : (first : PlainView) (events : List Event) (s : State) (t : TimelineBuilder) → IsTrail first events s t → length t.marks.items ≡ length events
 trail_length first events s t h = ap length h.marks ∙ length-numbered 1 events
 
 -- ---- circles
@@ -189,7 +189,7 @@ maker_kept old new p q b here same is = is ∙ ap (λ (x : Place). old ++ x ∷ 
 pub maker_left : (old : List Place) (q : Place) (b : Bool) → false ≡ b → old ≡ old ++ (if b then q ∷ [] else [])
 maker_left old q b here = sym (append-nil old) ∙ ap (λ (t : Bool). old ++ (if t then q ∷ [] else [])) here
 
-pub trail_opening : (first : PlainView) (t : Trail) → IsOpening first.state → t.marks.items ≡ [] → t.bars.items ≡ [] → t.makers.items ≡ [] → IsTrail first [] first.state t
+pub trail_opening : (first : PlainView) (t : TimelineBuilder) → IsOpening first.state → t.marks.items ≡ [] → t.bars.items ≡ [] → t.makers.items ≡ [] → IsTrail first [] first.state t
 unfolding run
 trail_opening first t opens marks bars makers = record {
   reached = refl;
@@ -200,7 +200,7 @@ trail_opening first t opens marks bars makers = record {
   next = ap (λ (ps : List Place). length ps + 2) makers ∙ sym opens.next;
 }
 
-pub trail_more : (first : PlainView) (events : List Event) (event : Event) (s t : State) (number : ℕ) (old new : Trail) → IsTrail first events s old → step first.program first.layout event s ≡ Went t → number ≡ length old.marks.items + 1
+pub trail_more : (first : PlainView) (events : List Event) (event : Event) (s t : State) (number : ℕ) (old new : TimelineBuilder) → IsTrail first events s old → step first.program first.layout event s ≡ Went t → number ≡ length old.marks.items + 1
     → new.marks.items ≡ old.marks.items ++ record { number = number; event = event } ∷ [] → new.bars.items ≡ old.bars.items ++ begun_at number event t
     → new.makers.items ≡ old.makers.items ++ (if is_some (get t.tasks (length old.makers.items + 2)) then record { actor = actor_of event; number = number } ∷ [] else [])
     → IsTrail first (events ++ event ∷ []) t new

@@ -25,7 +25,7 @@ use Rattle.tw_picture.specs.declared.drawing.Mark.{Mark}
 use Rattle.tw_picture.specs.declared.drawing.Place.{Place}
 use Rattle.tw_picture.specs.declared.drawing.Thread.{Thread}
 use Rattle.tw_picture.specs.declared.drawing.Wait.{Wait}
-use Rattle.tw_picture.specs.declared.trail.Trail.{Trail}
+use Rattle.tw_picture.specs.declared.timeline_builder.TimelineBuilder.{TimelineBuilder}
 
 -- ---- events
 
@@ -136,7 +136,7 @@ in_order number [] = []
 in_order number (place ∷ places) = (number, place) ∷ in_order (suc number) places
 
 -- of events that lead to a state, a mark for each, a bar without its end for each Take, and where each task from the second on was made
-pub record IsTrail (first : PlainView) (events : List Event) (s : State) (t : Trail) : Type 0 where
+pub record IsTrail (first : PlainView) (events : List Event) (s : State) (t : TimelineBuilder) : Type 0 where
   pub reached : run first.program first.layout events first.state ≡ Went s
   pub earlier : HasEarlier s
   pub marks : t.marks.items ≡ numbered 1 events
@@ -145,5 +145,5 @@ pub record IsTrail (first : PlainView) (events : List Event) (s : State) (t : Tr
   pub next : length t.makers.items + 2 ≡ s.next_task
 
 -- so few that their numbers fit
-abbrev pub HasFew : Trail → Type 0
+abbrev pub HasFew : TimelineBuilder → Type 0
 HasFew t = length t.marks.items < 2 ^ 31

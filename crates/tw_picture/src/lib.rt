@@ -15,9 +15,9 @@ mod marks;
 mod page;
 mod places;
 mod threads;
-mod trail;
+mod timeline_builder;
 
 pub use drawing::{Bar, Drawing, Mark, Place, Thread, Wait};
 pub use page::picture;
 pub use places::Settings;
-pub use trail::Trail;
+pub use timeline_builder::TimelineBuilder;

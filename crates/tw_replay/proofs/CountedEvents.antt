@@ -8,14 +8,14 @@ use Rattle.tw_code.specs.accepting.Flow.{flows}
 use Rattle.tw_code.specs.accepting.Walk.{IsBudget}
 use Rattle.tw_code.specs.machine.History.{if_went}
 use Rattle.tw_machine.specs.Moments.{Moment, history, moments}
-use Rattle.tw_stats.specs.declared.coming.Coming.{Coming}
-use Rattle.tw_stats.specs.declared.tally.Tally.{Tally}
+use Rattle.tw_stats.specs.declared.pre_state.PreState.{PreState}
+use Rattle.tw_stats.specs.declared.stats_builder.StatsBuilder.{StatsBuilder}
 use Rattle.tw_stats.specs.Waits.{steps_in}
 use Rattle.tw_replay.proofs.Making.{one_taken}
 
 -- ---- one event more
 
-pub tally_on : (first : PlainView) (events : List Event) (i : ℕ) (event : Event) (s : State) (t : Tally) → i < length events → event ≡ get_or events i event → IsTally first (take i events ++ event ∷ []) s t → IsTally first (take (i + 1) events) s t
+pub tally_on : (first : PlainView) (events : List Event) (i : ℕ) (event : Event) (s : State) (t : StatsBuilder) → i < length events → event ≡ get_or events i event → IsTally first (take i events ++ event ∷ []) s t → IsTally first (take (i + 1) events) s t
 tally_on first events i event s t inside is h = subst (λ (es : List Event). IsTally first es s t) (sym (one_taken events i event inside is)) h
 
 -- no more moments than events, and no more steps than these may do
@@ -56,10 +56,10 @@ pub small_on : (first : PlainView) (events : List Event) (i : ℕ) (event : Even
 small_on first events i event inside is all short = subst (λ (es : List Event). IsSmall (history first es)) (one_taken events i event inside is) (small_taken first events (i + 1) all short)
 
 -- what is seen of an event where the machine stands is seen from where it began
-pub came : (first at : PlainView) (event : Event) (c : Coming) → at ≡ record first { state = at.state } → IsComing at.program event at.state c → IsComing first.program event at.state c
+pub came : (first at : PlainView) (event : Event) (c : PreState) → at ≡ record first { state = at.state } → IsComing at.program event at.state c → IsComing first.program event at.state c
 came first at event c stays h = subst (λ (ps : List Procedure). IsComing ps event at.state c) (ap (λ (v : PlainView). v.program) stays) h
 
-pub tally_of_all : (first : PlainView) (events : List Event) (i : ℕ) (s : State) (t : Tally) → length events ≤ i → IsTally first (take i events) s t → IsTally first events s t
+pub tally_of_all : (first : PlainView) (events : List Event) (i : ℕ) (s : State) (t : StatsBuilder) → length events ≤ i → IsTally first (take i events) s t → IsTally first events s t
 tally_of_all first events i s t all h = subst (λ (es : List Event). IsTally first es s t) (take_all i events all) h
 
 -- ---- budgets

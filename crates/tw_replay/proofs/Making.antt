@@ -15,7 +15,7 @@ use Rattle.tw_code.specs.declared.instr.Instr.TheVariants as instr
 use Rattle.tw_code.specs.machine.Due.{instr_here}
 use Rattle.tw_code.specs.machine.Machine.{run, step}
 use Rattle.tw_code.specs.machine.Opening.{opening}
-use Rattle.tw_stats.specs.declared.thing.Thing.TheVariants.{Datum}
+use Rattle.tw_stats.specs.declared.dependency.Dependency.TheVariants.{Datum}
 use Rattle.tw_stats.specs.Waits.{made_at, made_by, made_in}
 use Rattle.tw_stats.proofs.Nexts.{step_more}
 use Rattle.tw_replay.specs.declared.stuck.Made.{Made}

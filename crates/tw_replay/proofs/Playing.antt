@@ -14,7 +14,7 @@ use Rattle.tw_instr.specs.Attempts.{IsStopped}
 use Rattle.tw_instr.specs.declared.stopped.Stopped.{Stopped}
 use Rattle.tw_machine.specs.declared.refusal.OpenRefusal.{OpenRefusal}
 use Rattle.tw_machine.specs.declared.refusal.OpenRefusal.TheVariants.{NoMemory}
-use Rattle.tw_picture.specs.declared.trail.Trail.{Trail}
+use Rattle.tw_picture.specs.declared.timeline_builder.TimelineBuilder.{TimelineBuilder}
 use Rattle.tw_picture.specs.History.{HasFew, IsTrail}
 use Rattle.tw_picture.proofs.History.{trail_length}
 use Rattle.tw_report.specs.Events.{IsEvent}
@@ -148,11 +148,11 @@ stays_so first at next stays w p l =
     ∙ ap (λ (ps : List Procedure). record { version = first.version; program = ps; layout = next.layout; state = next.state }) (p ∙ ap (λ (v : PlainView). v.program) stays)
     ∙ ap (λ (a : ActorCounts). record { version = first.version; program = first.program; layout = a; state = next.state }) (l ∙ ap (λ (v : PlainView). v.layout) stays)
 
-pub trail_on : (first : PlainView) (events : List Event) (i : ℕ) (event : Event) (s : State) (t : Trail) → i < length events → event ≡ get_or events i event → IsTrail first (take i events ++ event ∷ []) s t → IsTrail first (take (i + 1) events) s t
+pub trail_on : (first : PlainView) (events : List Event) (i : ℕ) (event : Event) (s : State) (t : TimelineBuilder) → i < length events → event ≡ get_or events i event → IsTrail first (take i events ++ event ∷ []) s t → IsTrail first (take (i + 1) events) s t
 trail_on first events i event s t inside is h =
     subst (λ (es : List Event). IsTrail first es s t) (sym (take_more events i event inside ∙ ap (λ (e : Event). take i events ++ e ∷ []) (sym is))) h
 
-pub few_taken : (first : PlainView) (events : List Event) (i : ℕ) (s : State) (t : Trail) → IsTrail first (take i events) s t → length events ≤ 16777217 → HasFew t
+pub few_taken : (first : PlainView) (events : List Event) (i : ℕ) (s : State) (t : TimelineBuilder) → IsTrail first (take i events) s t → length events ≤ 16777217 → HasFew t
 few_taken first events i s t h few =
     let count : length t.marks.items ≡ length (take i events) = trail_length first (take i events) s t h in
     let bound : length t.marks.items < 2147483648 = omega (arith, length-take i events) in

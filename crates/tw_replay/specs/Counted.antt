@@ -21,5 +21,5 @@ AreShort events = AllByRecursion IsShort events
 
 -- all events were made and counted; or one doesn't go, of which this is told
 abbrev pub IsCounting : PlainView → List Event → Counting → Type 0
-IsCounting first events (Made c) = (c.plain ≡ record first { state = c.plain.state }) × IsTally first events c.plain.state c.tally
+IsCounting first events (Made c) = (c.plain ≡ record first { state = c.plain.state }) × IsTally first events c.plain.state c.stats_builder
 IsCounting first events (Stopped r) = ByOutcome (run first.program first.layout events first.state) (λ s. ⊥) (reply r.text.items r.close ≡ played_from first events)

@@ -14,7 +14,7 @@ use std::alloc::{AllocError, Global};
 use tw_command::Stretch;
 use tw_machine::Plain;
 use tw_names::Symbols;
-use tw_picture::{Settings, Trail, picture};
+use tw_picture::{Settings, TimelineBuilder, picture};
 use tw_replies::Reply;
 use tw_types::Event;
 
@@ -24,13 +24,13 @@ fn picture_reply(
     shown: Stretch,
     names: Symbols,
     plain: &Plain,
-    trail: Trail,
+    timeline_builder: TimelineBuilder,
 ) -> Result<Reply, AllocError>
-    requires { HasFew trail }
-    ensures { IfOk result (λ r. (first : PlainView) (events : List AnEvent) → plain.now ≡ record first { state = plain.now.state } → IsTrail first events plain.now.state trail → IsPicture names shown first events plain.now.state (reply r.text.items r.close)) }
+    requires { HasFew timeline_builder }
+    ensures { IfOk result (λ r. (first : PlainView) (events : List AnEvent) → plain.now ≡ record first { state = plain.now.state } → IsTrail first events plain.now.state timeline_builder → IsPicture names shown first events plain.now.state (reply r.text.items r.close)) }
 {
     let close = close_of(plain.ending());
-    let drawing = trail.drawing(alloc, plain, names)?;
+    let drawing = timeline_builder.drawing(alloc, plain, names)?;
     let text = picture(alloc, &drawing, Settings::between(shown.from, shown.to))?;
     Ok(Reply { text, close })
 }
@@ -50,12 +50,12 @@ pub fn draw(
     ensures { IfOk result (λ r. IsDrawn names shown first events.now (reply r.text.items r.close)) }
 {
     let mut plain = first;
-    let mut trail = Trail::new(alloc);
+    let mut timeline_builder = TimelineBuilder::new(alloc);
     for (index, event) in events.iter().enumerate() {
         match plain.step(alloc, *event) {
-            Ok(()) => trail.keep(&plain, *event)?,
+            Ok(()) => timeline_builder.keep(&plain, *event)?,
             Err(stopped) => return stopped_reply(alloc, stopped, index + 1),
         }
     }
-    picture_reply(alloc, shown, names, &plain, trail)
+    picture_reply(alloc, shown, names, &plain, timeline_builder)
 }

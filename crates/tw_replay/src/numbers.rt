@@ -20,7 +20,7 @@ use tw_machine::{Plain, Stopped};
 use tw_names::Symbols;
 use tw_replies::Reply;
 use tw_report::report_state;
-use tw_stats::Tally;
+use tw_stats::StatsBuilder;
 use tw_types::Event;
 use tw_verify::{Verified, VerifyRefusal, verify};
 
@@ -31,11 +31,11 @@ pub struct Budgeted {
     pub budgets: Vec<u64>,
 }
 
-/// The machine behind events that were made, and their tally.
+/// The machine behind events that were made, and their statistics.
 #[derive(Drop)]
 pub struct Counted {
     pub plain: Plain,
-    pub tally: Tally,
+    pub stats_builder: StatsBuilder,
 }
 
 /// What comes of events that are counted: all were made; or one doesn't go, and this is told.
@@ -89,16 +89,16 @@ pub fn put_bytes(out: &mut Vec<u8>, bytes: &[u8]) -> Result<(), AllocError>
 fn numbers_reply(
     alloc: Global,
     plain: &Plain,
-    tally: &Tally,
+    stats_builder: &StatsBuilder,
     names: &Symbols,
     budgets: &[u64],
 ) -> Result<Reply, AllocError>
     requires { AreKnownBudgets plain.now.program budgets.now }
-    ensures { IfOk result (λ r. (first : PlainView) (events : List AnEvent) → plain.now ≡ record first { state = plain.now.state } → IsTally first events plain.now.state tally.now → IsNumbered names.now first events plain.now.state (reply r.text.items r.close)) }
+    ensures { IfOk result (λ r. (first : PlainView) (events : List AnEvent) → plain.now ≡ record first { state = plain.now.state } → IsTally first events plain.now.state stats_builder.now → IsNumbered names.now first events plain.now.state (reply r.text.items r.close)) }
 {
     let close = close_of(plain.ending());
     let mut text = report_state(alloc, plain)?;
-    let numbers = tally.text(alloc, plain, names, budgets)?;
+    let numbers = stats_builder.text(alloc, plain, names, budgets)?;
     put_bytes(&mut text, &numbers)?;
     Ok(Reply { text, close })
 }
@@ -121,15 +121,18 @@ pub fn count(alloc: Global, first: Plain, events: &[Event]) -> Result<Counting, 
     ensures { IfOk result (IsCounting first events.now) }
 {
     let mut plain = first;
-    let mut tally = Tally::new(alloc);
+    let mut stats_builder = StatsBuilder::new(alloc);
     for (index, event) in events.iter().enumerate() {
-        let coming = tally.coming(&plain, event);
+        let pre_state = stats_builder.pre_state(&plain, event);
         match plain.step(alloc, *event) {
-            Ok(()) => tally.keep(&plain, event, &coming)?,
+            Ok(()) => stats_builder.keep(&plain, event, &pre_state)?,
             Err(stopped) => return stopped_counting(alloc, stopped, index + 1),
         }
     }
-    Ok(Counting::Made(Counted { plain, tally }))
+    Ok(Counting::Made(Counted {
+        plain,
+        stats_builder,
+    }))
 }
 
 /// The report and the numbers, or what is told of the first event that doesn't go.
@@ -151,7 +154,7 @@ pub fn counted_reply(
         Counting::Made(counted) => numbers_reply(
             alloc,
             &counted.plain,
-            &counted.tally,
+            &counted.stats_builder,
             names,
             budgets,
         ),

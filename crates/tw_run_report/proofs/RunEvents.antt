@@ -22,7 +22,7 @@ use Rattle.tw_machine.specs.Moments.{history}
 use Rattle.tw_code.specs.declared.version.Version.{Version}
 use Rattle.tw_picture.specs.declared.drawing.Drawing.{Drawing}
 use Rattle.tw_picture.specs.History.{IsDrawing}
-use Rattle.tw_stats.specs.declared.tally.Tally.{Tally}
+use Rattle.tw_stats.specs.declared.stats_builder.StatsBuilder.{StatsBuilder}
 use Rattle.tw_stats.specs.Kept.{IsTally}
 use Rattle.tw_stats.specs.Text.{AreNumbers}
 use Rattle.tw_replay.specs.Replay.{ByOutcome}
@@ -67,11 +67,11 @@ pub begun : (program : Versioned) (sections : List Procedure) (order : RunOrder)
 begun program sections order first same is = is ∙ ap (λ (ps : List Procedure). begins program.version ps order) same
 
 -- the numbers of the events that were read are those of the run's
-pub numbers_there : (names : List (List ℕ)) (first begin : PlainView) (read events : List Event) (plain : PlainView) (t : Tally) (budgets text : List ℕ) → first ≡ begin → read ≡ events → plain ≡ record first { state = plain.state } → IsTally first read plain.state t
+pub numbers_there : (names : List (List ℕ)) (first begin : PlainView) (read events : List Event) (plain : PlainView) (t : StatsBuilder) (budgets text : List ℕ) → first ≡ begin → read ≡ events → plain ≡ record first { state = plain.state } → IsTally first read plain.state t
     → ((v : PlainView) (es : List Event) → plain ≡ record v { state = plain.state } → IsTally v es plain.state t → AreNumbers names v.program v.layout budgets (history v es) text) → AreNumbers names begin.program begin.layout budgets (history begin events) text
-numbers_there names first begin read events plain t budgets text same all stays tally tells =
+numbers_there names first begin read events plain t budgets text same all stays stats_builder tells =
     subst (λ (v : PlainView). AreNumbers names v.program v.layout budgets (history v events) text) same
-    (subst (λ (es : List Event). AreNumbers names first.program first.layout budgets (history first es) text) all (tells first read stays tally))
+    (subst (λ (es : List Event). AreNumbers names first.program first.layout budgets (history first es) text) all (tells first read stays stats_builder))
 
 -- what is drawn doesn't depend on the version of the format
 pub other_version : (names : List (List ℕ)) (v w : Version) (program : List Procedure) (order : RunOrder) (events : List Event) (s : State) (d : Drawing) → IsDrawing names (begins v program order) events s d

@@ -129,7 +129,9 @@ fn put_run_numbers(
     let first = first_machine(alloc, order, verified.into_program())?;
     match count(alloc, first, &events)? {
         Counting::Made(counted) => {
-            let numbers = counted.tally.text(alloc, &counted.plain, &names, &budgets)?;
+            let numbers = counted
+                .stats_builder
+                .text(alloc, &counted.plain, &names, &budgets)?;
             put_bytes(out, &numbers)
         }
         Counting::Stopped(_) => unreachable!(),

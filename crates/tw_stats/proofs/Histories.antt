@@ -17,12 +17,12 @@ use Rattle.tw_code.proofs.Runs.{run_more}
 use Rattle.tw_machine.specs.PlainView.{PlainView}
 use Rattle.tw_machine.specs.Moments.{Moment, history, moments}
 use Rattle.tw_machine.proofs.Moments.{moments_more}
-use Rattle.tw_stats.specs.declared.coming.Coming.{Coming}
-use Rattle.tw_stats.specs.declared.doer.Doer.{Doer}
-use Rattle.tw_stats.specs.declared.tally.Tally.{Tally}
-use Rattle.tw_stats.specs.declared.thing.Thing.{Thing}
+use Rattle.tw_stats.specs.declared.pre_state.PreState.{PreState}
+use Rattle.tw_stats.specs.declared.executor.Executor.{Executor}
+use Rattle.tw_stats.specs.declared.stats_builder.StatsBuilder.{StatsBuilder}
+use Rattle.tw_stats.specs.declared.dependency.Dependency.{Dependency}
 use Rattle.tw_stats.specs.Kept.{AreBehind, AreChains, AreCounts, AreOfProcedures, HasSpentFew, IsComing, IsFirst, IsLater, IsNext, IsSmall, IsTally, rules_in, tasks_in}
-use Rattle.tw_stats.specs.Waits.{brings, brings_by, doer_at, doer_in, doer_of, needs, needs_by}
+use Rattle.tw_stats.specs.Waits.{provides, brings_by, doer_at, doer_in, doer_of, needs, needs_by}
 use Rattle.tw_stats.proofs.Nexts.{step_more}
 
 -- ---- the numbers of moments
@@ -75,26 +75,26 @@ has_spent_few (Release engine rule) s t before behind = tt
 
 -- ---- all of it
 
-pub tally_first : (first : PlainView) (t : Tally) → IsFirst first.state → AreCounts [] t.counts → AreOfProcedures [] t.procedures → AreChains first.program [] t.chains → ((s : State) → IsFirst s → IsNext s t.next) → IsTally first [] first.state t
+pub tally_first : (first : PlainView) (t : StatsBuilder) → IsFirst first.state → AreCounts [] t.counts → AreOfProcedures [] t.procedures → AreChains first.program [] t.chains → ((s : State) → IsFirst s → IsNext s t.next) → IsTally first [] first.state t
 unfolding run
 tally_first first t begins counts procedures chains next = record { reached = refl; counts = counts; procedures = procedures; chains = chains; next = next first.state begins }
 
-module _ (first : PlainView) (events : List Event) (event : Event) (s t : State) (old new : Tally) (c : Coming) (doer : Option Doer) (needed brought : List Thing) where
+module _ (first : PlainView) (events : List Event) (event : Event) (s t : State) (old new : StatsBuilder) (c : PreState) (executor : Option Executor) (needed brought : List Dependency) where
   pub tally_more : IsTally first events s old → IsComing first.program event s c → step first.program first.layout event s ≡ Went t → AreBelow (2 ^ 63) s → AreBelow (2 ^ 63) t → IsSmall (history first (events ++ event ∷ []))
-      → doer ≡ doer_at event s t → needed ≡ needs_by event doer c.asked → brought ≡ brings_by event doer c.made
+      → executor ≡ doer_at event s t → needed ≡ needs_by event executor c.asked → brought ≡ brings_by event executor c.made
       → ((moments : List Moment) (m : Moment) → m.event ≡ event → IsSmall (moments ++ m ∷ []) → AreCounts moments old.counts → AreCounts (moments ++ m ∷ []) new.counts)
-      → ((moments : List Moment) (m : Moment) → m.event ≡ event → doer_at m.event m.before m.behind ≡ doer → IsSmall (moments ++ m ∷ []) → HasSpentFew doer → AreOfProcedures moments old.procedures → AreOfProcedures (moments ++ m ∷ []) new.procedures)
-      → ((program : List Procedure) (moments : List Moment) (m : Moment) → m.event ≡ event → needs m ≡ needed → brings program m ≡ brought → IsLater moments m → IsSmall (moments ++ m ∷ []) → AreChains program moments old.chains → AreChains program (moments ++ m ∷ []) new.chains)
+      → ((moments : List Moment) (m : Moment) → m.event ≡ event → doer_at m.event m.before m.behind ≡ executor → IsSmall (moments ++ m ∷ []) → HasSpentFew executor → AreOfProcedures moments old.procedures → AreOfProcedures (moments ++ m ∷ []) new.procedures)
+      → ((program : List Procedure) (moments : List Moment) (m : Moment) → m.event ≡ event → needs m ≡ needed → provides program m ≡ brought → IsLater moments m → IsSmall (moments ++ m ∷ []) → AreChains program moments old.chains → AreChains program (moments ++ m ∷ []) new.chains)
       → AreBehind old.next c.made new.next → IsTally first (events ++ event ∷ []) t new
-  tally_more h coming went before behind small by needs_is brings_is counts procedures chains next =
+  tally_more h pre_state went before behind small by needs_is brings_is counts procedures chains next =
       let program = first.program in
       let past : List Moment = history first events in
       let m : Moment = next_moment events event s t in
       let whole = history_more first events event s t h.reached went in
       let fits : IsSmall (past ++ m ∷ []) = subst IsSmall whole small in
-      let few : HasSpentFew doer = subst HasSpentFew (sym by) (has_spent_few event s t before behind) in
-      let of_needs : needs m ≡ needed = sym (needs_is ∙ ap (λ (d : Option Doer). needs_by event d c.asked) by ∙ ap (λ (a : Option ℕ). needs_by event (doer_at event s t) a) coming.asked) in
-      let of_brings : brings program m ≡ brought = sym (brings_is ∙ ap (λ (d : Option Doer). brings_by event d c.made) by ∙ ap (λ (x : Option Thing). brings_by event (doer_at event s t) x) coming.made) in
+      let few : HasSpentFew executor = subst HasSpentFew (sym by) (has_spent_few event s t before behind) in
+      let of_needs : needs m ≡ needed = sym (needs_is ∙ ap (λ (d : Option Executor). needs_by event d c.asked) by ∙ ap (λ (a : Option ℕ). needs_by event (doer_at event s t) a) pre_state.asked) in
+      let of_brings : provides program m ≡ brought = sym (brings_is ∙ ap (λ (d : Option Executor). brings_by event d c.made) by ∙ ap (λ (x : Option Dependency). brings_by event (doer_at event s t) x) pre_state.made) in
       let later = is_later first events event s t in
       let more = step_more program first.layout event s t went in
       let task_low : old.next.task < 2 ^ 63 = let below = before.numbers.task in omega (arith, h.next.task) in
@@ -105,7 +105,7 @@ module _ (first : PlainView) (events : List Event) (event : Event) (s t : State)
         procedures = subst (λ (ms : List Moment). AreOfProcedures ms new.procedures) (sym whole) (procedures past m refl (sym by) fits few h.procedures);
         chains = subst (λ (ms : List Moment). AreChains program ms new.chains) (sym whole) (chains program past m refl of_needs of_brings later fits h.chains);
         next = record {
-          task = next.task task_low ∙ ap (λ (n : ℕ). n + tasks_in c.made) h.next.task ∙ ap (λ (x : Option Thing). s.next_task + tasks_in x) coming.made ∙ sym more.task;
-          rule = next.rule rule_low ∙ ap (λ (n : ℕ). n + rules_in c.made) h.next.rule ∙ ap (λ (x : Option Thing). s.next_rule + rules_in x) coming.made ∙ sym more.rule;
+          task = next.task task_low ∙ ap (λ (n : ℕ). n + tasks_in c.made) h.next.task ∙ ap (λ (x : Option Dependency). s.next_task + tasks_in x) pre_state.made ∙ sym more.task;
+          rule = next.rule rule_low ∙ ap (λ (n : ℕ). n + rules_in c.made) h.next.rule ∙ ap (λ (x : Option Dependency). s.next_rule + rules_in x) pre_state.made ∙ sym more.rule;
         };
       }

@@ -12,9 +12,9 @@ use Rattle.tw_code.specs.machine.Bounds.{size_of}
 use Rattle.tw_machine.specs.Moments.{Moment}
 use Rattle.tw_stats.specs.declared.chains.Chains.{Chains}
 use Rattle.tw_stats.specs.declared.depths.Depths.{Depths}
-use Rattle.tw_stats.specs.declared.thing.Thing.{Thing}
+use Rattle.tw_stats.specs.declared.dependency.Dependency.{Dependency}
 use Rattle.tw_stats.specs.Kept.{AreChains, BringsLast, IsDeepened, IsDeepest, IsLater, IsSmall, deepest, depth_at}
-use Rattle.tw_stats.specs.Waits.{IsChain, IsLongest, WaitsForLast, brings, has_thing, needs, steps_in}
+use Rattle.tw_stats.specs.Waits.{IsChain, IsLongest, WaitsForLast, provides, has_thing, needs, steps_in}
 use Rattle.tw_stats.proofs.Numbers.{sum_more}
 
 -- ---- elements
@@ -64,43 +64,43 @@ module _ (program : List Procedure) (moments : List Moment) where
 
   -- ---- the chains that an event waits for
 
-  module _ (d : Depths) (deep : (y : Thing) → IsDeepest program moments y (depth_at d y)) where
-    under : (things : List Thing) (test : Thing → Bool) (n : ℕ) → ((y : Thing) → test y ≡ true → n ≤ depth_at d y) → list_any test things ≡ true → n ≤ deepest d things
+  module _ (d : Depths) (deep : (y : Dependency) → IsDeepest program moments y (depth_at d y)) where
+    under : (dependencies : List Dependency) (test : Dependency → Bool) (n : ℕ) → ((y : Dependency) → test y ≡ true → n ≤ depth_at d y) → list_any test dependencies ≡ true → n ≤ deepest d dependencies
     under [] test n h some = cc
-    under (y ∷ things) test n h some = elim (either (test y) (list_any test things) some) [
-      | inl here ↦ let low = h y here in let more = le-max_left (depth_at d y) (deepest d things) in omega arith
-      | inr others ↦ let low = under things test n h others in let more = le-max_right (depth_at d y) (deepest d things) in omega arith
+    under (y ∷ dependencies) test n h some = elim (either (test y) (list_any test dependencies) some) [
+      | inl here ↦ let low = h y here in let more = le-max_left (depth_at d y) (deepest d dependencies) in omega arith
+      | inr others ↦ let low = under dependencies test n h others in let more = le-max_right (depth_at d y) (deepest d dependencies) in omega arith
     ]
 
-    -- its last event, if it has one, brings one of the things
-    abbrev BringsSome : List Thing → List Moment → Type 0
-    BringsSome things [] = Unit {0}
-    BringsSome things (last ∷ chain) = list_any (has_thing (brings program last)) things ≡ true
+    -- its last event, if it has one, provides one of the dependencies
+    abbrev BringsSome : List Dependency → List Moment → Type 0
+    BringsSome dependencies [] = Unit {0}
+    BringsSome dependencies (last ∷ chain) = list_any (has_thing (provides program last)) dependencies ≡ true
 
-    record Found (things : List Thing) : Type 0 where
+    record Found (dependencies : List Dependency) : Type 0 where
       chain : List Moment
       is : IsChain program moments chain
-      brings : BringsSome things chain
-      has : steps_in chain ≡ deepest d things
+      provides : BringsSome dependencies chain
+      has : steps_in chain ≡ deepest d dependencies
 
-    brings_first : (y : Thing) (things : List Thing) (chain : List Moment) → BringsLast program y chain → BringsSome (y ∷ things) chain
-    brings_first y things [] h = tt
-    brings_first y things (last ∷ chain) h = or_left (has_thing (brings program last) y) (list_any (has_thing (brings program last)) things) h
+    brings_first : (y : Dependency) (dependencies : List Dependency) (chain : List Moment) → BringsLast program y chain → BringsSome (y ∷ dependencies) chain
+    brings_first y dependencies [] h = tt
+    brings_first y dependencies (last ∷ chain) h = or_left (has_thing (provides program last) y) (list_any (has_thing (provides program last)) dependencies) h
 
-    brings_other : (y : Thing) (things : List Thing) (chain : List Moment) → BringsSome things chain → BringsSome (y ∷ things) chain
-    brings_other y things [] h = tt
-    brings_other y things (last ∷ chain) h = or_right (has_thing (brings program last) y) (list_any (has_thing (brings program last)) things) h
+    brings_other : (y : Dependency) (dependencies : List Dependency) (chain : List Moment) → BringsSome dependencies chain → BringsSome (y ∷ dependencies) chain
+    brings_other y dependencies [] h = tt
+    brings_other y dependencies (last ∷ chain) h = or_right (has_thing (provides program last) y) (list_any (has_thing (provides program last)) dependencies) h
 
-    found : (things : List Thing) → Found things
-    found [] = record { chain = []; is = tt; brings = tt; has = refl }
-    found (y ∷ things) = elim (cases_lt (depth_at d y) (deepest d things)) [
+    found : (dependencies : List Dependency) → Found dependencies
+    found [] = record { chain = []; is = tt; provides = tt; has = refl }
+    found (y ∷ dependencies) = elim (cases_lt (depth_at d y) (deepest d dependencies)) [
       | inl less ↦
-          let f = found things in
-          let low : depth_at d y ≤ deepest d things = omega arith in
-          record { chain = f.chain; is = f.is; brings = brings_other y things f.chain f.brings; has = f.has ∙ sym (max-eq_right low) }
+          let f = found dependencies in
+          let low : depth_at d y ≤ deepest d dependencies = omega arith in
+          record { chain = f.chain; is = f.is; provides = brings_other y dependencies f.chain f.provides; has = f.has ∙ sym (max-eq_right low) }
       | inr more ↦
           let f = deep y in
-          record { chain = f.chain; is = f.is; brings = brings_first y things f.chain f.last; has = f.has ∙ sym (max-eq_left more) }
+          record { chain = f.chain; is = f.is; provides = brings_first y dependencies f.chain f.last; has = f.has ∙ sym (max-eq_left more) }
     ]
 
     -- ---- one event more
@@ -113,18 +113,18 @@ module _ (program : List Procedure) (moments : List Moment) where
       below : (chain : List Moment) → IsChain program moments chain → WaitsForLast program x chain → steps_in (x ∷ chain) ≤ depth
       below [] h waits = omega (arith, steps_one_more x [])
       below (last ∷ chain) h waits =
-          let low = under (needs x) (has_thing (brings program last)) (steps_in (last ∷ chain)) (λ y b. (deep y).deepest (last ∷ chain) h b) waits.needed in
+          let low = under (needs x) (has_thing (provides program last)) (steps_in (last ∷ chain)) (λ y b. (deep y).deepest (last ∷ chain) h b) waits.needed in
           omega (arith, steps_one_more x (last ∷ chain))
 
-      waits_for : (things : List Thing) (chain : List Moment) → things ≡ needs x → IsChain program moments chain → BringsSome things chain → WaitsForLast program x chain
-      waits_for things [] same h b = tt
-      waits_for things (last ∷ chain) same h b = record { before = later last h.0; needed = subst (λ (ys : List Thing). list_any (has_thing (brings program last)) ys ≡ true) same b }
+      waits_for : (dependencies : List Dependency) (chain : List Moment) → dependencies ≡ needs x → IsChain program moments chain → BringsSome dependencies chain → WaitsForLast program x chain
+      waits_for dependencies [] same h b = tt
+      waits_for dependencies (last ∷ chain) same h b = record { before = later last h.0; needed = subst (λ (ys : List Dependency). list_any (has_thing (provides program last)) ys ≡ true) same b }
 
       -- and one has so many
       reached : (chain : List Moment) × IsChain program (moments ++ x ∷ []) (x ∷ chain) × (steps_in (x ∷ chain) ≡ depth)
       reached =
           let f = found (needs x) in
-          (f.chain, (there moments x, waits_for (needs x) f.chain refl f.is f.brings, still x f.chain f.is), steps_one_more x f.chain ∙ ap (λ (n : ℕ). size_of x.event + n) f.has)
+          (f.chain, (there moments x, waits_for (needs x) f.chain refl f.is f.provides, still x f.chain f.is), steps_one_more x f.chain ∙ ap (λ (n : ℕ). size_of x.event + n) f.has)
 
       bound : (n : ℕ) → n ≡ depth → (chain : List Moment) (last : Moment) → (last ≡ x) × IsChain program moments chain → WaitsForLast program last chain → steps_in (last ∷ chain) ≤ n
       bound n is chain last h waits =
@@ -147,10 +147,10 @@ module _ (program : List Procedure) (moments : List Moment) where
             | inr new ↦ let low = bound depth refl chain last new o.1 in let more = le-max_right n depth in omega arith
           ]
 
-      pub deepest_more : (y : Thing) → IsDeepest program (moments ++ x ∷ []) y (max (depth_at d y) (if has_thing (brings program x) y then depth else 0))
-      deepest_more y = by (has_thing (brings program x) y) refl
+      pub deepest_more : (y : Dependency) → IsDeepest program (moments ++ x ∷ []) y (max (depth_at d y) (if has_thing (provides program x) y then depth else 0))
+      deepest_more y = by (has_thing (provides program x) y) refl
         where
-          by : (b : Bool) → has_thing (brings program x) y ≡ b → IsDeepest program (moments ++ x ∷ []) y (max (depth_at d y) (if b then depth else 0))
+          by : (b : Bool) → has_thing (provides program x) y ≡ b → IsDeepest program (moments ++ x ∷ []) y (max (depth_at d y) (if b then depth else 0))
           by true here = elim (cases_lt (depth_at d y) depth) [
             | inl less ↦
                 let low : depth_at d y ≤ depth = omega arith in
@@ -174,7 +174,7 @@ module _ (program : List Procedure) (moments : List Moment) where
               all (last ∷ chain) o b = elim (split x later last chain o) [
                 | inl before ↦ let low = (deep y).deepest (last ∷ chain) before b in omega arith
                 | inr new ↦
-                    let brought : has_thing (brings program x) y ≡ true = subst (λ (m : Moment). has_thing (brings program m) y ≡ true) new.0 b in
+                    let brought : has_thing (provides program x) y ≡ true = subst (λ (m : Moment). has_thing (provides program m) y ≡ true) new.0 b in
                     cc
               ]
 
@@ -187,7 +187,7 @@ empty_chain : (program : List Procedure) (other : List Moment) → IsChain progr
 empty_chain program [] h = omega arith
 empty_chain program (last ∷ chain) h = absurd (none_in last h.0.0 h.0.1)
 
-pub chains_none : (program : List Procedure) (c : Chains) → c.longest ≡ 0 → ((x : Thing) → depth_at c.depths x ≡ 0) → AreChains program [] c
+pub chains_none : (program : List Procedure) (c : Chains) → c.longest ≡ 0 → ((x : Dependency) → depth_at c.depths x ≡ 0) → AreChains program [] c
 chains_none program c longest depths = record {
   longest = record { chain = []; is = tt; has = sym longest; longest = λ other h. let none = empty_chain program other h in omega arith };
   depths = λ x. record { chain = []; is = tt; last = tt; has = sym (depths x); deepest = λ other h b. let none = empty_chain program other h in let here = depths x in omega arith };
@@ -196,14 +196,14 @@ chains_none program c longest depths = record {
 
 -- ---- as the code has it
 
-deepest_low : (d : Depths) (most : ℕ) → ((x : Thing) → depth_at d x ≤ most) → (things : List Thing) → deepest d things ≤ most
+deepest_low : (d : Depths) (most : ℕ) → ((x : Dependency) → depth_at d x ≤ most) → (dependencies : List Dependency) → deepest d dependencies ≤ most
 deepest_low d most h [] = omega arith
-deepest_low d most h (x ∷ things) = max-le (h x) (deepest_low d most h things)
+deepest_low d most h (x ∷ dependencies) = max-le (h x) (deepest_low d most h dependencies)
 
 steps_more : (moments : List Moment) (m : Moment) → steps_in (moments ++ m ∷ []) ≡ steps_in moments + size_of m.event
 steps_more moments m = sum_more (λ m. size_of m.event) moments m
 
-pub chains_added : (program : List Procedure) (moments : List Moment) (m : Moment) (event : Event) (needed brought : List Thing) (before size deep : ℕ) (old new : Chains) → m.event ≡ event → needs m ≡ needed → brings program m ≡ brought
+pub chains_added : (program : List Procedure) (moments : List Moment) (m : Moment) (event : Event) (needed brought : List Dependency) (before size deep : ℕ) (old new : Chains) → m.event ≡ event → needs m ≡ needed → provides program m ≡ brought
     → IsLater moments m → IsSmall (moments ++ m ∷ []) → AreChains program moments old → before ≡ deepest old.depths needed → size ≡ size_of event → deep ≡ min (before + size) (2 ^ 64 - 1) → new.longest ≡ max old.longest deep
     → IsDeepened old.depths brought deep new.depths → AreChains program (moments ++ m ∷ []) new
 chains_added program moments m event needed brought before size deep old new is of_needs of_brings later small h of_before of_size of_deep longest deepened =
@@ -213,16 +213,16 @@ chains_added program moments m event needed brought before size deep old new is 
     let steps = steps_more moments m in
     let exact : deep ≡ size_of m.event + deepest old.depths (needs m) = omega (arith, small) in
     let full : ℕ = size_of m.event + deepest old.depths (needs m) in
-    let at : (y : Thing) → depth_at new.depths y ≡ max (depth_at old.depths y) (if has_thing (brings program m) y then full else 0) =
-    λ y. deepened y ∙ ap (λ (things : List Thing). max (depth_at old.depths y) (if has_thing things y then deep else 0)) (sym of_brings)
-    ∙ ap (λ (n : ℕ). max (depth_at old.depths y) (if has_thing (brings program m) y then n else 0)) exact in
+    let at : (y : Dependency) → depth_at new.depths y ≡ max (depth_at old.depths y) (if has_thing (provides program m) y then full else 0) =
+    λ y. deepened y ∙ ap (λ (dependencies : List Dependency). max (depth_at old.depths y) (if has_thing dependencies y then deep else 0)) (sym of_brings)
+    ∙ ap (λ (n : ℕ). max (depth_at old.depths y) (if has_thing (provides program m) y then n else 0)) exact in
     record {
       longest = subst (λ (n : ℕ). IsLongest program (moments ++ m ∷ []) n) (ap (λ (n : ℕ). max old.longest n) (sym exact) ∙ sym longest) (longest_more program moments old.depths h.depths m later old.longest h.longest);
       depths = λ y. subst (λ (n : ℕ). IsDeepest program (moments ++ m ∷ []) y n) (sym (at y)) (deepest_more program moments old.depths h.depths m later y);
-      bounded = λ y. bound y (has_thing (brings program m) y) (at y) (h.bounded y) steps low;
+      bounded = λ y. bound y (has_thing (provides program m) y) (at y) (h.bounded y) steps low;
     }
   where
-    bound : (y : Thing) (b : Bool) → depth_at new.depths y ≡ max (depth_at old.depths y) (if b then size_of m.event + deepest old.depths (needs m) else 0) → depth_at old.depths y ≤ steps_in moments
+    bound : (y : Dependency) (b : Bool) → depth_at new.depths y ≡ max (depth_at old.depths y) (if b then size_of m.event + deepest old.depths (needs m) else 0) → depth_at old.depths y ≤ steps_in moments
         → steps_in (moments ++ m ∷ []) ≡ steps_in moments + size_of m.event → deepest old.depths (needs m) ≤ steps_in moments → depth_at new.depths y ≤ steps_in (moments ++ m ∷ [])
     bound y true at before steps low = omega arith
     bound y false at before steps low = omega arith

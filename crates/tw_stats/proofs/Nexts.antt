@@ -18,13 +18,13 @@ use Rattle.tw_code.specs.machine.Machine.{Standing, call_by, call_event, standin
 use Rattle.tw_code.specs.machine.Rights.{right_at}
 use Rattle.tw_code.specs.machine.State.{Frame, State, context_of}
 use Rattle.tw_code.proofs.Leaving.{Stood, stood, take_leaves, local_leaves, end_leaves, ask_leaves, deliver_leaves, release_leaves}
-use Rattle.tw_stats.specs.declared.thing.Thing.{Thing}
-use Rattle.tw_stats.specs.declared.thing.Thing.TheVariants.{Datum}
+use Rattle.tw_stats.specs.declared.dependency.Dependency.{Dependency}
+use Rattle.tw_stats.specs.declared.dependency.Dependency.TheVariants.{Datum}
 use Rattle.tw_stats.specs.Kept.{rules_in, tasks_in}
 use Rattle.tw_stats.specs.Waits.{made_at, made_by, made_in, written}
 
 -- so many more of each
-pub record AreMore (s : State) (made : Option Thing) (t : State) : Type 0 where
+pub record AreMore (s : State) (made : Option Dependency) (t : State) : Type 0 where
   pub task : t.next_task ≡ s.next_task + tasks_in made
   pub rule : t.next_rule ≡ s.next_rule + rules_in made
 
@@ -46,8 +46,8 @@ module _ (program : List Procedure) (actor : Actor) (s : State) where
       ∙ ap (λ (p : Option Procedure). made_by s at.frame (option_and_then (λ p. slice_get p.code at.frame.position.place) p)) h.procedure
       ∙ ap (λ (j : Option Instr). made_by s at.frame j) (h.instr ∙ ap Some is)
 
-  more_of : (made other : Option Thing) (t : State) → made ≡ other → AreMore s other t → AreMore s made t
-  more_of made other t same h = record { task = h.task ∙ ap (λ (o : Option Thing). s.next_task + tasks_in o) (sym same); rule = h.rule ∙ ap (λ (o : Option Thing). s.next_rule + rules_in o) (sym same) }
+  more_of : (made other : Option Dependency) (t : State) → made ≡ other → AreMore s other t → AreMore s made t
+  more_of made other t same h = record { task = h.task ∙ ap (λ (o : Option Dependency). s.next_task + tasks_in o) (sym same); rule = h.rule ∙ ap (λ (o : Option Dependency). s.next_rule + rules_in o) (sym same) }
 
   call_more : IfWent (call_event program actor s) (AreMore s (made_in program s (get s.frames actor)))
   call_more = if_both (standing_of program actor s) (λ at stands. by at (stood program actor s at stands) at.instr refl)

@@ -10,7 +10,7 @@ use Rattle.tw_code.specs.machine.Bounds.{size_of}
 use Rattle.tw_code.specs.machine.History.{actor_of}
 use Rattle.tw_machine.specs.Moments.{Moment}
 use Rattle.tw_stats.specs.declared.counts.Counts.{Counts}
-use Rattle.tw_stats.specs.declared.doer.Doer.{Doer}
+use Rattle.tw_stats.specs.declared.executor.Executor.{Executor}
 use Rattle.tw_stats.specs.declared.procedures.Procedures.{Procedures}
 use Rattle.tw_stats.specs.Kept.{AreCounts, AreOfProcedures, IsAdded, IsRaised, IsSmall, events_at, line_by, number_at}
 use Rattle.tw_stats.specs.Numbers.{done_at, events_of, events_of_kind, if_of, instructions_by, instructions_of, kind_of, most_of, one_if, same_actor, tasks_by, tasks_of}
@@ -87,7 +87,7 @@ instructions_le (Ask engine rule parameter) = omega arith
 instructions_le (Deliver server datum rule parameter) = omega arith
 instructions_le (Release engine rule) = omega arith
 
-if_of_le : (procedure n : ℕ) (by : Option Doer) → if_of procedure (λ d. n) by ≤ n
+if_of_le : (procedure n : ℕ) (by : Option Executor) → if_of procedure (λ d. n) by ≤ n
 if_of_le procedure n None = omega arith
 if_of_le procedure n (Some d) = go (d.procedure == procedure)
   where
@@ -109,7 +109,7 @@ most_more : (procedure : ℕ) (moments : List Moment) (m : Moment) → most_of p
 most_more procedure moments m = fold-append (λ most m. max most (done_at procedure m)) 0 moments (m ∷ [])
 
 -- an event of a task
-pub procedures_more : (moments : List Moment) (m : Moment) (d : Doer) (done : ℕ) (old new : Procedures) → done_by m ≡ Some d → IsSmall (moments ++ m ∷ []) → d.spent < 2 ^ 63 → AreOfProcedures moments old
+pub procedures_more : (moments : List Moment) (m : Moment) (d : Executor) (done : ℕ) (old new : Procedures) → done_by m ≡ Some d → IsSmall (moments ++ m ∷ []) → d.spent < 2 ^ 63 → AreOfProcedures moments old
     → done ≡ min (d.spent + instructions_by m.event) (2 ^ 64 - 1) → IsAdded old.tasks d.procedure (tasks_by m.event) new.tasks → IsAdded old.instructions d.procedure (instructions_by m.event) new.instructions
     → IsRaised old.most d.procedure done new.most → AreOfProcedures (moments ++ m ∷ []) new
 procedures_more moments m d done old new by small spent h is tasks instructions most =
@@ -123,13 +123,13 @@ procedures_more moments m d done old new by small spent h is tasks instructions 
     record {
       tasks = λ k.
           tasks tasks_fit k ∙ ap (λ (n : ℕ). n + (if d.procedure == k then tasks_by m.event else 0)) (h.tasks k)
-          ∙ ap (λ (o : Option Doer). tasks_of k moments + if_of k (λ d. tasks_by m.event) o) (sym by) ∙ sym (sum_more (λ m. if_of k (λ d. tasks_by m.event) (done_by m)) moments m);
+          ∙ ap (λ (o : Option Executor). tasks_of k moments + if_of k (λ d. tasks_by m.event) o) (sym by) ∙ sym (sum_more (λ m. if_of k (λ d. tasks_by m.event) (done_by m)) moments m);
       instructions = λ k.
           instructions instructions_fit k ∙ ap (λ (n : ℕ). n + (if d.procedure == k then instructions_by m.event else 0)) (h.instructions k)
-          ∙ ap (λ (o : Option Doer). instructions_of k moments + if_of k (λ d. instructions_by m.event) o) (sym by) ∙ sym (sum_more (λ m. if_of k (λ d. instructions_by m.event) (done_by m)) moments m);
+          ∙ ap (λ (o : Option Executor). instructions_of k moments + if_of k (λ d. instructions_by m.event) o) (sym by) ∙ sym (sum_more (λ m. if_of k (λ d. instructions_by m.event) (done_by m)) moments m);
       most = λ k.
           most k ∙ ap (λ (n : ℕ). max (number_at old.most k) (if d.procedure == k then n else 0)) exact ∙ ap (λ (n : ℕ). max n (if d.procedure == k then d.spent + instructions_by m.event else 0)) (h.most k)
-          ∙ ap (λ (o : Option Doer). max (most_of k moments) (if_of k (λ d. d.spent + instructions_by m.event) o)) (sym by) ∙ sym (most_more k moments m);
+          ∙ ap (λ (o : Option Executor). max (most_of k moments) (if_of k (λ d. d.spent + instructions_by m.event) o)) (sym by) ∙ sym (most_more k moments m);
     }
 
 -- one of no task
@@ -138,9 +138,9 @@ procedures_same moments m p by h =
     let zero_more : (n : ℕ) → n ≡ n + 0 = λ n. omega arith in
     let zero_most : (n : ℕ) → n ≡ max n 0 = λ n. omega arith in
     record {
-      tasks = λ k. h.tasks k ∙ zero_more (tasks_of k moments) ∙ ap (λ (o : Option Doer). tasks_of k moments + if_of k (λ d. tasks_by m.event) o) (sym by) ∙ sym (sum_more (λ m. if_of k (λ d. tasks_by m.event) (done_by m)) moments m);
-      instructions = λ k. h.instructions k ∙ zero_more (instructions_of k moments) ∙ ap (λ (o : Option Doer). instructions_of k moments + if_of k (λ d. instructions_by m.event) o) (sym by) ∙ sym (sum_more (λ m. if_of k (λ d. instructions_by m.event) (done_by m)) moments m);
-      most = λ k. h.most k ∙ zero_most (most_of k moments) ∙ ap (λ (o : Option Doer). max (most_of k moments) (if_of k (λ d. d.spent + instructions_by m.event) o)) (sym by) ∙ sym (most_more k moments m);
+      tasks = λ k. h.tasks k ∙ zero_more (tasks_of k moments) ∙ ap (λ (o : Option Executor). tasks_of k moments + if_of k (λ d. tasks_by m.event) o) (sym by) ∙ sym (sum_more (λ m. if_of k (λ d. tasks_by m.event) (done_by m)) moments m);
+      instructions = λ k. h.instructions k ∙ zero_more (instructions_of k moments) ∙ ap (λ (o : Option Executor). instructions_of k moments + if_of k (λ d. instructions_by m.event) o) (sym by) ∙ sym (sum_more (λ m. if_of k (λ d. instructions_by m.event) (done_by m)) moments m);
+      most = λ k. h.most k ∙ zero_most (most_of k moments) ∙ ap (λ (o : Option Executor). max (most_of k moments) (if_of k (λ d. d.spent + instructions_by m.event) o)) (sym by) ∙ sym (most_more k moments m);
     }
 
 -- ---- as the code has it
@@ -157,7 +157,7 @@ counts_added moments m event size kind actor old new is of_size of_kind of_actor
     counts_more moments m old new small h events (steps ∙ ap (λ (n : ℕ). min (old.steps + n) (2 ^ 64 - 1)) same_size) (subst (λ (k : ℕ). IsAdded old.kinds k 1 new.kinds) same_kind kinds)
     (subst (λ (a : Actor). events_at old.actors a + 1 < 2 ^ 64 → (other : Actor) → events_at new.actors other ≡ events_at old.actors other + one_if (same_actor a other)) same actors)
 
-pub procedures_added : (moments : List Moment) (m : Moment) (event : Event) (d : Doer) (procedure tasks instructions done : ℕ) (old new : Procedures) → m.event ≡ event → done_by m ≡ Some d → IsSmall (moments ++ m ∷ []) → d.spent < 2 ^ 63
+pub procedures_added : (moments : List Moment) (m : Moment) (event : Event) (d : Executor) (procedure tasks instructions done : ℕ) (old new : Procedures) → m.event ≡ event → done_by m ≡ Some d → IsSmall (moments ++ m ∷ []) → d.spent < 2 ^ 63
     → AreOfProcedures moments old → procedure ≡ d.procedure → tasks ≡ tasks_by event → instructions ≡ instructions_by event → done ≡ min (d.spent + instructions) (2 ^ 64 - 1)
     → IsAdded old.tasks procedure tasks new.tasks → IsAdded old.instructions procedure instructions new.instructions → IsRaised old.most procedure done new.most → AreOfProcedures (moments ++ m ∷ []) new
 procedures_added moments m event d procedure tasks instructions done old new is by small spent h of_procedure of_tasks of_instructions exact tasks_added instructions_added raised =

@@ -13,20 +13,20 @@ use Rattle.tw_machine.specs.PlainView.{PlainView}
 use Rattle.tw_machine.specs.Moments.{Moment, history}
 use Rattle.tw_stats.specs.declared.actors.Actors.{Actors}
 use Rattle.tw_stats.specs.declared.chains.Chains.{Chains}
-use Rattle.tw_stats.specs.declared.coming.Coming.{Coming}
+use Rattle.tw_stats.specs.declared.pre_state.PreState.{PreState}
 use Rattle.tw_stats.specs.declared.counts.Counts.{Counts}
 use Rattle.tw_stats.specs.declared.depths.Depths.{Depths}
-use Rattle.tw_stats.specs.declared.doer.Doer.{Doer}
+use Rattle.tw_stats.specs.declared.executor.Executor.{Executor}
 use Rattle.tw_stats.specs.declared.next.Next.{Next}
 use Rattle.tw_stats.specs.declared.procedures.Procedures.{Procedures}
 use Rattle.tw_stats.specs.declared.table.Table.{Table}
-use Rattle.tw_stats.specs.declared.tally.Tally.{Tally}
-use Rattle.tw_stats.specs.declared.thing.Thing.{Thing}
-use Rattle.tw_stats.specs.declared.thing.Thing.TheVariants.{Task, Rule, Answer, Datum}
-use Rattle.tw_stats.specs.declared.things.Things.{Things}
+use Rattle.tw_stats.specs.declared.stats_builder.StatsBuilder.{StatsBuilder}
+use Rattle.tw_stats.specs.declared.dependency.Dependency.{Dependency}
+use Rattle.tw_stats.specs.declared.dependency.Dependency.TheVariants.{Task, Rule, Answer, Datum}
+use Rattle.tw_stats.specs.declared.dependencies.Dependencies.{Dependencies}
 use Rattle.tw_stats.specs.Numbers.{events_of, events_of_kind, instructions_of, most_of, tasks_of}
 use Rattle.tw_stats.specs.Text.{budget_text, done_part, tasks_part}
-use Rattle.tw_stats.specs.Waits.{IsChain, IsLongest, asked_at, brings, doer_in, has_thing, made_at, steps_in}
+use Rattle.tw_stats.specs.Waits.{IsChain, IsLongest, asked_at, provides, doer_in, has_thing, made_at, steps_in}
 
 -- ---- tables
 
@@ -62,29 +62,29 @@ events_at t (Worker number) = number_at t.workers number
 
 -- ---- chains
 
-abbrev pub things_in : Things → List Thing
+abbrev pub things_in : Dependencies → List Dependency
 things_in t = option_to_list t.first ++ option_to_list t.second
 
--- the most steps of a chain whose last event brings the thing
-abbrev pub depth_at : Depths → Thing → ℕ
+-- the most steps of a chain whose last event provides the dependency
+abbrev pub depth_at : Depths → Dependency → ℕ
 depth_at d (Task number) = number_at d.tasks number
 depth_at d (Rule number) = number_at d.rules number
 depth_at d (Answer number) = number_at d.answers number
 depth_at d (Datum number) = number_at d.written number
 
-abbrev pub deepest : Depths → List Thing → ℕ
+abbrev pub deepest : Depths → List Dependency → ℕ
 deepest d [] = 0
-deepest d (x ∷ things) = max (depth_at d x) (deepest d things)
+deepest d (x ∷ dependencies) = max (depth_at d x) (deepest d dependencies)
 
-abbrev pub IsDeepened : Depths → List Thing → ℕ → Depths → Type 0
-IsDeepened old things depth new = (x : Thing) → depth_at new x ≡ max (depth_at old x) (if has_thing things x then depth else 0)
+abbrev pub IsDeepened : Depths → List Dependency → ℕ → Depths → Type 0
+IsDeepened old dependencies depth new = (x : Dependency) → depth_at new x ≡ max (depth_at old x) (if has_thing dependencies x then depth else 0)
 
--- the last event of the chain brings the thing, if the chain has one
-abbrev pub BringsLast : List Procedure → Thing → List Moment → Type 0
+-- the last event of the chain provides the dependency, if the chain has one
+abbrev pub BringsLast : List Procedure → Dependency → List Moment → Type 0
 BringsLast program x [] = Unit {0}
-BringsLast program x (last ∷ chain) = has_thing (brings program last) x ≡ true
+BringsLast program x (last ∷ chain) = has_thing (provides program last) x ≡ true
 
-pub record IsDeepest (program : List Procedure) (history : List Moment) (x : Thing) (depth : ℕ) : Type 0 where
+pub record IsDeepest (program : List Procedure) (history : List Moment) (x : Dependency) (depth : ℕ) : Type 0 where
   pub chain : List Moment
   pub is : IsChain program history chain
   pub last : BringsLast program x chain
@@ -94,31 +94,31 @@ pub record IsDeepest (program : List Procedure) (history : List Moment) (x : Thi
 -- ---- an event
 
 -- the task that does the event, where it runs before
-abbrev pub doer_before : Event → State → Option Doer
-doer_before (event.Take actor) s = None
-doer_before (event.Local actor n) s = doer_in s actor
-doer_before (event.Call actor) s = doer_in s actor
-doer_before (event.End actor) s = doer_in s actor
-doer_before (event.Ask engine rule parameter) s = None
-doer_before (event.Deliver server datum rule parameter) s = None
-doer_before (event.Release engine rule) s = None
+abbrev pub executor_before : Event → State → Option Executor
+executor_before (event.Take actor) s = None
+executor_before (event.Local actor n) s = doer_in s actor
+executor_before (event.Call actor) s = doer_in s actor
+executor_before (event.End actor) s = doer_in s actor
+executor_before (event.Ask engine rule parameter) s = None
+executor_before (event.Deliver server datum rule parameter) s = None
+executor_before (event.Release engine rule) s = None
 
 -- what is known of an event before it is made
-pub record IsComing (program : List Procedure) (event : Event) (s : State) (c : Coming) : Type 0 where
-  pub doer : c.doer ≡ doer_before event s
+pub record IsComing (program : List Procedure) (event : Event) (s : State) (c : PreState) : Type 0 where
+  pub executor : c.executor ≡ executor_before event s
   pub asked : c.asked ≡ asked_at event s
   pub made : c.made ≡ made_at program event s
 
 -- ---- the numbers of tasks and rules
 
-abbrev pub tasks_in : Option Thing → ℕ
+abbrev pub tasks_in : Option Dependency → ℕ
 tasks_in None = 0
 tasks_in (Some (Task number)) = 1
 tasks_in (Some (Rule number)) = 0
 tasks_in (Some (Answer number)) = 0
 tasks_in (Some (Datum number)) = 0
 
-abbrev pub rules_in : Option Thing → ℕ
+abbrev pub rules_in : Option Dependency → ℕ
 rules_in None = 0
 rules_in (Some (Task number)) = 0
 rules_in (Some (Rule number)) = 1
@@ -126,7 +126,7 @@ rules_in (Some (Answer number)) = 0
 rules_in (Some (Datum number)) = 0
 
 -- those behind an event that makes this, where they fit
-pub record AreBehind (old : Next) (made : Option Thing) (new : Next) : Type 0 where
+pub record AreBehind (old : Next) (made : Option Dependency) (new : Next) : Type 0 where
   pub task : old.task < 2 ^ 63 → new.task ≡ old.task + tasks_in made
   pub rule : old.rule < 2 ^ 63 → new.rule ≡ old.rule + rules_in made
 
@@ -141,7 +141,7 @@ abbrev pub IsLater : List Moment → Moment → Type 0
 IsLater moments m = (earlier : Moment) → Contains moments earlier → earlier.number < m.number
 
 -- so few that one more instruction fits
-abbrev pub HasSpentFew : Option Doer → Type 0
+abbrev pub HasSpentFew : Option Executor → Type 0
 HasSpentFew by = IfSome by (λ d. d.spent < 2 ^ 63)
 
 pub record AreCounts (moments : List Moment) (c : Counts) : Type 0 where
@@ -157,8 +157,8 @@ pub record AreOfProcedures (moments : List Moment) (p : Procedures) : Type 0 whe
 
 pub record AreChains (program : List Procedure) (moments : List Moment) (c : Chains) : Type 0 where
   pub longest : IsLongest program moments c.longest
-  pub depths : (x : Thing) → IsDeepest program moments x (depth_at c.depths x)
-  pub bounded : (x : Thing) → depth_at c.depths x ≤ steps_in moments
+  pub depths : (x : Dependency) → IsDeepest program moments x (depth_at c.depths x)
+  pub bounded : (x : Dependency) → depth_at c.depths x ≤ steps_in moments
 
 -- the numbers that the next task and the next rule get
 pub record IsNext (s : State) (n : Next) : Type 0 where
@@ -171,7 +171,7 @@ pub record IsFirst (s : State) : Type 0 where
   pub rule : s.next_rule ≡ 1
 
 -- of events that lead to a state
-pub record IsTally (first : PlainView) (events : List Event) (s : State) (t : Tally) : Type 0 where
+pub record IsTally (first : PlainView) (events : List Event) (s : State) (t : StatsBuilder) : Type 0 where
   pub reached : run first.program first.layout events first.state ≡ Went s
   pub counts : AreCounts (history first events) t.counts
   pub procedures : AreOfProcedures (history first events) t.procedures

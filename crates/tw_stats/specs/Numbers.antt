@@ -7,7 +7,7 @@ use Rattle.tw_types.specs.declared.event.Event.{Event}
 use Rattle.tw_types.specs.declared.event.Event.TheVariants.{Take, Local, Call, End, Ask, Deliver, Release}
 use Rattle.tw_code.specs.machine.History.{actor_of}
 use Rattle.tw_machine.specs.Moments.{Moment}
-use Rattle.tw_stats.specs.declared.doer.Doer.{Doer}
+use Rattle.tw_stats.specs.declared.executor.Executor.{Executor}
 use Rattle.tw_stats.specs.Waits.{done_by}
 
 abbrev pub one_if : Bool → ℕ
@@ -51,7 +51,7 @@ instructions_by (Deliver server datum rule parameter) = 0
 instructions_by (Release engine rule) = 0
 
 -- this, where the task is of the procedure
-abbrev pub if_of : ℕ → (Doer → ℕ) → Option Doer → ℕ
+abbrev pub if_of : ℕ → (Executor → ℕ) → Option Executor → ℕ
 if_of procedure amount None = 0
 if_of procedure amount (Some d) = if d.procedure == procedure then amount d else 0
 

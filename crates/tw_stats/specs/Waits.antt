@@ -18,21 +18,21 @@ use Rattle.tw_code.specs.machine.Rights.{right_at}
 use Rattle.tw_code.specs.machine.State.{Frame, State}
 use Rattle.tw_machine.specs.Waiting.{unasked_id}
 use Rattle.tw_machine.specs.Moments.{Moment}
-use Rattle.tw_stats.specs.declared.doer.Doer.{Doer}
-use Rattle.tw_stats.specs.declared.thing.Thing.{Thing}
-use Rattle.tw_stats.specs.declared.thing.Thing.TheVariants.{Task, Rule, Answer, Datum}
+use Rattle.tw_stats.specs.declared.executor.Executor.{Executor}
+use Rattle.tw_stats.specs.declared.dependency.Dependency.{Dependency}
+use Rattle.tw_stats.specs.declared.dependency.Dependency.TheVariants.{Task, Rule, Answer, Datum}
 
 -- ---- whose event it is
 
 -- of a frame: its task, its procedure, and how many instructions it has done
-abbrev pub doer_of : Frame → Doer
+abbrev pub doer_of : Frame → Executor
 doer_of f = record { task = f.task; procedure = f.procedure; spent = f.spent }
 
-abbrev pub doer_in : State → Actor → Option Doer
+abbrev pub doer_in : State → Actor → Option Executor
 doer_in s actor = option_map doer_of (get s.frames actor)
 
 -- the task that does the event; of a Take the one that is taken
-abbrev pub doer_at : Event → State → State → Option Doer
+abbrev pub doer_at : Event → State → State → Option Executor
 doer_at (Take actor) s next = doer_in next actor
 doer_at (Local actor n) s next = doer_in s actor
 doer_at (Call actor) s next = doer_in s actor
@@ -41,11 +41,11 @@ doer_at (Ask engine rule parameter) s next = None
 doer_at (Deliver server datum rule parameter) s next = None
 doer_at (Release engine rule) s next = None
 
-abbrev pub done_by : Moment → Option Doer
+abbrev pub done_by : Moment → Option Executor
 done_by m = doer_at m.event m.before m.behind
 
 -- its task, if it has one
-abbrev pub task_of : Option Doer → List Thing
+abbrev pub task_of : Option Executor → List Dependency
 task_of by = map (λ d. Task d.task) (option_to_list by)
 
 -- ---- what comes of an instruction for others
@@ -65,7 +65,7 @@ written (DropRead right) = None
 written (DropWrite right) = Some right
 
 -- a datum, or the rule or the task that has the next number
-abbrev pub made_by : State → Frame → Option Instr → Option Thing
+abbrev pub made_by : State → Frame → Option Instr → Option Dependency
 made_by s frame None = None
 made_by s frame (Some (instr.Local i)) = None
 made_by s frame (Some (instr.Data i)) = option_map Datum (option_and_then (right_at frame.rights) (written i))
@@ -73,11 +73,11 @@ made_by s frame (Some (instr.Rule action)) = Some (Rule s.next_rule)
 made_by s frame (Some (instr.Put action)) = Some (Task s.next_task)
 made_by s frame (Some instr.Ret) = None
 
-abbrev pub made_in : List Procedure → State → Option Frame → Option Thing
+abbrev pub made_in : List Procedure → State → Option Frame → Option Dependency
 made_in program s frame = option_and_then (λ f. made_by s f (instr_here program f)) frame
 
 -- what the event makes or writes for other tasks and rules
-abbrev pub made_at : List Procedure → Event → State → Option Thing
+abbrev pub made_at : List Procedure → Event → State → Option Dependency
 made_at program (Take actor) s = None
 made_at program (Local actor n) s = None
 made_at program (Call actor) s = made_in program s (get s.frames actor)
@@ -86,7 +86,7 @@ made_at program (Ask engine rule parameter) s = None
 made_at program (Deliver server datum rule parameter) s = None
 made_at program (Release engine rule) s = Some (Task s.next_task)
 
--- ---- what an event waits for, and what it brings
+-- ---- what an event waits for, and what it provides
 
 abbrev pub is_closed_at : Option StoredDatum → Bool
 is_closed_at None = false
@@ -109,7 +109,7 @@ asked_at (Release engine rule) s = None
 -- An event of a task waits for the task: for the event that put it, and for all that it has done. An Ask waits for the rule, and
 -- where the datum is closed for what was written of it; a Deliver waits for what was written of the datum, and a Release for the
 -- rule and for all that is known of its parameters.
-abbrev pub needs_by : Event → Option Doer → Option ℕ → List Thing
+abbrev pub needs_by : Event → Option Executor → Option ℕ → List Dependency
 needs_by (Take actor) by asked = task_of by
 needs_by (Local actor n) by asked = task_of by
 needs_by (Call actor) by asked = task_of by
@@ -118,7 +118,7 @@ needs_by (Ask engine rule parameter) by asked = Rule rule ∷ map Datum (option_
 needs_by (Deliver server datum rule parameter) by asked = Datum datum ∷ []
 needs_by (Release engine rule) by asked = Rule rule ∷ Answer rule ∷ []
 
-abbrev pub brings_by : Event → Option Doer → Option Thing → List Thing
+abbrev pub brings_by : Event → Option Executor → Option Dependency → List Dependency
 brings_by (Take actor) by made = task_of by
 brings_by (Local actor n) by made = task_of by
 brings_by (Call actor) by made = task_of by ++ option_to_list made
@@ -127,15 +127,15 @@ brings_by (Ask engine rule parameter) by made = Answer rule ∷ []
 brings_by (Deliver server datum rule parameter) by made = Answer rule ∷ []
 brings_by (Release engine rule) by made = option_to_list made
 
-abbrev pub needs : Moment → List Thing
+abbrev pub needs : Moment → List Dependency
 needs m = needs_by m.event (done_by m) (asked_at m.event m.before)
 
-abbrev pub brings : List Procedure → Moment → List Thing
-brings program m = brings_by m.event (done_by m) (made_at program m.event m.before)
+abbrev pub provides : List Procedure → Moment → List Dependency
+provides program m = brings_by m.event (done_by m) (made_at program m.event m.before)
 
 -- ---- which waits for which
 
-abbrev pub same_thing : Thing → Thing → Bool
+abbrev pub same_thing : Dependency → Dependency → Bool
 same_thing (Task n) (Task k) = n == k
 same_thing (Task n) (Rule k) = false
 same_thing (Task n) (Answer k) = false
@@ -153,13 +153,13 @@ same_thing (Datum n) (Rule k) = false
 same_thing (Datum n) (Answer k) = false
 same_thing (Datum n) (Datum k) = n == k
 
-abbrev pub has_thing : List Thing → Thing → Bool
-has_thing things x = list_any (λ thing. same_thing thing x) things
+abbrev pub has_thing : List Dependency → Dependency → Bool
+has_thing dependencies x = list_any (λ dependency. same_thing dependency x) dependencies
 
--- an event waits for each earlier one that brings something which it needs
+-- an event waits for each earlier one that provides something which it needs
 pub record WaitsFor (program : List Procedure) (later earlier : Moment) : Type 0 where
   pub before : earlier.number < later.number
-  pub needed : list_any (has_thing (brings program earlier)) (needs later) ≡ true
+  pub needed : list_any (has_thing (provides program earlier)) (needs later) ≡ true
 
 -- ---- chains
 

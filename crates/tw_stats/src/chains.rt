@@ -4,11 +4,11 @@ ghost use Rattle.std.specs.Prelude.{◌≡◌, ◌∷◌, ◌++◌, [], List, On
 ghost use Rattle.tw_code.specs.declared.procedure.Procedure.{Procedure};
 ghost use Rattle.tw_machine.specs.Moments.{Moment};
 ghost use Rattle.tw_stats.specs.Kept.{AreChains, IsLater, IsSmall, things_in};
-ghost use Rattle.tw_stats.specs.Waits.{brings, needs};
+ghost use Rattle.tw_stats.specs.Waits.{provides, needs};
 
 use crate::counts::size_of;
+use crate::dependencies::Dependencies;
 use crate::depths::Depths;
-use crate::things::Things;
 use std::alloc::{AllocError, Global};
 use tw_types::Event;
 
@@ -17,7 +17,7 @@ use tw_types::Event;
 pub struct Chains {
     /// Of the longest one.
     pub longest: u64,
-    /// Of those that bring a thing.
+    /// Of those that provide a dependency.
     pub depths: Depths,
 }
 
@@ -31,14 +31,14 @@ impl Chains {
         }
     }
 
-    /// Adds an event that needs these things and brings those.
+    /// Adds an event that needs these dependencies and provides those.
     pub fn add(
         &mut self,
         event: &Event,
-        needed: &Things,
-        brought: &Things,
+        needed: &Dependencies,
+        brought: &Dependencies,
     ) -> Result<(), AllocError>
-        ensures { OnOk result ((program : List Procedure) (moments : List Moment) (m : Moment) → m.event ≡ event.now → needs m ≡ things_in needed.now → brings program m ≡ things_in brought.now
+        ensures { OnOk result ((program : List Procedure) (moments : List Moment) (m : Moment) → m.event ≡ event.now → needs m ≡ things_in needed.now → provides program m ≡ things_in brought.now
             → IsLater moments m → IsSmall (moments ++ m ∷ []) → AreChains program moments self.old → AreChains program (moments ++ m ∷ []) self.new) }
     {
         let before = self.depths.deepest(needed);

@@ -1,16 +1,16 @@
-//! The most steps of a chain that brings a thing.
+//! The most steps of a chain that provides a dependency.
 
 ghost use Rattle.std.specs.Prelude.{◌≡◌, OnOk, if◌then◌else◌, max, option_to_list};
-ghost use Rattle.tw_stats.specs.declared.thing.Thing.{Thing as AThing};
+ghost use Rattle.tw_stats.specs.declared.dependency.Dependency.{Dependency as AThing};
 ghost use Rattle.tw_stats.specs.Kept.{IsDeepened, deepest, depth_at, things_in};
 ghost use Rattle.tw_stats.specs.Waits.{same_thing};
 
+use crate::dependencies::Dependencies;
+use crate::dependency::Dependency;
 use crate::table::Table;
-use crate::thing::Thing;
-use crate::things::Things;
 use std::alloc::{AllocError, Global};
 
-/// A number for each thing.
+/// A number for each dependency.
 #[derive(Drop)]
 pub struct Depths {
     tasks: Table,
@@ -31,59 +31,59 @@ impl Depths {
         }
     }
 
-    fn at(&self, thing: Thing) -> u64
-        ensures { result ≡ depth_at self.now thing }
+    fn at(&self, dependency: Dependency) -> u64
+        ensures { result ≡ depth_at self.now dependency }
     {
-        match thing {
-            Thing::Task(task) => self.tasks.at(task.number()),
-            Thing::Rule(rule) => self.rules.at(rule.number()),
-            Thing::Answer(rule) => self.answers.at(rule.number()),
-            Thing::Datum(datum) => self.written.at(datum.number()),
+        match dependency {
+            Dependency::Task(task) => self.tasks.at(task.number()),
+            Dependency::Rule(rule) => self.rules.at(rule.number()),
+            Dependency::Answer(rule) => self.answers.at(rule.number()),
+            Dependency::Datum(datum) => self.written.at(datum.number()),
         }
     }
 
-    fn at_most_one(&self, thing: &Option<Thing>) -> u64
-        ensures { result ≡ deepest self.now (option_to_list thing.now) }
+    fn at_most_one(&self, dependency: &Option<Dependency>) -> u64
+        ensures { result ≡ deepest self.now (option_to_list dependency.now) }
     {
-        match thing {
-            Some(thing) => self.at(*thing),
+        match dependency {
+            Some(dependency) => self.at(*dependency),
             None => 0,
         }
     }
 
-    /// The most of these things.
-    pub fn deepest(&self, things: &Things) -> u64
-        ensures { result ≡ deepest self.now (things_in things.now) }
+    /// The most of these dependencies.
+    pub fn deepest(&self, dependencies: &Dependencies) -> u64
+        ensures { result ≡ deepest self.now (things_in dependencies.now) }
     {
-        self.at_most_one(&things.first)
-            .max(self.at_most_one(&things.second))
+        self.at_most_one(&dependencies.first)
+            .max(self.at_most_one(&dependencies.second))
     }
 
-    fn deepen_at(&mut self, thing: Thing, depth: u64) -> Result<(), AllocError>
-        ensures { OnOk result ((x : AThing) → depth_at self.new x ≡ max (depth_at self.old x) (if same_thing thing x then depth else 0)) }
+    fn deepen_at(&mut self, dependency: Dependency, depth: u64) -> Result<(), AllocError>
+        ensures { OnOk result ((x : AThing) → depth_at self.new x ≡ max (depth_at self.old x) (if same_thing dependency x then depth else 0)) }
     {
-        match thing {
-            Thing::Task(task) => self.tasks.raise(task.number(), depth),
-            Thing::Rule(rule) => self.rules.raise(rule.number(), depth),
-            Thing::Answer(rule) => self.answers.raise(rule.number(), depth),
-            Thing::Datum(datum) => self.written.raise(datum.number(), depth),
+        match dependency {
+            Dependency::Task(task) => self.tasks.raise(task.number(), depth),
+            Dependency::Rule(rule) => self.rules.raise(rule.number(), depth),
+            Dependency::Answer(rule) => self.answers.raise(rule.number(), depth),
+            Dependency::Datum(datum) => self.written.raise(datum.number(), depth),
         }
     }
 
-    fn deepen_one(&mut self, thing: &Option<Thing>, depth: u64) -> Result<(), AllocError>
-        ensures { OnOk result (IsDeepened self.old (option_to_list thing.now) depth self.new) }
+    fn deepen_one(&mut self, dependency: &Option<Dependency>, depth: u64) -> Result<(), AllocError>
+        ensures { OnOk result (IsDeepened self.old (option_to_list dependency.now) depth self.new) }
     {
-        match thing {
-            Some(thing) => self.deepen_at(*thing, depth),
+        match dependency {
+            Some(dependency) => self.deepen_at(*dependency, depth),
             None => Ok(()),
         }
     }
 
-    /// Makes it so many at least, of each of these things.
-    pub fn deepen(&mut self, things: &Things, depth: u64) -> Result<(), AllocError>
-        ensures { OnOk result (IsDeepened self.old (things_in things.now) depth self.new) }
+    /// Makes it so many at least, of each of these dependencies.
+    pub fn deepen(&mut self, dependencies: &Dependencies, depth: u64) -> Result<(), AllocError>
+        ensures { OnOk result (IsDeepened self.old (things_in dependencies.now) depth self.new) }
     {
-        self.deepen_one(&things.first, depth)?;
-        self.deepen_one(&things.second, depth)
+        self.deepen_one(&dependencies.first, depth)?;
+        self.deepen_one(&dependencies.second, depth)
     }
 }

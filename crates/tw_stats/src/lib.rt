@@ -4,27 +4,27 @@
 
 mod actors;
 mod chains;
-mod coming;
 mod counts;
+mod dependencies;
+mod dependency;
 mod depths;
-mod doer;
+mod executor;
 mod next;
+mod pre_state;
 mod procedures;
+mod stats_builder;
 mod table;
-mod tally;
 mod text;
-mod thing;
-mod things;
 
 pub use actors::Actors;
 pub use chains::Chains;
-pub use coming::Coming;
 pub use counts::Counts;
+pub use dependencies::Dependencies;
+pub use dependency::Dependency;
 pub use depths::Depths;
-pub use doer::Doer;
+pub use executor::Executor;
 pub use next::Next;
+pub use pre_state::PreState;
 pub use procedures::Procedures;
+pub use stats_builder::StatsBuilder;
 pub use table::Table;
-pub use tally::Tally;
-pub use thing::Thing;
-pub use things::Things;

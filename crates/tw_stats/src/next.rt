@@ -4,7 +4,7 @@ ghost use Rattle.std.specs.Prelude.{◌≡◌};
 ghost use Rattle.tw_stats.specs.Kept.{AreBehind, IsFirst, IsNext};
 ghost use Rattle.tw_code.specs.machine.State.{State};
 
-use crate::thing::Thing;
+use crate::dependency::Dependency;
 use tw_types::{RuleNo, TaskNo};
 
 /// The numbers of the next task and of the next rule.
@@ -35,13 +35,13 @@ impl Next {
     }
 
     /// Goes behind an event that makes this.
-    pub fn go_behind(&mut self, made: &Option<Thing>)
+    pub fn go_behind(&mut self, made: &Option<Dependency>)
         ensures { AreBehind self.old made.now self.new }
     {
         match made {
-            Some(Thing::Task(_)) => self.task = self.task.saturating_add(1),
-            Some(Thing::Rule(_)) => self.rule = self.rule.saturating_add(1),
-            Some(Thing::Answer(_) | Thing::Datum(_)) | None => {}
+            Some(Dependency::Task(_)) => self.task = self.task.saturating_add(1),
+            Some(Dependency::Rule(_)) => self.rule = self.rule.saturating_add(1),
+            Some(Dependency::Answer(_) | Dependency::Datum(_)) | None => {}
         }
     }
 }

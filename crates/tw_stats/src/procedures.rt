@@ -6,7 +6,7 @@ ghost use Rattle.tw_stats.specs.Kept.{AreOfProcedures, HasSpentFew, IsSmall};
 ghost use Rattle.tw_stats.specs.Numbers.{instructions_by, tasks_by};
 ghost use Rattle.tw_stats.specs.Waits.{done_by};
 
-use crate::doer::Doer;
+use crate::executor::Executor;
 use crate::table::Table;
 use std::alloc::{AllocError, Global};
 use tw_types::Event;
@@ -54,23 +54,23 @@ impl Procedures {
         }
     }
 
-    fn add_of(&mut self, event: &Event, doer: &Doer) -> Result<(), AllocError>
-        ensures { OnOk result ((moments : List Moment) (m : Moment) → m.event ≡ event.now → done_by m ≡ Some doer.now → IsSmall (moments ++ m ∷ []) → doer.now.spent < 2 ^ 63 → AreOfProcedures moments self.old → AreOfProcedures (moments ++ m ∷ []) self.new) }
+    fn add_of(&mut self, event: &Event, executor: &Executor) -> Result<(), AllocError>
+        ensures { OnOk result ((moments : List Moment) (m : Moment) → m.event ≡ event.now → done_by m ≡ Some executor.now → IsSmall (moments ++ m ∷ []) → executor.now.spent < 2 ^ 63 → AreOfProcedures moments self.old → AreOfProcedures (moments ++ m ∷ []) self.new) }
     {
-        let procedure = u64::from(doer.procedure);
+        let procedure = u64::from(executor.procedure);
         let instructions = instructions_by(event);
         self.tasks.add(procedure, tasks_by(event))?;
         self.instructions.add(procedure, instructions)?;
-        let done = doer.spent.saturating_add(instructions);
+        let done = executor.spent.saturating_add(instructions);
         self.most.raise(procedure, done)
     }
 
     /// Counts an event, which this task does if any.
-    pub fn add(&mut self, event: &Event, doer: &Option<Doer>) -> Result<(), AllocError>
-        ensures { OnOk result ((moments : List Moment) (m : Moment) → m.event ≡ event.now → done_by m ≡ doer.now → IsSmall (moments ++ m ∷ []) → HasSpentFew doer.now → AreOfProcedures moments self.old → AreOfProcedures (moments ++ m ∷ []) self.new) }
+    pub fn add(&mut self, event: &Event, executor: &Option<Executor>) -> Result<(), AllocError>
+        ensures { OnOk result ((moments : List Moment) (m : Moment) → m.event ≡ event.now → done_by m ≡ executor.now → IsSmall (moments ++ m ∷ []) → HasSpentFew executor.now → AreOfProcedures moments self.old → AreOfProcedures (moments ++ m ∷ []) self.new) }
     {
-        match doer {
-            Some(doer) => self.add_of(event, doer),
+        match executor {
+            Some(executor) => self.add_of(event, executor),
             None => Ok(()),
         }
     }

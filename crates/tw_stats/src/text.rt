@@ -11,7 +11,7 @@ ghost use Rattle.tw_stats.specs.Text.{AreNumbers, actor_line_of, budget_text, ch
 
 use crate::counts::Counts;
 use crate::procedures::Procedures;
-use crate::tally::Tally;
+use crate::stats_builder::StatsBuilder;
 use std::alloc::{AllocError, Global};
 use tw_machine::Plain;
 use tw_names::Symbols;
@@ -169,7 +169,7 @@ fn procedure_count(plain: &Plain) -> usize
     plain.program().procedures().len()
 }
 
-impl Tally {
+impl StatsBuilder {
     /// Writes the numbers of the events that have led to where the machine stands. The names and the budgets are those of its
     /// procedures, as far as they are known.
     pub fn text(

@@ -17,7 +17,7 @@ pub step-requires-clause-small : goal.step-requires-clause-small
 step-requires-clause-small c = below_more (opening_bound + 1000000000 * c.loop-index.index) _ _ (omega (arith, c.requires.few, c.loop-index-test.true)) c.loop-index.invariant.below
 
 pub keep-requires : goal.keep-requires
-keep-requires c = few_taken c.args.first c.args.events.now c.loop-index.index c.loop-index.plain.state c.loop-index.trail c.loop-index.invariant.trail c.requires.few
+keep-requires c = few_taken c.args.first c.args.events.now c.loop-index.index c.loop-index.plain.state c.loop-index.timeline_builder c.loop-index.invariant.timeline_builder c.requires.few
 
 pub returns-in-Err : goal.returns-in-Err
 returns-in-Err c =
@@ -30,7 +30,7 @@ returns-in-Err c =
     c.in-Err.ensures.steps.0 told kept.same kept.runs) c.stopped_reply.ensures
 
 pub loop-index-init : goal.loop-index-init
-loop-index-init c = record { stays = refl; same = refl; runs = refl; below = c.requires.below; trail = c.new-trail.ensures c.args.first c.requires.opening }
+loop-index-init c = record { stays = refl; same = refl; runs = refl; below = c.requires.below; timeline_builder = c.new-timeline_builder.ensures c.args.first c.requires.opening }
 
 pub loop-index-preserved : goal.loop-index-preserved
 loop-index-preserved c =
@@ -50,11 +50,11 @@ loop-index-preserved c =
       same = went_on first.program first.program first.layout first.layout events i event at.state next.state (played_from first events) refl refl inside is went kept.same;
       runs = run_on first.program first.layout events i event at.state next.state (run first.program first.layout events first.state) inside is went kept.runs;
       below = below_more _ _ _ (omega arith) (c.step.ensures.below (opening_bound + 1000000000 * i) kept.below);
-      trail = trail_on first events i event next.state c.keep.new.self inside is (c.in_ok-keep-in-Ok.ensures first (take i events) at.state kept.trail went);
+      timeline_builder = trail_on first events i event next.state c.keep.new.self inside is (c.in_ok-keep-in-Ok.ensures first (take i events) at.state kept.timeline_builder went);
     }
 
 pub picture_reply-requires : goal.picture_reply-requires
-picture_reply-requires c = few_taken c.args.first c.args.events.now c.loop-index.index c.loop-index.plain.state c.loop-index.trail c.loop-index.invariant.trail c.requires.few
+picture_reply-requires c = few_taken c.args.first c.args.events.now c.loop-index.index c.loop-index.plain.state c.loop-index.timeline_builder c.loop-index.invariant.timeline_builder c.requires.few
 
 pub returns : goal.returns
 returns c =
@@ -65,6 +65,6 @@ returns c =
     let i = c.loop-index.index in
     let whole = run first.program first.layout events first.state in
     let comes : whole ≡ Went at.state = all_run first.program first.layout events i at.state whole c.loop-index-test.false kept.runs in
-    IfOk-weaker c.picture_reply.result (λ (r : Reply). (v : PlainView) (es : List Event) → at ≡ record v { state = at.state } → IsTrail v es at.state c.loop-index.trail → IsPicture c.args.names c.args.shown v es at.state (reply r.text.items r.close)) (λ (r : Reply). IsDrawn c.args.names c.args.shown first events (reply r.text.items r.close))
+    IfOk-weaker c.picture_reply.result (λ (r : Reply). (v : PlainView) (es : List Event) → at ≡ record v { state = at.state } → IsTrail v es at.state c.loop-index.timeline_builder → IsPicture c.args.names c.args.shown v es at.state (reply r.text.items r.close)) (λ (r : Reply). IsDrawn c.args.names c.args.shown first events (reply r.text.items r.close))
     (λ (r : Reply) h. by_went whole at.state (λ s. IsPicture c.args.names c.args.shown first events s (reply r.text.items r.close)) (reply r.text.items r.close ≡ played_from first events) comes
-    (picture_of_all c.args.names c.args.shown first events i at.state (reply r.text.items r.close) c.loop-index-test.false (h first (take i events) kept.stays kept.trail))) c.picture_reply.ensures
+    (picture_of_all c.args.names c.args.shown first events i at.state (reply r.text.items r.close) c.loop-index-test.false (h first (take i events) kept.stays kept.timeline_builder))) c.picture_reply.ensures

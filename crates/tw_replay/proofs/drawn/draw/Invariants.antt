@@ -11,5 +11,5 @@ invariant-loop-index l = record {
   same : played l.fn.first.program l.fn.first.layout (l.index + 1) (drop l.index l.events) l.plain.state ≡ played l.fn.first.program l.fn.first.layout 1 l.events l.fn.first.state;
   runs : run l.fn.first.program l.fn.first.layout (drop l.index l.events) l.plain.state ≡ run l.fn.first.program l.fn.first.layout l.events l.fn.first.state;
   below : AreBelow (opening_bound + 1000000000 * l.index) l.plain.state;
-  trail : IsTrail l.fn.first (take l.index l.events) l.plain.state l.trail;
+  timeline_builder : IsTrail l.fn.first (take l.index l.events) l.plain.state l.timeline_builder;
 }

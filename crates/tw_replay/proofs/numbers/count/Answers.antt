@@ -20,7 +20,7 @@ returns-in-Err c =
     c.stopped_counting.ensures
 
 pub loop-index-init : goal.loop-index-init
-loop-index-init c = record { stays = refl; same = refl; runs = refl; below = c.requires.below; tally = c.new-tally.ensures c.args.first c.requires.opening }
+loop-index-init c = record { stays = refl; same = refl; runs = refl; below = c.requires.below; stats_builder = c.new-stats_builder.ensures c.args.first c.requires.opening }
 
 pub loop-index-preserved : goal.loop-index-preserved
 loop-index-preserved c =
@@ -42,11 +42,11 @@ loop-index-preserved c =
       same = went_on first.program first.program first.layout first.layout events i event at.state next.state (played_from first events) refl refl inside is went kept.same;
       runs = run_on first.program first.layout events i event at.state next.state (run first.program first.layout events first.state) inside is went kept.runs;
       below = below_more _ _ _ (omega arith) (c.step.ensures.below (opening_bound + 1000000000 * i) kept.below);
-      tally =
+      stats_builder =
           tally_on first events i event next.state c.keep.new.self inside is
-          (c.in_ok-keep-in-Ok.ensures first (take i events) at.state kept.tally (came first at event c.coming-coming.result kept.stays (c.coming-coming.ensures kept.tally.next)) went before behind (small_on first events i event inside is c.requires.sizes c.requires.few));
+          (c.in_ok-keep-in-Ok.ensures first (take i events) at.state kept.stats_builder (came first at event c.pre_state-pre_state.result kept.stays (c.pre_state-pre_state.ensures kept.stats_builder.next)) went before behind (small_on first events i event inside is c.requires.sizes c.requires.few));
     }
 
 pub returns : goal.returns
 returns c =
-    (c.loop-index.invariant.stays, tally_of_all c.args.first c.args.events.now c.loop-index.index c.loop-index.plain.state c.loop-index.tally c.loop-index-test.false c.loop-index.invariant.tally)
+    (c.loop-index.invariant.stays, tally_of_all c.args.first c.args.events.now c.loop-index.index c.loop-index.plain.state c.loop-index.stats_builder c.loop-index-test.false c.loop-index.invariant.stats_builder)

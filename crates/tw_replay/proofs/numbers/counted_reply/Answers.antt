@@ -14,8 +14,8 @@ returns-in-Made c =
     let first = c.args.first in
     let events = c.args.events.now in
     let at = c.in-Made.counted.plain in
-    let tally = c.in-Made.counted.tally in
+    let stats_builder = c.in-Made.counted.stats_builder in
     let made = subst (λ (x : Counting). IsCounting first events x) c.in-Made.is c.in_ok-counted.ensures in
     let whole = run first.program first.layout events first.state in
-    IfOk-weaker c.numbers_reply.result (λ (r : Reply). (v : PlainView) (es : List Event) → at ≡ record v { state = at.state } → IsTally v es at.state tally → IsNumbered c.args.names.now v es at.state (reply r.text.items r.close)) (λ (r : Reply). IsCounted c.args.names.now first events (reply r.text.items r.close))
+    IfOk-weaker c.numbers_reply.result (λ (r : Reply). (v : PlainView) (es : List Event) → at ≡ record v { state = at.state } → IsTally v es at.state stats_builder → IsNumbered c.args.names.now v es at.state (reply r.text.items r.close)) (λ (r : Reply). IsCounted c.args.names.now first events (reply r.text.items r.close))
     (λ (r : Reply) h. by_went whole at.state (λ s. IsNumbered c.args.names.now first events s (reply r.text.items r.close)) (reply r.text.items r.close ≡ played_from first events) made.1.reached (h first events made.0 made.1)) c.numbers_reply.ensures

@@ -8,5 +8,5 @@ returns c =
     let new : Procedures = record { tasks = c.add.new.self; instructions = c.add-2.new.self; most = c.raise.new.self } in
     on_ok_weaker c.raise.result
     (λ raised moments m is by small spent h.
-    procedures_added moments m c.args.event.now c.args.doer.now c.from-procedure.result c.tasks_by.result c.instructions_by-instructions.result c.saturating_add-done.result c.args.self.now new is by small spent h
+    procedures_added moments m c.args.event.now c.args.executor.now c.from-procedure.result c.tasks_by.result c.instructions_by-instructions.result c.saturating_add-done.result c.args.self.now new is by small spent h
     c.from-procedure.ensures c.tasks_by.ensures c.instructions_by-instructions.ensures c.saturating_add-done.ensures c.in_ok-add.ensures c.in_ok-add-2.ensures raised) c.raise.ensures

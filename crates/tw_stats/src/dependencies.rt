@@ -1,0 +1,86 @@
+//! The dependencies of one event.
+
+ghost use Rattle.std.specs.Prelude.{◌≡◌, option_map, option_to_list};
+ghost use Rattle.tw_stats.specs.Kept.{things_in};
+ghost use Rattle.tw_stats.specs.Waits.{brings_by, needs_by, task_of};
+
+use crate::dependency::Dependency;
+use crate::executor::Executor;
+use tw_types::{DatumId, Event};
+
+/// Two dependencies, or fewer.
+#[derive(Clone, Copy)]
+pub struct Dependencies {
+    pub first: Option<Dependency>,
+    pub second: Option<Dependency>,
+}
+
+fn task_of(executor: &Option<Executor>) -> Option<Dependency>
+    ensures { option_to_list result ≡ task_of executor.now }
+{
+    match executor {
+        Some(executor) => Some(Dependency::Task(executor.task)),
+        None => None,
+    }
+}
+
+fn datum(id: &Option<DatumId>) -> Option<Dependency>
+    ensures { result ≡ option_map Dependency.Datum id.now }
+{
+    match id {
+        Some(id) => Some(Dependency::Datum(*id)),
+        None => None,
+    }
+}
+
+/// What an event waits for.
+pub fn needs(event: &Event, executor: &Option<Executor>, asked: &Option<DatumId>) -> Dependencies
+    ensures { things_in result ≡ needs_by event.now executor.now asked.now }
+{
+    match *event {
+        Event::Take(_) | Event::Local(_, _) | Event::Call(_) | Event::End(_) => Dependencies {
+            first: task_of(executor),
+            second: None,
+        },
+        Event::Ask(_, rule, _) => Dependencies {
+            first: Some(Dependency::Rule(rule)),
+            second: datum(asked),
+        },
+        Event::Deliver(_, datum, _, _) => Dependencies {
+            first: Some(Dependency::Datum(datum)),
+            second: None,
+        },
+        Event::Release(_, rule) => Dependencies {
+            first: Some(Dependency::Rule(rule)),
+            second: Some(Dependency::Answer(rule)),
+        },
+    }
+}
+
+/// What it provides for others.
+pub fn provides(
+    event: &Event,
+    executor: &Option<Executor>,
+    made: &Option<Dependency>,
+) -> Dependencies
+    ensures { things_in result ≡ brings_by event.now executor.now made.now }
+{
+    match *event {
+        Event::Take(_) | Event::Local(_, _) | Event::End(_) => Dependencies {
+            first: task_of(executor),
+            second: None,
+        },
+        Event::Call(_) => Dependencies {
+            first: task_of(executor),
+            second: *made,
+        },
+        Event::Ask(_, rule, _) | Event::Deliver(_, _, rule, _) => Dependencies {
+            first: Some(Dependency::Answer(rule)),
+            second: None,
+        },
+        Event::Release(_, _) => Dependencies {
+            first: None,
+            second: *made,
+        },
+    }
+}

@@ -1,0 +1,38 @@
+//! Which task does an event.
+
+ghost use Rattle.std.specs.Prelude.{◌≡◌};
+ghost use Rattle.tw_stats.specs.Waits.{doer_in, doer_of};
+
+use tw_machine::{Frame, Plain};
+use tw_types::{Actor, TaskNo};
+
+/// A task that runs.
+#[derive(Clone, Copy)]
+pub struct Executor {
+    pub task: TaskNo,
+    pub procedure: u8,
+    /// How many instructions it has done.
+    pub spent: u64,
+}
+
+impl Executor {
+    fn of(frame: &Frame) -> Executor
+        ensures { result ≡ doer_of frame.now }
+    {
+        Executor {
+            task: frame.task(),
+            procedure: frame.procedure(),
+            spent: frame.spent(),
+        }
+    }
+
+    /// The task that an actor runs, if it runs one.
+    pub fn by(plain: &Plain, actor: Actor) -> Option<Executor>
+        ensures { result ≡ doer_in plain.now.state actor }
+    {
+        match plain.state().frame(actor) {
+            Some(frame) => Some(Executor::of(frame)),
+            None => None,
+        }
+    }
+}

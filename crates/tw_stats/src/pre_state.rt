@@ -1,0 +1,149 @@
+//! What is known of an event before it is made.
+
+ghost use Rattle.std.specs.Prelude.{◌≡◌, option_map};
+ghost use Rattle.std.specs.FinMap.{get};
+ghost use Rattle.std.specs.Option.{option_and_then, option_copied};
+ghost use Rattle.tw_code.specs.machine.Rights.{right_at};
+ghost use Rattle.tw_code.specs.machine.State.{State};
+ghost use Rattle.tw_stats.specs.Kept.{IsComing, IsNext, executor_before};
+ghost use Rattle.tw_stats.specs.Waits.{asked_at, if_closed, is_closed_at, made_at, made_by, made_in, written};
+
+use crate::dependency::Dependency;
+use crate::executor::Executor;
+use crate::next::Next;
+use tw_code::{DataInstr, Instr};
+use tw_machine::{Frame, Plain, Rule};
+use tw_types::{Actor, DatumId, Event, RuleNo};
+
+/// What is seen of an event in the state before it.
+#[derive(Clone, Copy)]
+pub struct PreState {
+    pub executor: Option<Executor>,
+    pub asked: Option<DatumId>,
+    pub made: Option<Dependency>,
+}
+
+/// The task that does the event, where it runs before.
+fn executor_before(plain: &Plain, event: &Event) -> Option<Executor>
+    ensures { result ≡ executor_before event.now plain.now.state }
+{
+    match *event {
+        Event::Local(actor, _) | Event::Call(actor) | Event::End(actor) => Executor::by(
+            plain, actor,
+        ),
+        Event::Take(_) | Event::Ask(_, _, _) | Event::Deliver(_, _, _, _) | Event::Release(_, _) =>
+            { None }
+    }
+}
+
+/// A rule that is pending, if it is.
+fn rule_at(plain: &Plain, rule: RuleNo) -> Option<&Rule>
+    ensures { option_copied result ≡ get plain.now.state.rules rule }
+{
+    plain.state().rules().get(&rule.number())
+}
+
+fn is_closed(plain: &Plain, id: DatumId) -> bool
+    ensures { result ≡ is_closed_at (get plain.now.state.store.live id) }
+{
+    match plain.state().datum(id) {
+        Some(datum) => datum.closed(),
+        None => false,
+    }
+}
+
+/// This datum, where it is closed.
+fn if_closed(plain: &Plain, id: DatumId) -> Option<DatumId>
+    ensures { result ≡ if_closed plain.now.state id }
+{
+    if is_closed(plain, id) { Some(id) } else { None }
+}
+
+/// The datum for which an engine asks, where it is closed.
+fn asked_at(plain: &Plain, event: &Event) -> Option<DatumId>
+    ensures { result ≡ asked_at event.now plain.now.state }
+{
+    match *event {
+        Event::Ask(_, rule, parameter) => {
+            let rule = rule_at(plain, rule)?;
+            let id = rule.unasked_id(parameter)?;
+            if_closed(plain, id)
+        }
+        Event::Take(_) | Event::Local(_, _) | Event::Call(_) | Event::End(_) => None,
+        Event::Deliver(_, _, _, _) | Event::Release(_, _) => None,
+    }
+}
+
+/// The right register of the datum that an instruction writes.
+fn written(instr: &DataInstr) -> Option<u8>
+    ensures { result ≡ written instr.now }
+{
+    match *instr {
+        DataInstr::Store { datum, .. } => Some(datum),
+        DataInstr::Insert { container, .. } => Some(container),
+        DataInstr::DropWrite { right } => Some(right),
+        DataInstr::New { .. } | DataInstr::Get { .. } | DataInstr::Look { .. } => None,
+        DataInstr::Size { .. } | DataInstr::SubscriptAt { .. } => None,
+        DataInstr::CopyRead { .. } | DataInstr::CopyWrite { .. } | DataInstr::DropRead { .. } =>
+            None,
+    }
+}
+
+/// The datum that an instruction of the task writes.
+fn written_by(frame: &Frame, instr: &DataInstr) -> Option<Dependency>
+    ensures { result ≡ option_map Dependency.Datum (option_and_then (right_at frame.now.rights) (written instr.now)) }
+{
+    let register = written(instr)?;
+    let id = frame.right(register)?;
+    Some(Dependency::Datum(id))
+}
+
+/// What an instruction of the task makes or writes for others.
+fn made_by(next: Next, frame: &Frame, instr: &Instr) -> Option<Dependency>
+    ensures { (s : State) → IsNext s next → result ≡ made_by s frame.now (Some instr.now) }
+{
+    match instr {
+        Instr::Data(instr) => written_by(frame, instr),
+        Instr::Rule(_) => Some(Dependency::Rule(next.rule())),
+        Instr::Put(_) => Some(Dependency::Task(next.task())),
+        Instr::Local(_) | Instr::Ret => None,
+    }
+}
+
+/// What the instruction that comes next of an actor's task makes.
+fn made_in(next: Next, plain: &Plain, actor: Actor) -> Option<Dependency>
+    ensures { IsNext plain.now.state next → result ≡ made_in plain.now.program plain.now.state (get plain.now.state.frames actor) }
+{
+    let frame = plain.state().frame(actor)?;
+    let procedure = plain
+        .program()
+        .procedures()
+        .get(usize::from(frame.procedure()))?;
+    let instr = procedure.code.as_slice().get(frame.place())?;
+    made_by(next, frame, instr)
+}
+
+/// What an event makes or writes for others.
+fn made_at(next: Next, plain: &Plain, event: &Event) -> Option<Dependency>
+    ensures { IsNext plain.now.state next → result ≡ made_at plain.now.program event.now plain.now.state }
+{
+    match *event {
+        Event::Call(actor) => made_in(next, plain, actor),
+        Event::Release(_, _) => Some(Dependency::Task(next.task())),
+        Event::Take(_) | Event::Local(_, _) | Event::End(_) => None,
+        Event::Ask(_, _, _) | Event::Deliver(_, _, _, _) => None,
+    }
+}
+
+impl PreState {
+    /// What is seen of an event where the machine stands.
+    pub fn of(next: Next, plain: &Plain, event: &Event) -> PreState
+        ensures { IsNext plain.now.state next → IsComing plain.now.program event.now plain.now.state result }
+    {
+        PreState {
+            executor: executor_before(plain, event),
+            asked: asked_at(plain, event),
+            made: made_at(next, plain, event),
+        }
+    }
+}
