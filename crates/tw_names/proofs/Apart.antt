@@ -13,8 +13,8 @@ use Rattle.tw_names.specs.declared.meaning.Bank.{Bank}
 use Rattle.tw_names.specs.declared.meaning.Bank.TheVariants as bank
 use Rattle.tw_names.specs.declared.meaning.Origin.{Origin}
 use Rattle.tw_names.specs.declared.meaning.Origin.TheVariants as origin
-use Rattle.tw_names.specs.declared.meaning.Thing.{Thing}
-use Rattle.tw_names.specs.declared.meaning.Thing.TheVariants as thing
+use Rattle.tw_names.specs.declared.meaning.Binding.{Binding}
+use Rattle.tw_names.specs.declared.meaning.Binding.TheVariants as binding
 use Rattle.tw_names.proofs.ListedNames.{found, or_again, or_none}
 use Rattle.tw_names.proofs.NameSteps.{IsStep, head_step, taken_step}
 
@@ -26,8 +26,8 @@ AreApart [] = Unit {0}
 AreApart (entry ∷ table) = ((b : Bank) (n : ℕ) → lists b n entry.1 ≡ true → is_listed b n table ≡ false) × AreApart table
 
 -- right registers that have a name are below this
-abbrev IsBelow : ℕ → Thing → Type 0
-IsBelow rights (thing.Register bank.Right n by) = n < rights
+abbrev IsBelow : ℕ → Binding → Type 0
+IsBelow rights (binding.Register bank.Right n by) = n < rights
 IsBelow rights x = Unit {0}
 
 abbrev AreBelow : ℕ → Table → Type 0
@@ -37,12 +37,12 @@ AreBelow rights (entry ∷ table) = IsBelow rights entry.1 × AreBelow rights ta
 abbrev IsApart : Names → Type 0
 IsApart names = AreApart names.registers × AreBelow names.rights names.registers
 
-listed_more : (b : Bank) (n : ℕ) (table : Table) (x : List ℕ × Thing) → is_listed b n (table ++ x ∷ []) ≡ (is_listed b n table || lists b n x.1)
+listed_more : (b : Bank) (n : ℕ) (table : Table) (x : List ℕ × Binding) → is_listed b n (table ++ x ∷ []) ≡ (is_listed b n table || lists b n x.1)
 listed_more b n [] x = or_none (lists b n x.1)
 listed_more b n (e ∷ table) x = ap (λ (t : Bool). lists b n e.1 || t) (listed_more b n table x) ∙ or_again (lists b n e.1) (is_listed b n table) (lists b n x.1)
 
 -- an entry that lists what none before it does
-still_free : (b : Bank) (n : ℕ) (e x : List ℕ × Thing) (table : Table) → lists b n e.1 ≡ true → is_listed b n table ≡ false → (lists b n x.1 ≡ true → is_listed b n (e ∷ table) ≡ false) → is_listed b n (table ++ x ∷ []) ≡ false
+still_free : (b : Bank) (n : ℕ) (e x : List ℕ × Binding) (table : Table) → lists b n e.1 ≡ true → is_listed b n table ≡ false → (lists b n x.1 ≡ true → is_listed b n (e ∷ table) ≡ false) → is_listed b n (table ++ x ∷ []) ≡ false
 still_free b n e x table this free new = listed_more b n table x ∙ by (is_listed b n table) (lists b n x.1) free refl
   where
     by : (s t : Bool) → s ≡ false → lists b n x.1 ≡ t → (s || t) ≡ false
@@ -54,7 +54,7 @@ still_free b n e x table this free new = listed_more b n table x ∙ by (is_list
         no false y g _ = cc
     by false false d h = refl
 
-apart_more : (table : Table) (x : List ℕ × Thing) → AreApart table → ((b : Bank) (n : ℕ) → lists b n x.1 ≡ true → is_listed b n table ≡ false) → AreApart (table ++ x ∷ [])
+apart_more : (table : Table) (x : List ℕ × Binding) → AreApart table → ((b : Bank) (n : ℕ) → lists b n x.1 ≡ true → is_listed b n table ≡ false) → AreApart (table ++ x ∷ [])
 apart_more [] x apart new = ((λ b n e. refl), tt)
 apart_more (e ∷ table) x apart new =
     ((λ b n this. still_free b n e x table this (apart.0 b n this) (new b n)), apart_more table x apart.1 (λ b n h. rest_free (lists b n e.1) (is_listed b n table) (new b n h)))
@@ -63,13 +63,13 @@ apart_more (e ∷ table) x apart new =
     rest_free true t e = absurd cc
     rest_free false t e = e
 
-below_higher : (r s : ℕ) (x : Thing) → r ≤ s → IsBelow r x → IsBelow s x
-below_higher r s (thing.Constant z) le h = tt
-below_higher r s (thing.Procedure n) le h = tt
-below_higher r s (thing.Register bank.Value n by) le h = tt
-below_higher r s (thing.Register bank.Right n by) le h = omega (arith, le, h)
+below_higher : (r s : ℕ) (x : Binding) → r ≤ s → IsBelow r x → IsBelow s x
+below_higher r s (binding.Constant z) le h = tt
+below_higher r s (binding.Procedure n) le h = tt
+below_higher r s (binding.Register bank.Value n by) le h = tt
+below_higher r s (binding.Register bank.Right n by) le h = omega (arith, le, h)
 
-below_more : (r s : ℕ) (table : Table) (x : List ℕ × Thing) → r ≤ s → AreBelow r table → IsBelow s x.1 → AreBelow s (table ++ x ∷ [])
+below_more : (r s : ℕ) (table : Table) (x : List ℕ × Binding) → r ≤ s → AreBelow r table → IsBelow s x.1 → AreBelow s (table ++ x ∷ [])
 below_more r s [] x le h k = (k, tt)
 below_more r s (e ∷ table) x le h k = (below_higher r s e.1 le h.0, below_more r s table x le h.1 k)
 
@@ -80,11 +80,11 @@ other_number n m low = by (m == n) refl
     by true e = let same : m ≡ n = eqb-true m n e in absurd (omega (arith, low, same))
     by false e = refl
 
-not_listed : (r : ℕ) (x : Thing) → IsBelow r x → lists bank.Right r x ≡ false
-not_listed r (thing.Constant z) h = refl
-not_listed r (thing.Procedure n) h = refl
-not_listed r (thing.Register bank.Value n by) h = refl
-not_listed r (thing.Register bank.Right n by) h = ap (λ (t : Bool). t && is_origin by origin.Listed) (other_number n r h)
+not_listed : (r : ℕ) (x : Binding) → IsBelow r x → lists bank.Right r x ≡ false
+not_listed r (binding.Constant z) h = refl
+not_listed r (binding.Procedure n) h = refl
+not_listed r (binding.Register bank.Value n by) h = refl
+not_listed r (binding.Register bank.Right n by) h = ap (λ (t : Bool). t && is_origin by origin.Listed) (other_number n r h)
 
 next_free : (r : ℕ) (table : Table) → AreBelow r table → is_listed bank.Right r table ≡ false
 next_free r [] h = refl
@@ -96,7 +96,7 @@ next_free r (e ∷ table) h = neither (lists bank.Right r e.1) (is_listed bank.R
 
 -- ---- which register an entry lists
 
-is_this : (b c : Bank) (n m : ℕ) (by : Origin) → lists b n (thing.Register c m by) ≡ true → (b ≡ c) × (n ≡ m) × (by ≡ origin.Listed)
+is_this : (b c : Bank) (n m : ℕ) (by : Origin) → lists b n (binding.Register c m by) ≡ true → (b ≡ c) × (n ≡ m) × (by ≡ origin.Listed)
 is_this bank.Value bank.Right n m by e = absurd cc
 is_this bank.Right bank.Value n m by e = absurd cc
 is_this bank.Value bank.Value n m by e = let is : (n ≡ m) × (by ≡ origin.Listed) = both (n == m) by refl e in (refl, is.0, is.1)
@@ -118,13 +118,13 @@ same_numbers a b e = grind (arith, nat_tests)
 same_number : (n : ℕ) → (n == n) ≡ true
 same_number n = same_numbers n n refl
 
-this_is : (b : Bank) (n : ℕ) → lists b n (thing.Register b n origin.Listed) ≡ true
+this_is : (b : Bank) (n : ℕ) → lists b n (binding.Register b n origin.Listed) ≡ true
 this_is bank.Value n = ap (λ (t : Bool). t && true) (same_number n)
 this_is bank.Right n = ap (λ (t : Bool). t && true) (same_number n)
 
 -- ---- a name more
 
-above_rights : (b : Bank) (n rights : ℕ) → (rights ≤ above b n rights) × IsBelow (above b n rights) (thing.Register b n origin.Listed)
+above_rights : (b : Bank) (n rights : ℕ) → (rights ≤ above b n rights) × IsBelow (above b n rights) (binding.Register b n origin.Listed)
 above_rights bank.Value n rights = (omega arith, tt)
 above_rights bank.Right n rights = by (nat_lt n rights) refl
   where
@@ -138,15 +138,15 @@ above_rights bank.Right n rights = by (nat_lt n rights) refl
     by true e = (omega arith, low n rights e)
     by false e = (omega (arith, high n rights e), omega arith)
 
-any_origin : (r : ℕ) (b : Bank) (n : ℕ) (by also : Origin) → IsBelow r (thing.Register b n by) → IsBelow r (thing.Register b n also)
+any_origin : (r : ℕ) (b : Bank) (n : ℕ) (by also : Origin) → IsBelow r (binding.Register b n by) → IsBelow r (binding.Register b n also)
 any_origin r bank.Value n by also h = tt
 any_origin r bank.Right n by also h = h
 
-register_more : (names : Names) (name : List ℕ) (b : Bank) (n : ℕ) (by : Origin) → ((c : Bank) (m : ℕ) → lists c m (thing.Register b n by) ≡ true → is_listed c m names.registers ≡ false) → IsApart names → IsApart (name_register names name b n by)
+register_more : (names : Names) (name : List ℕ) (b : Bank) (n : ℕ) (by : Origin) → ((c : Bank) (m : ℕ) → lists c m (binding.Register b n by) ≡ true → is_listed c m names.registers ≡ false) → IsApart names → IsApart (name_register names name b n by)
 register_more names name b n by new (apart, low) =
     let up = above_rights b n names.rights in (
-      apart_more names.registers (name, thing.Register b n by) apart new,
-      below_more names.rights (above b n names.rights) names.registers (name, thing.Register b n by) up.0 low (any_origin (above b n names.rights) b n origin.Listed by up.1),
+      apart_more names.registers (name, binding.Register b n by) apart new,
+      below_more names.rights (above b n names.rights) names.registers (name, binding.Register b n by) up.0 low (any_origin (above b n names.rights) b n origin.Listed by up.1),
     )
 
 listed_new : (names : Names) (name : List ℕ) (b : Bank) (n : ℕ) → is_listed b n names.registers ≡ false → IsApart names → IsApart (name_register names name b n origin.Listed)
@@ -198,13 +198,13 @@ lines_apart p last number names front (t ∷ others) after e h =
 
 -- ---- one name a register
 
-entry_is : (e : List ℕ × Thing) (name : List ℕ) (x : Thing) → Some e ≡ Some (name, x) → (e.0 ≡ name) × (e.1 ≡ x)
+entry_is : (e : List ℕ × Binding) (name : List ℕ) (x : Binding) → Some e ≡ Some (name, x) → (e.0 ≡ name) × (e.1 ≡ x)
 entry_is e name x h = ((cc), (cc))
 
-listed_later : (table : Table) (name : List ℕ) (b : Bank) (n i : ℕ) → slice_get table i ≡ Some (name, thing.Register b n origin.Listed) → is_listed b n table ≡ true
+listed_later : (table : Table) (name : List ℕ) (b : Bank) (n i : ℕ) → slice_get table i ≡ Some (name, binding.Register b n origin.Listed) → is_listed b n table ≡ true
 listed_later table name b n i e = found b n table i (ap (lists_entry b n) e ∙ this_is b n)
 
-one_name : (table : Table) (name other : List ℕ) (b : Bank) (n i j : ℕ) → AreApart table → slice_get table i ≡ Some (name, thing.Register b n origin.Listed) → slice_get table j ≡ Some (other, thing.Register b n origin.Listed) → name ≡ other
+one_name : (table : Table) (name other : List ℕ) (b : Bank) (n i j : ℕ) → AreApart table → slice_get table i ≡ Some (name, binding.Register b n origin.Listed) → slice_get table j ≡ Some (other, binding.Register b n origin.Listed) → name ≡ other
 one_name [] name other b n zero j apart e d = absurd cc
 one_name [] name other b n (suc i) j apart e d = absurd cc
 one_name (x ∷ table) name other b n zero zero apart e d = sym ((entry_is x name _ e).0) ∙ (entry_is x other _ d).0

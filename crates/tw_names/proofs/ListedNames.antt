@@ -5,7 +5,7 @@ use Rattle.tw_names.proofs.TextNames.{Bor, Table, length-map, seen_entry, seen_t
 use Rattle.tw_names.specs.Answers.{lists_entry}
 use Rattle.tw_names.specs.Meanings.{is_listed, lists}
 use Rattle.tw_names.specs.declared.meaning.Bank.{Bank}
-use Rattle.tw_names.specs.declared.meaning.Thing.{Thing}
+use Rattle.tw_names.specs.declared.meaning.Binding.{Binding}
 
 pub or_none : (x : Bool) → (x || false) ≡ x
 or_none true = refl
@@ -40,7 +40,7 @@ found b n [] (suc i) e = absurd cc
 found b n (x ∷ table) zero e = ap (λ (t : Bool). t || is_listed b n table) e
 found b n (x ∷ table) (suc i) e = or_right (lists b n x.1) (is_listed b n table) (found b n table i e)
 
-pub all_passed : (b : Bank) (n : ℕ) (es : List (Bor (List ℕ) × Thing)) (i : ℕ) → length es ≤ i → is_listed b n (take i (seen_table es)) ≡ false → is_listed b n (seen_table es) ≡ false
+pub all_passed : (b : Bank) (n : ℕ) (es : List (Bor (List ℕ) × Binding)) (i : ℕ) → length es ≤ i → is_listed b n (take i (seen_table es)) ≡ false → is_listed b n (seen_table es) ≡ false
 all_passed b n es i all e =
     let short : length (seen_table es) ≤ i = omega (arith, all, length-map es seen_entry) in
     sym (ap (is_listed b n) (take_all i (seen_table es) short)) ∙ e

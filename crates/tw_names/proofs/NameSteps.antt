@@ -9,22 +9,22 @@ use Rattle.tw_code.specs.format.Table.{forms_of, opcode_in}
 use Rattle.tw_code.specs.declared.opcode.Opcode.{Opcode}
 use Rattle.tw_code.specs.declared.version.Version.TheVariants.{Two}
 use Rattle.tw_names.specs.Meanings.{is_listed, with_constant, with_listed, with_register}
-use Rattle.tw_names.specs.Saying.{asked_by, banks_of, begins, begins_first, body_says, constant_says, counted, has_colon, head_says, instruction_says, is_listed_word, is_names_line, let_says, line_says, list_name, made_one, made_word, makes, name_before, name_says, number_in, number_of, only_names, register_of, registers_say, value_behind, words_say}
-use Rattle.tw_names.specs.Standing.{ended}
+use Rattle.tw_names.specs.LineExpansion.{asked_by, banks_of, begins, begins_first, body_says, constant_says, counted, has_colon, head_says, instruction_says, is_listed_word, is_names_line, let_says, line_says, list_name, made_one, made_word, makes, name_before, name_says, number_in, number_of, only_names, register_of, registers_say, value_behind, words_say}
+use Rattle.tw_names.specs.Expansion.{ended}
 use Rattle.tw_names.specs.declared.meaning.Bank.{Bank}
 use Rattle.tw_names.specs.declared.meaning.Bank.TheVariants as bank
 use Rattle.tw_names.specs.declared.meaning.Listed.{Listed}
 use Rattle.tw_names.specs.declared.meaning.Listed.TheVariants as listed
 use Rattle.tw_names.specs.declared.meaning.Origin.TheVariants as origin
-use Rattle.tw_names.specs.declared.meaning.Thing.{Thing}
-use Rattle.tw_names.specs.declared.meaning.Thing.TheVariants as thing
+use Rattle.tw_names.specs.declared.meaning.Binding.{Binding}
+use Rattle.tw_names.specs.declared.meaning.Binding.TheVariants as binding
 use Rattle.tw_names.proofs.SaidTexts.{ok_is, went_then, word_made}
 
 -- names before, and behind something that adds some
 pub record IsStep (R : Names → Names → Type 0) : Type 0 where
   pub same : (n : Names) → R n n
   pub both : (a b c : Names) → R a b → R b c → R a c
-  pub constant : (n : Names) (entry : List ℕ × Thing) → R n (record n { constants = n.constants ++ entry ∷ [] })
+  pub constant : (n : Names) (entry : List ℕ × Binding) → R n (record n { constants = n.constants ++ entry ∷ [] })
   pub chosen : (n : Names) (name : List ℕ) (b : Bank) (number : ℕ) → number < 16 → R n (name_register n name b number origin.Chosen)
   pub listed : (n : Names) (name : List ℕ) (b : Bank) (number : ℕ) → number < 16 → is_listed b number n.registers ≡ false → R n (name_register n name b number origin.Listed)
   pub made : (n : Names) (name : List ℕ) → n.rights < 16 → R n (name_register n name bank.Right n.rights origin.Listed)
@@ -60,7 +60,7 @@ module _ (R : Names → Names → Type 0) (step : IsStep R) where
   chosen_step : (p : Procedures) (names : Names) (name : List ℕ) (b : Bank) (number : ℕ) → StepTo names (with_register p names name b number origin.Chosen)
   chosen_step p names name b number = then_step names (may_name p names name) _ (λ _. within_step names (name_register names name b number origin.Chosen) number _ (step.chosen names name b number))
 
-  constant_step : (p : Procedures) (names : Names) (name : List ℕ) (x : Thing) → StepTo names (with_constant p names name x)
+  constant_step : (p : Procedures) (names : Names) (name : List ℕ) (x : Binding) → StepTo names (with_constant p names name x)
   constant_step p names name x = then_step names (may_name p names name) _ (λ _ after e. subst (R names) (ok_is _ after e) (step.constant names (name, x)))
 
   listed_step : (p : Procedures) (names : Names) (name : List ℕ) (b : Bank) (number : ℕ) → StepTo names (with_listed p names name b number)
@@ -79,7 +79,7 @@ module _ (R : Names → Names → Type 0) (step : IsStep R) where
   const_step : (p : Procedures) (names : Names) (first : List ℕ) (words : List (List ℕ)) → StepTo names (constant_says p names first words)
   const_step p names first [] = no_step names _
   const_step p names first (name ∷ words) =
-      then_step names (may_name p names name) _ (λ _. then_step names (value_behind number_of first words) _ (λ number. constant_step p names name (thing.Constant number)))
+      then_step names (may_name p names name) _ (λ _. then_step names (value_behind number_of first words) _ (λ number. constant_step p names name (binding.Constant number)))
 
   let_step : (p : Procedures) (names : Names) (first : List ℕ) (words : List (List ℕ)) → StepTo names (let_says p names first words)
   let_step p names first [] = no_step names _

@@ -8,7 +8,7 @@ use Rattle.tw_names.specs.declared.refusal.NameNo.TheVariants as no
 use Rattle.tw_names.specs.declared.refusal.NameRefusal.{NameRefusal}
 use Rattle.tw_names.specs.Registers.{entry_name, first_part, is_register, last_name, names_behind}
 use Rattle.tw_names.specs.declared.meaning.Bank.{Bank}
-use Rattle.tw_names.specs.declared.meaning.Thing.{Thing}
+use Rattle.tw_names.specs.declared.meaning.Binding.{Binding}
 use Rattle.tw_names.proofs.Walk.{taken_at, taken_length}
 
 -- what is known behind the line is what those behind this many lines tell, with these names and behind this text
@@ -77,12 +77,12 @@ says_refused number f says other (inl memory) = absurd (other memory.0)
 says_refused number f says other (inr (at, e)) = subst IsErr (sym e) refl
 
 abbrev pub Entries : Type 0
-Entries = List (Bor (List ℕ) × Thing)
+Entries = List (Bor (List ℕ) × Binding)
 
 -- ---- the last name
 
 -- an entry behind those before it
-abbrev or_entry : Bank → ℕ → Option (List ℕ × Thing) → Option (List ℕ) → Option (List ℕ)
+abbrev or_entry : Bank → ℕ → Option (List ℕ × Binding) → Option (List ℕ) → Option (List ℕ)
 or_entry in_bank number None before = before
 or_entry in_bank number (Some entry) before = cond (is_register in_bank number entry.1) (Some entry.0) before
 
@@ -96,7 +96,7 @@ one_more (e ∷ table) (suc i) in_bank number found = one_more table i in_bank n
 next_place : (table : Table) (i : ℕ) → take (i + 1) table ≡ take (suc i) table
 next_place table i = let e : i + 1 ≡ suc i = omega arith in ap (λ (n : ℕ). take n table) e
 
-entry_found : (in_bank : Bank) (number : ℕ) (o : Option (List ℕ × Thing)) (before : Option (List ℕ)) (name : List ℕ) → Some name ≡ entry_name in_bank number o → or_entry in_bank number o before ≡ Some name
+entry_found : (in_bank : Bank) (number : ℕ) (o : Option (List ℕ × Binding)) (before : Option (List ℕ)) (name : List ℕ) → Some name ≡ entry_name in_bank number o → or_entry in_bank number o before ≡ Some name
 entry_found in_bank number None before name e = absurd cc
 entry_found in_bank number (Some entry) before name e = by (is_register in_bank number entry.1) e
   where
@@ -104,7 +104,7 @@ entry_found in_bank number (Some entry) before name e = by (is_register in_bank 
     by true h = sym h
     by false h = absurd cc
 
-entry_passed : (in_bank : Bank) (number : ℕ) (o : Option (List ℕ × Thing)) (before : Option (List ℕ)) → None ≡ entry_name in_bank number o → or_entry in_bank number o before ≡ before
+entry_passed : (in_bank : Bank) (number : ℕ) (o : Option (List ℕ × Binding)) (before : Option (List ℕ)) → None ≡ entry_name in_bank number o → or_entry in_bank number o before ≡ before
 entry_passed in_bank number None before e = refl
 entry_passed in_bank number (Some entry) before e = by (is_register in_bank number entry.1) e
   where

@@ -11,17 +11,17 @@ use Rattle.tw_code.specs.format.Table.{opcode_in, forms_of}
 use Rattle.tw_words.specs.Digits.{signed_in}
 use Rattle.tw_code.specs.declared.opcode.Opcode.{Opcode}
 use Rattle.tw_code.specs.declared.version.Version.TheVariants.{Two}
-use Rattle.tw_names.specs.Saying.{Said, asked_by, at_head, banks_of, begins, begins_first, behind, body_says, constant_says, counted, fitting, has_colon, head_says, instruction_says, is_listed_word, is_names_line, is_unnamed, let_says, line_says, number_of, list_name, list_says, made_one, made_say, made_word, makes, name_before, name_says, named, number_in, only_names, parameters, procedure_name, register_of, registers_say, stands, value_behind, value_types, with_word, word_says, words_say}
-use Rattle.tw_names.specs.declared.meaning.Asked.{Asked}
-use Rattle.tw_names.specs.declared.meaning.Asked.TheVariants as asked
+use Rattle.tw_names.specs.LineExpansion.{Said, asked_by, at_head, banks_of, begins, begins_first, behind, body_says, constant_says, counted, fitting, has_colon, head_says, instruction_says, is_listed_word, is_names_line, is_unnamed, let_says, line_says, number_of, list_name, list_says, made_one, made_say, made_word, makes, name_before, name_says, named, number_in, only_names, parameters, procedure_name, register_of, registers_say, stands, value_behind, value_types, with_word, word_says, words_say}
+use Rattle.tw_names.specs.declared.meaning.Expected.{Expected}
+use Rattle.tw_names.specs.declared.meaning.Expected.TheVariants as asked
 use Rattle.tw_names.specs.declared.meaning.Bank.{Bank}
 use Rattle.tw_names.specs.declared.meaning.Bank.TheVariants as bank
 use Rattle.tw_names.specs.declared.meaning.Listed.{Listed}
 use Rattle.tw_names.specs.declared.meaning.Listed.TheVariants as listed
 use Rattle.tw_names.specs.declared.meaning.Origin.{Origin}
 use Rattle.tw_names.specs.declared.meaning.Origin.TheVariants as origin
-use Rattle.tw_names.specs.declared.meaning.Thing.{Thing}
-use Rattle.tw_names.specs.declared.meaning.Thing.TheVariants as thing
+use Rattle.tw_names.specs.declared.meaning.Binding.{Binding}
+use Rattle.tw_names.specs.declared.meaning.Binding.TheVariants as binding
 use Rattle.tw_names.specs.declared.refusal.NameNo.TheVariants as no
 use Rattle.tw_names.proofs.KeptTexts.{AllKept, IsKept, all_kept, either, number_kept}
 
@@ -61,13 +61,13 @@ register_types p names name b number by =
 listed_types : (p : Procedures) (names : Names) (name : List ℕ) (b : Bank) (number : ℕ) → SameTypes names (with_listed p names name b number)
 listed_types p names name b number = either (SameTypes names) (is_listed b number names.registers) _ _ (none_named names _) (register_types p names name b number origin.Listed)
 
-constant_types : (p : Procedures) (names : Names) (name : List ℕ) (x : Thing) → SameTypes names (with_constant p names name x)
+constant_types : (p : Procedures) (names : Names) (name : List ℕ) (x : Binding) → SameTypes names (with_constant p names name x)
 constant_types p names name x = with_one names (may_name p names name) _ (λ _ after e. ap (λ (n : Names). n.types) (sym (ok_is _ after e)))
 
 const_types : (p : Procedures) (names : Names) (first : List ℕ) (words : List (List ℕ)) → SameTypes names (constant_says p names first words)
 const_types p names first [] = none_named names _
 const_types p names first (name ∷ words) =
-    with_one names (may_name p names name) _ (λ _. with_one names (value_behind number_of first words) _ (λ number. constant_types p names name (thing.Constant number)))
+    with_one names (may_name p names name) _ (λ _. with_one names (value_behind number_of first words) _ (λ number. constant_types p names name (binding.Constant number)))
 
 let_types : (p : Procedures) (names : Names) (first : List ℕ) (words : List (List ℕ)) → SameTypes names (let_says p names first words)
 let_types p names first [] = none_named names _
@@ -191,13 +191,13 @@ module _ (Q : List ℕ → Type 0) (kept : IsKept Q) where
   signed_kept (pos n) = number_kept Q kept n
   signed_kept (negsuc n) = lettered 45 (suc n) (omega arith) (omega arith)
 
-  stood : (a : Asked) (x : Thing) (text : List ℕ) → stands a x ≡ Some text → Q text
-  stood asked.Value (thing.Register bank.Value n by) text e = subst Q (some_is (codes "v" ++ decimal n) text e) (lettered 118 n (omega arith) (omega arith))
-  stood asked.Right (thing.Register bank.Right n by) text e = subst Q (some_is (codes "d" ++ decimal n) text e) (lettered 100 n (omega arith) (omega arith))
-  stood asked.ValueArgument (thing.Register bank.Value n by) text e = subst Q (some_is (decimal n) text e) (number_kept Q kept n)
-  stood asked.RightArgument (thing.Register bank.Right n by) text e = subst Q (some_is (decimal n) text e) (number_kept Q kept n)
-  stood asked.Number (thing.Constant z) text e = subst Q (some_is (signed_decimal z) text e) (signed_kept z)
-  stood asked.Procedure (thing.Procedure n) text e = subst Q (some_is (decimal n) text e) (number_kept Q kept n)
+  stood : (a : Expected) (x : Binding) (text : List ℕ) → stands a x ≡ Some text → Q text
+  stood asked.Value (binding.Register bank.Value n by) text e = subst Q (some_is (codes "v" ++ decimal n) text e) (lettered 118 n (omega arith) (omega arith))
+  stood asked.Right (binding.Register bank.Right n by) text e = subst Q (some_is (codes "d" ++ decimal n) text e) (lettered 100 n (omega arith) (omega arith))
+  stood asked.ValueArgument (binding.Register bank.Value n by) text e = subst Q (some_is (decimal n) text e) (number_kept Q kept n)
+  stood asked.RightArgument (binding.Register bank.Right n by) text e = subst Q (some_is (decimal n) text e) (number_kept Q kept n)
+  stood asked.Number (binding.Constant z) text e = subst Q (some_is (signed_decimal z) text e) (signed_kept z)
+  stood asked.Procedure (binding.Procedure n) text e = subst Q (some_is (decimal n) text e) (number_kept Q kept n)
   stood a x text e = absurd cc
 
   -- what is behind a text
@@ -207,25 +207,25 @@ module _ (Q : List ℕ → Type 0) (kept : IsKept Q) where
   plainly : (front word text : List ℕ) → Q word → ◌≡◌ {A = Result (List ℕ) Flaw} (Ok (with_word front word)) (Ok text) → IsMore front text
   plainly front word text h e = (32 ∷ word, sym (ok_is (with_word front word) text e), spaced word h)
 
-  fits : (front word : List ℕ) (a : Asked) (x : Thing) (text : List ℕ) (o : Option (List ℕ)) → ((t : List ℕ) → o ≡ Some t → Q t) → fitting front word a x o ≡ Ok text → IsMore front text
+  fits : (front word : List ℕ) (a : Expected) (x : Binding) (text : List ℕ) (o : Option (List ℕ)) → ((t : List ℕ) → o ≡ Some t → Q t) → fitting front word a x o ≡ Ok text → IsMore front text
   fits front word a x text None each e = not_ok _ text e
   fits front word a x text (Some t) each e = plainly front t text (each t refl) e
 
-  named_kept : (a : Asked) (front word text : List ℕ) (x : Option Thing) → named front word x a ≡ Ok text → IsMore front text
+  named_kept : (a : Expected) (front word text : List ℕ) (x : Option Binding) → named front word x a ≡ Ok text → IsMore front text
   named_kept a front word text None e = not_ok _ text e
   named_kept a front word text (Some x) e = fits front word a x text (stands a x) (stood a x) e
 
-  either_word : (p : Procedures) (names : Names) (a : Asked) (front word text : List ℕ) → Q word
+  either_word : (p : Procedures) (names : Names) (a : Expected) (front word text : List ℕ) → Q word
       → cond (is_name word) (named front word (known p names word) a) (Ok (with_word front word)) ≡ Ok text → IsMore front text
   either_word p names a front word text h =
       either (λ (r : Result (List ℕ) Flaw). r ≡ Ok text → IsMore front text) (is_name word) (named front word (known p names word) a) (Ok (with_word front word))
       (named_kept a front word text (known p names word)) (plainly front word text h)
 
-  word_kept : (p : Procedures) (names : Names) (a : Asked) (front word text : List ℕ) → Q word → word_says p names a front word ≡ Ok text → IsMore front text
+  word_kept : (p : Procedures) (names : Names) (a : Expected) (front word text : List ℕ) → Q word → word_says p names a front word ≡ Ok text → IsMore front text
   word_kept p names asked.Nothing front word text h e = plainly front word text h e
   word_kept p names a front word text h e = either_word p names a front word text h e
 
-  words_kept : (p : Procedures) (names : Names) (all : List Asked) (front : List ℕ) (ws : List (List ℕ)) (text : List ℕ) → AllKept Q ws → words_say p names all front ws ≡ Ok text → IsMore front text
+  words_kept : (p : Procedures) (names : Names) (all : List Expected) (front : List ℕ) (ws : List (List ℕ)) (text : List ℕ) → AllKept Q ws → words_say p names all front ws ≡ Ok text → IsMore front text
   words_kept p names all front [] text h e = ([], sym (ok_is front text e) ∙ sym (append-nil front), kept.none)
   words_kept p names all front (w ∷ ws) text h e =
       let went = went_then (word_says p names (unwrap_or (slice_get all 0) asked.Nothing) front w) (λ (t : List ℕ). words_say p names (drop 1 all) t ws) text e in

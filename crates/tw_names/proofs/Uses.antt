@@ -15,16 +15,16 @@ use Rattle.tw_words.proofs.Readings.{digits_same}
 use Rattle.tw_names.proofs.TextNames.{Flaw, Names, Procedures, Table, is_name, is_some, known, list_says, may_name, meaning, name_register, nat_lt, or_else, refused}
 use Rattle.tw_names.specs.Laws.{ListedByPlace, NamesStay, UsesAreRegisters, begun, read_in}
 use Rattle.tw_names.specs.Meanings.{is_bank, is_listed, with_listed, with_register}
-use Rattle.tw_names.specs.Saying.{begins, begins_first, counted, fitting, list_name, name_before, named, number_in, register_in, stands, with_word}
-use Rattle.tw_names.specs.declared.meaning.Asked.{Asked}
-use Rattle.tw_names.specs.declared.meaning.Asked.TheVariants as asked
+use Rattle.tw_names.specs.LineExpansion.{begins, begins_first, counted, fitting, list_name, name_before, named, number_in, register_in, stands, with_word}
+use Rattle.tw_names.specs.declared.meaning.Expected.{Expected}
+use Rattle.tw_names.specs.declared.meaning.Expected.TheVariants as asked
 use Rattle.tw_names.specs.declared.meaning.Bank.{Bank}
 use Rattle.tw_names.specs.declared.meaning.Bank.TheVariants as bank
 use Rattle.tw_names.specs.declared.meaning.Listed.{Listed}
 use Rattle.tw_names.specs.declared.meaning.Origin.{Origin}
 use Rattle.tw_names.specs.declared.meaning.Origin.TheVariants as origin
-use Rattle.tw_names.specs.declared.meaning.Thing.{Thing}
-use Rattle.tw_names.specs.declared.meaning.Thing.TheVariants as thing
+use Rattle.tw_names.specs.declared.meaning.Binding.{Binding}
+use Rattle.tw_names.specs.declared.meaning.Binding.TheVariants as binding
 use Rattle.tw_names.specs.declared.refusal.NameNo.TheVariants as no
 use Rattle.tw_names.proofs.NameSteps.{IsStep, by_test, list_step, taken_step}
 use Rattle.tw_names.proofs.SaidTexts.{ok_is, went_then}
@@ -32,9 +32,9 @@ use Rattle.tw_names.proofs.SaidTexts.{ok_is, went_then}
 -- ---- a name keeps its meaning
 
 abbrev KeepsMeaning : Names → Names → Type 0
-KeepsMeaning a b = (name : List ℕ) (x : Thing) → meaning name a.registers ≡ Some x → meaning name b.registers ≡ Some x
+KeepsMeaning a b = (name : List ℕ) (x : Binding) → meaning name a.registers ≡ Some x → meaning name b.registers ≡ Some x
 
-still_found : (name : List ℕ) (table : Table) (entry : List ℕ × Thing) (x : Thing) → meaning name table ≡ Some x → meaning name (table ++ entry ∷ []) ≡ Some x
+still_found : (name : List ℕ) (table : Table) (entry : List ℕ × Binding) (x : Binding) → meaning name table ≡ Some x → meaning name (table ++ entry ∷ []) ≡ Some x
 still_found name [] entry x e = absurd cc
 still_found name (k ∷ table) entry x e = by (bytes_eq name k.0) e (still_found name table entry x)
   where
@@ -47,9 +47,9 @@ keeps_step = record {
   same = λ n name x e. e;
   both = λ a b c h k name x e. k name x (h name x e);
   constant = λ n entry name x e. e;
-  chosen = λ n word b number _ name x e. still_found name n.registers (word, thing.Register b number origin.Chosen) x e;
-  listed = λ n word b number _ _ name x e. still_found name n.registers (word, thing.Register b number origin.Listed) x e;
-  made = λ n word _ name x e. still_found name n.registers (word, thing.Register bank.Right n.rights origin.Listed) x e;
+  chosen = λ n word b number _ name x e. still_found name n.registers (word, binding.Register b number origin.Chosen) x e;
+  listed = λ n word b number _ _ name x e. still_found name n.registers (word, binding.Register b number origin.Listed) x e;
+  made = λ n word _ name x e. still_found name n.registers (word, binding.Register bank.Right n.rights origin.Listed) x e;
 }
 
 pub names_stay : NamesStay
@@ -59,7 +59,7 @@ names_stay p number names front line said name x e no_head means =
 
 -- ---- a name means the register that begins behind it
 
-new_found : (name : List ℕ) (table : Table) (x : Thing) → meaning name table ≡ None → meaning name (table ++ (name, x) ∷ []) ≡ Some x
+new_found : (name : List ℕ) (table : Table) (x : Binding) → meaning name table ≡ None → meaning name (table ++ (name, x) ∷ []) ≡ Some x
 new_found name [] x e = ap (λ (t : Bool). cond t (Some x) None) ((bytes_eq-Decides name name).1 refl)
 new_found name (k ∷ table) x e = by (bytes_eq name k.0) e (new_found name table x)
   where
@@ -67,38 +67,38 @@ new_found name (k ∷ table) x e = by (bytes_eq name k.0) e (new_found name tabl
     by true h more = absurd cc
     by false h more = more h
 
-unknown : (name : List ℕ) (u : Unit {0}) (a : Bool) (k : Option Thing) → cond a (cond (is_some k) (refused {A = Unit {0}} no.Twice name) (Ok tt)) (refused no.NoName name) ≡ Ok u → k ≡ None
+unknown : (name : List ℕ) (u : Unit {0}) (a : Bool) (k : Option Binding) → cond a (cond (is_some k) (refused {A = Unit {0}} no.Twice name) (Ok tt)) (refused no.NoName name) ≡ Ok u → k ≡ None
 unknown name u true None e = refl
 unknown name u true (Some x) e = absurd cc
 unknown name u false k e = absurd cc
 
-first_none : (a b : Option Thing) → or_else a b ≡ None → a ≡ None
+first_none : (a b : Option Binding) → or_else a b ≡ None → a ≡ None
 first_none None b e = refl
 first_none (Some x) b e = absurd cc
 
 free : (p : Procedures) (names : Names) (name : List ℕ) (u : Unit {0}) → may_name p names name ≡ Ok u → meaning name names.registers ≡ None
 free p names name u e = first_none (meaning name names.registers) _ (unknown name u (is_name name) (known p names name) e)
 
-abbrev Means : List ℕ → Thing → Result Names Flaw → Type 0
+abbrev Means : List ℕ → Binding → Result Names Flaw → Type 0
 Means name x r = (after : Names) → r ≡ Ok after → meaning name after.registers ≡ Some x
 
-refused_means : (name : List ℕ) (x : Thing) (flaw : Flaw) → Means name x (Err flaw)
+refused_means : (name : List ℕ) (x : Binding) (flaw : Flaw) → Means name x (Err flaw)
 refused_means name x flaw after e = absurd cc
 
-register_means : (p : Procedures) (names : Names) (name : List ℕ) (b : Bank) (n : ℕ) → Means name (thing.Register b n origin.Listed) (with_register p names name b n origin.Listed)
+register_means : (p : Procedures) (names : Names) (name : List ℕ) (b : Bank) (n : ℕ) → Means name (binding.Register b n origin.Listed) (with_register p names name b n origin.Listed)
 register_means p names name b n after e =
-    let x = thing.Register b n origin.Listed in
+    let x = binding.Register b n origin.Listed in
     let went = went_then (may_name p names name) (λ (_ : Unit {0}). cond (nat_lt n 16) (Ok (name_register names name b n origin.Listed)) (refused no.Limit name)) after e in
     let new : meaning name (name_register names name b n origin.Listed).registers ≡ Some x = new_found name names.registers x (free p names name went.0 went.1) in
     by_test (Means name x) (nat_lt n 16) (Ok (name_register names name b n origin.Listed)) (refused no.Limit name)
     (λ _ more d. subst (λ (m : Names). meaning name m.registers ≡ Some x) (ok_is (name_register names name b n origin.Listed) more d) new)
     (λ _. refused_means name x _) after went.2
 
-listed_means : (p : Procedures) (names : Names) (name : List ℕ) (b : Bank) (n : ℕ) → Means name (thing.Register b n origin.Listed) (with_listed p names name b n)
+listed_means : (p : Procedures) (names : Names) (name : List ℕ) (b : Bank) (n : ℕ) → Means name (binding.Register b n origin.Listed) (with_listed p names name b n)
 listed_means p names name b n =
-    by_test (Means name (thing.Register b n origin.Listed)) (is_listed b n names.registers) _ _ (λ _. refused_means name _ _) (λ _. register_means p names name b n)
+    by_test (Means name (binding.Register b n origin.Listed)) (is_listed b n names.registers) _ _ (λ _. refused_means name _ _) (λ _. register_means p names name b n)
 
-name_means : (p : Procedures) (names : Names) (values rights : ℕ) (word name : List ℕ) (b : Bank) → Means name (thing.Register b (number_in b values rights) origin.Listed) (list_name p names values rights word name (Some b))
+name_means : (p : Procedures) (names : Names) (values rights : ℕ) (word name : List ℕ) (b : Bank) → Means name (binding.Register b (number_in b values rights) origin.Listed) (list_name p names values rights word name (Some b))
 name_means p names values rights word [] b = refused_means [] _ _
 name_means p names values rights word (c ∷ name) b = listed_means p names (c ∷ name) b (number_in b values rights)
 
@@ -120,12 +120,12 @@ listed_by_place p l names after values rights [] name word others b is says =
     let means = name_means p names values rights w name b went.0 here in
     let number : number_in b values rights ≡ number_in b values rights + 0 = omega arith in
     list_step KeepsMeaning keeps_step p l went.0 (counted bank.Value (begins l w) values) (counted bank.Right (begins l w) rights) (word ∷ others) after went.2 name _ means
-    ∙ ap (λ (n : ℕ). Some (thing.Register b n origin.Listed)) number
+    ∙ ap (λ (n : ℕ). Some (binding.Register b n origin.Listed)) number
 listed_by_place p l names after values rights (v ∷ vs) name word others b is says =
     let rest = vs ++ (name ++ codes ":") ∷ word ∷ others in
     let went = went_then (name_before p l names values rights v rest (before_colon v)) (λ (n : Names). list_says p l n (counted bank.Value (begins l v) values) (counted bank.Right (begins l v) rights) rest) after says in
     listed_by_place p l went.0 after (counted bank.Value (begins l v) values) (counted bank.Right (begins l v) rights) vs name word others b is went.2
-    ∙ ap (λ (n : ℕ). Some (thing.Register b n origin.Listed)) (one_counted b (begins l v) values rights (begun l b vs) ∙ ap (λ (n : ℕ). number_in b values rights + n) (sym (sum_by-cons (λ (w : List ℕ). cond (option_map_or (is_bank b) (begins l w) false) 1 0) v vs)))
+    ∙ ap (λ (n : ℕ). Some (binding.Register b n origin.Listed)) (one_counted b (begins l v) values rights (begun l b vs) ∙ ap (λ (n : ℕ). number_in b values rights + n) (sym (sum_by-cons (λ (w : List ℕ). cond (option_map_or (is_bank b) (begins l w) false) 1 0) v vs)))
 
 -- ---- a use says the register
 
@@ -134,24 +134,24 @@ low_read n low =
     let k = decimal_is_IsNumeral n (omega (arith, low)) in
     sym (digits_same 0 15 (decimal n) (Ok n) (record { digits = k.0; value = k.1 }, (omega arith, omega (arith, low))))
 
-abbrev IsSaid : Asked → List ℕ → List ℕ → Bank → ℕ → Type 0
+abbrev IsSaid : Expected → List ℕ → List ℕ → Bank → ℕ → Type 0
 IsSaid a front text b n = (register : List ℕ) × (text ≡ with_word front register) × (read_in a register ≡ Some (b, n))
 
 in_bank : (b : Bank) (n : ℕ) → n < 16 → register_in (Some b) (result_ok (digits_in 0 15 (decimal n))) ≡ Some (b, n)
 in_bank b n low = ap (λ (r : Result ℕ numbers.Flaw). register_in (Some b) (result_ok r)) (low_read n low)
 
-says_it : (a : Asked) (front word text : List ℕ) (b : Bank) (n : ℕ) (by : Origin) → n < 16 → fitting front word a (thing.Register b n by) (stands a (thing.Register b n by)) ≡ Ok text → IsSaid a front text b n
+says_it : (a : Expected) (front word text : List ℕ) (b : Bank) (n : ℕ) (by : Origin) → n < 16 → fitting front word a (binding.Register b n by) (stands a (binding.Register b n by)) ≡ Ok text → IsSaid a front text b n
 says_it asked.Value front word text bank.Value n by low e = (codes "v" ++ decimal n, sym (ok_is (with_word front (codes "v" ++ decimal n)) text e), in_bank bank.Value n low)
 says_it asked.Right front word text bank.Right n by low e = (codes "d" ++ decimal n, sym (ok_is (with_word front (codes "d" ++ decimal n)) text e), in_bank bank.Right n low)
 says_it asked.ValueArgument front word text bank.Value n by low e = (decimal n, sym (ok_is (with_word front (decimal n)) text e), in_bank bank.Value n low)
 says_it asked.RightArgument front word text bank.Right n by low e = (decimal n, sym (ok_is (with_word front (decimal n)) text e), in_bank bank.Right n low)
 says_it a front word text b n by low e = absurd cc
 
-known_says : (p : Procedures) (names : Names) (a : Asked) (front word text : List ℕ) (b : Bank) (n : ℕ) (by : Origin) → n < 16 → is_name word ≡ true → known p names word ≡ Some (thing.Register b n by)
+known_says : (p : Procedures) (names : Names) (a : Expected) (front word text : List ℕ) (b : Bank) (n : ℕ) (by : Origin) → n < 16 → is_name word ≡ true → known p names word ≡ Some (binding.Register b n by)
     → cond (is_name word) (named front word (known p names word) a) (Ok (with_word front word)) ≡ Ok text → IsSaid a front text b n
 known_says p names a front word text b n by low is means e =
     says_it a front word text b n by low
-    (sym (ap (λ (t : Bool). cond t (named front word (known p names word) a) (Ok (with_word front word))) is ∙ ap (λ (k : Option Thing). named front word k a) means) ∙ e)
+    (sym (ap (λ (t : Bool). cond t (named front word (known p names word) a) (Ok (with_word front word))) is ∙ ap (λ (k : Option Binding). named front word k a) means) ∙ e)
 
 pub uses_are_registers : UsesAreRegisters
 uses_are_registers p names asked.Nothing front word text b n by low is means some e = absurd (some refl)

@@ -5,15 +5,15 @@ use Rattle.tw_names.specs.Meanings.{Flaw, lists}
 use Rattle.std.specs.Str.Lines.{lines}
 use Rattle.tw_words.specs.Words.{IsBlank, IsBroken}
 use Rattle.tw_names.specs.Lines.{IsTaken, Line, StandsFirst, line_words, pieces_behind}
-use Rattle.tw_names.specs.Saying.{Said, is_names_line}
+use Rattle.tw_names.specs.LineExpansion.{Said, is_names_line}
 use Rattle.tw_names.specs.Seen.{seen_names}
-use Rattle.tw_names.specs.Standing.{HasNames, Refusal as Told}
-use Rattle.tw_names.specs.declared.asked.Standing as standings
-use Rattle.tw_names.specs.declared.asked.Standing.TheVariants as standing
+use Rattle.tw_names.specs.Expansion.{HasNames, Refusal as Told}
+use Rattle.tw_names.specs.declared.operand_text.OperandText as standings
+use Rattle.tw_names.specs.declared.operand_text.OperandText.TheVariants as standing
 use Rattle.tw_names.specs.declared.line.First as firsts
 use Rattle.tw_names.specs.declared.line.First.TheVariants as first
 use Rattle.tw_names.specs.declared.meaning.Bank.{Bank}
-use Rattle.tw_names.specs.declared.meaning.Thing.{Thing}
+use Rattle.tw_names.specs.declared.meaning.Binding.{Binding}
 use Rattle.tw_names.specs.declared.names.Names as names
 use Rattle.tw_names.specs.declared.refusal.NameNo.{NameNo}
 use Rattle.tw_names.specs.declared.refusal.NameNo.TheVariants as no
@@ -32,12 +32,12 @@ name_number (no.Kind x a) = 5
 name_number no.Limit = 6
 name_number no.NoMemory = 7
 
-abbrev pub standing_text : standings.Standing → List ℕ
+abbrev pub standing_text : standings.OperandText → List ℕ
 standing_text (standing.Numbered front number) = front.now ++ decimal number
 standing_text (standing.Number number) = signed_decimal number
 
 -- whether an entry is a name by which this register was listed or made
-abbrev pub lists_entry : Bank → ℕ → Option (List ℕ × Thing) → Bool
+abbrev pub lists_entry : Bank → ℕ → Option (List ℕ × Binding) → Bool
 lists_entry in_bank number None = false
 lists_entry in_bank number (Some entry) = lists in_bank number entry.1
 

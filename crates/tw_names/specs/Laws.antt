@@ -10,17 +10,17 @@ use Rattle.tw_words.specs.Digits.{digits_in}
 use Rattle.tw_names.specs.Lines.{AreTaken, Line, line_words}
 use Rattle.tw_names.specs.Meanings.{Names, Procedures, Table, is_bank, is_name, known, meaning}
 use Rattle.tw_names.specs.Registers.{registers_at}
-use Rattle.tw_names.specs.Saying.{begins, list_says, number_in, register_in, register_of, with_word, word_says, words_say}
-use Rattle.tw_names.specs.Standing.{HasNames, IsFirstRefusal, Refusal, StandsFor, taken_says}
-use Rattle.tw_names.specs.declared.meaning.Asked.{Asked}
-use Rattle.tw_names.specs.declared.meaning.Asked.TheVariants as asked
+use Rattle.tw_names.specs.LineExpansion.{begins, list_says, number_in, register_in, register_of, with_word, word_says, words_say}
+use Rattle.tw_names.specs.Expansion.{HasNames, IsFirstRefusal, Refusal, StandsFor, taken_says}
+use Rattle.tw_names.specs.declared.meaning.Expected.{Expected}
+use Rattle.tw_names.specs.declared.meaning.Expected.TheVariants as asked
 use Rattle.tw_names.specs.declared.meaning.Bank.{Bank}
 use Rattle.tw_names.specs.declared.meaning.Bank.TheVariants as bank
 use Rattle.tw_names.specs.declared.meaning.Listed.{Listed}
 use Rattle.tw_names.specs.declared.meaning.Origin.{Origin}
 use Rattle.tw_names.specs.declared.meaning.Origin.TheVariants as origin
-use Rattle.tw_names.specs.declared.meaning.Thing.{Thing}
-use Rattle.tw_names.specs.declared.meaning.Thing.TheVariants as thing
+use Rattle.tw_names.specs.declared.meaning.Binding.{Binding}
+use Rattle.tw_names.specs.declared.meaning.Binding.TheVariants as binding
 
 abbrev pub StandsForOne : Type 0
 StandsForOne = (text plain other : List ℕ) → StandsFor text plain → StandsFor text other → plain ≡ other
@@ -44,7 +44,7 @@ InUtf8 = (text plain : List ℕ) → StandsFor text plain → IsUtf8 text → Is
 
 -- a register was listed or made by this name
 abbrev pub IsListedAs : Table → List ℕ → Bank → ℕ → Type 0
-IsListedAs table name in_bank number = (i : ℕ) × (slice_get table i ≡ Some (name, thing.Register in_bank number origin.Listed))
+IsListedAs table name in_bank number = (i : ℕ) × (slice_get table i ≡ Some (name, binding.Register in_bank number origin.Listed))
 
 -- Behind each line of a text, names by which registers of the procedure were listed or made mean different registers.
 abbrev pub NamesDiffer : Type 0
@@ -52,7 +52,7 @@ NamesDiffer = (text : List ℕ) (all : List Line) (line : ℕ) (name other : Lis
     → IsListedAs (registers_at all line) name in_bank number → IsListedAs (registers_at all line) other in_bank number → name ≡ other
 
 -- the register that a word says in a place where this is required; an argument is the number alone
-abbrev pub read_in : Asked → List ℕ → Option (Bank × ℕ)
+abbrev pub read_in : Expected → List ℕ → Option (Bank × ℕ)
 read_in asked.Value word = register_of word
 read_in asked.Right word = register_of word
 read_in asked.ValueArgument word = register_in (Some bank.Value) (result_ok (digits_in 0 15 word))
@@ -61,8 +61,8 @@ read_in a word = None
 
 -- What stands in the place of a register's name says this register.
 abbrev pub UsesAreRegisters : Type 0
-UsesAreRegisters = (procedures : Procedures) (names : Names) (a : Asked) (front word text : List ℕ) (in_bank : Bank) (number : ℕ) (by : Origin)
-    → number < 16 → is_name word ≡ true → known procedures names word ≡ Some (thing.Register in_bank number by) → (a ≡ asked.Nothing → ⊥)
+UsesAreRegisters = (procedures : Procedures) (names : Names) (a : Expected) (front word text : List ℕ) (in_bank : Bank) (number : ℕ) (by : Origin)
+    → number < 16 → is_name word ≡ true → known procedures names word ≡ Some (binding.Register in_bank number by) → (a ≡ asked.Nothing → ⊥)
     → word_says procedures names a front word ≡ Ok text → (register : List ℕ) × (text ≡ with_word front register) × (read_in a register ≡ Some (in_bank, number))
 
 -- the line begins a procedure
@@ -71,7 +71,7 @@ IsHead line = (others : List (List ℕ)) × (line_words line ≡ codes "proc" �
 
 -- The name of a register keeps its meaning behind each line that begins no procedure.
 abbrev pub NamesStay : Type 0
-NamesStay = (procedures : Procedures) (number : ℕ) (names : Names) (front : List ℕ) (line : Line) (said : Names × List ℕ) (name : List ℕ) (x : Thing)
+NamesStay = (procedures : Procedures) (number : ℕ) (names : Names) (front : List ℕ) (line : Line) (said : Names × List ℕ) (name : List ℕ) (x : Binding)
     → taken_says procedures number names front line ≡ Ok said → (IsHead line → ⊥) → meaning name names.registers ≡ Some x → meaning name said.0.registers ≡ Some x
 
 -- how many registers of a bank these words begin
@@ -82,7 +82,7 @@ begun l in_bank words = count_by (λ word. option_map_or (is_bank in_bank) (begi
 abbrev pub ListedByPlace : Type 0
 ListedByPlace = (procedures : Procedures) (l : Listed) (names after : Names) (values rights : ℕ) (before : List (List ℕ)) (name word : List ℕ) (others : List (List ℕ)) (in_bank : Bank)
     → begins l word ≡ Some in_bank → list_says procedures l names values rights (before ++ (name ++ codes ":") ∷ word ∷ others) ≡ Ok after
-    → meaning name after.registers ≡ Some (thing.Register in_bank (number_in in_bank values rights + begun l in_bank before) origin.Listed)
+    → meaning name after.registers ≡ Some (binding.Register in_bank (number_in in_bank values rights + begun l in_bank before) origin.Listed)
 
 -- ---- other names
 
@@ -102,15 +102,15 @@ pub record IsRenaming (f : List ℕ → List ℕ) : Type 0 where
   pub others : (a : List ℕ) → is_name a ≡ false → f a ≡ a
 
 -- where nothing with a name is required, a word is no name
-abbrev pub renamed_word : (List ℕ → List ℕ) → Asked → List ℕ → List ℕ
+abbrev pub renamed_word : (List ℕ → List ℕ) → Expected → List ℕ → List ℕ
 renamed_word f asked.Nothing word = word
 renamed_word f a word = f word
 
-abbrev pub renamed_words : (List ℕ → List ℕ) → List Asked → List (List ℕ) → List (List ℕ)
+abbrev pub renamed_words : (List ℕ → List ℕ) → List Expected → List (List ℕ) → List (List ℕ)
 renamed_words f all [] = []
 renamed_words f all (word ∷ words) = renamed_word f (unwrap_or (slice_get all 0) asked.Nothing) word ∷ renamed_words f (drop 1 all) words
 
 -- Operands with other names for the same things stand for the same text.
 abbrev pub RenamedAlike : Type 0
-RenamedAlike = (f : List ℕ → List ℕ) → IsRenaming f → (procedures : Procedures) (names : Names) (all : List Asked) (front : List ℕ) (words : List (List ℕ)) (text : List ℕ)
+RenamedAlike = (f : List ℕ → List ℕ) → IsRenaming f → (procedures : Procedures) (names : Names) (all : List Expected) (front : List ℕ) (words : List (List ℕ)) (text : List ℕ)
     → words_say procedures names all front words ≡ Ok text → words_say (renamed_procedures f procedures) (renamed_names f names) all front (renamed_words f all words) ≡ Ok text

@@ -1,10 +1,10 @@
--- Texts with names. Lines says how a line's words are taken, Meanings what names mean, Saying what each line says and stands for,
--- and Standing which text a text with names stands for, or which refusal is the first: these are to be believed. Laws says what the
+-- Texts with names. Lines says how a line's words are taken, Meanings what names mean, LineExpansion what each line says and stands for,
+-- and Expansion which text a text with names stands for, or which refusal is the first: these are to be believed. Laws says what the
 -- laws are.
 pub mod Lines
 pub mod Meanings
-pub mod Saying
-pub mod Standing
+pub mod LineExpansion
+pub mod Expansion
 pub mod Laws
 -- How a register's name is told beside its number.
 pub mod Registers

@@ -8,8 +8,8 @@ use Rattle.tw_names.specs.declared.meaning.Bank.{Bank}
 use Rattle.tw_names.specs.declared.meaning.Bank.TheVariants as bank
 use Rattle.tw_names.specs.declared.meaning.Origin.{Origin}
 use Rattle.tw_names.specs.declared.meaning.Origin.TheVariants as origin
-use Rattle.tw_names.specs.declared.meaning.Thing.{Thing}
-use Rattle.tw_names.specs.declared.meaning.Thing.TheVariants as thing
+use Rattle.tw_names.specs.declared.meaning.Binding.{Binding}
+use Rattle.tw_names.specs.declared.meaning.Binding.TheVariants as binding
 use Rattle.tw_names.specs.declared.refusal.NameNo.{NameNo}
 use Rattle.tw_names.specs.declared.refusal.NameNo.TheVariants as no
 
@@ -29,9 +29,9 @@ is_name word =
 
 -- names, and what they mean
 abbrev pub Table : Type 0
-Table = List (List ℕ × Thing)
+Table = List (List ℕ × Binding)
 
-abbrev pub meaning : List ℕ → Table → Option Thing
+abbrev pub meaning : List ℕ → Table → Option Binding
 meaning name table = lookup (λ other. bytes_eq name other) table
 
 -- a procedure: the banks of its parameters, and its line
@@ -56,12 +56,12 @@ pub record Names : Type 0 where
 abbrev pub no_names : Names
 no_names = record { constants = []; registers = []; types = []; rights = 0 }
 
-abbrev pub or_else : Option Thing → Option Thing → Option Thing
+abbrev pub or_else : Option Binding → Option Binding → Option Binding
 or_else None other = other
 or_else (Some x) other = Some x
 
 -- what a name means at a line
-abbrev pub known : Procedures → Names → List ℕ → Option Thing
+abbrev pub known : Procedures → Names → List ℕ → Option Binding
 known procedures names name = or_else (meaning name names.registers) (or_else (meaning name names.constants) (meaning name procedures.table))
 
 -- ---- refusals
@@ -86,7 +86,7 @@ abbrev pub may_name : Procedures → Names → List ℕ → Result (Unit {0}) Fl
 may_name procedures names name =
     if is_name name then (if is_some (known procedures names name) then refused no.Twice name else Ok tt) else refused no.NoName name
 
-abbrev pub with_constant : Procedures → Names → List ℕ → Thing → Result Names Flaw
+abbrev pub with_constant : Procedures → Names → List ℕ → Binding → Result Names Flaw
 with_constant procedures names name x = and_then (may_name procedures names name) (λ _. Ok (record names { constants = names.constants ++ (name, x) ∷ [] }))
 
 -- one more than the higher of a register's number and those before
@@ -96,7 +96,7 @@ above bank.Right number rights = if nat_lt number rights then rights else number
 
 abbrev pub name_register : Names → List ℕ → Bank → ℕ → Origin → Names
 name_register names name in_bank number by =
-    record names { registers = names.registers ++ (name, thing.Register in_bank number by) ∷ []; rights = above in_bank number names.rights }
+    record names { registers = names.registers ++ (name, binding.Register in_bank number by) ∷ []; rights = above in_bank number names.rights }
 
 abbrev pub with_register : Procedures → Names → List ℕ → Bank → ℕ → Origin → Result Names Flaw
 with_register procedures names name in_bank number by =
@@ -115,8 +115,8 @@ is_origin origin.Chosen origin.Chosen = true
 is_origin a b = false
 
 -- a name that means this is that by which the register was listed or made
-abbrev pub lists : Bank → ℕ → Thing → Bool
-lists in_bank number (thing.Register other place by) = is_bank in_bank other && ((number == place) && is_origin by origin.Listed)
+abbrev pub lists : Bank → ℕ → Binding → Bool
+lists in_bank number (binding.Register other place by) = is_bank in_bank other && ((number == place) && is_origin by origin.Listed)
 lists in_bank number x = false
 
 -- a register has a name by which it was listed or made

@@ -4,11 +4,11 @@ use Rattle.std.specs.Option.{option_map_or}
 use Rattle.std.specs.Str.Lines.{lines}
 use Rattle.tw_names.specs.Lines.{AreTaken, Line}
 use Rattle.tw_names.specs.Meanings.{Names, Procedures, Table, is_bank, no_names}
-use Rattle.tw_names.specs.Saying.{Said, register_of}
-use Rattle.tw_names.specs.Standing.{procedures_of, taken_says}
+use Rattle.tw_names.specs.LineExpansion.{Said, register_of}
+use Rattle.tw_names.specs.Expansion.{procedures_of, taken_says}
 use Rattle.tw_names.specs.declared.meaning.Bank.{Bank}
-use Rattle.tw_names.specs.declared.meaning.Thing.{Thing}
-use Rattle.tw_names.specs.declared.meaning.Thing.TheVariants as thing
+use Rattle.tw_names.specs.declared.meaning.Binding.{Binding}
+use Rattle.tw_names.specs.declared.meaning.Binding.TheVariants as binding
 
 -- none where a line is refused
 abbrev pub said_then : Said → (Names × List ℕ → Option Names) → Option Names
@@ -24,12 +24,12 @@ names_behind procedures last number names front (line ∷ others) =
 abbrev pub registers_at : List Line → ℕ → Table
 registers_at all last = option_map_or (λ (names : Names). names.registers) (names_behind (procedures_of all) last 1 no_names [] all) []
 
-abbrev pub is_register : Bank → ℕ → Thing → Bool
-is_register in_bank number (thing.Register other place by) = is_bank in_bank other && (number == place)
+abbrev pub is_register : Bank → ℕ → Binding → Bool
+is_register in_bank number (binding.Register other place by) = is_bank in_bank other && (number == place)
 is_register in_bank number x = false
 
 -- the name of an entry, if it is that of this register
-abbrev pub entry_name : Bank → ℕ → Option (List ℕ × Thing) → Option (List ℕ)
+abbrev pub entry_name : Bank → ℕ → Option (List ℕ × Binding) → Option (List ℕ)
 entry_name in_bank number None = None
 entry_name in_bank number (Some entry) = if is_register in_bank number entry.1 then Some entry.0 else None
 

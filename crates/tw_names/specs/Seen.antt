@@ -2,7 +2,7 @@
 use Rattle.std.specs.Prelude.{ℕ, List, map}
 use denote.Ref.{Bor}
 use Rattle.tw_names.specs.Meanings.{Head, Names, Procedures, Table}
-use Rattle.tw_names.specs.declared.meaning.Thing.{Thing}
+use Rattle.tw_names.specs.declared.meaning.Binding.{Binding}
 use Rattle.tw_names.specs.declared.names.Names as names
 use Rattle.tw_names.specs.declared.procedures.Head as heads
 use Rattle.tw_names.specs.declared.procedures.Procedures as procedures
@@ -13,10 +13,10 @@ now word = word.now
 abbrev pub texts : List (Bor (List ℕ)) → List (List ℕ)
 texts words = map now words
 
-abbrev pub seen_entry : Bor (List ℕ) × Thing → List ℕ × Thing
+abbrev pub seen_entry : Bor (List ℕ) × Binding → List ℕ × Binding
 seen_entry entry = (entry.0.now, entry.1)
 
-abbrev pub seen_table : List (Bor (List ℕ) × Thing) → Table
+abbrev pub seen_table : List (Bor (List ℕ) × Binding) → Table
 seen_table entries = map seen_entry entries
 
 abbrev pub seen_head : heads.Head → Head

@@ -4,7 +4,7 @@ use Rattle.std.specs.List.{flat_map}
 use Rattle.std.specs.Str.{bytes_eq}
 use Rattle.std.specs.Str.Lines.{lines}
 use Rattle.tw_names.specs.Lines.{AreTaken, Line, line_words, pieces}
-use Rattle.tw_names.specs.Saying.{procedure_name}
+use Rattle.tw_names.specs.LineExpansion.{procedure_name}
 
 -- the name in a head, or nothing in a head without one; no other line names a procedure
 abbrev pub head_names : List (List ℕ) → List (List ℕ)

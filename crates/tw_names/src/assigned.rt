@@ -2,7 +2,7 @@
 
 ghost use Rattle.std.specs.Prelude.{◌≡◌, drop};
 ghost use Rattle.tw_names.specs.Answers.{Gives};
-ghost use Rattle.tw_names.specs.Saying.{assigned, bank_of_letter, constant_says, let_says, nothing_left, number_of, register_in, register_of, value_behind};
+ghost use Rattle.tw_names.specs.LineExpansion.{assigned, bank_of_letter, constant_says, let_says, nothing_left, number_of, register_in, register_of, value_behind};
 ghost use Rattle.tw_names.specs.Seen.{now, seen_names, seen_procedures, texts};
 
 use crate::meaning::{Bank, Origin};

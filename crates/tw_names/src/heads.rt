@@ -3,7 +3,7 @@
 ghost use Rattle.std.specs.Prelude.{◌≡◌, IfOk};
 ghost use Rattle.std.specs.List.{filter_map};
 ghost use Rattle.std.specs.Option.{option_map};
-ghost use Rattle.tw_names.specs.Saying.{bank_of_mode, parameters, procedure_name, value_types};
+ghost use Rattle.tw_names.specs.LineExpansion.{bank_of_mode, parameters, procedure_name, value_types};
 ghost use Rattle.tw_names.specs.Seen.{now, texts};
 
 use crate::meaning::Bank;

@@ -7,13 +7,13 @@ ghost use Rattle.tw_words.specs.Digits.{digits_in};
 ghost use Rattle.tw_names.specs.Meanings.{known};
 ghost use Rattle.tw_names.specs.Answers.{Gives, SaysBehind};
 ghost use Rattle.tw_code.specs.format.Table.{forms_of};
-ghost use Rattle.tw_names.specs.Saying.{argument_of, asked_by, banks_at, banks_of, callee, instruction_says, made_one, made_say, made_word, makes, words_say};
+ghost use Rattle.tw_names.specs.LineExpansion.{argument_of, asked_by, banks_at, banks_of, callee, instruction_says, made_one, made_say, made_word, makes, words_say};
 ghost use Rattle.tw_names.specs.Seen.{seen_names, seen_procedures, texts};
 
-use crate::asked::{asked_after, count, first_words, put_word, put_words, words_after};
-use crate::meaning::{Asked, Bank, Origin, Thing};
+use crate::meaning::{Bank, Binding, Expected, Origin};
 use crate::names::{Names, is_name, known, with_register};
 use crate::numbers::natural;
+use crate::operand_text::{asked_after, count, first_words, put_word, put_words, words_after};
 use crate::procedures::Procedures;
 use crate::refusal::Refusal;
 use std::alloc::{AllocError, Global};
@@ -23,25 +23,25 @@ use tw_code::{Form, Opcode};
 const LAST_PROCEDURE: u64 = 255;
 
 /// What an argument asks.
-fn argument_of(bank: Bank) -> Asked
+fn argument_of(bank: Bank) -> Expected
     ensures { result ≡ argument_of bank }
 {
     match bank {
-        Bank::Value => Asked::ValueArgument,
-        Bank::Right => Asked::RightArgument,
+        Bank::Value => Expected::ValueArgument,
+        Bank::Right => Expected::RightArgument,
     }
 }
 
 /// Adds what an operand of a form asks, where the procedure's parameters are of these banks.
-fn push_asked(asked: &mut Vec<Asked>, banks: &[Bank], form: Form) -> Result<(), AllocError>
+fn push_asked(asked: &mut Vec<Expected>, banks: &[Bank], form: Form) -> Result<(), AllocError>
     ensures { OnOk result (asked.new.items ≡ asked.old.items ++ asked_by banks.now form) }
 {
     match form {
-        Form::Value => asked.push(Asked::Value)?,
-        Form::Right => asked.push(Asked::Right)?,
-        Form::Number | Form::Turns | Form::Target => asked.push(Asked::Number)?,
-        Form::Callee => asked.push(Asked::Procedure)?,
-        Form::Literal | Form::TypeOf | Form::Skip => asked.push(Asked::Nothing)?,
+        Form::Value => asked.push(Expected::Value)?,
+        Form::Right => asked.push(Expected::Right)?,
+        Form::Number | Form::Turns | Form::Target => asked.push(Expected::Number)?,
+        Form::Callee => asked.push(Expected::Procedure)?,
+        Form::Literal | Form::TypeOf | Form::Skip => asked.push(Expected::Nothing)?,
         Form::Args => {
             for bank in banks {
                 asked.push(argument_of(*bank))?;
@@ -52,7 +52,7 @@ fn push_asked(asked: &mut Vec<Asked>, banks: &[Bank], form: Form) -> Result<(), 
 }
 
 /// What the operands of forms ask.
-fn asked_in(alloc: Global, banks: &[Bank], forms: &[Form]) -> Result<Vec<Asked>, AllocError>
+fn asked_in(alloc: Global, banks: &[Bank], forms: &[Form]) -> Result<Vec<Expected>, AllocError>
     ensures { IfOk result (λ asked. asked.items ≡ flat_map (asked_by banks.now) forms.now) }
 {
     let mut asked = Vec::new(alloc);
@@ -67,7 +67,7 @@ fn callee(procedures: &Procedures<'_>, names: &Names<'_>, word: &[u8]) -> Option
     ensures { result ≡ callee (known (seen_procedures procedures.now) (seen_names names.now) word.now) (result_ok (digits_in 0 255 word.now)) }
 {
     match known(procedures, names, word) {
-        Some(Thing::Procedure(number)) => Some(number),
+        Some(Binding::Procedure(number)) => Some(number),
         _ => natural(word, LAST_PROCEDURE),
     }
 }
@@ -148,7 +148,7 @@ fn put_made<'a>(
     ensures { SaysBehind result out.new.items (made_word (seen_procedures procedures.now) (seen_names names.entry) out.old.items word.now) }
 {
     let names = made_one(procedures, names, word)?;
-    put_word(alloc, procedures, &names, out, Asked::Right, word)?;
+    put_word(alloc, procedures, &names, out, Expected::Right, word)?;
     Ok(names)
 }
 

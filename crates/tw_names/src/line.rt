@@ -15,7 +15,7 @@ use tw_words::{Next, Word, next_word, without_gap};
 ///
 /// What is no word counts as one more, the last, up to the line's end.
 #[derive(Drop)]
-pub struct Taken<'a> {
+pub struct ParsedLine<'a> {
     pub words: Vec<&'a [u8]>,
     pub rest: &'a [u8],
 }
@@ -56,23 +56,23 @@ fn first_text(alloc: Global, bytes: &[u8]) -> Result<First<'_>, AllocError>
 }
 
 /// Returns a line that has these words, and then something that is no word.
-fn broken<'a>(mut words: Vec<&'a [u8]>, rest: &'a [u8]) -> Result<Taken<'a>, AllocError>
+fn broken<'a>(mut words: Vec<&'a [u8]>, rest: &'a [u8]) -> Result<ParsedLine<'a>, AllocError>
     requires { IsUtf8 rest.now }
     ensures { IfOk result (λ taken. (tail : List ℕ) × IsAfterGap rest.entry.now tail × (texts taken.words.items ≡ texts words.entry.items ++ tail ∷ []) × (taken.rest.now ≡ [])) }
 {
     words.push(without_gap(rest))?;
-    Ok(Taken { words, rest: b"" })
+    Ok(ParsedLine { words, rest: b"" })
 }
 
 /// The words of a line.
-pub fn take_line(alloc: Global, line: &str) -> Result<Taken<'_>, AllocError>
+pub fn take_line(alloc: Global, line: &str) -> Result<ParsedLine<'_>, AllocError>
     ensures { IfOk result (λ taken. (seen : Line) × IsTaken seen line.now × (texts taken.words.items ≡ line_words seen) × (taken.rest.now ≡ line_rest seen)) }
 {
     let mut words = Vec::new(alloc);
     let mut rest = line.as_bytes();
     loop {
         match first_text(alloc, rest)? {
-            First::End => return Ok(Taken { words, rest }),
+            First::End => return Ok(ParsedLine { words, rest }),
             First::Broken => return broken(words, rest),
             First::Text(word, after) => {
                 words.push(word)?;

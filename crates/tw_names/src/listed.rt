@@ -4,13 +4,13 @@ ghost use Rattle.std.specs.Prelude.{◌≡◌, ◌≤◌, ◌^◌, IfOk, OnOk, f
 ghost use Rattle.std.specs.Option.{option_map};
 ghost use Rattle.tw_names.specs.Answers.{Gives, SaysBehind};
 ghost use Rattle.tw_words.specs.Names.{before_colon};
-ghost use Rattle.tw_names.specs.Saying.{at_head, begins, behind, begins_at, begins_first, has_colon, head_says, is_listed_word, is_unnamed, list_name, list_says, name_before, name_says, number_in, registers_say, unnamed_says};
+ghost use Rattle.tw_names.specs.LineExpansion.{at_head, begins, behind, begins_at, begins_first, has_colon, head_says, is_listed_word, is_unnamed, list_name, list_says, name_before, name_says, number_in, registers_say, unnamed_says};
 ghost use Rattle.tw_names.specs.Seen.{now, seen_names, seen_procedures, texts};
 
-use crate::asked::{count, first_words, put_all, put_plain};
 use crate::heads::{bank_of_mode, parameters, procedure_name, value_types};
-use crate::meaning::{Bank, Listed, Thing};
+use crate::meaning::{Bank, Binding, Listed};
 use crate::names::{Names, is_name, meaning, with_listed};
+use crate::operand_text::{count, first_words, put_all, put_plain};
 use crate::pieces::begins_quoted;
 use crate::procedures::Procedures;
 use crate::refusal::{NameNo, Refusal};
@@ -166,11 +166,11 @@ fn put_unnamed(out: &mut Vec<u8>, words: &[&[u8]]) -> Result<(), AllocError>
 }
 
 /// Whether the procedure that a name means begins at this line.
-fn begins_at(procedures: &Procedures<'_>, number: usize, thing: Option<Thing>) -> bool
-    ensures { result ≡ begins_at (seen_procedures procedures.now) number thing }
+fn begins_at(procedures: &Procedures<'_>, number: usize, binding: Option<Binding>) -> bool
+    ensures { result ≡ begins_at (seen_procedures procedures.now) number binding }
 {
-    match thing {
-        Some(Thing::Procedure(index)) => match procedures.heads.get(index) {
+    match binding {
+        Some(Binding::Procedure(index)) => match procedures.heads.get(index) {
             Some(head) => head.line == number,
             None => false,
         },

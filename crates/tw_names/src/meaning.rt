@@ -41,7 +41,7 @@ pub fn is_origin(origin: Origin, other: Origin) -> bool
 
 /// What a name means.
 #[derive(Clone, Copy, Debug, PartialEq, Eq)]
-pub enum Thing {
+pub enum Binding {
     Constant(i64),
     Register(Bank, usize, Origin),
     Procedure(usize),
@@ -49,7 +49,7 @@ pub enum Thing {
 
 /// What is asked in a word's place.
 #[derive(Clone, Copy, Debug, PartialEq, Eq)]
-pub enum Asked {
+pub enum Expected {
     Value,
     Right,
     /// A value register, by its number alone.

@@ -5,10 +5,10 @@ ghost use Rattle.tw_words.specs.Digits.{all_digits, are_digits};
 ghost use Rattle.std.specs.Char.{digit_value};
 ghost use Rattle.tw_names.specs.Answers.{Gives, lists_entry};
 ghost use Rattle.tw_names.specs.Meanings.{above, is_name, is_register_word, known, may_name, meaning, no_names, with_constant, with_listed, with_register, is_listed, lists};
-ghost use Rattle.tw_names.specs.declared.meaning.Thing.TheVariants.{Constant};
+ghost use Rattle.tw_names.specs.declared.meaning.Binding.TheVariants.{Constant};
 ghost use Rattle.tw_names.specs.Seen.{seen_names, seen_procedures, seen_table};
 
-use crate::meaning::{Bank, Origin, Thing, is_bank, is_origin};
+use crate::meaning::{Bank, Binding, Origin, is_bank, is_origin};
 use crate::procedures::Procedures;
 use crate::refusal::{NameNo, Refusal};
 use indexmap::IndexMap;
@@ -16,7 +16,7 @@ use std::alloc::{AllocError, Global};
 use tw_words::TextHash;
 
 /// Names, and what they mean.
-pub type Table<'a> = IndexMap<&'a [u8], Thing, TextHash>;
+pub type Table<'a> = IndexMap<&'a [u8], Binding, TextHash>;
 
 /// The most bytes of a name.
 const MAX_NAME: usize = 64;
@@ -111,23 +111,23 @@ pub fn is_name(word: &[u8]) -> bool
 }
 
 /// What a name means in a table.
-pub fn meaning(table: &Table<'_>, name: &[u8]) -> Option<Thing>
+pub fn meaning(table: &Table<'_>, name: &[u8]) -> Option<Binding>
     ensures { result ≡ meaning name.now (seen_table table.now.entries) }
 {
     match table.get(name) {
-        Some(thing) => Some(*thing),
+        Some(binding) => Some(*binding),
         None => None,
     }
 }
 
 /// What a name means at a line.
-pub fn known(procedures: &Procedures<'_>, names: &Names<'_>, name: &[u8]) -> Option<Thing>
+pub fn known(procedures: &Procedures<'_>, names: &Names<'_>, name: &[u8]) -> Option<Binding>
     ensures { result ≡ known (seen_procedures procedures.now) (seen_names names.now) name.now }
 {
     match meaning(&names.registers, name) {
-        Some(thing) => Some(thing),
+        Some(binding) => Some(binding),
         None => match meaning(&names.constants, name) {
-            Some(thing) => Some(thing),
+            Some(binding) => Some(binding),
             None => meaning(&procedures.table, name),
         },
     }
@@ -151,11 +151,15 @@ pub fn may_name<'a>(
 }
 
 /// Adds a name that a table hasn't.
-pub fn put_name<'a>(table: &mut Table<'a>, name: &'a [u8], thing: Thing) -> Result<(), AllocError>
+pub fn put_name<'a>(
+    table: &mut Table<'a>,
+    name: &'a [u8],
+    binding: Binding,
+) -> Result<(), AllocError>
     requires { meaning name.now (seen_table table.old.entries) ≡ None }
-    ensures { OnOk result (seen_table table.new.entries ≡ seen_table table.old.entries ++ (name.now, thing) ∷ []) }
+    ensures { OnOk result (seen_table table.new.entries ≡ seen_table table.old.entries ++ (name.now, binding) ∷ []) }
 {
-    table.insert(name, thing)?;
+    table.insert(name, binding)?;
     Ok(())
 }
 
@@ -169,7 +173,7 @@ pub fn with_constant<'a>(
     ensures { Gives seen_names result (with_constant (seen_procedures procedures.now) (seen_names names.entry) name.now (Constant number)) }
 {
     may_name(procedures, &names, name)?;
-    put_name(&mut names.constants, name, Thing::Constant(number))?;
+    put_name(&mut names.constants, name, Binding::Constant(number))?;
     Ok(names)
 }
 
@@ -202,18 +206,18 @@ pub fn with_register<'a>(
     put_name(
         &mut names.registers,
         name,
-        Thing::Register(bank, number, origin),
+        Binding::Register(bank, number, origin),
     )?;
     names.rights = above(bank, number, names.rights);
     Ok(names)
 }
 
 /// Returns whether a name with this meaning is that by which the register was listed or made.
-fn lists(bank: Bank, number: usize, thing: Thing) -> bool
-    ensures { result ≡ lists bank number thing }
+fn lists(bank: Bank, number: usize, binding: Binding) -> bool
+    ensures { result ≡ lists bank number binding }
 {
-    match thing {
-        Thing::Register(other, place, origin) => {
+    match binding {
+        Binding::Register(other, place, origin) => {
             is_bank(bank, other) && number == place && is_origin(origin, Origin::Listed)
         }
         _ => false,
@@ -225,7 +229,7 @@ fn lists_at(table: &Table<'_>, index: usize, bank: Bank, number: usize) -> bool
     ensures { result ≡ lists_entry bank number (slice_get (seen_table table.now.entries) index) }
 {
     match table.get_index(index) {
-        Some((_, thing)) => lists(bank, number, *thing),
+        Some((_, binding)) => lists(bank, number, *binding),
         None => false,
     }
 }

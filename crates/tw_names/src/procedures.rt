@@ -5,11 +5,11 @@ ghost use Rattle.std.specs.Option.{option_map};
 ghost use Rattle.std.specs.Str.Lines.{lines};
 ghost use Rattle.tw_names.specs.Lines.{AreTaken, IsTaken, Line};
 ghost use Rattle.tw_names.specs.Seen.{now, seen_procedures, seen_table, texts};
-ghost use Rattle.tw_names.specs.Standing.{procedures_of, with_head, with_line, with_name, with_words};
+ghost use Rattle.tw_names.specs.Expansion.{procedures_of, with_head, with_line, with_name, with_words};
 
 use crate::heads::{banks_of_modes, procedure_name};
 use crate::line::take_line;
-use crate::meaning::{Bank, Thing};
+use crate::meaning::{Bank, Binding};
 use crate::names::{Table, meaning, put_name};
 use crate::pieces::pieces_of;
 use indexmap::IndexMap;
@@ -42,7 +42,7 @@ fn name_procedure<'a>(
 {
     if let Some(name) = name {
         if meaning(table, name).is_none() {
-            put_name(table, name, Thing::Procedure(number))?;
+            put_name(table, name, Binding::Procedure(number))?;
         }
     }
     Ok(())

@@ -5,7 +5,7 @@ ghost use Rattle.tw_names.specs.Answers.{name_number};
 ghost use Rattle.tw_names.specs.declared.refusal.NameNo.TheVariants as no;
 ghost use Rattle.tw_names.specs.declared.refusal.Refusal.TheVariants.{NoMemory};
 
-use crate::meaning::{Asked, Thing};
+use crate::meaning::{Binding, Expected};
 use std::alloc::{AllocError, AllocFailed};
 
 /// What is wrong with a text with names.
@@ -22,7 +22,7 @@ pub enum NameNo {
     /// N04: the name means nothing here.
     Unknown,
     /// N05: the name means this, and that is required in its place.
-    Kind(Thing, Asked),
+    Kind(Binding, Expected),
     /// N06: a register past the last would be named.
     Limit,
     /// N07: memory was refused.

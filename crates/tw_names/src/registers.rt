@@ -6,14 +6,14 @@ ghost use Rattle.std.specs.Str.Lines.{lines};
 ghost use Rattle.tw_names.specs.Lines.{AreTaken, IsTaken, Line};
 ghost use Rattle.tw_names.specs.Meanings.{no_names};
 ghost use Rattle.tw_names.specs.Registers.{IsWithName, entry_name, first_part, is_register, last_name, name_of, name_text, names_behind, registers_at};
-ghost use Rattle.tw_names.specs.Saying.{register_of};
+ghost use Rattle.tw_names.specs.LineExpansion.{register_of};
 ghost use Rattle.tw_names.specs.Seen.{now, seen_names, seen_procedures, seen_table};
-ghost use Rattle.tw_names.specs.Standing.{taken_says};
+ghost use Rattle.tw_names.specs.Expansion.{taken_says};
 
 use crate::assigned::register_of;
-use crate::meaning::{Bank, Thing, is_bank};
+use crate::expansion::put_numbered_line;
+use crate::meaning::{Bank, Binding, is_bank};
 use crate::names::{Names, Table};
-use crate::plain::put_numbered_line;
 use crate::procedures::{Procedures, procedures_of};
 use crate::refusal::NameNo;
 use std::alloc::{AllocError, Global};
@@ -62,11 +62,11 @@ fn names_behind<'a>(
     Ok(None)
 }
 
-fn is_register(bank: Bank, number: usize, thing: Thing) -> bool
-    ensures { result ≡ is_register bank number thing }
+fn is_register(bank: Bank, number: usize, binding: Binding) -> bool
+    ensures { result ≡ is_register bank number binding }
 {
-    match thing {
-        Thing::Register(other, place, _) => is_bank(bank, other) && number == place,
+    match binding {
+        Binding::Register(other, place, _) => is_bank(bank, other) && number == place,
         _ => false,
     }
 }
@@ -76,7 +76,7 @@ fn named_at<'a>(table: &Table<'a>, index: usize, bank: Bank, number: usize) -> O
     ensures { option_map now result ≡ entry_name bank number (slice_get (seen_table table.now.entries) index) }
 {
     match table.get_index(index) {
-        Some((name, thing)) if is_register(bank, number, *thing) => Some(*name),
+        Some((name, binding)) if is_register(bank, number, *binding) => Some(*name),
         _ => None,
     }
 }

@@ -2,7 +2,7 @@
 
 ghost use Rattle.std.specs.Prelude.{◌≡◌, ◌++◌, ◌∷◌, [], IfOk, OnOk, unwrap_or};
 ghost use Rattle.tw_names.specs.Lines.{IsTaken, Line};
-ghost use Rattle.tw_names.specs.Saying.{procedure_name};
+ghost use Rattle.tw_names.specs.LineExpansion.{procedure_name};
 ghost use Rattle.tw_names.specs.Seen.{texts};
 ghost use Rattle.tw_names.specs.Symbols.{AreNames, bracketed, head_names, line_names, name_at};
 

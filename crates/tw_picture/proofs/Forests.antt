@@ -28,8 +28,8 @@ pub element_text : (name : Name) (attributes : List Attribute) (inside : Forest)
 unfolding xml_text
 element_text name attributes inside = ap (λ (t : List ℕ). open_text name attributes ++ (xml_text inside ++ t)) (append-nil (close_text name))
 
-pub plain_text : (name : Name) (attributes : List Attribute) → xml_text (plain name attributes) ≡ open_text name attributes ++ close_text name
-plain_text name attributes = element_text name attributes Nothing ∙ ap (λ (t : List ℕ). open_text name attributes ++ (t ++ close_text name)) nothing_text
+pub expanded_text : (name : Name) (attributes : List Attribute) → xml_text (plain name attributes) ≡ open_text name attributes ++ close_text name
+expanded_text name attributes = element_text name attributes Nothing ∙ ap (λ (t : List ℕ). open_text name attributes ++ (t ++ close_text name)) nothing_text
 
 pub words_text : (name : Name) (attributes : List Attribute) (words : List ℕ) → xml_text (with_words name attributes words) ≡ open_text name attributes ++ (flat_map escaped words ++ close_text name)
 unfolding xml_text
@@ -108,7 +108,7 @@ module _ {T E : Type 0} (r : Result T E) where
   -- nothing stands in it
   pub closed : (old mid new : List ℕ) (name : Name) (attributes : List Attribute) → mid ≡ old ++ open_text name attributes → OnOk r (new ≡ mid ++ close_text name) → OnOk r (new ≡ old ++ xml_text (plain name attributes))
   closed old mid new name attributes opened after =
-      around old mid mid new name attributes attributes [] (plain name attributes) refl opened (sym (append-nil mid)) (plain_text name attributes) after
+      around old mid mid new name attributes attributes [] (plain name attributes) refl opened (sym (append-nil mid)) (expanded_text name attributes) after
 
 -- ---- loops
 

@@ -4,12 +4,12 @@ use Rattle.std.specs.Str.{bytes_eq}
 use Rattle.std.specs.Str.Lines.{lines}
 use Rattle.tw_asm.specs.declared.fault.FaultNo.{FaultNo}
 use Rattle.tw_names.specs.Answers.{name_number}
-use Rattle.tw_names.specs.Standing.{HasNames, IsFirstRefusal, Refusal, StandsFor}
-use Rattle.tw_names.specs.declared.meaning.Asked.{Asked}
-use Rattle.tw_names.specs.declared.meaning.Asked.TheVariants as asked
+use Rattle.tw_names.specs.Expansion.{HasNames, IsFirstRefusal, Refusal, StandsFor}
+use Rattle.tw_names.specs.declared.meaning.Expected.{Expected}
+use Rattle.tw_names.specs.declared.meaning.Expected.TheVariants as asked
 use Rattle.tw_names.specs.declared.meaning.Bank.TheVariants as bank
-use Rattle.tw_names.specs.declared.meaning.Thing.{Thing}
-use Rattle.tw_names.specs.declared.meaning.Thing.TheVariants as thing
+use Rattle.tw_names.specs.declared.meaning.Binding.{Binding}
+use Rattle.tw_names.specs.declared.meaning.Binding.TheVariants as binding
 use Rattle.tw_names.specs.declared.refusal.NameNo.{NameNo}
 use Rattle.tw_names.specs.declared.refusal.NameNo.TheVariants as no
 use Rattle.tw_reasons.specs.Diagnostics.{IsTextReason}
@@ -29,14 +29,14 @@ abbrev pub name_line : NameNo → ℕ → List ℕ
 name_line which line = codes "refused N0" ++ (decimal (name_number which) ++ (codes " at line " ++ (decimal line ++ codes "\n")))
 
 -- what a name means
-abbrev pub thing_words : Thing → List ℕ
-thing_words (thing.Constant number) = codes "a constant"
-thing_words (thing.Register bank.Value number by) = codes "a value register"
-thing_words (thing.Register bank.Right number by) = codes "a right register"
-thing_words (thing.Procedure number) = codes "a procedure"
+abbrev pub thing_words : Binding → List ℕ
+thing_words (binding.Constant number) = codes "a constant"
+thing_words (binding.Register bank.Value number by) = codes "a value register"
+thing_words (binding.Register bank.Right number by) = codes "a right register"
+thing_words (binding.Procedure number) = codes "a procedure"
 
 -- what is required in a name's place
-abbrev pub asked_words : Asked → List ℕ
+abbrev pub asked_words : Expected → List ℕ
 asked_words asked.Value = codes "a value register"
 asked_words asked.ValueArgument = codes "a value register"
 asked_words asked.Right = codes "a right register"
@@ -45,7 +45,7 @@ asked_words asked.Number = codes "a number"
 asked_words asked.Procedure = codes "a procedure"
 asked_words asked.Nothing = codes "no name"
 
-abbrev pub kind_reason : Thing → Asked → List ℕ
+abbrev pub kind_reason : Binding → Expected → List ℕ
 kind_reason x a = (codes "it is " ++ thing_words x) ++ ((codes ", " ++ asked_words a) ++ codes " is required")
 
 abbrev pub fixed_reason : NameNo → List ℕ

@@ -15,7 +15,7 @@ use Rattle.tw_command.specs.declared.command.Source.{Source}
 use Rattle.tw_command.specs.declared.command.Source.TheVariants.{Hex, Assembly}
 use Rattle.tw_asm.specs.declared.fault.FaultNo.{FaultNo}
 use Rattle.tw_names.specs.Answers.{told}
-use Rattle.tw_names.specs.Standing.{IsFirstRefusal, StandsFor}
+use Rattle.tw_names.specs.Expansion.{IsFirstRefusal, StandsFor}
 use Rattle.tw_replies.specs.Lines.{asm_line, fault_line}
 use Rattle.tw_replies.specs.Input.{digits_in}
 use Rattle.tw_replies.specs.Names.{IsFaultBehind, RepliesByPlain, name_behind, name_line}

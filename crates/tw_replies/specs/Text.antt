@@ -6,7 +6,7 @@ use Rattle.tw_asm.specs.Origins.{AreOrigins, ComesFrom}
 use Rattle.tw_code.specs.declared.procedure.Procedure.{Procedure}
 use Rattle.tw_names.specs.Registers.{IsWithName}
 use Rattle.tw_names.specs.Symbols.{AreNames, name_at}
-use Rattle.tw_names.specs.Standing.{StandsFor}
+use Rattle.tw_names.specs.Expansion.{StandsFor}
 use Rattle.tw_reasons.specs.Reasons.{TellsReason, shape_line}
 use Rattle.tw_reasons.specs.LineRole.{IsFirstHead}
 use Rattle.tw_words.specs.Shown.{shortened}

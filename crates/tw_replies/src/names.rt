@@ -4,7 +4,7 @@ ghost use Rattle.std.specs.Prelude.{◌≡◌, ◌++◌, ◌-◌, ℕ, List, IfO
 ghost use Rattle.std.specs.Str.Lines.{lines};
 ghost use Rattle.tw_reasons.specs.Diagnostics.{IsTextReason};
 ghost use Rattle.tw_names.specs.Answers.{told};
-ghost use Rattle.tw_names.specs.Standing.{IsFirstRefusal, StandsFor};
+ghost use Rattle.tw_names.specs.Expansion.{IsFirstRefusal, StandsFor};
 ghost use Rattle.tw_replies.specs.Names.{IsFaultBehind, RepliesByPlain, asked_words, fixed_reason, is_same_line, kind_reason, line_text, name_behind, name_line, name_reason, thing_words, written_text};
 ghost use Rattle.tw_words.specs.Shown.{shortened};
 ghost use Rattle.tw_replies.specs.Reply.{reply};
@@ -13,7 +13,7 @@ use crate::close::Close;
 use crate::reply::{Reply, fixed_reply, not_utf8_reply, refused_by};
 use std::alloc::{AllocError, Global};
 use tw_asm::AsmFault;
-use tw_names::{Asked, Bank, NameNo, NameRefusal, Thing, plain_text};
+use tw_names::{Bank, Binding, Expected, NameNo, NameRefusal, expanded_text};
 use tw_reasons::put_text_reason;
 use tw_words::{line_numbered, put, put_both, put_numbered, put_shortened};
 
@@ -44,34 +44,34 @@ pub fn put_name_line(
     put(out, "\n")
 }
 
-fn thing_words(thing: Thing) -> &'static str
-    ensures { result.now ≡ thing_words thing }
+fn thing_words(binding: Binding) -> &'static str
+    ensures { result.now ≡ thing_words binding }
 {
-    match thing {
-        Thing::Constant(_) => "a constant",
-        Thing::Register(Bank::Value, _, _) => "a value register",
-        Thing::Register(Bank::Right, _, _) => "a right register",
-        Thing::Procedure(_) => "a procedure",
+    match binding {
+        Binding::Constant(_) => "a constant",
+        Binding::Register(Bank::Value, _, _) => "a value register",
+        Binding::Register(Bank::Right, _, _) => "a right register",
+        Binding::Procedure(_) => "a procedure",
     }
 }
 
-fn asked_words(asked: Asked) -> &'static str
+fn asked_words(asked: Expected) -> &'static str
     ensures { result.now ≡ asked_words asked }
 {
     match asked {
-        Asked::Value | Asked::ValueArgument => "a value register",
-        Asked::Right | Asked::RightArgument => "a right register",
-        Asked::Number => "a number",
-        Asked::Procedure => "a procedure",
-        Asked::Nothing => "no name",
+        Expected::Value | Expected::ValueArgument => "a value register",
+        Expected::Right | Expected::RightArgument => "a right register",
+        Expected::Number => "a number",
+        Expected::Procedure => "a procedure",
+        Expected::Nothing => "no name",
     }
 }
 
 /// Adds what a name means, and what is required in its place.
-fn put_kind(out: &mut Vec<u8>, thing: Thing, asked: Asked) -> Result<(), AllocError>
-    ensures { OnOk result (out.new.items ≡ out.old.items ++ kind_reason thing asked) }
+fn put_kind(out: &mut Vec<u8>, binding: Binding, asked: Expected) -> Result<(), AllocError>
+    ensures { OnOk result (out.new.items ≡ out.old.items ++ kind_reason binding asked) }
 {
-    put_both(out, "it is ", thing_words(thing))?;
+    put_both(out, "it is ", thing_words(binding))?;
     put_both(out, ", ", asked_words(asked))?;
     put(out, " is required")
 }
@@ -96,7 +96,7 @@ fn put_reason(out: &mut Vec<u8>, no: NameNo) -> Result<(), AllocError>
     ensures { OnOk result (out.new.items ≡ out.old.items ++ name_reason no) }
 {
     match no {
-        NameNo::Kind(thing, asked) => put_kind(out, thing, asked),
+        NameNo::Kind(binding, asked) => put_kind(out, binding, asked),
         _ => put(out, fixed_reason(no)),
     }
 }
@@ -169,7 +169,7 @@ pub fn put_fault_details(
 ) -> Result<(), AllocError>
     ensures { OnOk result ((plain : List ℕ) → StandsFor text.now plain → (more : List ℕ) × IsFaultBehind text.now fault.no fault.line more × (out.new.items ≡ out.old.items ++ more)) }
 {
-    match plain_text(alloc, text) {
+    match expanded_text(alloc, text) {
         Ok(None) => put_text_reason(alloc, out, text, fault),
         Ok(Some(plain)) => put_written_fault(alloc, out, text, &plain, fault),
         Err(refusal) => match refusal.no {
@@ -193,7 +193,7 @@ fn named_reply(alloc: Global, text: &str, refusal: NameRefusal<'_>) -> Result<Re
 fn text_plain_reply(alloc: Global, text: &str) -> Result<Reply, AllocError>
     ensures { IfOk result (λ r. RepliesByPlain text.now (reply r.text.items r.close)) }
 {
-    match plain_text(alloc, text) {
+    match expanded_text(alloc, text) {
         Ok(Some(plain)) => Ok(Reply {
             text: plain.into_bytes(),
             close: Close::Success,

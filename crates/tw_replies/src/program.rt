@@ -7,7 +7,7 @@ ghost use Rattle.tw_asm.specs.declared.fault.AsmFault.{AsmFault as TextFault};
 ghost use Rattle.tw_command.specs.declared.command.Source.TheVariants.{Assembly, Hex};
 ghost use Rattle.tw_command.specs.declared.command.Source.{Source as ReadAs};
 ghost use Rattle.tw_asm.specs.Origins.{AreOrigins};
-ghost use Rattle.tw_names.specs.Standing.{StandsFor};
+ghost use Rattle.tw_names.specs.Expansion.{StandsFor};
 ghost use Rattle.tw_names.specs.declared.refusal.NameNo.TheVariants as no;
 ghost use Rattle.tw_replies.specs.Names.{IsFaultBehind, name_behind};
 ghost use Rattle.tw_replies.specs.Program.{IsNoneBehind, Spells, SpellsNone, SpellsText, no_program_line, text_told};
@@ -29,7 +29,7 @@ use tw_asm::{AsmFault, LinedProgram, assemble_lined};
 use tw_bytes::{Fault, FaultNo, decode};
 use tw_code::Program;
 use tw_command::Source;
-use tw_names::{NameNo, NameRefusal, plain_text};
+use tw_names::{NameNo, NameRefusal, expanded_text};
 use tw_words::put;
 
 /// A program, and the text from which it was read, if from one.
@@ -163,7 +163,7 @@ fn program_of_text<'a>(alloc: Global, text: &'a str) -> Result<ReadProgram<'a>, 
     ensures text { IfOk result (λ read. text_of read.source ≡ Some text.entry.now) }
     ensures none { IfErr result (λ why. why ≢ NoMemory → IsUtf8 text.entry.now → SpellsNone Assembly text.entry.now why) }
 {
-    match plain_text(alloc, text) {
+    match expanded_text(alloc, text) {
         Ok(None) => program_of_itself(alloc, text),
         Ok(Some(plain)) => program_of_plain(alloc, text, plain),
         Err(refusal) => Err(name_refused(refusal)),

@@ -6,7 +6,7 @@ ghost use Rattle.tw_asm.specs.Origins.{AreOrigins, ComesFrom, instr_at};
 ghost use Rattle.tw_code.specs.declared.procedure.Procedure.{Procedure as Section};
 ghost use Rattle.tw_replies.specs.Source.{IsSourceAt, MayBeSourceAt, plain_of, text_of};
 ghost use Rattle.tw_names.specs.Registers.{IsWithName};
-ghost use Rattle.tw_names.specs.Standing.{StandsFor};
+ghost use Rattle.tw_names.specs.Expansion.{StandsFor};
 ghost use Rattle.tw_names.specs.Symbols.{AreSymbols};
 ghost use Rattle.tw_reasons.specs.Reasons.{TellsReason, shape_line};
 ghost use Rattle.tw_reasons.specs.LineRole.{IsFirstHead};

@@ -7,7 +7,7 @@ use std::fs;
 use std::rt::Files;
 use tw_asm::assemble;
 use tw_bytes::encode;
-use tw_names::plain_text;
+use tw_names::expanded_text;
 
 /// The assembly text for which a text stands, with a slash for each line end; or its first refusal, or that it stands for itself.
 pub fn names_text(alloc: Global, text: &str) -> Result<String, Complaint> {
@@ -15,7 +15,7 @@ pub fn names_text(alloc: Global, text: &str) -> Result<String, Complaint> {
     let Ok(text) = String::from_utf8(bytes) else {
         return Err(Complaint::WordBytes);
     };
-    match plain_text(alloc, text.as_str()) {
+    match expanded_text(alloc, text.as_str()) {
         Ok(None) => Ok("itself".to_string(alloc)?),
         Ok(Some(plain)) => one_line(alloc, plain.as_str()),
         Err(refusal) => {
@@ -41,7 +41,7 @@ pub fn alike_text<R: AllocGlobal + Files>(rt: &R, files: &str) -> Result<String,
     };
     let named = fs::read_to_string(rt, named)?;
     let plain = fs::read_to_string(rt, plain)?;
-    let Ok(Some(text)) = plain_text(rt.alloc(), named.as_str()) else {
+    let Ok(Some(text)) = expanded_text(rt.alloc(), named.as_str()) else {
         return Err(Complaint::Names);
     };
     let bytes = bytes_of(rt.alloc(), text.as_str())?;

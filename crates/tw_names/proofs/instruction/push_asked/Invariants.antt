@@ -1,5 +1,5 @@
 use Rattle.std.proofs.Common.{◌≡◌, ◌++◌, drop, map}
-use Rattle.tw_names.specs.Saying.{argument_of}
+use Rattle.tw_names.specs.LineExpansion.{argument_of}
 use Rattle.tw_names.proofs.instruction.push_asked.Given as goal
 
 abbrev pub invariant-loop-bank : goal.invariant-loop-bank

@@ -1,7 +1,7 @@
 use Rattle.std.proofs.Common.{ℕ, List, ap, ◌∙◌}
 use Rattle.std.proofs.lemmas.Result.{IfOk-weaker}
 use Rattle.tw_names.proofs.TextNames.{seen_procedures, texts}
-use Rattle.tw_names.specs.Standing.{with_words}
+use Rattle.tw_names.specs.Expansion.{with_words}
 use Rattle.tw_names.proofs.procedures.with_line.Goals as goal
 
 pub returns : goal.returns

@@ -5,8 +5,8 @@ use Rattle.std.specs.Str.{bytes_eq}
 use Rattle.std.specs.Str.Lines.{lines}
 use Rattle.tw_names.specs.Lines.{AreTaken, AreWords, Line, line_rest, line_words, pieces}
 use Rattle.tw_names.specs.Meanings.{Names, Procedures, Table, and_then, meaning, no_names}
-use Rattle.tw_names.specs.Saying.{Said, bank_of_mode, line_says, procedure_name}
-use Rattle.tw_names.specs.declared.meaning.Thing.TheVariants as thing
+use Rattle.tw_names.specs.LineExpansion.{Said, bank_of_mode, line_says, procedure_name}
+use Rattle.tw_names.specs.declared.meaning.Binding.TheVariants as binding
 use Rattle.tw_names.specs.declared.refusal.NameNo.{NameNo}
 
 -- ---- the procedures of a text
@@ -14,7 +14,7 @@ use Rattle.tw_names.specs.declared.refusal.NameNo.{NameNo}
 -- the first procedure of a name has it
 abbrev pub with_name : Option (List ℕ) → ℕ → Table → Table
 with_name None number table = table
-with_name (Some name) number table = if is_some (meaning name table) then table else table ++ (name, thing.Procedure number) ∷ []
+with_name (Some name) number table = if is_some (meaning name table) then table else table ++ (name, binding.Procedure number) ∷ []
 
 -- the words behind `proc` in the line of this number
 abbrev pub with_head : Procedures → ℕ → List (List ℕ) → Procedures

@@ -1,6 +1,6 @@
 use Rattle.std.proofs.Common.{ap, ◌∙◌}
 use Rattle.tw_names.proofs.TextNames.{named_by, texts}
-use Rattle.tw_names.proofs.plain.names_in.Goals as goal
+use Rattle.tw_names.proofs.expansion.names_in.Goals as goal
 
 pub returns : goal.returns
 returns c =

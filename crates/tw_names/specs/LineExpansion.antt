@@ -15,15 +15,15 @@ use Rattle.tw_code.specs.declared.opcode.Opcode.TheVariants as opcode
 use Rattle.tw_code.specs.declared.version.Version.TheVariants.{Two}
 use Rattle.tw_names.specs.Lines.{begins_quoted, pieces}
 use Rattle.tw_names.specs.Meanings.{Flaw, Head, Names, Procedures, and_then, is_name, known, may_name, meaning, refused, with_constant, with_listed, with_register}
-use Rattle.tw_names.specs.declared.meaning.Asked.{Asked}
-use Rattle.tw_names.specs.declared.meaning.Asked.TheVariants as asked
+use Rattle.tw_names.specs.declared.meaning.Expected.{Expected}
+use Rattle.tw_names.specs.declared.meaning.Expected.TheVariants as asked
 use Rattle.tw_names.specs.declared.meaning.Bank.{Bank}
 use Rattle.tw_names.specs.declared.meaning.Bank.TheVariants as bank
 use Rattle.tw_names.specs.declared.meaning.Listed.{Listed}
 use Rattle.tw_names.specs.declared.meaning.Listed.TheVariants as listed
 use Rattle.tw_names.specs.declared.meaning.Origin.TheVariants as origin
-use Rattle.tw_names.specs.declared.meaning.Thing.{Thing}
-use Rattle.tw_names.specs.declared.meaning.Thing.TheVariants as thing
+use Rattle.tw_names.specs.declared.meaning.Binding.{Binding}
+use Rattle.tw_names.specs.declared.meaning.Binding.TheVariants as binding
 use Rattle.tw_names.specs.declared.refusal.NameNo.TheVariants as no
 
 -- the names behind a line, and a text with that for which its words stand
@@ -37,46 +37,46 @@ behind front words = front ++ flat_map (λ word. 32 ∷ word) words
 -- ---- words that may be names
 
 -- What stands in the place of a name, where this is asked: of a register its letter and number, as an argument the number alone.
-abbrev pub stands : Asked → Thing → Option (List ℕ)
-stands asked.Value (thing.Register bank.Value number by) = Some (codes "v" ++ decimal number)
-stands asked.Right (thing.Register bank.Right number by) = Some (codes "d" ++ decimal number)
-stands asked.ValueArgument (thing.Register bank.Value number by) = Some (codes "" ++ decimal number)
-stands asked.RightArgument (thing.Register bank.Right number by) = Some (codes "" ++ decimal number)
-stands asked.Number (thing.Constant number) = Some (signed_decimal number)
-stands asked.Procedure (thing.Procedure number) = Some (codes "" ++ decimal number)
+abbrev pub stands : Expected → Binding → Option (List ℕ)
+stands asked.Value (binding.Register bank.Value number by) = Some (codes "v" ++ decimal number)
+stands asked.Right (binding.Register bank.Right number by) = Some (codes "d" ++ decimal number)
+stands asked.ValueArgument (binding.Register bank.Value number by) = Some (codes "" ++ decimal number)
+stands asked.RightArgument (binding.Register bank.Right number by) = Some (codes "" ++ decimal number)
+stands asked.Number (binding.Constant number) = Some (signed_decimal number)
+stands asked.Procedure (binding.Procedure number) = Some (codes "" ++ decimal number)
 stands a x = None
 
 -- a text, and behind it a word
 abbrev pub with_word : List ℕ → List ℕ → List ℕ
 with_word front word = front ++ 32 ∷ word
 
-abbrev pub fitting : List ℕ → List ℕ → Asked → Thing → Option (List ℕ) → Result (List ℕ) Flaw
+abbrev pub fitting : List ℕ → List ℕ → Expected → Binding → Option (List ℕ) → Result (List ℕ) Flaw
 fitting front word a x None = refused (no.Kind x a) word
 fitting front word a x (Some text) = Ok (with_word front text)
 
-abbrev pub named : List ℕ → List ℕ → Option Thing → Asked → Result (List ℕ) Flaw
+abbrev pub named : List ℕ → List ℕ → Option Binding → Expected → Result (List ℕ) Flaw
 named front word None a = refused no.Unknown word
 named front word (Some x) a = fitting front word a x (stands a x)
 
 -- a text with what a word stands for: where nothing is asked, and where it is no name, that is the word itself
-abbrev pub word_says : Procedures → Names → Asked → List ℕ → List ℕ → Result (List ℕ) Flaw
+abbrev pub word_says : Procedures → Names → Expected → List ℕ → List ℕ → Result (List ℕ) Flaw
 word_says procedures names asked.Nothing front word = Ok (with_word front word)
 word_says procedures names a front word = if is_name word then named front word (known procedures names word) a else Ok (with_word front word)
 
 -- the same of words, each with what is asked in its place; further words are asked nothing
-abbrev pub words_say : Procedures → Names → List Asked → List ℕ → List (List ℕ) → Result (List ℕ) Flaw
+abbrev pub words_say : Procedures → Names → List Expected → List ℕ → List (List ℕ) → Result (List ℕ) Flaw
 words_say procedures names all front [] = Ok front
 words_say procedures names all front (word ∷ words) =
     and_then (word_says procedures names (unwrap_or (slice_get all 0) asked.Nothing) front word) (λ text. words_say procedures names (drop 1 all) text words)
 
 -- ---- instructions
 
-abbrev pub argument_of : Bank → Asked
+abbrev pub argument_of : Bank → Expected
 argument_of bank.Value = asked.ValueArgument
 argument_of bank.Right = asked.RightArgument
 
 -- what an operand of a form asks, where the procedure's parameters are of these banks
-abbrev pub asked_by : List Bank → Form → List Asked
+abbrev pub asked_by : List Bank → Form → List Expected
 asked_by banks form.Value = asked.Value ∷ []
 asked_by banks form.Right = asked.Right ∷ []
 asked_by banks form.Number = asked.Number ∷ []
@@ -87,8 +87,8 @@ asked_by banks form.Args = map argument_of banks
 asked_by banks f = asked.Nothing ∷ []
 
 -- a procedure, by its name or else by its number
-abbrev pub callee : Option Thing → Option ℕ → Option ℕ
-callee (Some (thing.Procedure number)) digits = Some number
+abbrev pub callee : Option Binding → Option ℕ → Option ℕ
+callee (Some (binding.Procedure number)) digits = Some number
 callee x digits = digits
 
 abbrev pub banks_at : Procedures → Option ℕ → List Bank
@@ -169,7 +169,7 @@ number_of word = result_ok (signed_in word)
 abbrev pub constant_says : Procedures → Names → List ℕ → List (List ℕ) → Result Names Flaw
 constant_says procedures names first [] = refused no.Form first
 constant_says procedures names first (name ∷ words) =
-    and_then (may_name procedures names name) (λ _. and_then (value_behind number_of first words) (λ number. with_constant procedures names name (thing.Constant number)))
+    and_then (may_name procedures names name) (λ _. and_then (value_behind number_of first words) (λ number. with_constant procedures names name (binding.Constant number)))
 
 abbrev pub let_says : Procedures → Names → List ℕ → List (List ℕ) → Result Names Flaw
 let_says procedures names first [] = refused no.Form first
@@ -253,8 +253,8 @@ value_types [] = []
 value_types (word ∷ words) = if bytes_eq word (codes "val") then take 1 words ++ value_types words else value_types words
 
 -- the procedure of this name begins at this line
-abbrev pub begins_at : Procedures → ℕ → Option Thing → Bool
-begins_at procedures number (Some (thing.Procedure n)) = option_map_or (λ (head : Head). head.line == number) (slice_get procedures.heads n) false
+abbrev pub begins_at : Procedures → ℕ → Option Binding → Bool
+begins_at procedures number (Some (binding.Procedure n)) = option_map_or (λ (head : Head). head.line == number) (slice_get procedures.heads n) false
 begins_at procedures number x = false
 
 abbrev pub name_says : Procedures → ℕ → Option (List ℕ) → Result (Unit {0}) Flaw

@@ -6,14 +6,14 @@ ghost use Rattle.tw_code.specs.declared.version.Version.TheVariants.{Two};
 ghost use Rattle.tw_names.specs.Answers.{SaysBehind};
 ghost use Rattle.std.specs.List.{flat_map};
 ghost use Rattle.tw_names.specs.Lines.{pieces};
-ghost use Rattle.tw_names.specs.Saying.{body_says, head_says, is_names_line, line_says, registers_say};
+ghost use Rattle.tw_names.specs.LineExpansion.{body_says, head_says, is_names_line, line_says, registers_say};
 ghost use Rattle.tw_names.specs.Seen.{seen_names, seen_procedures, texts};
 
-use crate::asked::put_all;
 use crate::assigned::{with_const, with_let};
 use crate::instruction::put_instruction;
 use crate::listed::{put_head, put_registers};
 use crate::names::Names;
+use crate::operand_text::put_all;
 use crate::pieces::pieces_of;
 use crate::procedures::Procedures;
 use crate::refusal::Refusal;
@@ -85,7 +85,7 @@ fn put_regs<'a>(
 }
 
 /// Adds what the words of the line of this number stand for, and gives the names behind it.
-#[tactic(auto, unfolding(crate::specs::Saying::line_says))]
+#[tactic(auto, unfolding(crate::specs::LineExpansion::line_says))]
 pub fn put_line<'a>(
     alloc: Global,
     procedures: &Procedures<'_>,

@@ -1,14 +1,14 @@
 //! What is asked in the place of a word, and what stands there.
 
 ghost use Rattle.std.specs.Prelude.{◌≡◌, ◌++◌, OnOk, drop, length, slice_get, take, unwrap_or};
-ghost use Rattle.tw_names.specs.declared.meaning.Asked.TheVariants.{Nothing};
+ghost use Rattle.tw_names.specs.declared.meaning.Expected.TheVariants.{Nothing};
 ghost use Rattle.std.specs.Option.{option_map};
 ghost use Rattle.tw_names.specs.Answers.{Gives, standing_text};
-ghost use Rattle.tw_names.specs.Saying.{behind, named, stands, with_word, word_says, words_say};
-ghost use Rattle.tw_names.specs.Standing.{ended};
+ghost use Rattle.tw_names.specs.LineExpansion.{behind, named, stands, with_word, word_says, words_say};
+ghost use Rattle.tw_names.specs.Expansion.{ended};
 ghost use Rattle.tw_names.specs.Seen.{seen_names, seen_procedures, texts};
 
-use crate::meaning::{Asked, Bank, Thing};
+use crate::meaning::{Bank, Binding, Expected};
 use crate::names::{Names, is_name, known};
 use crate::procedures::Procedures;
 use crate::refusal::{NameNo, Refusal};
@@ -17,7 +17,7 @@ use tw_words::{put_numbered, put_signed};
 
 /// What stands in the place of a name.
 #[derive(Clone, Copy)]
-pub enum Standing {
+pub enum OperandText {
     /// A register or a procedure, behind its letter.
     Numbered(&'static str, usize),
     /// A constant.
@@ -25,37 +25,37 @@ pub enum Standing {
 }
 
 /// What stands in the place of a name that means this, if it is what is asked.
-fn standing_of(asked: Asked, thing: Thing) -> Option<Standing>
-    ensures { option_map standing_text result ≡ stands asked thing }
+fn standing_of(asked: Expected, binding: Binding) -> Option<OperandText>
+    ensures { option_map standing_text result ≡ stands asked binding }
 {
-    match thing {
-        Thing::Constant(number) => match asked {
-            Asked::Number => Some(Standing::Number(number)),
+    match binding {
+        Binding::Constant(number) => match asked {
+            Expected::Number => Some(OperandText::Number(number)),
             _ => None,
         },
-        Thing::Register(Bank::Value, number, _) => match asked {
-            Asked::Value => Some(Standing::Numbered("v", number)),
-            Asked::ValueArgument => Some(Standing::Numbered("", number)),
+        Binding::Register(Bank::Value, number, _) => match asked {
+            Expected::Value => Some(OperandText::Numbered("v", number)),
+            Expected::ValueArgument => Some(OperandText::Numbered("", number)),
             _ => None,
         },
-        Thing::Register(Bank::Right, number, _) => match asked {
-            Asked::Right => Some(Standing::Numbered("d", number)),
-            Asked::RightArgument => Some(Standing::Numbered("", number)),
+        Binding::Register(Bank::Right, number, _) => match asked {
+            Expected::Right => Some(OperandText::Numbered("d", number)),
+            Expected::RightArgument => Some(OperandText::Numbered("", number)),
             _ => None,
         },
-        Thing::Procedure(number) => match asked {
-            Asked::Procedure => Some(Standing::Numbered("", number)),
+        Binding::Procedure(number) => match asked {
+            Expected::Procedure => Some(OperandText::Numbered("", number)),
             _ => None,
         },
     }
 }
 
-fn put_standing(alloc: Global, out: &mut Vec<u8>, standing: Standing) -> Result<(), AllocError>
+fn put_standing(alloc: Global, out: &mut Vec<u8>, standing: OperandText) -> Result<(), AllocError>
     ensures { OnOk result (out.new.items ≡ out.old.items ++ standing_text standing) }
 {
     match standing {
-        Standing::Numbered(front, number) => put_numbered(alloc, out, front, number),
-        Standing::Number(number) => put_signed(alloc, out, number),
+        OperandText::Numbered(front, number) => put_numbered(alloc, out, front, number),
+        OperandText::Number(number) => put_signed(alloc, out, number),
     }
 }
 
@@ -100,7 +100,7 @@ pub fn words_after<'b, 'a>(words: &'b [&'a [u8]], count: usize) -> &'b [&'a [u8]
 
 /// Returns what is required after the first so many places.
 #[tactic(auto, using(std::proofs::lemmas::List::drop_all))]
-pub fn asked_after(asked: &[Asked], count: usize) -> &[Asked]
+pub fn asked_after(asked: &[Expected], count: usize) -> &[Expected]
     ensures { result.now ≡ drop count asked.now }
 {
     if count < asked.len() {
@@ -132,17 +132,17 @@ pub fn put_all(out: &mut Vec<u8>, words: &[&[u8]]) -> Result<(), AllocError>
 fn put_named<'a>(
     alloc: Global,
     out: &mut Vec<u8>,
-    asked: Asked,
+    asked: Expected,
     word: &'a [u8],
-    thing: Option<Thing>,
+    binding: Option<Binding>,
 ) -> Result<(), Refusal<'a>>
-    ensures { Gives (λ _. out.new.items) result (named out.old.items word.now thing asked) }
+    ensures { Gives (λ _. out.new.items) result (named out.old.items word.now binding asked) }
 {
-    let Some(thing) = thing else {
+    let Some(binding) = binding else {
         return Err(Refusal::Flawed(NameNo::Unknown, word));
     };
-    let Some(standing) = standing_of(asked, thing) else {
-        return Err(Refusal::Flawed(NameNo::Kind(thing, asked), word));
+    let Some(standing) = standing_of(asked, binding) else {
+        return Err(Refusal::Flawed(NameNo::Kind(binding, asked), word));
     };
     out.extend_from_slice(b" ")?;
     put_standing(alloc, out, standing)?;
@@ -155,12 +155,12 @@ pub fn put_word<'a>(
     procedures: &Procedures<'_>,
     names: &Names<'_>,
     out: &mut Vec<u8>,
-    asked: Asked,
+    asked: Expected,
     word: &'a [u8],
 ) -> Result<(), Refusal<'a>>
     ensures { Gives (λ _. out.new.items) result (word_says (seen_procedures procedures.now) (seen_names names.now) asked out.old.items word.now) }
 {
-    if matches!(asked, Asked::Nothing) || !is_name(word) {
+    if matches!(asked, Expected::Nothing) || !is_name(word) {
         put_plain(out, word)?;
         return Ok(());
     }
@@ -168,17 +168,17 @@ pub fn put_word<'a>(
 }
 
 /// What is asked in the first place.
-fn first_asked(asked: &[Asked]) -> Asked
+fn first_asked(asked: &[Expected]) -> Expected
     ensures { result ≡ unwrap_or (slice_get asked.now 0) Nothing }
 {
     match asked {
         [first, ..] => *first,
-        [] => Asked::Nothing,
+        [] => Expected::Nothing,
     }
 }
 
 /// What is asked in the places behind it.
-fn behind_first(asked: &[Asked]) -> &[Asked]
+fn behind_first(asked: &[Expected]) -> &[Expected]
     ensures { result.now ≡ drop 1 asked.now }
 {
     match asked {
@@ -193,7 +193,7 @@ pub fn put_words<'a>(
     procedures: &Procedures<'_>,
     names: &Names<'_>,
     out: &mut Vec<u8>,
-    asked: &[Asked],
+    asked: &[Expected],
     words: &[&'a [u8]],
 ) -> Result<(), Refusal<'a>>
     ensures { Gives (λ _. out.new.items) result (words_say (seen_procedures procedures.now) (seen_names names.now) asked.now out.old.items (texts words.now)) }

@@ -2,7 +2,7 @@ use Rattle.std.proofs.Common.{◌≡◌, ap, subst, ◌∙◌}
 use Rattle.tw_names.proofs.TextNames.{Line, Said, SaysBehind, line_rest, line_words, seen_names, seen_procedures, texts}
 use Rattle.tw_names.proofs.Taking.{taken_once}
 use Rattle.tw_names.proofs.Then.{line_said}
-use Rattle.tw_names.proofs.plain.put_taken.Goals as goal
+use Rattle.tw_names.proofs.expansion.put_taken.Goals as goal
 
 pub returns : goal.returns
 returns c = λ t is.

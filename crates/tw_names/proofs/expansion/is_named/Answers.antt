@@ -3,7 +3,7 @@ use Rattle.tw_names.proofs.TextNames.{IsNamed, lines, map-append}
 use Rattle.std.proofs.lemmas.Iterator.Consumers.{YieldsList-at, YieldsList-end}
 use Rattle.std.proofs.lemmas.Iterator.Splits.{YieldsList-from_lines}
 use Rattle.tw_names.proofs.FirstNamed.{IsFirstNamed, all_named, first_more}
-use Rattle.tw_names.proofs.plain.is_named.Goals as goal
+use Rattle.tw_names.proofs.expansion.is_named.Goals as goal
 
 pub loop-line-preserved : goal.loop-line-preserved
 loop-line-preserved c =

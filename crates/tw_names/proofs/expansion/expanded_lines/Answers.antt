@@ -5,7 +5,7 @@ use Rattle.std.proofs.lemmas.Iterator.Splits.{YieldsList-from_lines}
 use Rattle.std.proofs.lemmas.Result.{err_from_is_err_and}
 use Rattle.tw_words.proofs.LineLoops.{all_lines, line_turn}
 use Rattle.tw_names.proofs.Loops.{HasCome, come_end, come_more, lines_in, one_more_length, stopped}
-use Rattle.tw_names.proofs.plain.plain_lines.Goals as goal
+use Rattle.tw_names.proofs.expansion.expanded_lines.Goals as goal
 
 pub returns-in_err-names : goal.returns-in_err-names
 returns-in_err-names c = λ all are.

@@ -1,7 +1,7 @@
 use Rattle.std.proofs.Common.{length}
 use Rattle.tw_names.proofs.TextNames.{lines, seen_names, seen_procedures}
 use Rattle.tw_names.proofs.Loops.{HasCome, lines_in}
-use Rattle.tw_names.proofs.plain.plain_lines.Given as goal
+use Rattle.tw_names.proofs.expansion.expanded_lines.Given as goal
 
 abbrev pub invariant-loop-index : goal.invariant-loop-index
 invariant-loop-index l = record {

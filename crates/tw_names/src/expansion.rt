@@ -5,16 +5,16 @@ ghost use Rattle.std.specs.Str.Lines.{lines};
 ghost use Rattle.tw_names.specs.Answers.{IsAtLine, IsMemory, IsNamed, IsNamedAfter, SaidAt, SaysBehind, named_by, told};
 ghost use Rattle.tw_names.specs.Lines.{AreTaken, IsTaken, Line, line_words};
 ghost use Rattle.tw_names.specs.Meanings.{and_then, no_names};
-ghost use Rattle.tw_names.specs.Saying.{line_says};
+ghost use Rattle.tw_names.specs.LineExpansion.{line_says};
 ghost use Rattle.tw_names.specs.Seen.{seen_names, seen_procedures, texts};
-ghost use Rattle.tw_names.specs.Standing.{HasNames, IsFirstRefusal, StandsFor, ended, lines_say, taken_says};
+ghost use Rattle.tw_names.specs.Expansion.{HasNames, IsFirstRefusal, StandsFor, ended, lines_say, taken_says};
 
-use crate::asked::put_ended;
 use crate::line::take_line;
+use crate::line_expansion::{is_names_line, put_line};
 use crate::names::Names;
+use crate::operand_text::put_ended;
 use crate::procedures::{Procedures, procedures_of};
 use crate::refusal::{NameRefusal, Refusal};
-use crate::says::{is_names_line, put_line};
 use std::alloc::{AllocError, Global};
 
 /// Returns whether these words are just `names`; `None` if there are none.
@@ -131,7 +131,7 @@ pub fn put_numbered_line<'a>(
 }
 
 /// What all lines stand for.
-fn plain_lines<'a>(
+fn expanded_lines<'a>(
     alloc: Global,
     procedures: &Procedures<'_>,
     text: &'a str,
@@ -156,7 +156,7 @@ fn named_text<'a>(alloc: Global, text: &'a str) -> Result<Vec<u8>, NameRefusal<'
         (λ f. IsMemory f ⊎ IsFirstRefusal text.entry.now (told f)) }
 {
     let procedures = procedures_of(alloc, text)?;
-    plain_lines(alloc, &procedures, text)
+    expanded_lines(alloc, &procedures, text)
 }
 
 /// Bytes as a text.
@@ -172,7 +172,7 @@ fn as_text(bytes: Vec<u8>) -> String
 
 /// The assembly text for which a text with names stands, or its first refusal; `None` for a text without names, which stands for
 /// itself.
-pub fn plain_text<'a>(alloc: Global, text: &'a str) -> Result<Option<String>, NameRefusal<'a>>
+pub fn expanded_text<'a>(alloc: Global, text: &'a str) -> Result<Option<String>, NameRefusal<'a>>
     ensures stands { MatchResult result
         (λ read. MatchOption read (StandsFor text.entry.now text.entry.now) (λ plain. StandsFor text.entry.now (string_bytes plain)))
         (λ f. IsMemory f ⊎ IsFirstRefusal text.entry.now (told f)) }
