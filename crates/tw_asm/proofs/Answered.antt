@@ -1,6 +1,6 @@
 -- What is read answers which words spell which statements.
 use Rattle.std.proofs.Common.{◌≡◌, ℕ, List, [], ◌∷◌, ◌++◌, map, codes, Option, Some, None, Result, Ok, Err, true, refl, sym, ap, subst, ◌∙◌}
-use Rattle.tw_asm.proofs.AsmNames.{AllByRecursion, AnyName, AnyShortName, Bare, Code, Flaw, Form, Goals, HasForm, HasInstr, Head, Instr, IsInLimits, IsName, IsRead, Label, Limit, Line, LineContent, Name, Natural, NoName, OfVersion, OnlyName, Opcode, Part, Read, Registers, SpellParts, Spells, Statement, Version, Word, as_is, before_colon, code_read, draft_in, flat_map, has_opcode, instr_parts, kind_word, label_in, line_in, opcode_in, param_parts, register_part, statement_parts}
+use Rattle.tw_asm.proofs.AsmNames.{AllByRecursion, AnyName, AnyShortName, Bare, Code, TokenError, Form, Goals, HasForm, HasInstr, Head, Instr, IsInLimits, IsName, IsRead, Label, Limit, Line, LineContent, Name, Natural, NoName, OfVersion, OnlyName, Opcode, Part, Read, Registers, SpellParts, Spells, Statement, Version, Word, as_is, before_colon, code_read, draft_in, flat_map, has_opcode, instr_parts, kind_word, label_in, line_in, opcode_in, param_parts, register_part, statement_parts}
 use Rattle.tw_words.proofs.Colons.{before}
 use Rattle.tw_asm.proofs.Lined.{Had, HasLine, MayLine, found, goals_by, label_named, line_had, line_read, parts_may, parts_of, spelled, unnumbered}
 use Rattle.tw_asm.proofs.OperandWords.{IsFine}
@@ -10,7 +10,7 @@ use Rattle.tw_asm.proofs.Table.{draft_is, found_back, had_made, instr_of, line_o
 use Rattle.tw_asm.specs.LineAnswers.{IsFlawed}
 use Rattle.tw_code.specs.format.Table.{opcode_of, word_of}
 
-abbrev pub Judged : Version → Result Read Flaw → List Word → Type 0
+abbrev pub Judged : Version → Result Read TokenError → List Word → Type 0
 Judged version (Ok read) ws = IsRead version read ws
 Judged version (Err flaw) ws = IsFlawed version flaw ws
 
@@ -142,7 +142,7 @@ module _ (version : Version) (o : Opcode) (word : List ℕ) (ws : List Word) (is
           let found = label_named line ws x name has e in
           with_name version AnyName o x word ws name_is (read_had x has) (parts_more (OnlyName name) AnyName (λ _ n k. subst IsName (sym k.1) found.0) (parts_of line x) ws parts)
 
-  code_judged : (r : Result (LineContent line) Flaw) → Reads (HasLine line ws) (MayLine line) r → Judged version (as_is code_read (as_is (λ x. (make x, label_in line x)) r)) (Bare word ∷ ws)
+  code_judged : (r : Result (LineContent line) TokenError) → Reads (HasLine line ws) (MayLine line) r → Judged version (as_is code_read (as_is (λ x. (make x, label_in line x)) r)) (Bare word ∷ ws)
   code_judged (Ok x) h = code_read_so x h.0 h.1
   code_judged (Err Form) h = λ form. no_form form.0 form.1.form form.1.parts
     where
@@ -162,4 +162,4 @@ module _ (version : Version) (o : Opcode) (word : List ℕ) (ws : List Word) (is
   -- a line that begins with an instruction's name
   pub code_answered : AllByRecursion IsFine ws → Judged version (as_is code_read (draft_in version o ws)) (Bare word ∷ ws)
   code_answered fine =
-      subst (λ (r : Result (Instr × Option (List ℕ)) Flaw). Judged version (as_is code_read r) (Bare word ∷ ws)) (sym (draft_is version o ws)) (code_judged (line_in line ws) (line_read line ws fine))
+      subst (λ (r : Result (Instr × Option (List ℕ)) TokenError). Judged version (as_is code_read r) (Bare word ∷ ws)) (sym (draft_is version o ws)) (code_judged (line_in line ws) (line_read line ws fine))

@@ -31,8 +31,8 @@ pub use Rattle.tw_words.specs.Seen.{IsRead as IsLineRead, seen}
 pub use Rattle.tw_words.specs.Words.{Bare, IsBrokenLine, IsFirstWord, IsLine, IsWord, Quoted, Word, is_edge}
 pub use Rattle.tw_asm.specs.declared.fault.AsmFault.{AsmFault}
 pub use Rattle.tw_asm.specs.declared.fault.FaultNo.{FaultNo}
-pub use Rattle.tw_words.specs.declared.numbers.Flaw.{Flaw}
-pub use Rattle.tw_words.specs.declared.numbers.Flaw.TheVariants.{Form, Limit}
+pub use Rattle.tw_words.specs.declared.numbers.TokenError.{TokenError}
+pub use Rattle.tw_words.specs.declared.numbers.TokenError.TheVariants.{Form, Limit}
 pub use Rattle.tw_asm.specs.declared.statement.First.{First}
 pub use Rattle.tw_asm.specs.Disassembly.{code_lines, disassembly, first_ones, goal_from, goals_from, label_at, label_line, label_places, procedure_lines, version_line}
 pub use Rattle.tw_asm.specs.Fault.{AfterHead, AfterVersion, Begins, GoalFault, HasWords, InBody, IsEmpty, IsEndFault, IsFirstFault, IsFirstGoalFault, IsLineFault, IsOutset, IsUnfinished, IsWhole, LineFault, LineSays, LinesSay, MayBegin, MayStand, ParserState, Stage, Start, after, after_line, at_start, empty, instructions, label_twice, labels_ahead, limit, not_forward, operand, procedures, situation, situation_from, unknown, word}

@@ -1,6 +1,6 @@
 -- Procedures' heads: what is read answers which words spell which statements.
 use Rattle.std.proofs.Common.{◌≡◌, ℕ, List, [], ◌∷◌, ◌++◌, length, map, codes, None, Result, Ok, Err, refl, sym, ap, subst, ◌∙◌}
-use Rattle.tw_asm.proofs.AsmNames.{AllByRecursion, AnyName, AnyShortName, Bare, Closed, Code, Flaw, Form, Goals, HasParam, Head, IsInLimits, IsList, IsParam, IsTypeOfMode, IsTypeUnderOf, Kind, Label, Limit, Mode, Name, Natural, NestedScalar, NoName, OfVersion, Param, Ref, Registers, SpellParts, Spells, Statement, Two, Val, Version, Word, Write, as_is, both, flat_map, is_scalar, kind_word, mode_word, param_parts, register_part}
+use Rattle.tw_asm.proofs.AsmNames.{AllByRecursion, AnyName, AnyShortName, Bare, Closed, Code, TokenError, Form, Goals, HasParam, Head, IsInLimits, IsList, IsParam, IsTypeOfMode, IsTypeUnderOf, Kind, Label, Limit, Mode, Name, Natural, NestedScalar, NoName, OfVersion, Param, Ref, Registers, SpellParts, Spells, Statement, Two, Val, Version, Word, Write, as_is, both, flat_map, is_scalar, kind_word, mode_word, param_parts, register_part}
 use Rattle.tw_asm.proofs.Answered.{Judged, first_is, none_some, proc_is_none}
 use Rattle.tw_asm.proofs.OperandWords.{Free, kind_read}
 use Rattle.tw_asm.proofs.ParamWords.{AreParams, IsShallowParam, one_params, param_words, params_read}
@@ -84,7 +84,7 @@ module _ (version : Version) where
   abbrev MayHead : Kind × List Param → Type 0
   MayHead x = Free x.0 × IsList 0 8 IsShallowParam x.1
 
-  head_judged : (w : Word) (ws : List Word) (r : Result (Kind × List Param) Flaw) → Reads (IsHeadOf w ws) MayHead r → Judged version (as_is head_read r) (Bare (codes "proc") ∷ w ∷ ws)
+  head_judged : (w : Word) (ws : List Word) (r : Result (Kind × List Param) TokenError) → Reads (IsHeadOf w ws) MayHead r → Judged version (as_is head_read r) (Bare (codes "proc") ∷ w ∷ ws)
   head_judged w ws (Ok x) h = ((h.1.1.0, params_within version x.1 h.0.1.1 h.1.1.1), head_spelled NoName w ws x h.0)
   head_judged w ws (Err Form) h = λ form. let k = is_head AnyName w ws form.0 form.1 in h k.0 k.2
   head_judged w ws (Err Limit) h = (

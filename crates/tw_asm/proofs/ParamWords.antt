@@ -1,6 +1,6 @@
 -- The reading of parameters, from the last word on.
 use Rattle.std.proofs.Common.{◌≡◌, suc, ◌≤◌, Bool, true, false, cond, List, [], ◌∷◌, ◌++◌, length, Option, Some, None, Result, Ok, Err, refl, sym, ap, subst, ◌∙◌, arith}
-use Rattle.tw_asm.proofs.AsmNames.{AllByRecursion, Bare, Closed, Flaw, Form, HasParam, HasType, Limit, Mode, NestedScalar, Param, Ref, Scalar, Val, Version, Word, Write, as_is, both, container_in, container_of, container_word, depth_of, flat_map, is_scalar, ltb-true, mode_in, mode_word, nat_lt, nat_tests, scalar_in, scalar_word}
+use Rattle.tw_asm.proofs.AsmNames.{AllByRecursion, Bare, Closed, TokenError, Form, HasParam, HasType, Limit, Mode, NestedScalar, Param, Ref, Scalar, Val, Version, Word, Write, as_is, both, container_in, container_of, container_word, depth_of, flat_map, is_scalar, ltb-true, mode_in, mode_word, nat_lt, nat_tests, scalar_in, scalar_word}
 use Rattle.tw_asm.proofs.OperandWords.{Free, IsContainerOf, container_read, mode_read, scalar_read}
 use Rattle.tw_words.proofs.Readings.{Reads, carried}
 use Rattle.tw_asm.proofs.Readings.{both_read}
@@ -40,18 +40,18 @@ one_params (p ∷ ps) (q ∷ qs) e =
 -- ---- what is kept of the words so far
 
 -- the type, if it isn't too deep
-abbrev limited : NestedScalar → Result NestedScalar Flaw
+abbrev limited : NestedScalar → Result NestedScalar TokenError
 limited ty = cond (nat_lt 3 (depth_of ty)) (Err Limit) (Ok ty)
 
 -- no type that the version has stands before whole parameters
 abbrev NoType : Version → List Word → Type 0
 NoType version ws = (ty : NestedScalar) (rest : List Word) (ps : List Param) → ws ≡ words_of ty.containers ty.scalar ++ rest → HasType version ty → AreParams version rest ps → ⊥
 
-abbrev ReadsParams : Version → List Word → Result (List Param) Flaw → Type 0
+abbrev ReadsParams : Version → List Word → Result (List Param) TokenError → Type 0
 ReadsParams version ws whole = Reads (AreParams version ws) (AllByRecursion IsShallowParam) whole
 
 -- a type, and the words behind it
-record IsBegun (version : Version) (ws : List Word) (whole : Result (List Param) Flaw) (read : Result NestedScalar Flaw) : Type 0 where
+record IsBegun (version : Version) (ws : List Word) (whole : Result (List Param) TokenError) (read : Result NestedScalar TokenError) : Type 0 where
   ty : NestedScalar
   rest : List Word
   words : ws ≡ words_of ty.containers ty.scalar ++ rest
@@ -59,7 +59,7 @@ record IsBegun (version : Version) (ws : List Word) (whole : Result (List Param)
   read_is : read ≡ limited ty
   behind : ReadsParams version rest whole
 
-abbrev IsKept : Version → List Word → Result (List Param) Flaw → Option (Result NestedScalar Flaw) → Type 0
+abbrev IsKept : Version → List Word → Result (List Param) TokenError → Option (Result NestedScalar TokenError) → Type 0
 IsKept version ws whole None = ReadsParams version ws whole × NoType version ws
 IsKept version ws whole (Some read) = IsBegun version ws whole read
 
@@ -101,7 +101,7 @@ module _ (version : Version) where
         by [] e had = no_scalar ty.scalar (first_is w (Bare (scalar_word ty.scalar)) ws rest e)
         by (c ∷ cs) e had = none (record { containers = cs; scalar = ty.scalar }) rest ps (rest_is w (Bare (container_word c)) ws (words_of cs ty.scalar ++ rest) e) had.1 are
 
-  begins_kept : (w : Word) (ws : List Word) (whole : Result (List Param) Flaw) → IsKept version ws whole None → (r : Result Scalar Flaw) → Reads (λ s. w ≡ Bare (scalar_word s)) Free r
+  begins_kept : (w : Word) (ws : List Word) (whole : Result (List Param) TokenError) → IsKept version ws whole None → (r : Result Scalar TokenError) → Reads (λ s. w ≡ Bare (scalar_word s)) Free r
       → IsKept version (w ∷ ws) (begins whole r).whole (begins whole r).begun
   begins_kept w ws whole kept (Ok s) h = record { ty = record { containers = []; scalar = s }; rest = ws; words = ap (λ (v : Word). v ∷ ws) h.0; had = tt; read_is = refl; behind = kept.0 }
   begins_kept w ws whole kept (Err Form) h = (no_whole w ws kept.1 h, no_type w ws kept.1 h)
@@ -145,7 +145,7 @@ module _ (version : Version) where
       by false e Ref = ((refl, (tt, had)), low e)
       by false e Write = ((refl, (tt, had)), low e)
 
-  module _ (w : Word) (ws : List Word) (whole : Result (List Param) Flaw) (read : Result NestedScalar Flaw) (b : IsBegun version ws whole read) where
+  module _ (w : Word) (ws : List Word) (whole : Result (List Param) TokenError) (read : Result NestedScalar TokenError) (b : IsBegun version ws whole read) where
     abbrev HasFirst : Mode → Param × List Param → Type 0
     HasFirst mode x = ((x.0 ≡ param_of mode b.ty) × HasParam version x.0) × AreParams version b.rest x.1
 
@@ -183,9 +183,9 @@ module _ (version : Version) where
           by [] e had = no_params_there b.ty ws b.rest ps b.words (rest_is w (Bare (scalar_word ty.scalar)) ws rest e ∙ are.0)
           by (c ∷ cs) e had = no_container c (first_is w (Bare (container_word c)) ws (words_of cs ty.scalar ++ rest) e, had.0)
 
-    ends_kept : ((by : Scalar) → IsContainerOf version w by → ⊥) → (r : Result Mode Flaw) → Reads (λ mode. w ≡ Bare (mode_word mode)) Free r → IsKept version (w ∷ ws) (ends whole read r).whole (ends whole read r).begun
+    ends_kept : ((by : Scalar) → IsContainerOf version w by → ⊥) → (r : Result Mode TokenError) → Reads (λ mode. w ≡ Bare (mode_word mode)) Free r → IsKept version (w ∷ ws) (ends whole read r).whole (ends whole read r).begun
     ends_kept no_container (Ok mode) h = (
-      subst (λ (t : Result NestedScalar Flaw). ReadsParams version (w ∷ ws) (put_first (as_is (param_of mode) (under mode t)) whole)) (sym b.read_is)
+      subst (λ (t : Result NestedScalar TokenError). ReadsParams version (w ∷ ws) (put_first (as_is (param_of mode) (under mode t)) whole)) (sym b.read_is)
           (carried (λ x. x.0 ∷ x.1) (HasFirst mode) (λ x. IsShallowParam x.0 × AllByRecursion IsShallowParam x.1) (AreParams version (w ∷ ws)) (AllByRecursion IsShallowParam)
           (first_to mode h.0) (first_back mode h.0) (λ x k m. m) (λ x k m. m) (both (as_is (param_of mode) (under mode (limited b.ty))) whole)
           (both_read (λ p. (p ≡ param_of mode b.ty) × HasParam version p) IsShallowParam (AreParams version b.rest) (AllByRecursion IsShallowParam) (as_is (param_of mode) (under mode (limited b.ty))) whole
@@ -208,7 +208,7 @@ module _ (version : Version) where
         each false false true e f g = ap (λ (t : Bool). cond t (Ok (container_of by ty)) (Err Limit)) f
         each false false false e f g = absurd (grind (arith, nat_tests))
 
-    goes_on_kept : (r : Result Scalar Flaw) → Reads (IsContainerOf version w) Free r → (m : Result Mode Flaw) → Reads (λ mode. w ≡ Bare (mode_word mode)) Free m
+    goes_on_kept : (r : Result Scalar TokenError) → Reads (IsContainerOf version w) Free r → (m : Result Mode TokenError) → Reads (λ mode. w ≡ Bare (mode_word mode)) Free m
         → IsKept version (w ∷ ws) (goes_on whole read r m).whole (goes_on whole read r m).begun
     goes_on_kept (Ok by) h m k = record {
       ty = container_of by b.ty;
@@ -231,7 +231,7 @@ module _ (version : Version) where
       none (c ∷ cs) s rest e = cc
   kept (w ∷ ws) = by (params_from version ws).whole (params_from version ws).begun (kept ws)
     where
-      by : (whole : Result (List Param) Flaw) (begun : Option (Result NestedScalar Flaw)) → IsKept version ws whole begun
+      by : (whole : Result (List Param) TokenError) (begun : Option (Result NestedScalar TokenError)) → IsKept version ws whole begun
           → IsKept version (w ∷ ws) (taken version w (record { whole = whole; begun = begun })).whole (taken version w (record { whole = whole; begun = begun })).begun
       by whole None k = begins_kept w ws whole k (scalar_in w) (scalar_read w)
       by whole (Some read) k = goes_on_kept w ws whole read k (container_in version w) (container_read version w) (mode_in w) (mode_read w)
@@ -239,6 +239,6 @@ module _ (version : Version) where
   pub params_read : (ws : List Word) → ReadsParams version ws (ended (params_from version ws))
   params_read ws = by (params_from version ws).whole (params_from version ws).begun (kept ws)
     where
-      by : (whole : Result (List Param) Flaw) (begun : Option (Result NestedScalar Flaw)) → IsKept version ws whole begun → ReadsParams version ws (ended (record { whole = whole; begun = begun }))
+      by : (whole : Result (List Param) TokenError) (begun : Option (Result NestedScalar TokenError)) → IsKept version ws whole begun → ReadsParams version ws (ended (record { whole = whole; begun = begun }))
       by whole None k = k.0
       by whole (Some read) k = λ ps are. no_params_there k.ty ws k.rest ps k.words are.0

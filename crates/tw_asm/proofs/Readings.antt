@@ -1,10 +1,10 @@
 -- Readings that answer what spells a value and what may stand there, and how they go together.
 use Rattle.std.proofs.Common.{Result, Ok, Err}
-use Rattle.tw_asm.proofs.AsmNames.{Flaw, Form, Limit, both}
+use Rattle.tw_asm.proofs.AsmNames.{TokenError, Form, Limit, both}
 use Rattle.tw_words.proofs.Readings.{Reads}
 
 -- the same values, otherwise said
-pub likewise : {A : Type 0} (Has May Has' May' : A → Type 0) → ((a : A) → Has a → Has' a) → ((a : A) → Has' a → Has a) → ((a : A) → Has a → May a → May' a) → ((a : A) → Has' a → May' a → May a) → (r : Result A Flaw) → Reads Has May r → Reads Has' May' r
+pub likewise : {A : Type 0} (Has May Has' May' : A → Type 0) → ((a : A) → Has a → Has' a) → ((a : A) → Has' a → Has a) → ((a : A) → Has a → May a → May' a) → ((a : A) → Has' a → May' a → May a) → (r : Result A TokenError) → Reads Has May r → Reads Has' May' r
 likewise Has May Has' May' to back may may_back (Ok a) h = (to a h.0, may a h.0 h.1)
 likewise Has May Has' May' to back may may_back (Err Form) h = λ a k. h a (back a k)
 likewise Has May Has' May' to back may may_back (Err Limit) h = ((h.0.0, to h.0.0 h.0.1), λ a k m. h.1 a (back a k) (may_back a k m))
@@ -17,7 +17,7 @@ module _ {A B : Type 0} (Has May : A → Type 0) (Has' May' : B → Type 0) wher
   abbrev MayBoth : A × B → Type 0
   MayBoth x = May x.0 × May' x.1
 
-  pub both_read : (r : Result A Flaw) (s : Result B Flaw) → Reads Has May r → Reads Has' May' s → Reads HaveBoth MayBoth (both r s)
+  pub both_read : (r : Result A TokenError) (s : Result B TokenError) → Reads Has May r → Reads Has' May' s → Reads HaveBoth MayBoth (both r s)
   both_read (Ok a) (Ok b) h k = ((h.0, k.0), (h.1, k.1))
   both_read (Ok a) (Err Form) h k = λ x y. k x.1 y.1
   both_read (Ok a) (Err Limit) h k = (((a, k.0.0), (h.0, k.0.1)), λ x y m. k.1 x.1 y.1 m.1)

@@ -1,6 +1,6 @@
 -- Registers, the version and labels: what is read answers which words spell which statements.
 use Rattle.std.proofs.Common.{◌≡◌, ◌≢◌, ℕ, ◌≤◌, List, [], ◌∷◌, ◌++◌, length, map, codes, Option, Some, None, Result, Ok, Err, refl, sym, ap, subst, ◌∙◌}
-use Rattle.tw_asm.proofs.AsmNames.{AllByRecursion, AnyName, AnyShortName, Bare, Code, Flaw, Form, Goals, HasForm, Head, Instr, IsInLimits, IsList, IsName, IsRead, IsWithin, Label, Limit, Name, Natural, NoName, OfVersion, Opcode, Part, Registers, Scalar, SpellParts, Spells, SpellsWith, Statement, Version, Word, as_is, flat_map, kind_word, name_in, natural_in, operand_parts, param_parts, register_part, row, scalar_in, scalar_word, word_of}
+use Rattle.tw_asm.proofs.AsmNames.{AllByRecursion, AnyName, AnyShortName, Bare, Code, TokenError, Form, Goals, HasForm, Head, Instr, IsInLimits, IsList, IsName, IsRead, IsWithin, Label, Limit, Name, Natural, NoName, OfVersion, Opcode, Part, Registers, Scalar, SpellParts, Spells, SpellsWith, Statement, Version, Word, as_is, flat_map, kind_word, name_in, natural_in, operand_parts, param_parts, register_part, row, scalar_in, scalar_word, word_of}
 use Rattle.tw_asm.proofs.Answered.{Judged, first_is, none_some, regs_is_none, version_is_none}
 use Rattle.tw_words.proofs.Colons.{before, found_before}
 use Rattle.tw_asm.proofs.Names.{IsThisName, name_read}
@@ -74,7 +74,7 @@ all_free : (rs : List Scalar) → AllByRecursion Free rs
 all_free [] = tt
 all_free (r ∷ rs) = (tt, all_free rs)
 
-registers_judged : (version : Version) (ws : List Word) (r : Result (List Scalar) Flaw) → Reads (HaveEach IsScalarWord ws) (IsList 0 16 Free) r → Judged version (as_is registers_read r) (Bare (codes "regs") ∷ ws)
+registers_judged : (version : Version) (ws : List Word) (r : Result (List Scalar) TokenError) → Reads (HaveEach IsScalarWord ws) (IsList 0 16 Free) r → Judged version (as_is registers_read r) (Bare (codes "regs") ∷ ws)
 registers_judged version ws (Ok rs) h = (h.1.0, registers_spelled version NoName ws rs h.0)
 registers_judged version ws (Err Form) h = λ form. let k = is_registers version AnyName ws form.0 form.1 in h k.0 k.2
 registers_judged version ws (Err Limit) h = (
@@ -114,7 +114,7 @@ is_version version G ws (Code i) h = let k = code_first version G i (codes "vers
 version_spelled : (version : Version) (G : Goals) (w : Word) (n : ℕ) → SpellsWith [] n (w ∷ []) → Spells version G (OfVersion n) (Bare (codes "version") ∷ w ∷ [])
 version_spelled version G w n h = record { form = tt; parts = (Bare (codes "version") ∷ [], w ∷ [], refl, refl, (w ∷ [], [], refl, h, refl)) }
 
-version_judged : (version : Version) (w : Word) (r : Result ℕ Flaw) → Reads (λ n. SpellsWith [] n (w ∷ [])) (IsWithin 1 2) r → Judged version (as_is version_read r) (Bare (codes "version") ∷ w ∷ [])
+version_judged : (version : Version) (w : Word) (r : Result ℕ TokenError) → Reads (λ n. SpellsWith [] n (w ∷ [])) (IsWithin 1 2) r → Judged version (as_is version_read r) (Bare (codes "version") ∷ w ∷ [])
 version_judged version w (Ok n) h =
     subst (λ (k : ℕ). IsRead version (record { statement = OfVersion k; goal = None }) (Bare (codes "version") ∷ w ∷ [])) (sym (by_number n h.1)) (h.1, version_spelled version NoName w n h.0)
 version_judged version w (Err Form) h = λ form. let k = is_version version AnyName (w ∷ []) form.0 form.1 in h k.0 (same k.0 k.2.0 k.2.1 k.2.2)
@@ -169,7 +169,7 @@ module _ (version : Version) (word : List ℕ) (no_proc : word ≢ codes "proc")
       let is_label_of : statement ≡ Label found = k.1 ∙ ap (λ (name : List ℕ). Label name) (sym (one_name found k.0 is k.2)) in
       (is_label_of, subst (HasForm version) is_label_of spells.form)
 
-  label_judged : (found : List ℕ) → before_colon word ≡ Some found → (r : Result (List ℕ) Flaw) → Reads (IsThisName found) (λ name. length name ≤ 64) r → Judged version (as_is label_read r) (Bare word ∷ [])
+  label_judged : (found : List ℕ) → before_colon word ≡ Some found → (r : Result (List ℕ) TokenError) → Reads (IsThisName found) (λ name. length name ≤ 64) r → Judged version (as_is label_read r) (Bare word ∷ [])
   label_judged found is (Ok name) h = (h.1, label_spelled NoName name (found_before word found is ∙ ap (λ (t : List ℕ). t ++ codes ":") h.0.1) h.0.0)
   label_judged found is (Err Form) h = λ form. h found ((spelled_name AnyName found is form.0 form.1).1, refl)
   label_judged found is (Err Limit) h = (

@@ -1,6 +1,6 @@
 -- The readings of items one after the other, and of types.
 use Rattle.std.proofs.Common.{◌≡◌, ℕ, suc, ◌≤◌, Bool, true, false, cond, List, [], ◌∷◌, ◌++◌, length, Result, Ok, Err, refl, sym, ap, subst, ◌∙◌, arith, append_assoc, append-nil}
-use Rattle.tw_asm.proofs.AsmNames.{AllByRecursion, Bare, Flaw, Form, HasType, IsList, Limit, NestedScalar, Scalar, Version, Word, around, as_is, both, contained, container_in, container_of, container_word, depth_of, each, each_from, few, joined, ltb-true, nat_lt, nat_tests, put_first, scalar_in, scalar_type, scalar_word, type_in}
+use Rattle.tw_asm.proofs.AsmNames.{AllByRecursion, Bare, TokenError, Form, HasType, IsList, Limit, NestedScalar, Scalar, Version, Word, around, as_is, both, contained, container_in, container_of, container_word, depth_of, each, each_from, few, joined, ltb-true, nat_lt, nat_tests, put_first, scalar_in, scalar_type, scalar_word, type_in}
 use Rattle.tw_asm.proofs.OperandWords.{Free, IsContainerOf, container_read, scalar_read}
 use Rattle.tw_words.proofs.Readings.{Reads, carried}
 use Rattle.tw_asm.proofs.Readings.{both_read, likewise}
@@ -8,14 +8,14 @@ use Rattle.tw_asm.proofs.TypeWords.{one_container, one_type, words_of}
 
 -- ---- from the right
 
-abbrev pub together : {A : Type 0} → Result (List A) Flaw → Result (List A) Flaw → Result (List A) Flaw
+abbrev pub together : {A : Type 0} → Result (List A) TokenError → Result (List A) TokenError → Result (List A) TokenError
 together front rest = as_is (λ x. x.0 ++ x.1) (both front rest)
 
-abbrev pub each_right : {A : Type 0} → (Word → Result A Flaw) → List Word → Result (List A) Flaw
+abbrev pub each_right : {A : Type 0} → (Word → Result A TokenError) → List Word → Result (List A) TokenError
 each_right read [] = Ok []
 each_right read (w ∷ ws) = put_first (read w) (each_right read ws)
 
-pub regroup : {A : Type 0} (s : Result (List A) Flaw) (a : Result A Flaw) (r : Result (List A) Flaw) → together (joined s a) r ≡ together s (put_first a r)
+pub regroup : {A : Type 0} (s : Result (List A) TokenError) (a : Result A TokenError) (r : Result (List A) TokenError) → together (joined s a) r ≡ together s (put_first a r)
 regroup s a (Err Form) = refl
 regroup s (Err Form) (Ok r) = refl
 regroup (Ok s) (Ok a) (Ok r) = ap (λ (xs : List _). Ok xs) (append_assoc s (a ∷ []) r)
@@ -28,20 +28,20 @@ regroup (Err e) (Ok a) (Err Limit) = refl
 regroup (Ok s) (Err Limit) (Err Limit) = refl
 regroup (Err e) (Err Limit) (Err Limit) = refl
 
-pub nothing_after : {A : Type 0} (s : Result (List A) Flaw) → s ≡ together s (Ok [])
+pub nothing_after : {A : Type 0} (s : Result (List A) TokenError) → s ≡ together s (Ok [])
 nothing_after (Ok s) = ap (λ (xs : List _). Ok xs) (sym (append-nil s))
 nothing_after (Err e) = refl
 
-pub nothing_before : {A : Type 0} (r : Result (List A) Flaw) → together (Ok []) r ≡ r
+pub nothing_before : {A : Type 0} (r : Result (List A) TokenError) → together (Ok []) r ≡ r
 nothing_before (Ok r) = refl
 nothing_before (Err Form) = refl
 nothing_before (Err Limit) = refl
 
-each_same : {A : Type 0} (read : Word → Result A Flaw) (s : Result (List A) Flaw) (ws : List Word) → each_from read s ws ≡ together s (each_right read ws)
+each_same : {A : Type 0} (read : Word → Result A TokenError) (s : Result (List A) TokenError) (ws : List Word) → each_from read s ws ≡ together s (each_right read ws)
 each_same read s [] = nothing_after s
 each_same read s (w ∷ ws) = each_same read (joined s (read w)) ws ∙ regroup s (read w) (each_right read ws)
 
-pub each_is : {A : Type 0} (read : Word → Result A Flaw) (ws : List Word) → each read ws ≡ each_right read ws
+pub each_is : {A : Type 0} (read : Word → Result A TokenError) (ws : List Word) → each read ws ≡ each_right read ws
 each_is read ws = each_same read (Ok []) ws ∙ nothing_before (each_right read ws)
 
 -- an item a word
@@ -51,7 +51,7 @@ HaveEach Has [] (a ∷ items) = ⊥
 HaveEach Has (w ∷ ws) [] = ⊥
 HaveEach Has (w ∷ ws) (a ∷ items) = Has w a × HaveEach Has ws items
 
-module _ {A : Type 0} (Has : Word → A → Type 0) (May : A → Type 0) (read : Word → Result A Flaw) (item_read : (w : Word) → Reads (Has w) May (read w)) where
+module _ {A : Type 0} (Has : Word → A → Type 0) (May : A → Type 0) (read : Word → Result A TokenError) (item_read : (w : Word) → Reads (Has w) May (read w)) where
   split : (w : Word) (ws : List Word) (items : List A) → HaveEach Has (w ∷ ws) items → (x : A × List A) × (Has w x.0 × HaveEach Has ws x.1) × (items ≡ x.0 ∷ x.1)
   split w ws [] h = absurd h
   split w ws (a ∷ items) h = ((a, items), (h.0, h.1), refl)
@@ -67,7 +67,7 @@ module _ {A : Type 0} (Has : Word → A → Type 0) (May : A → Type 0) (read :
   each_read ws = subst (Reads (HaveEach Has ws) (AllByRecursion May)) (sym (each_is read ws)) (each_right_read ws)
 
 -- at most so many
-pub few_read : {A : Type 0} (Has : List A → Type 0) (May : A → Type 0) (most : ℕ) (r : Result (List A) Flaw) → ((xs ys : List A) → Has xs → Has ys → length xs ≡ length ys) → Reads Has (AllByRecursion May) r → Reads Has (IsList 0 most May) (few most r)
+pub few_read : {A : Type 0} (Has : List A → Type 0) (May : A → Type 0) (most : ℕ) (r : Result (List A) TokenError) → ((xs ys : List A) → Has xs → Has ys → length xs ≡ length ys) → Reads Has (AllByRecursion May) r → Reads Has (IsList 0 most May) (few most r)
 few_read Has May most (Ok items) one h = by (nat_lt most (length items)) refl
   where
     short : nat_lt most (length items) ≡ false → length items ≤ most
@@ -98,7 +98,7 @@ IsShallow ty = depth_of ty ≤ 3
 abbrev IsAround : (Scalar × NestedScalar → Type 0) → NestedScalar → Type 0
 IsAround P ty = (x : Scalar × NestedScalar) × P x × (ty ≡ container_of x.0 x.1)
 
-around_read : (P : Scalar × NestedScalar → Type 0) → ((x y : Scalar × NestedScalar) → P x → P y → x ≡ y) → (r : Result (Scalar × NestedScalar) Flaw)
+around_read : (P : Scalar × NestedScalar → Type 0) → ((x y : Scalar × NestedScalar) → P x → P y → x ≡ y) → (r : Result (Scalar × NestedScalar) TokenError)
     → Reads P (λ x. Free x.0 × IsShallow x.1) r → Reads (IsAround P) IsShallow (around r)
 around_read P one (Ok x) h = by (nat_lt (depth_of x.1) 3) refl
   where

@@ -1,6 +1,6 @@
 -- Whole lines: what is read answers which words spell which statements.
 use Rattle.std.proofs.Common.{◌≡◌, ◌≢◌, Bool, true, false, cond, ℕ, List, [], ◌∷◌, ◌++◌, map, codes, Option, Some, None, Result, Ok, Err, refl, sym, subst, ◌∙◌}
-use Rattle.tw_asm.proofs.AsmNames.{AllByRecursion, AnyName, Bare, Code, Flaw, Goals, Head, Label, Name, Natural, OfVersion, Opcode, Part, Quoted, Registers, SpellParts, Statement, Version, Word, bytes_eq, bytes_eq-Decides, flat_map, kind_word, operand_parts, param_parts, register_part, row, statement_parts, word_of}
+use Rattle.tw_asm.proofs.AsmNames.{AllByRecursion, AnyName, Bare, Code, TokenError, Goals, Head, Label, Name, Natural, OfVersion, Opcode, Part, Quoted, Registers, SpellParts, Statement, Version, Word, bytes_eq, bytes_eq-Decides, flat_map, kind_word, operand_parts, param_parts, register_part, row, statement_parts, word_of}
 use Rattle.std.proofs.lemmas.Str.{IsUtf8-string_bytes}
 use Rattle.tw_words.specs.Seen as lines
 use Rattle.tw_words.specs.declared.word.Word as words
@@ -65,6 +65,6 @@ all_fine (word.Bare bytes ∷ ws) = (tt, all_fine ws)
 all_fine (word.Quoted text ∷ ws) = (IsUtf8-string_bytes text, all_fine ws)
 
 pub answered : (version : Version) (r : Result statements.Statement Refusal) (ws : List Word) → AllByRecursion IsFine ws → Gives seen r (statement_in version ws) → Answers version r ws
-answered version (Ok statement) ws fine gives = subst (λ (read : Result Read Flaw). Judged version read ws) gives (judged version ws fine)
+answered version (Ok statement) ws fine gives = subst (λ (read : Result Read TokenError). Judged version read ws) gives (judged version ws fine)
 answered version (Err refusal.NoMemory) ws fine gives = tt
-answered version (Err (refusal.Flawed flaw)) ws fine gives = subst (λ (read : Result Read Flaw). Judged version read ws) gives (judged version ws fine)
+answered version (Err (refusal.Flawed flaw)) ws fine gives = subst (λ (read : Result Read TokenError). Judged version read ws) gives (judged version ws fine)

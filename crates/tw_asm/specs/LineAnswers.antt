@@ -5,13 +5,13 @@ use Rattle.tw_words.specs.Words.{Word}
 use Rattle.tw_asm.specs.declared.statement.Statement as statements
 use Rattle.tw_asm.specs.Seen.{IsRead, seen}
 use Rattle.tw_asm.specs.Statement.{Statement, HaveForm, Say}
-use Rattle.tw_words.specs.declared.numbers.Flaw.{Flaw}
-use Rattle.tw_words.specs.declared.numbers.Flaw.TheVariants as flaw
+use Rattle.tw_words.specs.declared.numbers.TokenError.{TokenError}
+use Rattle.tw_words.specs.declared.numbers.TokenError.TheVariants as flaw
 use Rattle.tw_asm.specs.declared.refusal.Refusal.{Refusal}
 use Rattle.tw_asm.specs.declared.refusal.Refusal.TheVariants as refusal
 
 -- what is wrong with these words, after a first word that lets expect a statement
-abbrev pub IsFlawed : Version → Flaw → List Word → Type 0
+abbrev pub IsFlawed : Version → TokenError → List Word → Type 0
 IsFlawed version flaw.Form words = HaveForm version words → ⊥
 IsFlawed version flaw.Limit words = HaveForm version words × ((statement : Statement) → Say version statement words → ⊥)
 

@@ -11,13 +11,13 @@ use crate::operands::{both_of, byte_of, container_of, scalar_of};
 use std::alloc::{AllocError, Global};
 use tw_code::{Procedure, Version};
 use tw_types::{DataType, Items, Scalar};
-use tw_words::{Flaw, Word};
+use tw_words::{TokenError, Word};
 
 /// One item more.
 pub fn joined<A: Drop>(
-    items: Result<Vec<A>, Flaw>,
-    item: Result<A, Flaw>,
-) -> Result<Result<Vec<A>, Flaw>, AllocError>
+    items: Result<Vec<A>, TokenError>,
+    item: Result<A, TokenError>,
+) -> Result<Result<Vec<A>, TokenError>, AllocError>
     ensures { IfOk result (λ all. as_is (λ v. v.items) all ≡ joined (as_is (λ v. v.items) items) item) }
 {
     match both_of(items, item) {
@@ -32,9 +32,9 @@ pub fn joined<A: Drop>(
 
 /// One item more before items that are kept from the last one on.
 pub fn put_first<A: Drop>(
-    item: Result<A, Flaw>,
-    items: Result<Vec<A>, Flaw>,
-) -> Result<Result<Vec<A>, Flaw>, AllocError>
+    item: Result<A, TokenError>,
+    items: Result<Vec<A>, TokenError>,
+) -> Result<Result<Vec<A>, TokenError>, AllocError>
     ensures { IfOk result (λ all. as_is (λ v. reverse v.items) all ≡ put_first item (as_is (λ v. reverse v.items) items)) }
 {
     match both_of(item, items) {
@@ -48,13 +48,13 @@ pub fn put_first<A: Drop>(
 }
 
 /// At most so many items.
-pub fn few<A: Drop>(most: u8, items: Result<Vec<A>, Flaw>) -> Result<Items<A>, Flaw>
+pub fn few<A: Drop>(most: u8, items: Result<Vec<A>, TokenError>) -> Result<Items<A>, TokenError>
     ensures { result ≡ few most (as_is (λ v. v.items) items) }
 {
     match items {
         Ok(items) => {
             if items.len() > usize::from(most) {
-                Err(Flaw::Limit)
+                Err(TokenError::Limit)
             } else {
                 Ok(Items::from(items))
             }
@@ -63,7 +63,7 @@ pub fn few<A: Drop>(most: u8, items: Result<Vec<A>, Flaw>) -> Result<Items<A>, F
     }
 }
 
-fn arg_list(alloc: Global, words: &[Word<'_>]) -> Result<Result<Vec<u8>, Flaw>, AllocError>
+fn arg_list(alloc: Global, words: &[Word<'_>]) -> Result<Result<Vec<u8>, TokenError>, AllocError>
     ensures { IfOk result (λ read. as_is (λ v. v.items) read ≡ each (natural_in 0 15) (map seen_word words.now)) }
 {
     let mut args = Ok(Vec::new(alloc));
@@ -74,14 +74,20 @@ fn arg_list(alloc: Global, words: &[Word<'_>]) -> Result<Result<Vec<u8>, Flaw>, 
 }
 
 /// At most 8 numbers of registers.
-pub fn args_of(alloc: Global, words: &[Word<'_>]) -> Result<Result<Items<u8>, Flaw>, AllocError>
+pub fn args_of(
+    alloc: Global,
+    words: &[Word<'_>],
+) -> Result<Result<Items<u8>, TokenError>, AllocError>
     ensures { IfOk result (λ read. read ≡ few 8 (each (natural_in 0 15) (map seen_word words.now))) }
 {
     let args = arg_list(alloc, words)?;
     Ok(few(Procedure::MAX_PARAMS, args))
 }
 
-fn scalar_list(alloc: Global, words: &[Word<'_>]) -> Result<Result<Vec<Scalar>, Flaw>, AllocError>
+fn scalar_list(
+    alloc: Global,
+    words: &[Word<'_>],
+) -> Result<Result<Vec<Scalar>, TokenError>, AllocError>
     ensures { IfOk result (λ read. as_is (λ v. v.items) read ≡ each scalar_in (map seen_word words.now)) }
 {
     let mut scalars = Ok(Vec::new(alloc));
@@ -95,7 +101,7 @@ fn scalar_list(alloc: Global, words: &[Word<'_>]) -> Result<Result<Vec<Scalar>, 
 pub fn scalars_of(
     alloc: Global,
     words: &[Word<'_>],
-) -> Result<Result<Items<Scalar>, Flaw>, AllocError>
+) -> Result<Result<Items<Scalar>, TokenError>, AllocError>
     ensures { IfOk result (λ read. read ≡ few 16 (each scalar_in (map seen_word words.now))) }
 {
     let scalars = scalar_list(alloc, words)?;
@@ -103,17 +109,20 @@ pub fn scalars_of(
 }
 
 /// A container with such subscripts around data of this type.
-fn around(by: Scalar, ty: DataType) -> Result<DataType, Flaw>
+fn around(by: Scalar, ty: DataType) -> Result<DataType, TokenError>
     ensures { result ≡ around (Ok (by, ty)) }
 {
     match ty.container(by) {
         Some(container) => Ok(container),
-        None => Err(Flaw::Limit),
+        None => Err(TokenError::Limit),
     }
 }
 
 /// A container with such subscripts around data of this type, as both were read.
-pub fn contained(by: Result<Scalar, Flaw>, ty: Result<DataType, Flaw>) -> Result<DataType, Flaw>
+pub fn contained(
+    by: Result<Scalar, TokenError>,
+    ty: Result<DataType, TokenError>,
+) -> Result<DataType, TokenError>
     ensures { result ≡ contained by ty }
 {
     match both_of(by, ty) {
@@ -122,7 +131,7 @@ pub fn contained(by: Result<Scalar, Flaw>, ty: Result<DataType, Flaw>) -> Result
     }
 }
 
-fn scalar_type(word: &Word<'_>) -> Result<DataType, Flaw>
+fn scalar_type(word: &Word<'_>) -> Result<DataType, TokenError>
     ensures { result ≡ as_is scalar_type (scalar_in (seen_word word.now)) }
 {
     match scalar_of(word) {
@@ -135,8 +144,8 @@ fn scalar_type(word: &Word<'_>) -> Result<DataType, Flaw>
 fn typed(
     version: Version,
     word: &Word<'_>,
-    ty: Option<Result<DataType, Flaw>>,
-) -> Result<DataType, Flaw>
+    ty: Option<Result<DataType, TokenError>>,
+) -> Result<DataType, TokenError>
     ensures { result ≡ typed version (seen_word word.now) ty }
 {
     match ty {
@@ -146,7 +155,7 @@ fn typed(
 }
 
 /// A type: a scalar, and containers before it.
-pub fn type_of(version: Version, words: &[Word<'_>]) -> Result<DataType, Flaw>
+pub fn type_of(version: Version, words: &[Word<'_>]) -> Result<DataType, TokenError>
     ensures { result ≡ type_in version (map seen_word words.now) }
 {
     let mut ty = None;
@@ -155,6 +164,6 @@ pub fn type_of(version: Version, words: &[Word<'_>]) -> Result<DataType, Flaw>
     }
     match ty {
         Some(ty) => ty,
-        None => Err(Flaw::Form),
+        None => Err(TokenError::Form),
     }
 }

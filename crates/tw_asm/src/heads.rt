@@ -13,26 +13,26 @@ use crate::operands::{container_of, mode_of, scalar_of};
 use std::alloc::{AllocError, Global};
 use tw_code::{Procedure, Version};
 use tw_types::{DataType, Items, Kind, Mode, Param};
-use tw_words::{Flaw, Word};
+use tw_words::{TokenError, Word};
 
 /// The parameters so far, from the last one on, and the type whose mode is due.
 #[derive(Drop)]
 struct Params {
-    whole: Result<Vec<Param>, Flaw>,
-    begun: Option<Result<DataType, Flaw>>,
+    whole: Result<Vec<Param>, TokenError>,
+    begun: Option<Result<DataType, TokenError>>,
 }
 
 fn broken() -> Params
     ensures { seen_params result ≡ broken }
 {
     Params {
-        whole: Err(Flaw::Form),
+        whole: Err(TokenError::Form),
         begun: None,
     }
 }
 
 /// The last word of a type.
-fn begins(whole: Result<Vec<Param>, Flaw>, word: &Word<'_>) -> Params
+fn begins(whole: Result<Vec<Param>, TokenError>, word: &Word<'_>) -> Params
     ensures { seen_params result ≡ begins (as_is (λ v. reverse v.items) whole) (scalar_in (seen_word word.now)) }
 {
     match scalar_of(word) {
@@ -45,19 +45,19 @@ fn begins(whole: Result<Vec<Param>, Flaw>, word: &Word<'_>) -> Params
 }
 
 /// The type, if it may stand under this mode.
-fn under(mode: Mode, ty: Result<DataType, Flaw>) -> Result<DataType, Flaw>
+fn under(mode: Mode, ty: Result<DataType, TokenError>) -> Result<DataType, TokenError>
     ensures { result ≡ under mode ty }
 {
     match mode {
         Mode::Val => match ty {
             Ok(ty) if ty.is_scalar() => Ok(ty),
-            _ => Err(Flaw::Form),
+            _ => Err(TokenError::Form),
         },
         Mode::Closed | Mode::Ref | Mode::Write => ty,
     }
 }
 
-fn param_of(mode: Mode, ty: Result<DataType, Flaw>) -> Result<Param, Flaw>
+fn param_of(mode: Mode, ty: Result<DataType, TokenError>) -> Result<Param, TokenError>
     ensures { result ≡ as_is (param_of mode) (under mode ty) }
 {
     match under(mode, ty) {
@@ -68,8 +68,8 @@ fn param_of(mode: Mode, ty: Result<DataType, Flaw>) -> Result<Param, Flaw>
 
 /// The mode before a type.
 fn ending(
-    whole: Result<Vec<Param>, Flaw>,
-    ty: Result<DataType, Flaw>,
+    whole: Result<Vec<Param>, TokenError>,
+    ty: Result<DataType, TokenError>,
     word: &Word<'_>,
 ) -> Result<Params, AllocError>
     ensures { IfOk result (λ params. seen_params params ≡ ends (as_is (λ v. reverse v.items) whole) ty (mode_in (seen_word word.now))) }
@@ -86,8 +86,8 @@ fn ending(
 /// One word more before a type.
 fn gone_on(
     version: Version,
-    whole: Result<Vec<Param>, Flaw>,
-    ty: Result<DataType, Flaw>,
+    whole: Result<Vec<Param>, TokenError>,
+    ty: Result<DataType, TokenError>,
     word: &Word<'_>,
 ) -> Result<Params, AllocError>
     ensures { IfOk result (λ params. seen_params params ≡ goes_on (as_is (λ v. reverse v.items) whole) ty (container_in version (seen_word word.now)) (mode_in (seen_word word.now))) }
@@ -113,7 +113,7 @@ fn taken(version: Version, params: Params, word: &Word<'_>) -> Result<Params, Al
 }
 
 /// The parameters in their order.
-fn ended(params: Params) -> Result<Vec<Param>, Flaw>
+fn ended(params: Params) -> Result<Vec<Param>, TokenError>
     ensures { as_is (λ v. v.items) result ≡ ended (seen_params params) }
 {
     let Params { whole, begun } = params;
@@ -126,7 +126,7 @@ fn ended(params: Params) -> Result<Vec<Param>, Flaw>
             }
             Err(flaw) => Err(flaw),
         },
-        Some(_) => Err(Flaw::Form),
+        Some(_) => Err(TokenError::Form),
     }
 }
 
@@ -134,7 +134,7 @@ fn param_list(
     alloc: Global,
     version: Version,
     words: &[Word<'_>],
-) -> Result<Result<Vec<Param>, Flaw>, AllocError>
+) -> Result<Result<Vec<Param>, TokenError>, AllocError>
     ensures { IfOk result (λ read. as_is (λ v. v.items) read ≡ ended (params_from version (map seen_word words.now))) }
 {
     let mut params = Params {
@@ -152,14 +152,14 @@ pub fn params_of(
     alloc: Global,
     version: Version,
     words: &[Word<'_>],
-) -> Result<Result<Items<Param>, Flaw>, AllocError>
+) -> Result<Result<Items<Param>, TokenError>, AllocError>
     ensures { IfOk result (λ read. read ≡ few 8 (ended (params_from version (map seen_word words.now)))) }
 {
     let params = param_list(alloc, version, words)?;
     Ok(few(Procedure::MAX_PARAMS, params))
 }
 
-fn kind_in(text: &[u8]) -> Result<Kind, Flaw>
+fn kind_in(text: &[u8]) -> Result<Kind, TokenError>
     ensures { result ≡ kind_in (Bare text.now) }
 {
     if text == b"control".as_slice() {
@@ -167,16 +167,16 @@ fn kind_in(text: &[u8]) -> Result<Kind, Flaw>
     } else if text == b"leaf".as_slice() {
         Ok(Kind::Leaf)
     } else {
-        Err(Flaw::Form)
+        Err(TokenError::Form)
     }
 }
 
 /// The kind of a procedure.
-pub fn kind_of(word: &Word<'_>) -> Result<Kind, Flaw>
+pub fn kind_of(word: &Word<'_>) -> Result<Kind, TokenError>
     ensures { result ≡ kind_in (seen_word word.now) }
 {
     match word {
         Word::Bare(text) => kind_in(text),
-        Word::Quoted(_) => Err(Flaw::Form),
+        Word::Quoted(_) => Err(TokenError::Form),
     }
 }

@@ -20,7 +20,7 @@ use crate::statement::Unlinked;
 use std::alloc::Global;
 use tw_code::{Action, Arithmetic, DataInstr, Instr, LocalInstr, Opcode, Priority, Version};
 use tw_types::{Items, Scalar, Text};
-use tw_words::{Flaw, Word};
+use tw_words::{TokenError, Word};
 
 /// An instruction that names no label.
 fn straight<'a>(instr: Instr) -> Unlinked<'a>
@@ -45,7 +45,7 @@ fn value_and_literal(alloc: Global, words: &[Word<'_>]) -> Result<(u8, (Text, ()
             let text = literal_of(alloc, text)?;
             Ok(both_of(value_of(first), both_of(text, nothing_of(others)))?)
         }
-        _ => Err(Refusal::Flawed(Flaw::Form)),
+        _ => Err(Refusal::Flawed(TokenError::Form)),
     }
 }
 
@@ -65,7 +65,7 @@ fn action_parts(
                 both_of(number_of(priority), both_of(target_of(target), args)),
             )?)
         }
-        _ => Err(Refusal::Flawed(Flaw::Form)),
+        _ => Err(Refusal::Flawed(TokenError::Form)),
     }
 }
 
@@ -85,7 +85,7 @@ fn computed_parts(
                 both_of(value_of(priority), both_of(target_of(target), args)),
             )?)
         }
-        _ => Err(Refusal::Flawed(Flaw::Form)),
+        _ => Err(Refusal::Flawed(TokenError::Form)),
     }
 }
 
@@ -124,7 +124,7 @@ fn text(parts: (u8, (Text, ()))) -> Instr
 }
 
 /// The operands of ADD to REM.
-fn compute<'a>(operation: Arithmetic, words: &[Word<'a>]) -> Result<Unlinked<'a>, Flaw>
+fn compute<'a>(operation: Arithmetic, words: &[Word<'a>]) -> Result<Unlinked<'a>, TokenError>
     ensures { as_is drafted result
         ≡ as_is (λ x. (instr.Local (local.Compute operation x.0 x.1.0 x.1.1.0 x.1.1.1.skip), x.1.1.1.label)) (line_in (more value (more value (more value goal))) (map seen_word words.now)) }
 {
@@ -141,7 +141,7 @@ fn compute<'a>(operation: Arithmetic, words: &[Word<'a>]) -> Result<Unlinked<'a>
 
 /// An instruction whose last operand is a goal, a row each.
 #[rattlefmt::skip]
-fn going_of<'a>(opcode: Opcode, words: &[Word<'a>]) -> Result<Unlinked<'a>, Flaw>
+fn going_of<'a>(opcode: Opcode, words: &[Word<'a>]) -> Result<Unlinked<'a>, TokenError>
     requires { EndsInSkip (forms_of opcode) }
     ensures { (version : Version) → as_is drafted result ≡ draft_in version opcode (map seen_word words.now) }
 {
@@ -168,7 +168,7 @@ fn going_of<'a>(opcode: Opcode, words: &[Word<'a>]) -> Result<Unlinked<'a>, Flaw
 
 /// An instruction whose operands take no memory, a row each.
 #[rattlefmt::skip]
-fn plain_of<'a>(version: Version, opcode: Opcode, words: &[Word<'a>]) -> Result<Unlinked<'a>, Flaw>
+fn plain_of<'a>(version: Version, opcode: Opcode, words: &[Word<'a>]) -> Result<Unlinked<'a>, TokenError>
     requires { TakesNoMemory (forms_of opcode) }
     ensures { as_is drafted result ≡ draft_in version opcode (map seen_word words.now) }
 {

@@ -10,7 +10,7 @@ use std::alloc::{AllocError, Global};
 use std::marker::Model;
 use tw_code::{LocalInstr, Procedure, Version};
 use tw_types::{Layout, Mode, Scalar, Text};
-use tw_words::{Flaw, Word, digits, is_name, number};
+use tw_words::{TokenError, Word, digits, is_name, number};
 
 /// The most bytes of a label's name.
 const MAX_NAME: usize = 64;
@@ -33,26 +33,26 @@ impl<'a> Model for Goal<'a> {
 
 /// Two operands; a wrong form goes before a limit.
 pub fn both_of<A: Drop, B: Drop>(
-    first: Result<A, Flaw>,
-    second: Result<B, Flaw>,
-) -> Result<(A, B), Flaw>
+    first: Result<A, TokenError>,
+    second: Result<B, TokenError>,
+) -> Result<(A, B), TokenError>
     ensures { result ≡ both first second }
 {
     match second {
-        Err(Flaw::Form) => Err(Flaw::Form),
+        Err(TokenError::Form) => Err(TokenError::Form),
         Ok(second) => match first {
             Ok(first) => Ok((first, second)),
             Err(flaw) => Err(flaw),
         },
-        Err(Flaw::Limit) => match first {
-            Ok(_) => Err(Flaw::Limit),
+        Err(TokenError::Limit) => match first {
+            Ok(_) => Err(TokenError::Limit),
             Err(flaw) => Err(flaw),
         },
     }
 }
 
 /// The number between these limits that digits spell.
-pub fn digits_of(text: &[u8], low: u64, high: u64) -> Result<u64, Flaw>
+pub fn digits_of(text: &[u8], low: u64, high: u64) -> Result<u64, TokenError>
     ensures is { result ≡ digits_in low high text.now }
     ensures within { IfOk result (λ n. n ≤ high) }
 {
@@ -60,13 +60,13 @@ pub fn digits_of(text: &[u8], low: u64, high: u64) -> Result<u64, Flaw>
 }
 
 /// The number of 64 bits that a text spells.
-fn signed_of(text: &[u8]) -> Result<i64, Flaw>
+fn signed_of(text: &[u8]) -> Result<i64, TokenError>
     ensures { result ≡ signed_in text.now }
 {
     number(text)
 }
 
-fn byte_in(low: u8, high: u8, text: &[u8]) -> Result<u8, Flaw>
+fn byte_in(low: u8, high: u8, text: &[u8]) -> Result<u8, TokenError>
     ensures { result ≡ digits_in low high text.now }
 {
     match digits_of(text, u64::from(low), u64::from(high)) {
@@ -76,17 +76,17 @@ fn byte_in(low: u8, high: u8, text: &[u8]) -> Result<u8, Flaw>
 }
 
 /// A number without a sign, of one byte.
-pub fn byte_of(low: u8, high: u8, word: &Word<'_>) -> Result<u8, Flaw>
+pub fn byte_of(low: u8, high: u8, word: &Word<'_>) -> Result<u8, TokenError>
     ensures { result ≡ natural_in low high (seen_word word.now) }
 {
     match word {
         Word::Bare(text) => byte_in(low, high, text),
-        Word::Quoted(_) => Err(Flaw::Form),
+        Word::Quoted(_) => Err(TokenError::Form),
     }
 }
 
 /// The number of turns of a loop, 1 to 1,000.
-pub fn turns_of(word: &Word<'_>) -> Result<u16, Flaw>
+pub fn turns_of(word: &Word<'_>) -> Result<u16, TokenError>
     ensures { result ≡ natural_in 1 1000 (seen_word word.now) }
 {
     match word {
@@ -94,64 +94,64 @@ pub fn turns_of(word: &Word<'_>) -> Result<u16, Flaw>
             Ok(number) => Ok(number as u16),
             Err(flaw) => Err(flaw),
         },
-        Word::Quoted(_) => Err(Flaw::Form),
+        Word::Quoted(_) => Err(TokenError::Form),
     }
 }
 
 /// The number of a register, behind its letter.
-fn number_behind(letter: u8, text: &[u8]) -> Result<u8, Flaw>
+fn number_behind(letter: u8, text: &[u8]) -> Result<u8, TokenError>
     ensures { result ≡ register_in letter (Bare text.now) }
 {
     match text {
         [first, rest @ ..] if *first == letter => byte_in(0, Procedure::LAST_REGISTER, rest),
-        _ => Err(Flaw::Form),
+        _ => Err(TokenError::Form),
     }
 }
 
 /// A register, by its letter and its number.
-fn register_of(letter: u8, word: &Word<'_>) -> Result<u8, Flaw>
+fn register_of(letter: u8, word: &Word<'_>) -> Result<u8, TokenError>
     ensures { result ≡ register_in letter (seen_word word.now) }
 {
     match word {
         Word::Bare(text) => number_behind(letter, text),
-        Word::Quoted(_) => Err(Flaw::Form),
+        Word::Quoted(_) => Err(TokenError::Form),
     }
 }
 
 /// A value register.
-pub fn value_of(word: &Word<'_>) -> Result<u8, Flaw>
+pub fn value_of(word: &Word<'_>) -> Result<u8, TokenError>
     ensures { result ≡ register_in 118 (seen_word word.now) }
 {
     register_of(b'v', word)
 }
 
 /// A right register.
-pub fn right_of(word: &Word<'_>) -> Result<u8, Flaw>
+pub fn right_of(word: &Word<'_>) -> Result<u8, TokenError>
     ensures { result ≡ register_in 100 (seen_word word.now) }
 {
     register_of(b'd', word)
 }
 
 /// A number of 64 bits.
-pub fn number_of(word: &Word<'_>) -> Result<i64, Flaw>
+pub fn number_of(word: &Word<'_>) -> Result<i64, TokenError>
     ensures { result ≡ number_in (seen_word word.now) }
 {
     match word {
         Word::Bare(text) => signed_of(text),
-        Word::Quoted(_) => Err(Flaw::Form),
+        Word::Quoted(_) => Err(TokenError::Form),
     }
 }
 
 /// A text of at most 4,096 bytes.
-pub fn literal_of(alloc: Global, word: &Word<'_>) -> Result<Result<Text, Flaw>, AllocError>
+pub fn literal_of(alloc: Global, word: &Word<'_>) -> Result<Result<Text, TokenError>, AllocError>
     ensures { IfOk result (λ read. read ≡ literal_in (seen_word word.now)) }
 {
     match word {
-        Word::Bare(_) => Ok(Err(Flaw::Form)),
+        Word::Bare(_) => Ok(Err(TokenError::Form)),
         Word::Quoted(text) => {
             let text = text.as_str();
             if text.len() > Text::MAX_LEN {
-                return Ok(Err(Flaw::Limit));
+                return Ok(Err(TokenError::Limit));
             }
             let string = String::from_str(alloc, text)?;
             Ok(Ok(Text::new(string).ok().unwrap()))
@@ -160,7 +160,7 @@ pub fn literal_of(alloc: Global, word: &Word<'_>) -> Result<Result<Text, Flaw>, 
 }
 
 /// The number of an actor, or `None` for any.
-pub fn target_of(word: &Word<'_>) -> Result<Option<u8>, Flaw>
+pub fn target_of(word: &Word<'_>) -> Result<Option<u8>, TokenError>
     ensures { result ≡ target_in (seen_word word.now) }
 {
     match word {
@@ -173,29 +173,29 @@ pub fn target_of(word: &Word<'_>) -> Result<Option<u8>, Flaw>
                 Err(flaw) => Err(flaw),
             }
         }
-        Word::Quoted(_) => Err(Flaw::Form),
+        Word::Quoted(_) => Err(TokenError::Form),
     }
 }
 
 /// A label's name, of at most 64 bytes.
 #[tactic(auto, unfolding(crate::specs::reading::Operands::name_in))]
-pub fn name_of(text: &[u8]) -> Result<&[u8], Flaw>
+pub fn name_of(text: &[u8]) -> Result<&[u8], TokenError>
     ensures { as_is (λ name. name.now) result ≡ name_in text.now }
 {
     if !is_name(text) {
-        Err(Flaw::Form)
+        Err(TokenError::Form)
     } else if text.len() > MAX_NAME {
-        Err(Flaw::Limit)
+        Err(TokenError::Limit)
     } else {
         Ok(text)
     }
 }
 
-fn goal_in(text: &[u8]) -> Result<Goal<'_>, Flaw>
+fn goal_in(text: &[u8]) -> Result<Goal<'_>, TokenError>
     ensures { result ≡ goal_in (Bare text.now) }
 {
     match text {
-        [] => Err(Flaw::Form),
+        [] => Err(TokenError::Form),
         [b'+', rest @ ..] => match digits_of(rest, 0, 65535) {
             Ok(number) => Ok(Goal {
                 skip: number as u16,
@@ -214,16 +214,16 @@ fn goal_in(text: &[u8]) -> Result<Goal<'_>, Flaw>
 }
 
 /// Where an instruction goes on.
-pub fn goal_of<'a>(word: &Word<'a>) -> Result<Goal<'a>, Flaw>
+pub fn goal_of<'a>(word: &Word<'a>) -> Result<Goal<'a>, TokenError>
     ensures { result ≡ goal_in (seen_word word.now) }
 {
     match word {
         Word::Bare(text) => goal_in(text),
-        Word::Quoted(_) => Err(Flaw::Form),
+        Word::Quoted(_) => Err(TokenError::Form),
     }
 }
 
-fn scalar_in(text: &[u8]) -> Result<Scalar, Flaw>
+fn scalar_in(text: &[u8]) -> Result<Scalar, TokenError>
     ensures { result ≡ scalar_in (Bare text.now) }
 {
     if text == b"int".as_slice() {
@@ -231,31 +231,31 @@ fn scalar_in(text: &[u8]) -> Result<Scalar, Flaw>
     } else if text == b"text".as_slice() {
         Ok(Scalar::Text)
     } else {
-        Err(Flaw::Form)
+        Err(TokenError::Form)
     }
 }
 
 /// The type of a value register.
-pub fn scalar_of(word: &Word<'_>) -> Result<Scalar, Flaw>
+pub fn scalar_of(word: &Word<'_>) -> Result<Scalar, TokenError>
     ensures { result ≡ scalar_in (seen_word word.now) }
 {
     match word {
         Word::Bare(text) => scalar_in(text),
-        Word::Quoted(_) => Err(Flaw::Form),
+        Word::Quoted(_) => Err(TokenError::Form),
     }
 }
 
 /// A container whose subscripts are texts; version 1 has none.
-fn text_container(version: Version) -> Result<Scalar, Flaw>
+fn text_container(version: Version) -> Result<Scalar, TokenError>
     ensures { result ≡ text_container version }
 {
     match version {
-        Version::One => Err(Flaw::Form),
+        Version::One => Err(TokenError::Form),
         Version::Two => Ok(Scalar::Text),
     }
 }
 
-fn container_in(version: Version, text: &[u8]) -> Result<Scalar, Flaw>
+fn container_in(version: Version, text: &[u8]) -> Result<Scalar, TokenError>
     ensures { result ≡ container_in version (Bare text.now) }
 {
     if text == b"cont".as_slice() {
@@ -263,21 +263,21 @@ fn container_in(version: Version, text: &[u8]) -> Result<Scalar, Flaw>
     } else if text == b"tcont".as_slice() {
         text_container(version)
     } else {
-        Err(Flaw::Form)
+        Err(TokenError::Form)
     }
 }
 
 /// A container, by the type of its subscripts.
-pub fn container_of(version: Version, word: &Word<'_>) -> Result<Scalar, Flaw>
+pub fn container_of(version: Version, word: &Word<'_>) -> Result<Scalar, TokenError>
     ensures { result ≡ container_in version (seen_word word.now) }
 {
     match word {
         Word::Bare(text) => container_in(version, text),
-        Word::Quoted(_) => Err(Flaw::Form),
+        Word::Quoted(_) => Err(TokenError::Form),
     }
 }
 
-fn mode_in(text: &[u8]) -> Result<Mode, Flaw>
+fn mode_in(text: &[u8]) -> Result<Mode, TokenError>
     ensures { result ≡ mode_in (Bare text.now) }
 {
     if text == b"val".as_slice() {
@@ -289,16 +289,16 @@ fn mode_in(text: &[u8]) -> Result<Mode, Flaw>
     } else if text == b"write".as_slice() {
         Ok(Mode::Write)
     } else {
-        Err(Flaw::Form)
+        Err(TokenError::Form)
     }
 }
 
 /// How a parameter is held.
-pub fn mode_of(word: &Word<'_>) -> Result<Mode, Flaw>
+pub fn mode_of(word: &Word<'_>) -> Result<Mode, TokenError>
     ensures { result ≡ mode_in (seen_word word.now) }
 {
     match word {
         Word::Bare(text) => mode_in(text),
-        Word::Quoted(_) => Err(Flaw::Form),
+        Word::Quoted(_) => Err(TokenError::Form),
     }
 }

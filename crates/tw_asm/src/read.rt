@@ -17,7 +17,7 @@ use crate::refusal::Refusal;
 use crate::statement::Statement;
 use std::alloc::Global;
 use tw_code::{Version, opcode_in};
-use tw_words::{Flaw, Word, before_colon};
+use tw_words::{TokenError, Word, before_colon};
 
 /// The version of this number, 1 or 2.
 fn version_by(number: u8) -> Version
@@ -39,7 +39,7 @@ fn version_of<'a>(words: &[Word<'_>]) -> Result<Statement<'a>, Refusal>
             let number = byte_of(1, 2, word)?;
             Ok(Statement::Version(version_by(number)))
         }
-        _ => Err(Refusal::Flawed(Flaw::Form)),
+        _ => Err(Refusal::Flawed(TokenError::Form)),
     }
 }
 
@@ -52,7 +52,7 @@ fn head_of<'a>(
     ensures { Gives seen result (head_in version (map seen_word words.now)) }
 {
     match words {
-        [] => Err(Refusal::Flawed(Flaw::Form)),
+        [] => Err(Refusal::Flawed(TokenError::Form)),
         [kind, params @ ..] => {
             let params = params_of(alloc, version, params)?;
             let (kind, params) = both_of(kind_of(kind), params)?;
@@ -74,11 +74,11 @@ fn label_of<'a>(word: &'a [u8], others: &[Word<'_>]) -> Result<Statement<'a>, Re
     ensures { Gives seen result (label_line word.entry.now (map seen_word others.now)) }
 {
     if !others.is_empty() {
-        return Err(Refusal::Flawed(Flaw::Form));
+        return Err(Refusal::Flawed(TokenError::Form));
     }
     match before_colon(word) {
         Some(name) => Ok(Statement::Label(name_of(name)?)),
-        None => Err(Refusal::Flawed(Flaw::Form)),
+        None => Err(Refusal::Flawed(TokenError::Form)),
     }
 }
 
@@ -127,10 +127,10 @@ fn read_of<'a>(
     ensures { Gives seen result (statement_in version (map seen_word words.now)) }
 {
     match words {
-        [] => Err(Refusal::Flawed(Flaw::Form)),
+        [] => Err(Refusal::Flawed(TokenError::Form)),
         [first, others @ ..] => match first {
             Word::Bare(word) => words_read(alloc, version, word, others),
-            Word::Quoted(_) => Err(Refusal::Flawed(Flaw::Form)),
+            Word::Quoted(_) => Err(Refusal::Flawed(TokenError::Form)),
         },
     }
 }

@@ -20,7 +20,7 @@ use indexmap::IndexMap;
 use std::alloc::Global;
 use tw_code::{Program, Version};
 use tw_types::{Items, Kind, Param, Scalar};
-use tw_words::{Flaw, TextHash, Word, words_of};
+use tw_words::{TextHash, TokenError, Word, words_of};
 
 /// The labels of a procedure, and their places.
 pub type Labels<'a> = IndexMap<&'a [u8], usize, TextHash>;
@@ -143,8 +143,8 @@ fn read_words<'a>(
     match statement_of(alloc, reading.version, &read.words) {
         Ok(statement) => Ok(Some(statement)),
         Err(Refusal::NoMemory) => Err(AsmFault::memory()),
-        Err(Refusal::Flawed(Flaw::Form)) => Err(AsmFault::new(FaultNo::Operand, number)),
-        Err(Refusal::Flawed(Flaw::Limit)) => {
+        Err(Refusal::Flawed(TokenError::Form)) => Err(AsmFault::new(FaultNo::Operand, number)),
+        Err(Refusal::Flawed(TokenError::Limit)) => {
             Err(AsmFault::new(FaultNo::Limit, limit_line(reading, expected, number)))
         }
     }

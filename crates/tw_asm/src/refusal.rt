@@ -4,12 +4,12 @@ ghost use Rattle.std.specs.Prelude.{◌≡◌};
 ghost use Rattle.tw_asm.specs.declared.refusal.Refusal.TheVariants.{NoMemory, Flawed};
 
 use std::alloc::{AllocError, AllocFailed};
-use tw_words::Flaw;
+use tw_words::TokenError;
 
 /// Why no statement is read from words.
 #[derive(Clone, Copy, Debug, PartialEq, Eq)]
 pub enum Refusal {
-    Flawed(Flaw),
+    Flawed(TokenError),
     NoMemory,
 }
 
@@ -29,10 +29,10 @@ impl<T: Drop> From<AllocFailed<T>> for Refusal {
     }
 }
 
-impl From<Flaw> for Refusal {
+impl From<TokenError> for Refusal {
     ghost from_gives = { λ flaw refusal. refusal ≡ Flawed flaw };
 
-    fn from(flaw: Flaw) -> Refusal {
+    fn from(flaw: TokenError) -> Refusal {
         Refusal::Flawed(flaw)
     }
 }

@@ -8,131 +8,131 @@ use crate::gathering::type_of;
 use crate::operands::*;
 use tw_code::Version;
 use tw_types::DataType;
-use tw_words::{Flaw, Word};
+use tw_words::{TokenError, Word};
 
 /// No operands.
-pub fn nothing_of(words: &[Word<'_>]) -> Result<(), Flaw>
+pub fn nothing_of(words: &[Word<'_>]) -> Result<(), TokenError>
     ensures { result ≡ line_in nothing (map seen_word words.now) }
 {
     match words {
         [] => Ok(()),
-        _ => Err(Flaw::Form),
+        _ => Err(TokenError::Form),
     }
 }
 
 // ---- one operand
 
 /// A value register.
-fn only_value(words: &[Word<'_>]) -> Result<(u8, ()), Flaw>
+fn only_value(words: &[Word<'_>]) -> Result<(u8, ()), TokenError>
     ensures { result ≡ line_in (more value nothing) (map seen_word words.now) }
 {
     match words {
         [word, others @ ..] => both_of(value_of(word), nothing_of(others)),
-        [] => Err(Flaw::Form),
+        [] => Err(TokenError::Form),
     }
 }
 
 /// A right register.
-pub fn only_right(words: &[Word<'_>]) -> Result<(u8, ()), Flaw>
+pub fn only_right(words: &[Word<'_>]) -> Result<(u8, ()), TokenError>
     ensures { result ≡ line_in (more right nothing) (map seen_word words.now) }
 {
     match words {
         [word, others @ ..] => both_of(right_of(word), nothing_of(others)),
-        [] => Err(Flaw::Form),
+        [] => Err(TokenError::Form),
     }
 }
 
 /// A number.
-fn only_number(words: &[Word<'_>]) -> Result<(i64, ()), Flaw>
+fn only_number(words: &[Word<'_>]) -> Result<(i64, ()), TokenError>
     ensures { result ≡ line_in (more number nothing) (map seen_word words.now) }
 {
     match words {
         [word, others @ ..] => both_of(number_of(word), nothing_of(others)),
-        [] => Err(Flaw::Form),
+        [] => Err(TokenError::Form),
     }
 }
 
 /// The number of turns of a loop.
-pub fn only_turns(words: &[Word<'_>]) -> Result<(u16, ()), Flaw>
+pub fn only_turns(words: &[Word<'_>]) -> Result<(u16, ()), TokenError>
     ensures { result ≡ line_in (more (natural 1 1000) nothing) (map seen_word words.now) }
 {
     match words {
         [word, others @ ..] => both_of(turns_of(word), nothing_of(others)),
-        [] => Err(Flaw::Form),
+        [] => Err(TokenError::Form),
     }
 }
 
 /// A goal.
-pub fn only_goal<'a>(words: &[Word<'a>]) -> Result<Goal<'a>, Flaw>
+pub fn only_goal<'a>(words: &[Word<'a>]) -> Result<Goal<'a>, TokenError>
     ensures { result ≡ line_in goal (map seen_word words.now) }
 {
     match words {
         [word] => goal_of(word),
-        _ => Err(Flaw::Form),
+        _ => Err(TokenError::Form),
     }
 }
 
 // ---- an operand and the others
 
 /// A value register and a number.
-pub fn value_and_number(words: &[Word<'_>]) -> Result<(u8, (i64, ())), Flaw>
+pub fn value_and_number(words: &[Word<'_>]) -> Result<(u8, (i64, ())), TokenError>
     ensures { result ≡ line_in (more value (more number nothing)) (map seen_word words.now) }
 {
     match words {
         [first, others @ ..] => both_of(value_of(first), only_number(others)),
-        [] => Err(Flaw::Form),
+        [] => Err(TokenError::Form),
     }
 }
 
 /// Two value registers.
-pub fn two_values(words: &[Word<'_>]) -> Result<(u8, (u8, ())), Flaw>
+pub fn two_values(words: &[Word<'_>]) -> Result<(u8, (u8, ())), TokenError>
     ensures { result ≡ line_in (more value (more value nothing)) (map seen_word words.now) }
 {
     match words {
         [first, others @ ..] => both_of(value_of(first), only_value(others)),
-        [] => Err(Flaw::Form),
+        [] => Err(TokenError::Form),
     }
 }
 
 /// A right register and a value register.
-pub fn right_and_value(words: &[Word<'_>]) -> Result<(u8, (u8, ())), Flaw>
+pub fn right_and_value(words: &[Word<'_>]) -> Result<(u8, (u8, ())), TokenError>
     ensures { result ≡ line_in (more right (more value nothing)) (map seen_word words.now) }
 {
     match words {
         [first, others @ ..] => both_of(right_of(first), only_value(others)),
-        [] => Err(Flaw::Form),
+        [] => Err(TokenError::Form),
     }
 }
 
 /// A value register and a right register.
-pub fn value_and_right(words: &[Word<'_>]) -> Result<(u8, (u8, ())), Flaw>
+pub fn value_and_right(words: &[Word<'_>]) -> Result<(u8, (u8, ())), TokenError>
     ensures { result ≡ line_in (more value (more right nothing)) (map seen_word words.now) }
 {
     match words {
         [first, others @ ..] => both_of(value_of(first), only_right(others)),
-        [] => Err(Flaw::Form),
+        [] => Err(TokenError::Form),
     }
 }
 
 /// Two right registers.
-pub fn two_rights(words: &[Word<'_>]) -> Result<(u8, (u8, ())), Flaw>
+pub fn two_rights(words: &[Word<'_>]) -> Result<(u8, (u8, ())), TokenError>
     ensures { result ≡ line_in (more right (more right nothing)) (map seen_word words.now) }
 {
     match words {
         [first, others @ ..] => both_of(right_of(first), only_right(others)),
-        [] => Err(Flaw::Form),
+        [] => Err(TokenError::Form),
     }
 }
 
 // ---- with a type
 
 /// A right register and a type.
-fn right_and_type(version: Version, words: &[Word<'_>]) -> Result<(u8, DataType), Flaw>
+fn right_and_type(version: Version, words: &[Word<'_>]) -> Result<(u8, DataType), TokenError>
     ensures { result ≡ line_in (more right (type version)) (map seen_word words.now) }
 {
     match words {
         [first, others @ ..] => both_of(right_of(first), type_of(version, others)),
-        [] => Err(Flaw::Form),
+        [] => Err(TokenError::Form),
     }
 }
 
@@ -140,109 +140,111 @@ fn right_and_type(version: Version, words: &[Word<'_>]) -> Result<(u8, DataType)
 pub fn two_rights_and_type(
     version: Version,
     words: &[Word<'_>],
-) -> Result<(u8, (u8, DataType)), Flaw>
+) -> Result<(u8, (u8, DataType)), TokenError>
     ensures { result ≡ line_in (more right (more right (type version))) (map seen_word words.now) }
 {
     match words {
         [first, others @ ..] => both_of(right_of(first), right_and_type(version, others)),
-        [] => Err(Flaw::Form),
+        [] => Err(TokenError::Form),
     }
 }
 
 // ---- with a goal
 
 /// A value register and a goal.
-fn value_and_goal<'a>(words: &[Word<'a>]) -> Result<(u8, Goal<'a>), Flaw>
+fn value_and_goal<'a>(words: &[Word<'a>]) -> Result<(u8, Goal<'a>), TokenError>
     ensures { result ≡ line_in (more value goal) (map seen_word words.now) }
 {
     match words {
         [first, others @ ..] => both_of(value_of(first), only_goal(others)),
-        [] => Err(Flaw::Form),
+        [] => Err(TokenError::Form),
     }
 }
 
 /// A right register and a goal.
-fn right_and_goal<'a>(words: &[Word<'a>]) -> Result<(u8, Goal<'a>), Flaw>
+fn right_and_goal<'a>(words: &[Word<'a>]) -> Result<(u8, Goal<'a>), TokenError>
     ensures { result ≡ line_in (more right goal) (map seen_word words.now) }
 {
     match words {
         [first, others @ ..] => both_of(right_of(first), only_goal(others)),
-        [] => Err(Flaw::Form),
+        [] => Err(TokenError::Form),
     }
 }
 
 /// Two value registers and a goal.
-pub fn two_values_and_goal<'a>(words: &[Word<'a>]) -> Result<(u8, (u8, Goal<'a>)), Flaw>
+pub fn two_values_and_goal<'a>(words: &[Word<'a>]) -> Result<(u8, (u8, Goal<'a>)), TokenError>
     ensures { result ≡ line_in (more value (more value goal)) (map seen_word words.now) }
 {
     match words {
         [first, others @ ..] => both_of(value_of(first), value_and_goal(others)),
-        [] => Err(Flaw::Form),
+        [] => Err(TokenError::Form),
     }
 }
 
 /// A right register, a value register and a goal.
-fn right_value_and_goal<'a>(words: &[Word<'a>]) -> Result<(u8, (u8, Goal<'a>)), Flaw>
+fn right_value_and_goal<'a>(words: &[Word<'a>]) -> Result<(u8, (u8, Goal<'a>)), TokenError>
     ensures { result ≡ line_in (more right (more value goal)) (map seen_word words.now) }
 {
     match words {
         [first, others @ ..] => both_of(right_of(first), value_and_goal(others)),
-        [] => Err(Flaw::Form),
+        [] => Err(TokenError::Form),
     }
 }
 
 /// A value register, a right register and a goal.
-fn value_right_and_goal<'a>(words: &[Word<'a>]) -> Result<(u8, (u8, Goal<'a>)), Flaw>
+fn value_right_and_goal<'a>(words: &[Word<'a>]) -> Result<(u8, (u8, Goal<'a>)), TokenError>
     ensures { result ≡ line_in (more value (more right goal)) (map seen_word words.now) }
 {
     match words {
         [first, others @ ..] => both_of(value_of(first), right_and_goal(others)),
-        [] => Err(Flaw::Form),
+        [] => Err(TokenError::Form),
     }
 }
 
 /// Three value registers and a goal.
-pub fn three_values_and_goal<'a>(words: &[Word<'a>]) -> Result<(u8, (u8, (u8, Goal<'a>))), Flaw>
+pub fn three_values_and_goal<'a>(
+    words: &[Word<'a>],
+) -> Result<(u8, (u8, (u8, Goal<'a>))), TokenError>
     ensures { result ≡ line_in (more value (more value (more value goal))) (map seen_word words.now) }
 {
     match words {
         [first, others @ ..] => both_of(value_of(first), two_values_and_goal(others)),
-        [] => Err(Flaw::Form),
+        [] => Err(TokenError::Form),
     }
 }
 
 /// A right register, a value register, a right register and a goal.
 pub fn right_value_right_and_goal<'a>(
     words: &[Word<'a>],
-) -> Result<(u8, (u8, (u8, Goal<'a>))), Flaw>
+) -> Result<(u8, (u8, (u8, Goal<'a>))), TokenError>
     ensures { result ≡ line_in (more right (more value (more right goal))) (map seen_word words.now) }
 {
     match words {
         [first, others @ ..] => both_of(right_of(first), value_right_and_goal(others)),
-        [] => Err(Flaw::Form),
+        [] => Err(TokenError::Form),
     }
 }
 
 /// Two right registers, a value register and a goal.
 pub fn right_right_value_and_goal<'a>(
     words: &[Word<'a>],
-) -> Result<(u8, (u8, (u8, Goal<'a>))), Flaw>
+) -> Result<(u8, (u8, (u8, Goal<'a>))), TokenError>
     ensures { result ≡ line_in (more right (more right (more value goal))) (map seen_word words.now) }
 {
     match words {
         [first, others @ ..] => both_of(right_of(first), right_value_and_goal(others)),
-        [] => Err(Flaw::Form),
+        [] => Err(TokenError::Form),
     }
 }
 
 /// A value register, a right register, a value register and a goal.
 pub fn value_right_value_and_goal<'a>(
     words: &[Word<'a>],
-) -> Result<(u8, (u8, (u8, Goal<'a>))), Flaw>
+) -> Result<(u8, (u8, (u8, Goal<'a>))), TokenError>
     ensures { result ≡ line_in (more value (more right (more value goal))) (map seen_word words.now) }
 {
     match words {
         [first, others @ ..] => both_of(value_of(first), right_value_and_goal(others)),
-        [] => Err(Flaw::Form),
+        [] => Err(TokenError::Form),
     }
 }

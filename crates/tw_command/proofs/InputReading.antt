@@ -6,8 +6,8 @@ use Rattle.std.specs.Char.{digit_value}
 use Rattle.std.specs.Str.Parse.{AllDigits}
 use Rattle.std.proofs.lemmas.Int.{to_z-of_z}
 use Rattle.std.proofs.lemmas.Str.Parse.{digit_from_value}
-use Rattle.tw_words.specs.declared.numbers.Flaw.{Flaw}
-use Rattle.tw_words.specs.declared.numbers.Flaw.TheVariants.{Form, Limit}
+use Rattle.tw_words.specs.declared.numbers.TokenError.{TokenError}
+use Rattle.tw_words.specs.declared.numbers.TokenError.TheVariants.{Form, Limit}
 use Rattle.tw_words.specs.Number.{IsIn64, IsRead, SpellsNumber}
 use Rattle.tw_words.specs.Quoted.{BeginsQuoted, SpellsQuoted}
 use Rattle.tw_words.proofs.Insides.{one_text}
@@ -23,7 +23,7 @@ use Rattle.tw_command.proofs.Members.{one_cut}
 pub same_int : (n : ℤ) → IsIn64 n → to_z w64 (of_z w64 n) ≡ n
 same_int n h = grind (arith, to_z-of_z)
 
-pub no_int : (text : List ℕ) (flaw : Flaw) → IsRead (λ n. SpellsNumber n text) IsIn64 (Err flaw) → (n : ℤ) → SpellsInt n text → ⊥
+pub no_int : (text : List ℕ) (flaw : TokenError) → IsRead (λ n. SpellsNumber n text) IsIn64 (Err flaw) → (n : ℤ) → SpellsInt n text → ⊥
 no_int text Form none = λ n h. none n h.0
 no_int text Limit (m, spells, out) = λ n h. out (subst IsIn64 (one_number n m text h.0 spells) h.1)
 

@@ -20,8 +20,8 @@ use Rattle.clap.specs.declared.error.ErrorKind.{ErrorKind}
 use Rattle.clap.specs.declared.error.ErrorKind.TheVariants.{ArgumentConflict, ValueValidation}
 use Rattle.clap.proofs.WalkLemmas.{both, first_value-rows}
 use Rattle.tw_words.specs.Number.{IsRead, SpellsDigits}
-use Rattle.tw_words.specs.declared.numbers.Flaw.{Flaw}
-use Rattle.tw_words.specs.declared.numbers.Flaw.TheVariants.{Form, Limit}
+use Rattle.tw_words.specs.declared.numbers.TokenError.{TokenError}
+use Rattle.tw_words.specs.declared.numbers.TokenError.TheVariants.{Form, Limit}
 use Rattle.tw_types.specs.Layout.{ActorCounts}
 use Rattle.tw_command.specs.Options.{HasActors, HasStretch, NumberOption, actor_options, engines, first_shown, inputs, is_given, last_shown, limit, number_in, number_of, number_options, option_faults, servers, stretch_options, workers}
 use Rattle.tw_command.specs.Order.{HasReason, IsRequest}
@@ -61,10 +61,10 @@ read_number most n text h inside =
     let value = h.value in
     ap (λ (b : Bool). cond b (Some (digits_value 10 text)) None) (passed most n text h inside) ∙ ap Some value
 
-no_number : (most : ℕ) (text : Text) (flaw : Flaw) → IsRead (λ n. SpellsDigits n text) (IsInRange 1 most) (Err flaw) → number_in most text ≡ None
+no_number : (most : ℕ) (text : Text) (flaw : TokenError) → IsRead (λ n. SpellsDigits n text) (IsInRange 1 most) (Err flaw) → number_in most text ≡ None
 no_number most text flaw h = go (passes most text) refl flaw h
   where
-    go : (b : Bool) → passes most text ≡ b → (f : Flaw) → IsRead (λ n. SpellsDigits n text) (IsInRange 1 most) (Err f) → cond (passes most text) (Some (digits_value 10 text)) None ≡ None
+    go : (b : Bool) → passes most text ≡ b → (f : TokenError) → IsRead (λ n. SpellsDigits n text) (IsInRange 1 most) (Err f) → cond (passes most text) (Some (digits_value 10 text)) None ≡ None
     go false e f h = rw e refl
     go true e Form h = let is = spelled most text e in absurd (h (digits_value 10 text) is.0)
     go true e Limit (n, k, out) =
@@ -73,7 +73,7 @@ no_number most text flaw h = go (passes most text) refl flaw h
         absurd (out (rw (← value) is.1))
 
 -- what is read of the word is its number
-pub number_read : (most : ℕ) (text : Text) (read : Result ℕ Flaw) (o : Option ℕ) → IsRead (λ n. SpellsDigits n text) (IsInRange 1 most) read → o ≡ result_ok read → o ≡ number_in most text
+pub number_read : (most : ℕ) (text : Text) (read : Result ℕ TokenError) (o : Option ℕ) → IsRead (λ n. SpellsDigits n text) (IsInRange 1 most) read → o ≡ result_ok read → o ≡ number_in most text
 number_read most text (Ok n) o h e = e ∙ sym (read_number most n text h.0 h.1)
 number_read most text (Err flaw) o h e = e ∙ sym (no_number most text flaw h)
 

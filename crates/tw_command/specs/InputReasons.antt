@@ -3,8 +3,8 @@ use Rattle.std.specs.Prelude.{ℕ, ℤ, ◌==◌, Bool, true, false, not, ◌&&�
 use Rattle.std.specs.List.{ends_with, list_any, starts_with}
 use Rattle.tw_words.specs.Digits.{signed_in}
 use Rattle.tw_words.specs.Shown.{shortened_quoted}
-use Rattle.tw_words.specs.declared.numbers.Flaw.{Flaw}
-use Rattle.tw_words.specs.declared.numbers.Flaw.TheVariants.{Form, Limit}
+use Rattle.tw_words.specs.declared.numbers.TokenError.{TokenError}
+use Rattle.tw_words.specs.declared.numbers.TokenError.TheVariants.{Form, Limit}
 
 -- ---- what is wrong
 
@@ -15,7 +15,7 @@ abbrev pub begins : List ℕ → List ℕ → Bool
 begins front word = starts_with nat_eq word front
 
 -- a number after `int:`
-abbrev pub int_reason : Result ℤ Flaw → List ℕ
+abbrev pub int_reason : Result ℤ TokenError → List ℕ
 int_reason (Ok n) = codes "expected a number in decimal digits after int:"
 int_reason (Err Form) = codes "expected a number in decimal digits after int:"
 int_reason (Err Limit) = codes "the number isn't within 64 bits"

@@ -7,15 +7,15 @@ ghost use Rattle.tw_command.specs.Order.{IsRefusal};
 
 use crate::command::NoOrder;
 use std::alloc::{AllocError, Global};
-use tw_words::{Flaw, number, put, put_both, put_numbered, put_shortened_quoted};
+use tw_words::{TokenError, number, put, put_both, put_numbered, put_shortened_quoted};
 
-fn int_reason(read: Result<i64, Flaw>) -> &'static str
+fn int_reason(read: Result<i64, TokenError>) -> &'static str
     ensures { result.now ≡ int_reason read }
 {
     match read {
         Ok(_) => "expected a number in decimal digits after int:",
-        Err(Flaw::Form) => "expected a number in decimal digits after int:",
-        Err(Flaw::Limit) => "the number isn't within 64 bits",
+        Err(TokenError::Form) => "expected a number in decimal digits after int:",
+        Err(TokenError::Limit) => "the number isn't within 64 bits",
     }
 }
 

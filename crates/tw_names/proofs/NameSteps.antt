@@ -1,6 +1,6 @@
 -- What holds of the names before a line and behind it, where each name that it adds keeps it.
 use Rattle.std.proofs.Common.{[], ◌≡◌, ◌<◌, ℕ, Bool, true, false, cond, List, ◌∷◌, ◌++◌, length, take, drop, Option, Some, None, Result, Ok, Err, refl, sym, ap, subst, ◌∙◌, codes, arith}
-use Rattle.tw_names.proofs.TextNames.{Flaw, Line, Names, Procedures, Said, and_then, at_head, flat_map, is_name, known, line_rest, line_words, made_say, may_name, name_register, nat_lt, parameters, pieces, procedure_name, taken_says, list_says}
+use Rattle.tw_names.proofs.TextNames.{TokenError, Line, Names, Procedures, Said, and_then, at_head, flat_map, is_name, known, line_rest, line_words, made_say, may_name, name_register, nat_lt, parameters, pieces, procedure_name, taken_says, list_says}
 use Rattle.std.proofs.lemmas.Bool.Decides.{nat_tests}
 use Rattle.std.specs.Prelude.{is_none, not, ◌&&◌}
 use Rattle.std.specs.Str.{bytes_eq}
@@ -38,23 +38,23 @@ below : (n : ℕ) → nat_lt n 16 ≡ true → n < 16
 below n e = grind (arith, nat_tests)
 
 module _ (R : Names → Names → Type 0) (step : IsStep R) where
-  abbrev pub StepTo : Names → Result Names Flaw → Type 0
+  abbrev pub StepTo : Names → Result Names TokenError → Type 0
   StepTo names r = (after : Names) → r ≡ Ok after → R names after
 
   -- what is said behind these names
   abbrev pub StepSaid : Names → Said → Type 0
   StepSaid names says = (said : Names × List ℕ) → says ≡ Ok said → R names said.0
 
-  no_step : (names : Names) (flaw : Flaw) → StepTo names (Err flaw)
+  no_step : (names : Names) (flaw : TokenError) → StepTo names (Err flaw)
   no_step names flaw after e = absurd cc
 
   same_step : (names : Names) → StepTo names (Ok names)
   same_step names after e = subst (R names) (ok_is names after e) (step.same names)
 
-  then_step : {A : Type 0} (names : Names) (r : Result A Flaw) (next : A → Result Names Flaw) → ((a : A) → StepTo names (next a)) → StepTo names (and_then r next)
+  then_step : {A : Type 0} (names : Names) (r : Result A TokenError) (next : A → Result Names TokenError) → ((a : A) → StepTo names (next a)) → StepTo names (and_then r next)
   then_step names r next each after e = let went = went_then r next after e in each went.0 after went.2
 
-  within_step : (names more : Names) (number : ℕ) (flaw : Flaw) → (number < 16 → R names more) → StepTo names (cond (nat_lt number 16) (Ok more) (Err flaw))
+  within_step : (names more : Names) (number : ℕ) (flaw : TokenError) → (number < 16 → R names more) → StepTo names (cond (nat_lt number 16) (Ok more) (Err flaw))
   within_step names more number flaw h = by_test (StepTo names) (nat_lt number 16) _ _ (λ t after e. subst (R names) (ok_is more after e) (h (below number t))) (λ _. no_step names flaw)
 
   chosen_step : (p : Procedures) (names : Names) (name : List ℕ) (b : Bank) (number : ℕ) → StepTo names (with_register p names name b number origin.Chosen)
@@ -125,7 +125,7 @@ module _ (R : Names → Names → Type 0) (step : IsStep R) where
   names_step : (names : Names) (front : List ℕ) → StepSaid names (Ok (names, front))
   names_step names front said e = subst (λ (x : Names × List ℕ). R names x.0) (ok_is (names, front) said e) (step.same names)
 
-  only_step : (names : Names) (front : List ℕ) (r : Result Names Flaw) → StepTo names r → StepSaid names (only_names front r)
+  only_step : (names : Names) (front : List ℕ) (r : Result Names TokenError) → StepTo names r → StepSaid names (only_names front r)
   only_step names front r h said e =
       let went = went_then r (λ (n : Names). Ok (n, front)) said e in
       subst (λ (x : Names × List ℕ). R names x.0) (ok_is (went.0, front) said went.2) (h went.0 went.1)

@@ -2,7 +2,7 @@
 use Rattle.std.proofs.Common.{[], ◌≡◌, ℕ, Bool, true, false, cond, List, ◌∷◌, Option, Some, None, Result, Ok, drop, refl, sym, ap, ◌∙◌}
 use Rattle.std.specs.Prelude.{slice_get, unwrap_or}
 use Rattle.std.specs.Str.{bytes_eq}
-use Rattle.tw_names.proofs.TextNames.{Flaw, Names, Procedures, Table, and_then, is_name, known, meaning, or_else, words_say}
+use Rattle.tw_names.proofs.TextNames.{TokenError, Names, Procedures, Table, and_then, is_name, known, meaning, or_else, words_say}
 use Rattle.tw_names.specs.Laws.{IsRenaming, RenamedAlike, renamed_names, renamed_procedures, renamed_table, renamed_word, renamed_words}
 use Rattle.tw_names.specs.LineExpansion.{fitting, named, stands, with_word, word_says}
 use Rattle.tw_names.specs.declared.meaning.Expected.{Expected}
@@ -49,7 +49,7 @@ module _ (f : List ℕ → List ℕ) (is : IsRenaming f) where
   words_kept p n all front (word ∷ words) text e =
       let a = unwrap_or (slice_get all 0) asked.Nothing in
       let went = went_then (word_says p n a front word) (λ (t : List ℕ). words_say p n (drop 1 all) t words) text e in
-      ap (λ (r : Result (List ℕ) Flaw). and_then r (λ (t : List ℕ). words_say (renamed_procedures f p) (renamed_names f n) (drop 1 all) t (renamed_words f (drop 1 all) words))) (word_kept p n a front word went.0 went.1)
+      ap (λ (r : Result (List ℕ) TokenError). and_then r (λ (t : List ℕ). words_say (renamed_procedures f p) (renamed_names f n) (drop 1 all) t (renamed_words f (drop 1 all) words))) (word_kept p n a front word went.0 went.1)
       ∙ words_kept p n (drop 1 all) went.0 words text went.2
 
 pub renamed_alike : RenamedAlike

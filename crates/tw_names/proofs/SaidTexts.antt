@@ -1,6 +1,6 @@
 -- What a line stands for keeps what its words keep.
 use Rattle.std.proofs.Common.{[], ◌≡◌, ◌<◌, ◌≤◌, ℕ, ℤ, pos, negsuc, zero, suc, cond, List, ◌∷◌, ◌++◌, length, take, drop, filter, Option, Some, None, Result, Ok, Err, refl, sym, ap, subst, ◌∙◌, append_assoc, append-nil, codes, decimal, is_some, slice_get, arith}
-use Rattle.tw_names.proofs.TextNames.{Flaw, Names, Procedures, and_then, flat_map, is_name, known, may_name, name_register, nat_lt, pieces, unwrap_or, with_constant, with_register}
+use Rattle.tw_names.proofs.TextNames.{TokenError, Names, Procedures, and_then, flat_map, is_name, known, may_name, name_register, nat_lt, pieces, unwrap_or, with_constant, with_register}
 use Rattle.tw_names.specs.Meanings.{is_listed, with_listed}
 use Rattle.std.specs.Fmt.{signed_decimal}
 use Rattle.std.specs.Prelude.{not, ◌&&◌}
@@ -26,14 +26,14 @@ use Rattle.tw_names.specs.declared.refusal.NameNo.TheVariants as no
 use Rattle.tw_names.proofs.KeptTexts.{AllKept, IsKept, all_kept, either, number_kept}
 
 -- what went, and what went first
-pub went_then : {A B : Type 0} (r : Result A Flaw) (next : A → Result B Flaw) (b : B) → and_then r next ≡ Ok b → (a : A) × (r ≡ Ok a) × (next a ≡ Ok b)
+pub went_then : {A B : Type 0} (r : Result A TokenError) (next : A → Result B TokenError) (b : B) → and_then r next ≡ Ok b → (a : A) × (r ≡ Ok a) × (next a ≡ Ok b)
 went_then (Ok a) next b e = (a, refl, e)
 went_then (Err flaw) next b e = absurd cc
 
-pub ok_is : {B : Type 0} (x y : B) → ◌≡◌ {A = Result B Flaw} (Ok x) (Ok y) → x ≡ y
+pub ok_is : {B : Type 0} (x y : B) → ◌≡◌ {A = Result B TokenError} (Ok x) (Ok y) → x ≡ y
 ok_is x y e = cc
 
-not_ok : {B Z : Type 0} (x : Flaw) (y : B) → ◌≡◌ {A = Result B Flaw} (Err x) (Ok y) → Z
+not_ok : {B Z : Type 0} (x : TokenError) (y : B) → ◌≡◌ {A = Result B TokenError} (Err x) (Ok y) → Z
 not_ok x y e = absurd cc
 
 some_is : (x y : List ℕ) → Some x ≡ Some y → x ≡ y
@@ -41,16 +41,16 @@ some_is x y e = cc
 
 -- ---- the types that are left out stay those of before
 
-abbrev SameTypes : Names → Result Names Flaw → Type 0
+abbrev SameTypes : Names → Result Names TokenError → Type 0
 SameTypes names r = (after : Names) → r ≡ Ok after → after.types ≡ names.types
 
 same_names : (names : Names) → SameTypes names (Ok names)
 same_names names after e = ap (λ (n : Names). n.types) (sym (ok_is names after e))
 
-none_named : (names : Names) (flaw : Flaw) → SameTypes names (Err flaw)
+none_named : (names : Names) (flaw : TokenError) → SameTypes names (Err flaw)
 none_named names flaw after e = not_ok flaw after e
 
-with_one : {A : Type 0} (names : Names) (r : Result A Flaw) (next : A → Result Names Flaw) → ((a : A) → SameTypes names (next a)) → SameTypes names (and_then r next)
+with_one : {A : Type 0} (names : Names) (r : Result A TokenError) (next : A → Result Names TokenError) → ((a : A) → SameTypes names (next a)) → SameTypes names (and_then r next)
 with_one names r next each after e = let went = went_then r next after e in each went.0 after went.2
 
 register_types : (p : Procedures) (names : Names) (name : List ℕ) (b : Bank) (number : ℕ) (by : Origin) → SameTypes names (with_register p names name b number by)
@@ -177,7 +177,7 @@ module _ (Q : List ℕ → Type 0) (kept : IsKept Q) where
       let more = each said e in
       (first ++ more.0, more.1 ∙ append_assoc front first more.0, kept.both first more.0 h more.2, more.3)
 
-  only_more : (names : Names) (front : List ℕ) (r : Result Names Flaw) → AllKept Q names.types → SameTypes names r → SaysKept Q front (only_names front r)
+  only_more : (names : Names) (front : List ℕ) (r : Result Names TokenError) → AllKept Q names.types → SameTypes names r → SaysKept Q front (only_names front r)
   only_more names front r h same said e =
       let went = went_then r (λ (n : Names). Ok (n, front)) said e in
       nothing_more went.0 front (subst (AllKept Q) (sym (same went.0 went.1)) h) said went.2
@@ -204,7 +204,7 @@ module _ (Q : List ℕ → Type 0) (kept : IsKept Q) where
   abbrev IsMore : List ℕ → List ℕ → Type 0
   IsMore front text = (line : List ℕ) × (text ≡ front ++ line) × Q line
 
-  plainly : (front word text : List ℕ) → Q word → ◌≡◌ {A = Result (List ℕ) Flaw} (Ok (with_word front word)) (Ok text) → IsMore front text
+  plainly : (front word text : List ℕ) → Q word → ◌≡◌ {A = Result (List ℕ) TokenError} (Ok (with_word front word)) (Ok text) → IsMore front text
   plainly front word text h e = (32 ∷ word, sym (ok_is (with_word front word) text e), spaced word h)
 
   fits : (front word : List ℕ) (a : Expected) (x : Binding) (text : List ℕ) (o : Option (List ℕ)) → ((t : List ℕ) → o ≡ Some t → Q t) → fitting front word a x o ≡ Ok text → IsMore front text
@@ -218,7 +218,7 @@ module _ (Q : List ℕ → Type 0) (kept : IsKept Q) where
   either_word : (p : Procedures) (names : Names) (a : Expected) (front word text : List ℕ) → Q word
       → cond (is_name word) (named front word (known p names word) a) (Ok (with_word front word)) ≡ Ok text → IsMore front text
   either_word p names a front word text h =
-      either (λ (r : Result (List ℕ) Flaw). r ≡ Ok text → IsMore front text) (is_name word) (named front word (known p names word) a) (Ok (with_word front word))
+      either (λ (r : Result (List ℕ) TokenError). r ≡ Ok text → IsMore front text) (is_name word) (named front word (known p names word) a) (Ok (with_word front word))
       (named_kept a front word text (known p names word)) (plainly front word text h)
 
   word_kept : (p : Procedures) (names : Names) (a : Expected) (front word text : List ℕ) → Q word → word_says p names a front word ≡ Ok text → IsMore front text

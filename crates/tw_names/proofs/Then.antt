@@ -1,10 +1,10 @@
 -- One thing after another.
 use Rattle.std.proofs.Common.{◌≡◌, ℕ, List, ◌∷◌, ◌++◌, take, filter, Option, Result, Ok, refl, sym, ap, subst, ◌∙◌, append_assoc}
-use Rattle.tw_names.proofs.TextNames.{Flaw, Line, Names, Procedures, and_then, at_head, behind, ended, flat_map, head_says, is_unnamed, line_rest, line_says, line_words, list_says, name_says, parameters, procedure_name, taken_says}
+use Rattle.tw_names.proofs.TextNames.{TokenError, Line, Names, Procedures, and_then, at_head, behind, ended, flat_map, head_says, is_unnamed, line_rest, line_says, line_words, list_says, name_says, parameters, procedure_name, taken_says}
 use Rattle.std.proofs.lemmas.Grind.{flat_map-append}
 use Rattle.tw_names.specs.declared.meaning.Listed.TheVariants.{Parameters}
 
-pub goes_first : {A B : Type 0} (r : Result A Flaw) (a : A) (k : A → Result B Flaw) → r ≡ Ok a → and_then r k ≡ k a
+pub goes_first : {A B : Type 0} (r : Result A TokenError) (a : A) (k : A → Result B TokenError) → r ≡ Ok a → and_then r k ≡ k a
 goes_first r a k e = rw e refl
 
 pub behind_more : (front : List ℕ) (a b : List (List ℕ)) → behind (behind front a) b ≡ behind front (a ++ b)

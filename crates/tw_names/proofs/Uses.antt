@@ -8,11 +8,11 @@ use Rattle.std.proofs.lemmas.List.Sums.{sum_by-cons}
 use Rattle.std.proofs.lemmas.Fmt.{decimal_is_IsNumeral}
 use Rattle.std.proofs.lemmas.Slice.Eq.{bytes_eq-Decides}
 use Rattle.tw_words.specs.Digits.{digits_in}
-use Rattle.tw_words.specs.declared.numbers.Flaw as numbers
+use Rattle.tw_words.specs.declared.numbers.TokenError as numbers
 use Rattle.tw_words.specs.Names.{before_colon}
 use Rattle.tw_words.proofs.Colons.{before}
 use Rattle.tw_words.proofs.Readings.{digits_same}
-use Rattle.tw_names.proofs.TextNames.{Flaw, Names, Procedures, Table, is_name, is_some, known, list_says, may_name, meaning, name_register, nat_lt, or_else, refused}
+use Rattle.tw_names.proofs.TextNames.{TokenError, Names, Procedures, Table, is_name, is_some, known, list_says, may_name, meaning, name_register, nat_lt, or_else, refused}
 use Rattle.tw_names.specs.Laws.{ListedByPlace, NamesStay, UsesAreRegisters, begun, read_in}
 use Rattle.tw_names.specs.Meanings.{is_bank, is_listed, with_listed, with_register}
 use Rattle.tw_names.specs.LineExpansion.{begins, begins_first, counted, fitting, list_name, name_before, named, number_in, register_in, stands, with_word}
@@ -79,10 +79,10 @@ first_none (Some x) b e = absurd cc
 free : (p : Procedures) (names : Names) (name : List ℕ) (u : Unit {0}) → may_name p names name ≡ Ok u → meaning name names.registers ≡ None
 free p names name u e = first_none (meaning name names.registers) _ (unknown name u (is_name name) (known p names name) e)
 
-abbrev Means : List ℕ → Binding → Result Names Flaw → Type 0
+abbrev Means : List ℕ → Binding → Result Names TokenError → Type 0
 Means name x r = (after : Names) → r ≡ Ok after → meaning name after.registers ≡ Some x
 
-refused_means : (name : List ℕ) (x : Binding) (flaw : Flaw) → Means name x (Err flaw)
+refused_means : (name : List ℕ) (x : Binding) (flaw : TokenError) → Means name x (Err flaw)
 refused_means name x flaw after e = absurd cc
 
 register_means : (p : Procedures) (names : Names) (name : List ℕ) (b : Bank) (n : ℕ) → Means name (binding.Register b n origin.Listed) (with_register p names name b n origin.Listed)
@@ -138,7 +138,7 @@ abbrev IsSaid : Expected → List ℕ → List ℕ → Bank → ℕ → Type 0
 IsSaid a front text b n = (register : List ℕ) × (text ≡ with_word front register) × (read_in a register ≡ Some (b, n))
 
 in_bank : (b : Bank) (n : ℕ) → n < 16 → register_in (Some b) (result_ok (digits_in 0 15 (decimal n))) ≡ Some (b, n)
-in_bank b n low = ap (λ (r : Result ℕ numbers.Flaw). register_in (Some b) (result_ok r)) (low_read n low)
+in_bank b n low = ap (λ (r : Result ℕ numbers.TokenError). register_in (Some b) (result_ok r)) (low_read n low)
 
 says_it : (a : Expected) (front word text : List ℕ) (b : Bank) (n : ℕ) (by : Origin) → n < 16 → fitting front word a (binding.Register b n by) (stands a (binding.Register b n by)) ≡ Ok text → IsSaid a front text b n
 says_it asked.Value front word text bank.Value n by low e = (codes "v" ++ decimal n, sym (ok_is (with_word front (codes "v" ++ decimal n)) text e), in_bank bank.Value n low)

@@ -1,7 +1,7 @@
 -- What the calls answer.
 use Rattle.std.specs.Prelude.{◌≡◌, ◌⊎◌, ◌<◌, ℕ, Bool, true, false, List, [], ◌∷◌, ◌++◌, decimal, Option, Some, None, Result, Ok, Err, ◌-◌, length, take, drop, IsUtf8}
 use Rattle.std.specs.Fmt.{signed_decimal}
-use Rattle.tw_names.specs.Meanings.{Flaw, lists}
+use Rattle.tw_names.specs.Meanings.{TokenError, lists}
 use Rattle.std.specs.Str.Lines.{lines}
 use Rattle.tw_words.specs.Words.{IsBlank, IsBroken}
 use Rattle.tw_names.specs.Lines.{IsTaken, Line, StandsFirst, line_words, pieces_behind}
@@ -48,12 +48,12 @@ pieces_left word start index = pieces_behind (take (index - start) (drop start w
 -- ---- parts of a line
 
 -- it is refused as the function did
-abbrev pub Fails : {Y : Type 0} → Refusal → Result Y Flaw → Type 0
+abbrev pub Fails : {Y : Type 0} → Refusal → Result Y TokenError → Type 0
 Fails refusal.NoMemory says = Unit {0}
 Fails (refusal.Flawed which word) says = says ≡ Err (record { no = which; word = word.now })
 
 -- What a function returned, seen by view, is what is said, unless memory ran out.
-abbrev pub Gives : {X Y : Type 0} → (X → Y) → Result X Refusal → Result Y Flaw → Type 0
+abbrev pub Gives : {X Y : Type 0} → (X → Y) → Result X Refusal → Result Y TokenError → Type 0
 Gives view (Ok x) says = says ≡ Ok (view x)
 Gives view (Err e) says = Fails e says
 

@@ -14,7 +14,7 @@ use Rattle.tw_code.specs.declared.opcode.Opcode.{Opcode}
 use Rattle.tw_code.specs.declared.opcode.Opcode.TheVariants as opcode
 use Rattle.tw_code.specs.declared.version.Version.TheVariants.{Two}
 use Rattle.tw_names.specs.Lines.{begins_quoted, pieces}
-use Rattle.tw_names.specs.Meanings.{Flaw, Head, Names, Procedures, and_then, is_name, known, may_name, meaning, refused, with_constant, with_listed, with_register}
+use Rattle.tw_names.specs.Meanings.{TokenError, Head, Names, Procedures, and_then, is_name, known, may_name, meaning, refused, with_constant, with_listed, with_register}
 use Rattle.tw_names.specs.declared.meaning.Expected.{Expected}
 use Rattle.tw_names.specs.declared.meaning.Expected.TheVariants as asked
 use Rattle.tw_names.specs.declared.meaning.Bank.{Bank}
@@ -28,7 +28,7 @@ use Rattle.tw_names.specs.declared.refusal.NameNo.TheVariants as no
 
 -- the names behind a line, and a text with that for which its words stand
 abbrev pub Said : Type 0
-Said = Result (Names × List ℕ) Flaw
+Said = Result (Names × List ℕ) TokenError
 
 -- words behind a text, each with a space before it
 abbrev pub behind : List ℕ → List (List ℕ) → List ℕ
@@ -50,21 +50,21 @@ stands a x = None
 abbrev pub with_word : List ℕ → List ℕ → List ℕ
 with_word front word = front ++ 32 ∷ word
 
-abbrev pub fitting : List ℕ → List ℕ → Expected → Binding → Option (List ℕ) → Result (List ℕ) Flaw
+abbrev pub fitting : List ℕ → List ℕ → Expected → Binding → Option (List ℕ) → Result (List ℕ) TokenError
 fitting front word a x None = refused (no.Kind x a) word
 fitting front word a x (Some text) = Ok (with_word front text)
 
-abbrev pub named : List ℕ → List ℕ → Option Binding → Expected → Result (List ℕ) Flaw
+abbrev pub named : List ℕ → List ℕ → Option Binding → Expected → Result (List ℕ) TokenError
 named front word None a = refused no.Unknown word
 named front word (Some x) a = fitting front word a x (stands a x)
 
 -- a text with what a word stands for: where nothing is asked, and where it is no name, that is the word itself
-abbrev pub word_says : Procedures → Names → Expected → List ℕ → List ℕ → Result (List ℕ) Flaw
+abbrev pub word_says : Procedures → Names → Expected → List ℕ → List ℕ → Result (List ℕ) TokenError
 word_says procedures names asked.Nothing front word = Ok (with_word front word)
 word_says procedures names a front word = if is_name word then named front word (known procedures names word) a else Ok (with_word front word)
 
 -- the same of words, each with what is asked in its place; further words are asked nothing
-abbrev pub words_say : Procedures → Names → List Expected → List ℕ → List (List ℕ) → Result (List ℕ) Flaw
+abbrev pub words_say : Procedures → Names → List Expected → List ℕ → List (List ℕ) → Result (List ℕ) TokenError
 words_say procedures names all front [] = Ok front
 words_say procedures names all front (word ∷ words) =
     and_then (word_says procedures names (unwrap_or (slice_get all 0) asked.Nothing) front word) (λ text. words_say procedures names (drop 1 all) text words)
@@ -110,7 +110,7 @@ makes opcode.CopyWrite = 1
 makes o = 0
 
 -- a name that means nothing yet is the next right register
-abbrev pub made_one : Procedures → Names → List ℕ → Result Names Flaw
+abbrev pub made_one : Procedures → Names → List ℕ → Result Names TokenError
 made_one procedures names word =
     if is_name word && is_none (known procedures names word) then with_register procedures names word bank.Right names.rights origin.Listed else Ok names
 
@@ -130,23 +130,23 @@ instruction_says procedures names o front words =
 -- ---- `const` and `let`
 
 -- The word behind `=`, of the words behind a name. A word that is missing is told by the line's first word, and another sign by itself.
-abbrev pub assigned : List ℕ → List (List ℕ) → Result (List ℕ) Flaw
+abbrev pub assigned : List ℕ → List (List ℕ) → Result (List ℕ) TokenError
 assigned first [] = refused no.Form first
 assigned first (sign ∷ []) = if bytes_eq sign (codes "=") then refused no.Form first else refused no.Form sign
 assigned first (sign ∷ word ∷ words) = if bytes_eq sign (codes "=") then Ok word else refused no.Form sign
 
 -- what a word is read as, if it is that
-abbrev pub read_as : {A : Type 0} → List ℕ → Option A → Result A Flaw
+abbrev pub read_as : {A : Type 0} → List ℕ → Option A → Result A TokenError
 read_as word None = refused no.Form word
 read_as word (Some a) = Ok a
 
 -- no word is left
-abbrev pub nothing_left : List (List ℕ) → Result (Unit {0}) Flaw
+abbrev pub nothing_left : List (List ℕ) → Result (Unit {0}) TokenError
 nothing_left [] = Ok tt
 nothing_left (word ∷ words) = refused no.Form word
 
 -- what stands behind a name, `=` and nothing else, as this reads it
-abbrev pub value_behind : {A : Type 0} → (List ℕ → Option A) → List ℕ → List (List ℕ) → Result A Flaw
+abbrev pub value_behind : {A : Type 0} → (List ℕ → Option A) → List ℕ → List (List ℕ) → Result A TokenError
 value_behind read first words = and_then (assigned first words) (λ word. and_then (read_as word (read word)) (λ a. and_then (nothing_left (drop 2 words)) (λ _. Ok a)))
 
 abbrev pub bank_of_letter : ℕ → Option Bank
@@ -166,12 +166,12 @@ register_of (b ∷ rest) = register_in (bank_of_letter b) (result_ok (digits_in 
 abbrev pub number_of : List ℕ → Option ℤ
 number_of word = result_ok (signed_in word)
 
-abbrev pub constant_says : Procedures → Names → List ℕ → List (List ℕ) → Result Names Flaw
+abbrev pub constant_says : Procedures → Names → List ℕ → List (List ℕ) → Result Names TokenError
 constant_says procedures names first [] = refused no.Form first
 constant_says procedures names first (name ∷ words) =
     and_then (may_name procedures names name) (λ _. and_then (value_behind number_of first words) (λ number. with_constant procedures names name (binding.Constant number)))
 
-abbrev pub let_says : Procedures → Names → List ℕ → List (List ℕ) → Result Names Flaw
+abbrev pub let_says : Procedures → Names → List ℕ → List (List ℕ) → Result Names TokenError
 let_says procedures names first [] = refused no.Form first
 let_says procedures names first (name ∷ words) =
     and_then (may_name procedures names name) (λ _. and_then (value_behind register_of first words) (λ register. with_register procedures names name register.0 register.1 origin.Chosen))
@@ -199,7 +199,7 @@ number_in bank.Value values rights = values
 number_in bank.Right values rights = rights
 
 -- a register of this name, if one begins behind it, where so many value registers and right registers have begun
-abbrev pub list_name : Procedures → Names → ℕ → ℕ → List ℕ → List ℕ → Option Bank → Result Names Flaw
+abbrev pub list_name : Procedures → Names → ℕ → ℕ → List ℕ → List ℕ → Option Bank → Result Names TokenError
 list_name procedures names values rights word [] b = refused no.Form word
 list_name procedures names values rights word name None = refused no.Form word
 list_name procedures names values rights word name (Some b) = with_listed procedures names name b (number_in b values rights)
@@ -214,13 +214,13 @@ abbrev pub has_colon : List ℕ → Bool
 has_colon word = not (begins_quoted word) && list_any (λ b. b == 58) word
 
 -- no name stands there without `:`, and none with more right behind that
-abbrev pub unnamed_says : Names → List ℕ → Result Names Flaw
+abbrev pub unnamed_says : Names → List ℕ → Result Names TokenError
 unnamed_says names word =
     if is_name word && not (is_listed_word word) then refused no.Unknown word else
     if has_colon word then refused no.Form word else
     Ok names
 
-abbrev pub name_before : Procedures → Listed → Names → ℕ → ℕ → List ℕ → List (List ℕ) → Option (List ℕ) → Result Names Flaw
+abbrev pub name_before : Procedures → Listed → Names → ℕ → ℕ → List ℕ → List (List ℕ) → Option (List ℕ) → Result Names TokenError
 name_before procedures l names values rights word words None = unnamed_says names word
 name_before procedures l names values rights word words (Some name) = list_name procedures names values rights word name (begins_first l words)
 
@@ -231,7 +231,7 @@ counted bank.Right (Some bank.Right) n = n + 1
 counted b begun n = n
 
 -- words with names, where so many registers have begun: behind a name and `:` one begins
-abbrev pub list_says : Procedures → Listed → Names → ℕ → ℕ → List (List ℕ) → Result Names Flaw
+abbrev pub list_says : Procedures → Listed → Names → ℕ → ℕ → List (List ℕ) → Result Names TokenError
 list_says procedures l names values rights [] = Ok names
 list_says procedures l names values rights (word ∷ words) =
     and_then (name_before procedures l names values rights word words (before_colon word)) (λ after. list_says procedures l after (counted bank.Value (begins l word) values) (counted bank.Right (begins l word) rights) words)
@@ -257,7 +257,7 @@ abbrev pub begins_at : Procedures → ℕ → Option Binding → Bool
 begins_at procedures number (Some (binding.Procedure n)) = option_map_or (λ (head : Head). head.line == number) (slice_get procedures.heads n) false
 begins_at procedures number x = false
 
-abbrev pub name_says : Procedures → ℕ → Option (List ℕ) → Result (Unit {0}) Flaw
+abbrev pub name_says : Procedures → ℕ → Option (List ℕ) → Result (Unit {0}) TokenError
 name_says procedures number None = Ok tt
 name_says procedures number (Some name) =
     if is_name name then (if begins_at procedures number (meaning name procedures.table) then Ok tt else refused no.Twice name) else refused no.NoName name
@@ -283,7 +283,7 @@ body_says procedures names (Some o) front words = instruction_says procedures na
 body_says procedures names None front words = Ok (names, behind front words)
 
 -- nothing is left of the line
-abbrev pub only_names : List ℕ → Result Names Flaw → Said
+abbrev pub only_names : List ℕ → Result Names TokenError → Said
 only_names front names = and_then names (λ after. Ok (after, front))
 
 abbrev pub is_empty : List (List ℕ) → Bool

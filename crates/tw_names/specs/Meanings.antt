@@ -67,26 +67,26 @@ known procedures names name = or_else (meaning name names.registers) (or_else (m
 -- ---- refusals
 
 -- a number and a word
-pub record Flaw : Type 0 where
+pub record TokenError : Type 0 where
   pub no : NameNo
   pub word : List ℕ
 
-abbrev pub refused : {A : Type 0} → NameNo → List ℕ → Result A Flaw
+abbrev pub refused : {A : Type 0} → NameNo → List ℕ → Result A TokenError
 refused which word = Err (record { no = which; word = word })
 
 -- and then; what is refused first goes through
-abbrev pub and_then : {A B : Type 0} → Result A Flaw → (A → Result B Flaw) → Result B Flaw
+abbrev pub and_then : {A B : Type 0} → Result A TokenError → (A → Result B TokenError) → Result B TokenError
 and_then (Ok a) next = next a
 and_then (Err flaw) next = Err flaw
 
 -- ---- a name more
 
 -- it is a name, and means nothing yet
-abbrev pub may_name : Procedures → Names → List ℕ → Result (Unit {0}) Flaw
+abbrev pub may_name : Procedures → Names → List ℕ → Result (Unit {0}) TokenError
 may_name procedures names name =
     if is_name name then (if is_some (known procedures names name) then refused no.Twice name else Ok tt) else refused no.NoName name
 
-abbrev pub with_constant : Procedures → Names → List ℕ → Binding → Result Names Flaw
+abbrev pub with_constant : Procedures → Names → List ℕ → Binding → Result Names TokenError
 with_constant procedures names name x = and_then (may_name procedures names name) (λ _. Ok (record names { constants = names.constants ++ (name, x) ∷ [] }))
 
 -- one more than the higher of a register's number and those before
@@ -98,7 +98,7 @@ abbrev pub name_register : Names → List ℕ → Bank → ℕ → Origin → Na
 name_register names name in_bank number by =
     record names { registers = names.registers ++ (name, binding.Register in_bank number by) ∷ []; rights = above in_bank number names.rights }
 
-abbrev pub with_register : Procedures → Names → List ℕ → Bank → ℕ → Origin → Result Names Flaw
+abbrev pub with_register : Procedures → Names → List ℕ → Bank → ℕ → Origin → Result Names TokenError
 with_register procedures names name in_bank number by =
     and_then (may_name procedures names name) (λ _. if nat_lt number 16 then Ok (name_register names name in_bank number by) else refused no.Limit name)
 
@@ -124,6 +124,6 @@ abbrev pub is_listed : Bank → ℕ → Table → Bool
 is_listed in_bank number [] = false
 is_listed in_bank number (entry ∷ table) = lists in_bank number entry.1 || is_listed in_bank number table
 
-abbrev pub with_listed : Procedures → Names → List ℕ → Bank → ℕ → Result Names Flaw
+abbrev pub with_listed : Procedures → Names → List ℕ → Bank → ℕ → Result Names TokenError
 with_listed procedures names name in_bank number =
     if is_listed in_bank number names.registers then refused no.Listed name else with_register procedures names name in_bank number origin.Listed

@@ -11,8 +11,8 @@ pub use Rattle.tw_code.specs.machine.Rights.{Typing, right_at}
 pub use Rattle.tw_words.proofs.Once.{blank_no_word, broken_no_line, first_word_once, first_words_more, line_once, word_here}
 pub use Rattle.tw_words.specs.Seen.{IsRead, seen}
 pub use Rattle.tw_words.specs.Words.{AreFirstWords, Bare, IsBlank, IsBroken, IsFirstWord, IsLine, IsWord, Quoted, Word}
-pub use Rattle.tw_words.specs.declared.numbers.Flaw.{Flaw}
-pub use Rattle.tw_words.specs.declared.numbers.Flaw.TheVariants.{Form, Limit}
+pub use Rattle.tw_words.specs.declared.numbers.TokenError.{TokenError}
+pub use Rattle.tw_words.specs.declared.numbers.TokenError.TheVariants.{Form, Limit}
 pub use Rattle.tw_asm.specs.Fault.{Begins, HasWords, LineFault, LineSays, LinesSay, ParserState, after_line, at_start, empty, instructions, label_twice, limit, operand, procedures, situation, situation_from, word}
 pub use Rattle.tw_asm.specs.Statement.{AnyName, AnyShortName, Code, HaveForm, Head, IsExpected, IsLabelWord, Label, OfVersion, Registers, Say, SpellParts, Spells, Statement, version_by}
 pub use Rattle.tw_asm.specs.reading.Lines.{Operand, Params, around, contained, each, each_from, ended, few, goal, joined, line_in, line_of, literal, natural, number, operand_in, param_of, params_from, put_first, right, statement_in, taken, target, type_in, under, value}

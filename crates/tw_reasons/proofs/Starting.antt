@@ -1,7 +1,7 @@
 -- Behind its first word a line is gone along just where some statement goes on so; and from wherever it stands some words end it.
 use Rattle.std.proofs.Common.{◌≡◌, ◌&&◌, ℕ, zero, suc, Bool, true, false, not, cond, List, [], ◌∷◌, codes, drop, Option, None, Some, Result, refl, sym, ap, ◌∙◌, inl, inr}
 use Rattle.std.specs.Cmp.{second_so}
-use Rattle.tw_reasons.proofs.ReasonNames.{AllByRecursion, Bare, Flaw, IsExpected, IsLabelWord, Quoted, Version, Word, behind_operand, bytes_eq, ends_at, first_read, form_behind, go_on, goes, has_form, slice_get}
+use Rattle.tw_reasons.proofs.ReasonNames.{AllByRecursion, Bare, TokenError, IsExpected, IsLabelWord, Quoted, Version, Word, behind_operand, bytes_eq, ends_at, first_read, form_behind, go_on, goes, has_form, slice_get}
 use Rattle.std.specs.Borrow.{Bor}
 use Rattle.std.specs.Option.{is_some, option_and_then}
 use Rattle.std.proofs.lemmas.Str.{IsUtf8-nil}
@@ -140,7 +140,7 @@ version_fits : has_form (natural_in 1 2 (Bare (codes "1"))) ≡ true
 unfolding digits_in
 version_fits = refl
 
-both_fit : {A B : Type 0} (a : Result A Flaw) (b : Result B Flaw) → has_form a ≡ true → has_form b ≡ true → has_form (both a b) ≡ true
+both_fit : {A B : Type 0} (a : Result A TokenError) (b : Result B TokenError) → has_form a ≡ true → has_form b ≡ true → has_form (both a b) ≡ true
 both_fit a b e f = form_both a b ∙ ap (λ (x : Bool). x && has_form b) e ∙ f
 
 behind_first : (f : OperandForm) (fs : List OperandForm) → lasts (f ∷ fs) ≡ true → lasts fs ≡ true

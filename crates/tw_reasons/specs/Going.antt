@@ -10,8 +10,8 @@ use Rattle.tw_code.specs.declared.form.Form.TheVariants as form
 use Rattle.tw_code.specs.declared.version.Version.{Version}
 use Rattle.tw_code.specs.format.Table.{forms_of, opcode_in}
 use Rattle.tw_words.specs.Words.{Word, Bare, Quoted}
-use Rattle.tw_words.specs.declared.numbers.Flaw.{Flaw}
-use Rattle.tw_words.specs.declared.numbers.Flaw.TheVariants as flaw
+use Rattle.tw_words.specs.declared.numbers.TokenError.{TokenError}
+use Rattle.tw_words.specs.declared.numbers.TokenError.TheVariants as flaw
 use Rattle.tw_asm.specs.reading.Lines.{kind_in}
 use Rattle.tw_asm.specs.reading.Operands.{container_in, mode_in, natural_in, number_in, register_in, scalar_in}
 use Rattle.tw_words.specs.Digits.{digits_in}
@@ -22,7 +22,7 @@ use Rattle.tw_reasons.specs.declared.step.Read.TheVariants as read
 -- ---- words
 
 -- it can be read, within its limits or not
-abbrev pub has_form : {A : Type 0} → Result A Flaw → Bool
+abbrev pub has_form : {A : Type 0} → Result A TokenError → Bool
 has_form (Ok a) = true
 has_form (Err flaw.Form) = false
 has_form (Err flaw.Limit) = true
@@ -54,7 +54,7 @@ is_operand form.Callee w = has_form (natural_in 0 255 w)
 is_operand form.Target w = is_any w || has_form (natural_in 0 15 w)
 is_operand form.Args w = false
 
-abbrev pub found : {A : Type 0} → Result A Flaw → Option A
+abbrev pub found : {A : Type 0} → Result A TokenError → Option A
 found (Ok a) = Some a
 found (Err flaw) = None
 

@@ -11,7 +11,7 @@ ghost use Rattle.tw_reasons.specs.Going.{found, has_form, is_any, is_goal, is_op
 
 use tw_code::{Form, Version};
 use tw_types::Mode;
-use tw_words::{Flaw, Word, digits, is_name, number};
+use tw_words::{TokenError, Word, digits, is_name, number};
 
 /// Whether limits are asked for too, or the form alone.
 #[derive(Clone, Copy)]
@@ -32,13 +32,13 @@ impl Ask {
     }
 
     /// Whether a number passes.
-    fn takes<N: Drop>(self, read: Result<N, Flaw>) -> bool
+    fn takes<N: Drop>(self, read: Result<N, TokenError>) -> bool
         ensures { self ≡ Ask.Form → result ≡ has_form read }
     {
         match read {
             Ok(_) => true,
-            Err(Flaw::Form) => false,
-            Err(Flaw::Limit) => self.takes_any(),
+            Err(TokenError::Form) => false,
+            Err(TokenError::Limit) => self.takes_any(),
         }
     }
 

@@ -3,8 +3,8 @@ use Rattle.std.proofs.Common.{◌≡◌, ℕ, Bool, true, false, cond, List, Opt
 use Rattle.std.specs.Int.{IsInRange}
 use Rattle.std.specs.Str.Parse.{digits_value}
 use Rattle.tw_words.specs.Number.{IsRead, SpellsDigits}
-use Rattle.tw_words.specs.declared.numbers.Flaw.{Flaw}
-use Rattle.tw_words.specs.declared.numbers.Flaw.TheVariants.{Form, Limit}
+use Rattle.tw_words.specs.declared.numbers.TokenError.{TokenError}
+use Rattle.tw_words.specs.declared.numbers.TokenError.TheVariants.{Form, Limit}
 use Rattle.tw_words.specs.Digits.{are_digits, is_within}
 use Rattle.tw_words.proofs.Decided.{digits_decide, within_decide}
 use Rattle.tw_report.specs.reading.Event.{number_in}
@@ -32,10 +32,10 @@ number_spelled low high n text e = by (are_digits text) (is_within low high (dig
 pub number_ok : (low high n : ℕ) (text : List ℕ) → IsRead (λ n. SpellsDigits n text) (IsInRange low high) (Ok n) → Some n ≡ number_in low high text
 number_ok low high n text h = sym (number_read low high n text h.0 h.1)
 
-pub number_err : (low high : ℕ) (text : List ℕ) (flaw : Flaw) → IsRead (λ n. SpellsDigits n text) (IsInRange low high) (Err flaw) → None ≡ number_in low high text
+pub number_err : (low high : ℕ) (text : List ℕ) (flaw : TokenError) → IsRead (λ n. SpellsDigits n text) (IsInRange low high) (Err flaw) → None ≡ number_in low high text
 number_err low high text flaw h = by flaw h (number_in low high text) refl
   where
-    by : (flaw : Flaw) → IsRead (λ n. SpellsDigits n text) (IsInRange low high) (Err flaw) → (o : Option ℕ) → number_in low high text ≡ o → None ≡ o
+    by : (flaw : TokenError) → IsRead (λ n. SpellsDigits n text) (IsInRange low high) (Err flaw) → (o : Option ℕ) → number_in low high text ≡ o → None ≡ o
     by flaw h None e = refl
     by Form h (Some n) e = absurd (h n (number_spelled low high n text e).0)
     by Limit h (Some n) e =

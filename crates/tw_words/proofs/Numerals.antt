@@ -12,8 +12,8 @@ use Rattle.std.specs.Int.{IsInRange}
 use Rattle.tw_words.proofs.Insides.{tail_is}
 use Rattle.tw_words.specs.Laws.{NumbersAreReadBack}
 use Rattle.tw_words.specs.Number.{IsIn64, IsRead, SpellsDigits, SpellsNumber}
-use Rattle.tw_words.specs.declared.numbers.Flaw.{Flaw}
-use Rattle.tw_words.specs.declared.numbers.Flaw.TheVariants.{Form, Limit}
+use Rattle.tw_words.specs.declared.numbers.TokenError.{TokenError}
+use Rattle.tw_words.specs.declared.numbers.TokenError.TheVariants.{Form, Limit}
 
 -- ---- the loop over the digits
 
@@ -73,7 +73,7 @@ pub size_fits : (size : ℕ) → IsIn64 (neg_ℤ (pos size)) → IsInRange 0 (2 
 size_fits zero h = (omega arith, omega arith)
 size_fits (suc n) h = (omega arith, omega (arith, h.sfits))
 
-pub negative_flaw : (text size : List ℕ) (flaw : Flaw) → text ≡ 45 ∷ size → IsRead (λ n. SpellsDigits n size) (IsInRange 0 (2 ^ 63)) (Err flaw) → IsRead (λ n. SpellsNumber n text) IsIn64 (Err flaw)
+pub negative_flaw : (text size : List ℕ) (flaw : TokenError) → text ≡ 45 ∷ size → IsRead (λ n. SpellsDigits n size) (IsInRange 0 (2 ^ 63)) (Err flaw) → IsRead (λ n. SpellsNumber n text) IsIn64 (Err flaw)
 negative_flaw text size Form is none = λ n spells. by n spells
   where
     by : (n : ℤ) → SpellsNumber n text → ⊥
@@ -84,7 +84,7 @@ negative_flaw text size Limit is (k, spells, out) = (neg_ℤ (pos k), inr (k, si
 plain_fits : (size : ℕ) → IsIn64 (pos size) → IsInRange 0 (2 ^ 63 - 1) size
 plain_fits size h = (omega arith, omega (arith, h.sfits))
 
-pub plain_flaw : (text : List ℕ) (flaw : Flaw) → ((rest : List ℕ) → text ≡ 45 ∷ rest → ⊥) → IsRead (λ n. SpellsDigits n text) (IsInRange 0 (2 ^ 63 - 1)) (Err flaw) → IsRead (λ n. SpellsNumber n text) IsIn64 (Err flaw)
+pub plain_flaw : (text : List ℕ) (flaw : TokenError) → ((rest : List ℕ) → text ≡ 45 ∷ rest → ⊥) → IsRead (λ n. SpellsDigits n text) (IsInRange 0 (2 ^ 63 - 1)) (Err flaw) → IsRead (λ n. SpellsNumber n text) IsIn64 (Err flaw)
 plain_flaw text Form unsigned none = λ n spells. by n spells
   where
     by : (n : ℤ) → SpellsNumber n text → ⊥

@@ -6,20 +6,20 @@ use Rattle.std.specs.Int.{IsInRange}
 use Rattle.std.specs.Str.Parse.{digits_value}
 use Rattle.tw_words.specs.Digits.{are_digits, as_is, digits_in, is_within, negative, signed_in}
 use Rattle.tw_words.specs.Number.{IsIn64, IsRead, SpellsDigits, SpellsNumber}
-use Rattle.tw_words.specs.declared.numbers.Flaw.{Flaw}
-use Rattle.tw_words.specs.declared.numbers.Flaw.TheVariants.{Form, Limit}
+use Rattle.tw_words.specs.declared.numbers.TokenError.{TokenError}
+use Rattle.tw_words.specs.declared.numbers.TokenError.TheVariants.{Form, Limit}
 use Rattle.tw_words.proofs.Decided.{digits_decide, within_decide}
 use Rattle.tw_words.proofs.Insides.{head_is, tail_is}
 use Rattle.tw_words.proofs.Numerals.{no_sign, one_number, one_size, size_fits}
 
 -- The value that is written, if it is allowed; or none is written; or one is, and none that is allowed.
-abbrev pub Reads : {A : Type 0} → (A → Type 0) → (A → Type 0) → Result A Flaw → Type 0
+abbrev pub Reads : {A : Type 0} → (A → Type 0) → (A → Type 0) → Result A TokenError → Type 0
 Reads Has May (Ok a) = Has a × May a
 Reads {A} Has May (Err Form) = (a : A) → Has a → ⊥
 Reads {A} Has May (Err Limit) = ((a : A) × Has a) × ((a : A) → Has a → May a → ⊥)
 
 -- two readings of a text that writes at most one value are equal
-pub same : {A : Type 0} (Has May : A → Type 0) → ((a b : A) → Has a → Has b → a ≡ b) → (r s : Result A Flaw) → IsRead Has May r → Reads Has May s → r ≡ s
+pub same : {A : Type 0} (Has May : A → Type 0) → ((a b : A) → Has a → Has b → a ≡ b) → (r s : Result A TokenError) → IsRead Has May r → Reads Has May s → r ≡ s
 same Has May one (Ok a) (Ok b) h k = ap (λ c. Ok c) (one a b h.0 k.0)
 same Has May one (Ok a) (Err Form) h k = absurd (k a h.0)
 same Has May one (Ok a) (Err Limit) h k = absurd (k.1 a h.0 h.1)
@@ -34,7 +34,7 @@ same Has May one (Err Limit) (Err Limit) h k = refl
 module _ {A B : Type 0} (make : A → B) (Has May : A → Type 0) (Has' May' : B → Type 0)
     (to : (a : A) → Has a → Has' (make a)) (back : (b : B) → Has' b → (a : A) × Has a × (b ≡ make a))
     (may : (a : A) → Has a → May a → May' (make a)) (may_back : (a : A) → Has a → May' (make a) → May a) where
-  pub carried : (r : Result A Flaw) → Reads Has May r → Reads Has' May' (as_is make r)
+  pub carried : (r : Result A TokenError) → Reads Has May r → Reads Has' May' (as_is make r)
   carried (Ok a) h = (to a h.0, may a h.0 h.1)
   carried (Err Form) h = λ b k. let x = back b k in h x.0 x.1
   carried (Err Limit) h = ((make h.0.0, to h.0.0 h.0.1), λ b k m. let x = back b k in h.1 x.0 x.1 (may_back x.0 x.1 (subst May' x.2 m)))
@@ -57,7 +57,7 @@ digits_read low high text = by (are_digits text) (is_within low high (digits_val
         no : false ≡ true → ⊥
         no e = cc
 
-pub digits_same : (low high : ℕ) (text : List ℕ) (r : Result ℕ Flaw) → IsRead (λ n. SpellsDigits n text) (IsInRange low high) r → r ≡ digits_in low high text
+pub digits_same : (low high : ℕ) (text : List ℕ) (r : Result ℕ TokenError) → IsRead (λ n. SpellsDigits n text) (IsInRange low high) r → r ≡ digits_in low high text
 digits_same low high text r h = same (λ n. SpellsDigits n text) (IsInRange low high) (λ a b. one_size a b text) r (digits_in low high text) h (digits_read low high text)
 
 -- ---- with a sign
@@ -105,5 +105,5 @@ signed_read (b ∷ rest) = by (b == 45) refl
         (λ k h. inl (k, h, refl)) (no_minus (apart is))
         (λ k h m. plain_fits k m) (λ k h m. plain_back k m) (digits_in 0 0x7FFFFFFFFFFFFFFF (b ∷ rest)) (digits_read 0 0x7FFFFFFFFFFFFFFF (b ∷ rest))
 
-pub signed_same : (text : List ℕ) (r : Result ℤ Flaw) → IsRead (λ n. SpellsNumber n text) IsIn64 r → r ≡ signed_in text
+pub signed_same : (text : List ℕ) (r : Result ℤ TokenError) → IsRead (λ n. SpellsNumber n text) IsIn64 r → r ≡ signed_in text
 signed_same text r h = same (λ n. SpellsNumber n text) IsIn64 (λ a b. one_number a b text) r (signed_in text) h (signed_read text)

@@ -2,8 +2,8 @@
 use Rattle.std.specs.Prelude.{ℕ, ℤ, pos, neg_ℤ, Bool, true, false, ◌&&◌, ◌==◌, nat_lt, if◌then◌else◌, List, [], ◌∷◌, Result, Ok, Err}
 use Rattle.std.specs.Char.{digit_value}
 use Rattle.std.specs.Str.Parse.{digits_value}
-use Rattle.tw_words.specs.declared.numbers.Flaw.{Flaw}
-use Rattle.tw_words.specs.declared.numbers.Flaw.TheVariants.{Form, Limit}
+use Rattle.tw_words.specs.declared.numbers.TokenError.{TokenError}
+use Rattle.tw_words.specs.declared.numbers.TokenError.TheVariants.{Form, Limit}
 
 abbrev pub all_digits : List ℕ → Bool
 all_digits [] = true
@@ -19,18 +19,18 @@ is_within low high n = if nat_lt n low then false else if nat_lt high n then fal
 -- ---- results of reading
 
 -- converts a result
-abbrev pub as_is : {A B : Type 0} → (A → B) → Result A Flaw → Result B Flaw
+abbrev pub as_is : {A B : Type 0} → (A → B) → Result A TokenError → Result B TokenError
 as_is make (Ok a) = Ok (make a)
 as_is make (Err e) = Err e
 
 -- returns the number that digits write, if it is between these limits
-unfoldable pub digits_in : ℕ → ℕ → List ℕ → Result ℕ Flaw
+unfoldable pub digits_in : ℕ → ℕ → List ℕ → Result ℕ TokenError
 digits_in low high text = if are_digits text then (if is_within low high (digits_value 10 text) then Ok (digits_value 10 text) else Err Limit) else Err Form
 
 abbrev pub negative : ℕ → ℤ
 negative n = neg_ℤ (pos n)
 
 -- returns the number that a text writes, if it fits 64 bits
-unfoldable pub signed_in : List ℕ → Result ℤ Flaw
+unfoldable pub signed_in : List ℕ → Result ℤ TokenError
 signed_in [] = Err Form
 signed_in (b ∷ rest) = if b == 45 then as_is negative (digits_in 0 0x8000000000000000 rest) else as_is pos (digits_in 0 0x7FFFFFFFFFFFFFFF (b ∷ rest))

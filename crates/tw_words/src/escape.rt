@@ -20,7 +20,7 @@ pub enum Escape {
 
 /// The effect of the next byte of a quoted text.
 #[derive(Clone, Copy)]
-pub enum Says {
+pub enum ByteEffect {
     /// It ends the text.
     End,
     /// It isn't allowed there.
@@ -44,30 +44,30 @@ fn hex_value(byte: u8) -> Option<u8>
 
 /// Returns the effect of a byte after this much of an escape.
 #[tactic(auto, unfolding(crate::specs::reading::Inside::inside_from))]
-pub fn read_byte(escape: Escape, byte: u8) -> Says
+pub fn read_byte(escape: Escape, byte: u8) -> ByteEffect
     requires { IsInEscape escape }
     ensures goes_on { (rest : List ℕ) → inside_from escape (byte ∷ rest) ≡ read_on result rest }
     ensures escape { KeepsEscape result }
 {
     match escape {
         Escape::Nothing => match byte {
-            b'"' => Says::End,
-            b'\\' => Says::Into(Escape::Slash),
-            _ => Says::Byte(byte),
+            b'"' => ByteEffect::End,
+            b'\\' => ByteEffect::Into(Escape::Slash),
+            _ => ByteEffect::Byte(byte),
         },
         Escape::Slash => match byte {
-            b'"' | b'\\' => Says::Byte(byte),
-            b'n' => Says::Byte(b'\n'),
-            b'x' => Says::Into(Escape::Hex),
-            _ => Says::Wrong,
+            b'"' | b'\\' => ByteEffect::Byte(byte),
+            b'n' => ByteEffect::Byte(b'\n'),
+            b'x' => ByteEffect::Into(Escape::Hex),
+            _ => ByteEffect::Wrong,
         },
         Escape::Hex => match hex_value(byte) {
-            Some(digit) if digit < 8 => Says::Into(Escape::Digit(digit)),
-            _ => Says::Wrong,
+            Some(digit) if digit < 8 => ByteEffect::Into(Escape::Digit(digit)),
+            _ => ByteEffect::Wrong,
         },
         Escape::Digit(first) => match hex_value(byte) {
-            Some(digit) => Says::Byte(16 * first + digit),
-            None => Says::Wrong,
+            Some(digit) => ByteEffect::Byte(16 * first + digit),
+            None => ByteEffect::Wrong,
         },
     }
 }

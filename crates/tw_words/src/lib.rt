@@ -4,7 +4,7 @@
 //! words are separated by spaces, tabs and carriage returns. A `;` outside a quoted text begins a comment.
 #![tactic(auto)]
 
-mod behind;
+mod append;
 mod escape;
 mod first;
 mod hash;
@@ -16,13 +16,13 @@ mod quoted;
 mod shown;
 mod word;
 
-pub use behind::{put, put_both, put_decimal, put_numbered, put_signed};
+pub use append::{put, put_both, put_decimal, put_numbered, put_signed};
 pub use first::after;
 pub use hash::TextHash;
 pub use laws::{numbers_are_read_back, quoted_texts_are_read_back};
 pub use lines::line_numbered;
 pub use names::{before, before_colon, is_name};
-pub use numbers::{Flaw, digits, number};
+pub use numbers::{TokenError, digits, number};
 pub use quoted::{put_quoted, quoted_text};
 pub use shown::{begins_character, put_shortened, put_shortened_quoted};
 pub use word::{Line, Next, Word, next_word, without_gap, words_of};

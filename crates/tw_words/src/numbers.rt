@@ -10,7 +10,7 @@ use crate::first::after;
 
 /// The error of a text that isn't the number that is expected, or of words that aren't a statement.
 #[derive(Clone, Copy, Debug, PartialEq, Eq)]
-pub enum Flaw {
+pub enum TokenError {
     /// It has another form, or there are too few or too many words.
     Form,
     /// A number, a count, a nesting of containers, a name or a text is out of its limits.
@@ -28,21 +28,21 @@ fn digit_of(byte: u8) -> Option<u8>
 
 /// Returns the number between these limits that the digits write. Fails with `Form` if they aren't digits, with `Limit` if the number is out of the
 /// limits.
-pub fn digits(text: &[u8], low: u64, high: u64) -> Result<u64, Flaw>
+pub fn digits(text: &[u8], low: u64, high: u64) -> Result<u64, TokenError>
     ensures { IsRead (λ n. SpellsDigits n text.now) (IsInRange low high) result }
 {
     let past = u128::from(high) + 1;
     let mut value = 0;
     for byte in text {
         let Some(digit) = digit_of(*byte) else {
-            return Err(Flaw::Form);
+            return Err(TokenError::Form);
         };
         value = past.min(10 * value + u128::from(digit));
     }
     if text.is_empty() {
-        Err(Flaw::Form)
+        Err(TokenError::Form)
     } else if value == past || value < u128::from(low) {
-        Err(Flaw::Limit)
+        Err(TokenError::Limit)
     } else {
         Ok(value as u64)
     }
@@ -56,7 +56,7 @@ fn negated(size: u64) -> i64
 }
 
 /// Returns the number that the text writes: digits, with or without `-` before them. Fails with `Limit` if it doesn't fit 64 bits.
-pub fn number(text: &[u8]) -> Result<i64, Flaw>
+pub fn number(text: &[u8]) -> Result<i64, TokenError>
     ensures { IsRead (λ n. SpellsNumber n text.now) IsIn64 result }
 {
     match after(b"-", text) {

@@ -6,7 +6,7 @@ ghost use Rattle.tw_words.specs.Quoted.{BeginsQuoted, escaped, hex_digit, quoted
 ghost use Rattle.tw_words.specs.declared.escape.Escape.TheVariants.{Nothing};
 ghost use Rattle.tw_words.specs.reading.Inside.{inside_from};
 
-use crate::escape::{Escape, Says, read_byte};
+use crate::escape::{ByteEffect, Escape, read_byte};
 use crate::first::after;
 use std::alloc::{AllocError, Global};
 
@@ -21,10 +21,10 @@ fn inside<'a>(text: &mut Vec<u8>, bytes: &'a [u8]) -> Result<Option<&'a [u8]>, A
     for byte in bytes {
         count += 1;
         match read_byte(escape, *byte) {
-            Says::End => return Ok(Some(&bytes[count..])),
-            Says::Wrong => return Ok(None),
-            Says::Into(next) => escape = next,
-            Says::Byte(whole) => {
+            ByteEffect::End => return Ok(Some(&bytes[count..])),
+            ByteEffect::Wrong => return Ok(None),
+            ByteEffect::Into(next) => escape = next,
+            ByteEffect::Byte(whole) => {
                 text.push(whole)?;
                 escape = Escape::Nothing;
             }

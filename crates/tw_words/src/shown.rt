@@ -3,7 +3,7 @@
 ghost use Rattle.std.specs.Prelude.{◌≡◌, ◌++◌, OnOk};
 ghost use Rattle.tw_words.specs.Shown.{begins_character, cut_mark, first_characters, shortened, shortened_quoted};
 
-use crate::behind::put;
+use crate::append::put;
 use crate::quoted::put_quoted_bytes;
 use std::alloc::AllocError;
 

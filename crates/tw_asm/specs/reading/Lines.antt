@@ -13,8 +13,8 @@ use Rattle.tw_asm.specs.Parts.{kind_word}
 use Rattle.tw_asm.specs.Seen.{Read, bytes_of}
 use Rattle.tw_asm.specs.Statement as said
 use Rattle.tw_asm.specs.declared.statement.Unlinked.{Unlinked}
-use Rattle.tw_words.specs.declared.numbers.Flaw.{Flaw}
-use Rattle.tw_words.specs.declared.numbers.Flaw.TheVariants.{Form, Limit}
+use Rattle.tw_words.specs.declared.numbers.TokenError.{TokenError}
+use Rattle.tw_words.specs.declared.numbers.TokenError.TheVariants.{Form, Limit}
 use Rattle.tw_asm.specs.declared.refusal.Refusal.{Refusal}
 use Rattle.tw_asm.specs.declared.refusal.Refusal.TheVariants as refusal
 use Rattle.tw_asm.specs.reading.Operands.{both, natural_in, register_in, number_in, literal_in, target_in, name_in, Goal, goal_in, scalar_in, container_in, mode_in}
@@ -32,53 +32,53 @@ use Rattle.tw_types.specs.declared.param.Param.{Param}
 -- ---- several words
 
 -- one more item
-abbrev pub joined : {A : Type 0} → Result (List A) Flaw → Result A Flaw → Result (List A) Flaw
+abbrev pub joined : {A : Type 0} → Result (List A) TokenError → Result A TokenError → Result (List A) TokenError
 joined items item = as_is (λ x. x.0 ++ (x.1 ∷ [])) (both items item)
 
 -- an item a word
-abbrev pub each_from : {A : Type 0} → (Word → Result A Flaw) → Result (List A) Flaw → List Word → Result (List A) Flaw
+abbrev pub each_from : {A : Type 0} → (Word → Result A TokenError) → Result (List A) TokenError → List Word → Result (List A) TokenError
 each_from read items [] = items
 each_from read items (w ∷ ws) = each_from read (joined items (read w)) ws
 
-abbrev pub each : {A : Type 0} → (Word → Result A Flaw) → List Word → Result (List A) Flaw
+abbrev pub each : {A : Type 0} → (Word → Result A TokenError) → List Word → Result (List A) TokenError
 each read ws = each_from read (Ok []) ws
 
 -- at most so many
-abbrev pub few : {A : Type 0} → ℕ → Result (List A) Flaw → Result (List A) Flaw
+abbrev pub few : {A : Type 0} → ℕ → Result (List A) TokenError → Result (List A) TokenError
 few most (Ok items) = if nat_lt most (length items) then Err Limit else Ok items
 few most (Err e) = Err e
 
 -- ---- types and parameters, from the last word on
 
 -- a container with such subscripts around data of this type
-abbrev pub around : Result (Scalar × NestedScalar) Flaw → Result NestedScalar Flaw
+abbrev pub around : Result (Scalar × NestedScalar) TokenError → Result NestedScalar TokenError
 around (Ok x) = if nat_lt (depth_of x.1) 3 then Ok (container_of x.0 x.1) else Err Limit
 around (Err e) = Err e
 
-abbrev pub contained : Result Scalar Flaw → Result NestedScalar Flaw → Result NestedScalar Flaw
+abbrev pub contained : Result Scalar TokenError → Result NestedScalar TokenError → Result NestedScalar TokenError
 contained by ty = around (both by ty)
 
 -- one word more before a type, or its last one
-abbrev pub typed : Version → Word → Option (Result NestedScalar Flaw) → Result NestedScalar Flaw
+abbrev pub typed : Version → Word → Option (Result NestedScalar TokenError) → Result NestedScalar TokenError
 typed version w None = as_is scalar_type (scalar_in w)
 typed version w (Some ty) = contained (container_in version w) ty
 
-abbrev pub type_from : Version → List Word → Option (Result NestedScalar Flaw)
+abbrev pub type_from : Version → List Word → Option (Result NestedScalar TokenError)
 type_from version [] = None
 type_from version (w ∷ ws) = Some (typed version w (type_from version ws))
 
 -- a scalar, and containers before it
-abbrev pub type_in : Version → List Word → Result NestedScalar Flaw
+abbrev pub type_in : Version → List Word → Result NestedScalar TokenError
 type_in version ws = whole (type_from version ws)
   where
-    whole : Option (Result NestedScalar Flaw) → Result NestedScalar Flaw
+    whole : Option (Result NestedScalar TokenError) → Result NestedScalar TokenError
     whole None = Err Form
     whole (Some ty) = ty
 
 -- parameters, and before them a type whose mode is due
 pub record Params : Type 0 where
-  pub whole : Result (List Param) Flaw
-  pub begun : Option (Result NestedScalar Flaw)
+  pub whole : Result (List Param) TokenError
+  pub begun : Option (Result NestedScalar TokenError)
 
 abbrev pub no_params : Params
 no_params = record { whole = Ok []; begun = None }
@@ -86,12 +86,12 @@ no_params = record { whole = Ok []; begun = None }
 abbrev pub broken : Params
 broken = record { whole = Err Form; begun = None }
 
-abbrev pub begins : Result (List Param) Flaw → Result Scalar Flaw → Params
+abbrev pub begins : Result (List Param) TokenError → Result Scalar TokenError → Params
 begins whole (Ok scalar) = record { whole = whole; begun = Some (Ok (scalar_type scalar)) }
 begins whole (Err e) = broken
 
 -- no container stands under `val`
-abbrev pub under : Mode → Result NestedScalar Flaw → Result NestedScalar Flaw
+abbrev pub under : Mode → Result NestedScalar TokenError → Result NestedScalar TokenError
 under Val (Ok ty) = if is_scalar ty then Ok ty else Err Form
 under Val (Err e) = Err Form
 under Closed ty = ty
@@ -102,14 +102,14 @@ abbrev pub param_of : Mode → NestedScalar → Param
 param_of mode ty = record { mode = mode; ty = ty }
 
 -- one item more before the others
-abbrev pub put_first : {A : Type 0} → Result A Flaw → Result (List A) Flaw → Result (List A) Flaw
+abbrev pub put_first : {A : Type 0} → Result A TokenError → Result (List A) TokenError → Result (List A) TokenError
 put_first item items = as_is (λ x. x.0 ∷ x.1) (both item items)
 
-abbrev pub ends : Result (List Param) Flaw → Result NestedScalar Flaw → Result Mode Flaw → Params
+abbrev pub ends : Result (List Param) TokenError → Result NestedScalar TokenError → Result Mode TokenError → Params
 ends whole ty (Ok mode) = record { whole = put_first (as_is (param_of mode) (under mode ty)) whole; begun = None }
 ends whole ty (Err e) = broken
 
-abbrev pub goes_on : Result (List Param) Flaw → Result NestedScalar Flaw → Result Scalar Flaw → Result Mode Flaw → Params
+abbrev pub goes_on : Result (List Param) TokenError → Result NestedScalar TokenError → Result Scalar TokenError → Result Mode TokenError → Params
 goes_on whole ty (Ok by) mode = record { whole = whole; begun = Some (contained (Ok by) ty) }
 goes_on whole ty (Err e) mode = ends whole ty mode
 
@@ -117,7 +117,7 @@ goes_on whole ty (Err e) mode = ends whole ty mode
 abbrev pub taken : Version → Word → Params → Params
 taken version w params = by params.whole params.begun
   where
-    by : Result (List Param) Flaw → Option (Result NestedScalar Flaw) → Params
+    by : Result (List Param) TokenError → Option (Result NestedScalar TokenError) → Params
     by whole None = begins whole (scalar_in w)
     by whole (Some ty) = goes_on whole ty (container_in version w) (mode_in w)
 
@@ -126,10 +126,10 @@ params_from version [] = no_params
 params_from version (w ∷ ws) = taken version w (params_from version ws)
 
 -- no type is left without its mode
-abbrev pub ended : Params → Result (List Param) Flaw
+abbrev pub ended : Params → Result (List Param) TokenError
 ended params = by params.begun
   where
-    by : Option (Result NestedScalar Flaw) → Result (List Param) Flaw
+    by : Option (Result NestedScalar TokenError) → Result (List Param) TokenError
     by None = params.whole
     by (Some ty) = Err Form
 
@@ -151,7 +151,7 @@ Content (natural low high) = ℕ
 Content literal = List ℕ
 Content target = Option ℕ
 
-abbrev pub operand_in : (o : Operand) → Word → Result (Content o) Flaw
+abbrev pub operand_in : (o : Operand) → Word → Result (Content o) TokenError
 operand_in value w = register_in 118 w
 operand_in right w = register_in 100 w
 operand_in number w = number_in w
@@ -177,7 +177,7 @@ LineContent args = List ℕ
 LineContent (more o l) = Content o × LineContent l
 LineContent never = ⊥
 
-abbrev pub line_in : (l : Line) → List Word → Result (LineContent l) Flaw
+abbrev pub line_in : (l : Line) → List Word → Result (LineContent l) TokenError
 line_in nothing [] = Ok tt
 line_in nothing (w ∷ ws) = Err Form
 line_in goal [] = Err Form
@@ -237,10 +237,10 @@ abbrev pub row_of : Version → Opcode → Row
 row_of version o = row_by version (table.row_of o)
 
 -- an instruction, and the label that it names
-abbrev pub draft_by : Row → List Word → Result (Instr × Option (List ℕ)) Flaw
+abbrev pub draft_by : Row → List Word → Result (Instr × Option (List ℕ)) TokenError
 draft_by (row l make) ws = as_is (λ x. (make x, label_in l x)) (line_in l ws)
 
-abbrev pub draft_in : Version → Opcode → List Word → Result (Instr × Option (List ℕ)) Flaw
+abbrev pub draft_in : Version → Opcode → List Word → Result (Instr × Option (List ℕ)) TokenError
 draft_in version o ws = draft_by (row_of version o) ws
 
 -- ---- statements
@@ -248,47 +248,47 @@ draft_in version o ws = draft_by (row_of version o) ws
 abbrev pub version_read : ℕ → Read
 version_read n = record { statement = said.OfVersion (said.version_number (said.version_by n)); goal = None }
 
-abbrev pub version_in : List Word → Result Read Flaw
+abbrev pub version_in : List Word → Result Read TokenError
 version_in [] = Err Form
 version_in (w ∷ []) = as_is version_read (natural_in 1 2 w)
 version_in (w ∷ x ∷ ws) = Err Form
 
-abbrev pub kind_in : Word → Result Kind Flaw
+abbrev pub kind_in : Word → Result Kind TokenError
 kind_in (Bare text) = if bytes_eq text (kind_word Control) then Ok Control else if bytes_eq text (kind_word Leaf) then Ok Leaf else Err Form
 kind_in (Quoted text) = Err Form
 
 abbrev pub head_read : Kind × List Param → Read
 head_read x = record { statement = said.Head x.0 x.1; goal = None }
 
-abbrev pub head_in : Version → List Word → Result Read Flaw
+abbrev pub head_in : Version → List Word → Result Read TokenError
 head_in version [] = Err Form
 head_in version (w ∷ ws) = as_is head_read (both (kind_in w) (few 8 (ended (params_from version ws))))
 
 abbrev pub registers_read : List Scalar → Read
 registers_read registers = record { statement = said.Registers registers; goal = None }
 
-abbrev pub registers_in : List Word → Result Read Flaw
+abbrev pub registers_in : List Word → Result Read TokenError
 registers_in ws = as_is registers_read (few 16 (each scalar_in ws))
 
 abbrev pub label_read : List ℕ → Read
 label_read name = record { statement = said.Label name; goal = None }
 
-abbrev pub named_in : Option (List ℕ) → Result Read Flaw
+abbrev pub named_in : Option (List ℕ) → Result Read TokenError
 named_in None = Err Form
 named_in (Some name) = as_is label_read (name_in name)
 
-abbrev pub label_line : List ℕ → List Word → Result Read Flaw
+abbrev pub label_line : List ℕ → List Word → Result Read TokenError
 label_line word [] = named_in (before_colon word)
 label_line word (w ∷ ws) = Err Form
 
 abbrev pub code_read : Instr × Option (List ℕ) → Read
 code_read x = record { statement = said.Code x.0; goal = x.1 }
 
-abbrev pub body_in : Version → Option Opcode → List ℕ → List Word → Result Read Flaw
+abbrev pub body_in : Version → Option Opcode → List ℕ → List Word → Result Read TokenError
 body_in version (Some o) word ws = as_is code_read (draft_in version o ws)
 body_in version None word ws = label_line word ws
 
-unfoldable pub statement_in : Version → List Word → Result Read Flaw
+unfoldable pub statement_in : Version → List Word → Result Read TokenError
 statement_in version [] = Err Form
 statement_in version (Quoted text ∷ ws) = Err Form
 statement_in version (Bare word ∷ ws) =
@@ -303,11 +303,11 @@ abbrev pub drafted : Unlinked → Instr × Option (List ℕ)
 drafted draft = (draft.instr, bytes_of draft.goal)
 
 -- the reading fails as the function did
-abbrev pub Fails : {Y : Type 0} → Refusal → Result Y Flaw → Type 0
+abbrev pub Fails : {Y : Type 0} → Refusal → Result Y TokenError → Type 0
 Fails refusal.NoMemory read = Unit {0}
 Fails (refusal.Flawed flaw) read = read ≡ Err flaw
 
 -- What a function returned, seen by view, is what reading gives, unless memory ran out.
-abbrev pub Gives : {X Y : Type 0} → (X → Y) → Result X Refusal → Result Y Flaw → Type 0
+abbrev pub Gives : {X Y : Type 0} → (X → Y) → Result X Refusal → Result Y TokenError → Type 0
 Gives view (Ok x) read = read ≡ Ok (view x)
 Gives view (Err e) read = Fails e read

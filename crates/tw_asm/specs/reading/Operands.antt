@@ -7,15 +7,15 @@ use Rattle.tw_words.specs.Words.{Word, Bare, Quoted}
 use Rattle.tw_words.specs.Digits.{as_is, digits_in, signed_in}
 use Rattle.tw_words.specs.Names.{is_name}
 use Rattle.tw_asm.specs.Parts.{container_word, mode_word, scalar_word}
-use Rattle.tw_words.specs.declared.numbers.Flaw.{Flaw}
-use Rattle.tw_words.specs.declared.numbers.Flaw.TheVariants.{Form, Limit}
+use Rattle.tw_words.specs.declared.numbers.TokenError.{TokenError}
+use Rattle.tw_words.specs.declared.numbers.TokenError.TheVariants.{Form, Limit}
 use Rattle.tw_types.specs.declared.data_type.Scalar.{Scalar}
 use Rattle.tw_types.specs.declared.data_type.Scalar.TheVariants as scalar
 use Rattle.tw_types.specs.declared.param.Mode.{Mode}
 use Rattle.tw_types.specs.declared.param.Mode.TheVariants.{Val, Closed, Ref, Write}
 
 -- two after one another: a wrong form goes before a limit
-abbrev pub both : {A B : Type 0} → Result A Flaw → Result B Flaw → Result (A × B) Flaw
+abbrev pub both : {A B : Type 0} → Result A TokenError → Result B TokenError → Result (A × B) TokenError
 both r (Err Form) = Err Form
 both (Ok a) (Ok b) = Ok (a, b)
 both (Err e) (Ok b) = Err e
@@ -24,31 +24,31 @@ both (Err e) (Err Limit) = Err e
 
 -- ---- one word
 
-abbrev pub natural_in : ℕ → ℕ → Word → Result ℕ Flaw
+abbrev pub natural_in : ℕ → ℕ → Word → Result ℕ TokenError
 natural_in low high (Bare text) = digits_in low high text
 natural_in low high (Quoted text) = Err Form
 
 -- a register, behind its letter
-abbrev pub register_in : ℕ → Word → Result ℕ Flaw
+abbrev pub register_in : ℕ → Word → Result ℕ TokenError
 register_in letter (Bare []) = Err Form
 register_in letter (Bare (b ∷ rest)) = if b == letter then digits_in 0 15 rest else Err Form
 register_in letter (Quoted text) = Err Form
 
-abbrev pub number_in : Word → Result ℤ Flaw
+abbrev pub number_in : Word → Result ℤ TokenError
 number_in (Bare text) = signed_in text
 number_in (Quoted text) = Err Form
 
-abbrev pub literal_in : Word → Result (List ℕ) Flaw
+abbrev pub literal_in : Word → Result (List ℕ) TokenError
 literal_in (Bare text) = Err Form
 literal_in (Quoted text) = if nat_lt 4096 (length text) then Err Limit else Ok text
 
-abbrev pub target_in : Word → Result (Option ℕ) Flaw
+abbrev pub target_in : Word → Result (Option ℕ) TokenError
 target_in (Bare text) = if bytes_eq text (codes "any") then Ok None else as_is (λ n. Some n) (digits_in 0 15 text)
 target_in (Quoted text) = Err Form
 
 -- ---- names of labels
 
-unfoldable pub name_in : List ℕ → Result (List ℕ) Flaw
+unfoldable pub name_in : List ℕ → Result (List ℕ) TokenError
 name_in text = if is_name text then (if nat_lt 64 (length text) then Err Limit else Ok text) else Err Form
 
 -- where an instruction goes on: so many further, or at a label, and the number is 0 then
@@ -62,31 +62,31 @@ further skip = record { skip = skip; label = None }
 abbrev pub at_label : List ℕ → Goal
 at_label name = record { skip = 0; label = Some name }
 
-abbrev pub goal_in : Word → Result Goal Flaw
+abbrev pub goal_in : Word → Result Goal TokenError
 goal_in (Bare []) = Err Form
 goal_in (Bare (b ∷ rest)) = if b == 43 then as_is further (digits_in 0 65535 rest) else as_is at_label (name_in (b ∷ rest))
 goal_in (Quoted text) = Err Form
 
 -- ---- words of types
 
-abbrev pub scalar_in : Word → Result Scalar Flaw
+abbrev pub scalar_in : Word → Result Scalar TokenError
 scalar_in (Bare text) = if bytes_eq text (scalar_word scalar.Int) then Ok scalar.Int else if bytes_eq text (scalar_word scalar.Text) then Ok scalar.Text else Err Form
 scalar_in (Quoted text) = Err Form
 
 -- version 1 has no container whose subscripts are texts
-abbrev pub text_container : Version → Result Scalar Flaw
+abbrev pub text_container : Version → Result Scalar TokenError
 text_container One = Err Form
 text_container Two = Ok scalar.Text
 
 -- a container, by the type of its subscripts
-abbrev pub container_in : Version → Word → Result Scalar Flaw
+abbrev pub container_in : Version → Word → Result Scalar TokenError
 container_in version (Bare text) =
     if bytes_eq text (container_word scalar.Int) then Ok scalar.Int else
     if bytes_eq text (container_word scalar.Text) then text_container version else
     Err Form
 container_in version (Quoted text) = Err Form
 
-abbrev pub mode_in : Word → Result Mode Flaw
+abbrev pub mode_in : Word → Result Mode TokenError
 mode_in (Bare text) =
     if bytes_eq text (mode_word Val) then Ok Val else
     if bytes_eq text (mode_word Closed) then Ok Closed else

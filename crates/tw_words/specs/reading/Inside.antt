@@ -3,8 +3,8 @@ use Rattle.std.specs.Prelude.{◌==◌, ◌<◌, ◌+◌, ◌*◌, ℕ, List, []
 use Rattle.std.specs.Char.{digit_value}
 use Rattle.tw_words.specs.declared.escape.Escape.{Escape}
 use Rattle.tw_words.specs.declared.escape.Escape.TheVariants.{Nothing, Slash, Hex, Digit}
-use Rattle.tw_words.specs.declared.escape.Says.{Says}
-use Rattle.tw_words.specs.declared.escape.Says.TheVariants.{End, Wrong, Into, Byte}
+use Rattle.tw_words.specs.declared.escape.ByteEffect.{ByteEffect}
+use Rattle.tw_words.specs.declared.escape.ByteEffect.TheVariants.{End, Wrong, Into, Byte}
 
 -- a text, and the bytes after its closing quote
 abbrev pub Found : Type 0
@@ -41,14 +41,14 @@ IsInEscape Slash = Unit {0}
 IsInEscape Hex = Unit {0}
 IsInEscape (Digit first) = first < 8
 
-abbrev pub KeepsEscape : Says → Type 0
+abbrev pub KeepsEscape : ByteEffect → Type 0
 KeepsEscape End = Unit {0}
 KeepsEscape Wrong = Unit {0}
 KeepsEscape (Into escape) = IsInEscape escape
 KeepsEscape (Byte b) = Unit {0}
 
 -- returns the result after a byte with this effect
-abbrev pub read_on : Says → List ℕ → Found
+abbrev pub read_on : ByteEffect → List ℕ → Found
 read_on End rest = Some ([], rest)
 read_on Wrong rest = None
 read_on (Into escape) rest = inside_from escape rest
