@@ -6,7 +6,7 @@ ghost use Rattle.tw_rights.specs.Rights.{Right};
 ghost use Rattle.tw_rules.specs.Table.{told};
 
 use crate::parts::Parts;
-use tw_rules::PlainRule;
+use tw_rules::ErasedRule;
 use tw_store::Store;
 use tw_types::DatumId;
 
@@ -16,7 +16,7 @@ use tw_types::DatumId;
 pub struct Remains {
     pub store: Store,
     pub outputs: Vec<DatumId>,
-    pub pending: Vec<PlainRule>,
+    pub pending: Vec<ErasedRule>,
 }
 
 impl<'a> Parts<'a> {

@@ -19,8 +19,8 @@ use Rattle.tw_rights.specs.Bare.{bare_arg, bare_rule}
 use Rattle.tw_rights.specs.declared.arg.Arg.{Arg}
 use Rattle.tw_rights.specs.declared.arg.Arg.TheVariants.{Val, Read, Write}
 use Rattle.tw_rights.specs.Rights.{Right}
-use Rattle.tw_rules.specs.declared.plain.PlainArg.{PlainArg}
-use Rattle.tw_rules.specs.Table.{plain_arg, told}
+use Rattle.tw_rules.specs.declared.erased.ErasedArg.{ErasedArg}
+use Rattle.tw_rules.specs.Table.{erased_arg, told}
 use Rattle.tw_store.specs.Slots.{Places}
 use Rattle.tw_code.specs.declared.procedure.Procedure.{Procedure}
 use Rattle.tw_code.specs.machine.Arguments.{params_of}
@@ -35,7 +35,7 @@ waits_none : (stages : List Stage) → waits_in stages [] ≡ []
 waits_none [] = refl
 waits_none (s ∷ stages) = refl
 
-pub waits_step : (stages : List Stage) (i : ℕ) (stage : Stage) (rest others : List PlainArg) (arg : PlainArg) (ids new whole : List ℕ) → i < length stages → rest ≡ arg ∷ others → new ≡ ids ++ waited_at (get_or stages i stage) arg
+pub waits_step : (stages : List Stage) (i : ℕ) (stage : Stage) (rest others : List ErasedArg) (arg : ErasedArg) (ids new whole : List ℕ) → i < length stages → rest ≡ arg ∷ others → new ≡ ids ++ waited_at (get_or stages i stage) arg
     → ids ++ waits_in (drop i stages) rest ≡ whole → new ++ waits_in (drop (i + 1) stages) others ≡ whole
 waits_step stages i stage rest others arg ids new whole inside is made before =
     let one = get_or stages i stage in
@@ -43,27 +43,27 @@ waits_step stages i stage rest others arg ids new whole inside is made before =
     ap (λ (t : List ℕ). t ++ waits_in (drop (i + 1) stages) others) made
     ∙ append_assoc ids (waited_at one arg) (waits_in (drop (i + 1) stages) others)
     ∙ ap (λ (ss : List Stage). ids ++ waits_in ss (arg ∷ others)) (sym next)
-    ∙ ap (λ (given : List PlainArg). ids ++ waits_in (drop i stages) given) (sym is)
+    ∙ ap (λ (given : List ErasedArg). ids ++ waits_in (drop i stages) given) (sym is)
     ∙ before
 
-pub waits_end : (stages : List Stage) (rest : List PlainArg) (ids whole : List ℕ) → length rest ≡ 0 → ids ++ waits_in stages rest ≡ whole → ids ≡ whole
+pub waits_end : (stages : List Stage) (rest : List ErasedArg) (ids whole : List ℕ) → length rest ≡ 0 → ids ++ waits_in stages rest ≡ whole → ids ≡ whole
 waits_end stages [] ids whole none before = sym (append-nil ids) ∙ ap (λ (t : List ℕ). ids ++ t) (sym (waits_none stages)) ∙ before
 waits_end stages (arg ∷ rest) ids whole none before = absurd (omega (arith, none))
 
 -- ---- one rule
 
-waits_are : (stages : List Stage) (args : List Arg) → waits_in stages (map plain_arg args) ≡ waited_for stages (map bare_arg args)
+waits_are : (stages : List Stage) (args : List Arg) → waits_in stages (map erased_arg args) ≡ waited_for stages (map bare_arg args)
 waits_are [] args = refl
 waits_are (stage ∷ stages) [] = refl
 waits_are (stage ∷ stages) (Val value ∷ args) = waits_are stages args
 waits_are (stage ∷ stages) (Read right ∷ args) = by (is_waiting stage) (waits_are stages args)
   where
-    by : (b : Bool) → waits_in stages (map plain_arg args) ≡ waited_for stages (map bare_arg args) → cond b (right.id ∷ []) [] ++ waits_in stages (map plain_arg args) ≡ cond b (right.id ∷ waited_for stages (map bare_arg args)) (waited_for stages (map bare_arg args))
+    by : (b : Bool) → waits_in stages (map erased_arg args) ≡ waited_for stages (map bare_arg args) → cond b (right.id ∷ []) [] ++ waits_in stages (map erased_arg args) ≡ cond b (right.id ∷ waited_for stages (map bare_arg args)) (waited_for stages (map bare_arg args))
     by true rest = ap (λ (ids : List ℕ). right.id ∷ ids) rest
     by false rest = rest
 waits_are (stage ∷ stages) (Write right ∷ args) = by (is_waiting stage) (waits_are stages args)
   where
-    by : (b : Bool) → waits_in stages (map plain_arg args) ≡ waited_for stages (map bare_arg args) → cond b (right.id ∷ []) [] ++ waits_in stages (map plain_arg args) ≡ cond b (right.id ∷ waited_for stages (map bare_arg args)) (waited_for stages (map bare_arg args))
+    by : (b : Bool) → waits_in stages (map erased_arg args) ≡ waited_for stages (map bare_arg args) → cond b (right.id ∷ []) [] ++ waits_in stages (map erased_arg args) ≡ cond b (right.id ∷ waited_for stages (map bare_arg args)) (waited_for stages (map bare_arg args))
     by true rest = ap (λ (ids : List ℕ). right.id ∷ ids) rest
     by false rest = rest
 
@@ -86,7 +86,7 @@ write_mode places p right stands = by p.mode stands
     by mode.Ref s = s.0
     by mode.Write s = refl
 
-writes_are : (places : Places) (params : List Param) (args : List Arg) → ArgsStand places params args → flat_map written_at (map plain_arg args) ≡ written_by params (map bare_arg args)
+writes_are : (places : Places) (params : List Param) (args : List Arg) → ArgsStand places params args → flat_map written_at (map erased_arg args) ≡ written_by params (map bare_arg args)
 writes_are places [] [] stand = refl
 writes_are places [] (arg ∷ args) stand = absurd stand
 writes_are places (p ∷ params) [] stand = absurd stand

@@ -4,26 +4,26 @@ use Rattle.std.specs.List.{flat_map}
 use Rattle.tw_types.specs.declared.pending.Pending.{Pending}
 use Rattle.tw_types.specs.declared.stage.Stage.{Stage}
 use Rattle.tw_types.specs.Rule.{is_waiting}
-use Rattle.tw_rules.specs.declared.plain.PlainArg.{PlainArg}
-use Rattle.tw_rules.specs.declared.plain.PlainArg.TheVariants as plain
-use Rattle.tw_rules.specs.declared.plain.PlainRule.{PlainRule}
+use Rattle.tw_rules.specs.declared.erased.ErasedArg.{ErasedArg}
+use Rattle.tw_rules.specs.declared.erased.ErasedArg.TheVariants as plain
+use Rattle.tw_rules.specs.declared.erased.ErasedRule.{ErasedRule}
 
 -- returns the datum for which a parameter waits
-abbrev pub waited_at : Stage → PlainArg → List ℕ
+abbrev pub waited_at : Stage → ErasedArg → List ℕ
 waited_at stage plain.Val = []
 waited_at stage (plain.Read id) = if is_waiting stage then id ∷ [] else []
 waited_at stage (plain.Write id) = if is_waiting stage then id ∷ [] else []
 
-abbrev pub waits_in : List Stage → List PlainArg → List ℕ
+abbrev pub waits_in : List Stage → List ErasedArg → List ℕ
 waits_in [] args = []
 waits_in (stage ∷ stages) [] = []
 waits_in (stage ∷ stages) (arg ∷ args) = waited_at stage arg ++ waits_in stages args
 
 -- returns the datum of a write right
-abbrev pub written_at : PlainArg → List ℕ
+abbrev pub written_at : ErasedArg → List ℕ
 written_at plain.Val = []
 written_at (plain.Read id) = []
 written_at (plain.Write id) = id ∷ []
 
-abbrev pub pending_told : PlainRule → Pending
+abbrev pub pending_told : ErasedRule → Pending
 pending_told rule = record { number = rule.number; waits = waits_in rule.stages rule.args; writes = flat_map written_at rule.args }

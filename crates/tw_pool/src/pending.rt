@@ -6,7 +6,7 @@ ghost use Rattle.tw_types.specs.Rule.{is_waiting};
 ghost use Rattle.tw_pool.specs.Pendings.{pending_told, waited_at, waits_in, written_at};
 
 use std::alloc::{AllocError, Global};
-use tw_rules::{PlainArg, PlainRule};
+use tw_rules::{ErasedArg, ErasedRule};
 use tw_types::{DatumId, Items, Pending, Stage};
 
 /// Adds the datum, if the stage is waiting.
@@ -20,18 +20,18 @@ fn put_if_waiting(ids: &mut Vec<DatumId>, stage: Stage, id: DatumId) -> Result<(
 }
 
 /// Adds the datum of an argument whose parameter waits for it.
-fn put_waited(ids: &mut Vec<DatumId>, stage: Stage, arg: PlainArg) -> Result<(), AllocError>
+fn put_waited(ids: &mut Vec<DatumId>, stage: Stage, arg: ErasedArg) -> Result<(), AllocError>
     ensures { OnOk result (ids.new.items ≡ ids.old.items ++ waited_at stage arg) }
 {
     match arg {
-        PlainArg::Read(id) => put_if_waiting(ids, stage, id),
-        PlainArg::Write(id) => put_if_waiting(ids, stage, id),
-        PlainArg::Val => Ok(()),
+        ErasedArg::Read(id) => put_if_waiting(ids, stage, id),
+        ErasedArg::Write(id) => put_if_waiting(ids, stage, id),
+        ErasedArg::Val => Ok(()),
     }
 }
 
 /// Returns the data for which parameters wait.
-fn waits_in(alloc: Global, stages: &[Stage], args: &[PlainArg]) -> Result<Vec<DatumId>, AllocError>
+fn waits_in(alloc: Global, stages: &[Stage], args: &[ErasedArg]) -> Result<Vec<DatumId>, AllocError>
     ensures { IfOk result (λ ids. ids.items ≡ waits_in stages.now args.now) }
 {
     let mut ids = Vec::new(alloc);
@@ -47,18 +47,18 @@ fn waits_in(alloc: Global, stages: &[Stage], args: &[PlainArg]) -> Result<Vec<Da
 }
 
 /// Adds the datum of a write right.
-fn put_written(ids: &mut Vec<DatumId>, arg: PlainArg) -> Result<(), AllocError>
+fn put_written(ids: &mut Vec<DatumId>, arg: ErasedArg) -> Result<(), AllocError>
     ensures { OnOk result (ids.new.items ≡ ids.old.items ++ written_at arg) }
 {
     match arg {
-        PlainArg::Write(id) => Ok(ids.push(id)?),
-        PlainArg::Read(_) => Ok(()),
-        PlainArg::Val => Ok(()),
+        ErasedArg::Write(id) => Ok(ids.push(id)?),
+        ErasedArg::Read(_) => Ok(()),
+        ErasedArg::Val => Ok(()),
     }
 }
 
 /// Returns the data of write rights.
-fn writes_in(alloc: Global, args: &[PlainArg]) -> Result<Vec<DatumId>, AllocError>
+fn writes_in(alloc: Global, args: &[ErasedArg]) -> Result<Vec<DatumId>, AllocError>
     ensures { IfOk result (λ ids. ids.items ≡ flat_map written_at args.now) }
 {
     let mut ids = Vec::new(alloc);
@@ -68,7 +68,7 @@ fn writes_in(alloc: Global, args: &[PlainArg]) -> Result<Vec<DatumId>, AllocErro
     Ok(ids)
 }
 
-fn pending_told(alloc: Global, rule: &PlainRule) -> Result<Pending, AllocError>
+fn pending_told(alloc: Global, rule: &ErasedRule) -> Result<Pending, AllocError>
     ensures { IfOk result (λ p. p ≡ pending_told rule.now) }
 {
     let waits = waits_in(alloc, rule.stages.as_slice(), rule.args.as_slice())?;
@@ -81,7 +81,7 @@ fn pending_told(alloc: Global, rule: &PlainRule) -> Result<Pending, AllocError>
 }
 
 /// Returns the rules with the data for which they wait, and those that they may write.
-pub(crate) fn all_pending(alloc: Global, rules: &[PlainRule]) -> Result<Vec<Pending>, AllocError>
+pub(crate) fn all_pending(alloc: Global, rules: &[ErasedRule]) -> Result<Vec<Pending>, AllocError>
     ensures { IfOk result (λ pending. pending.items ≡ map pending_told rules.now) }
 {
     let mut pending = Vec::new(alloc);

@@ -7,7 +7,7 @@ use Rattle.tw_types.specs.Totals.{total}
 use Rattle.tw_rights.specs.declared.arg.Arg.{Arg}
 use Rattle.tw_rules.specs.declared.agenda.Agenda.{Agenda}
 use Rattle.tw_rules.specs.declared.pending.Pending.{Pending}
-use Rattle.tw_rules.specs.declared.plain.PlainRule.{PlainRule}
+use Rattle.tw_rules.specs.declared.erased.ErasedRule.{ErasedRule}
 use Rattle.tw_rules.specs.Entries.{rules_in}
 use Rattle.tw_rules.specs.Numbers.{IsLeast, Rises}
 use Rattle.tw_rules.specs.Table.{FitsStages}
@@ -93,7 +93,7 @@ has_place spare len capacity = nat_lt 0 spare && nat_lt len capacity
 abbrev pub AreFitting : Rules → Type 0
 AreFitting rules = (number : ℕ) (rule : RuleOf Arg) → map.get rules number ≡ Some rule → FitsStages rule
 
-pub record IsTable (entries : List (ℕ × Pending)) (next : ℕ) (agendas : List Agenda) (told : List PlainRule) (capacity : ℕ) : Type 0 where
+pub record IsTable (entries : List (ℕ × Pending)) (next : ℕ) (agendas : List Agenda) (told : List ErasedRule) (capacity : ℕ) : Type 0 where
   pub index : IsIndexed (rules_in entries) next agendas
   pub blank : told ≡ []
   pub fits : length entries ≤ capacity

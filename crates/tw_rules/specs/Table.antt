@@ -13,9 +13,9 @@ use Rattle.tw_rights.specs.declared.arg.Arg.{Arg}
 use Rattle.tw_rights.specs.declared.arg.Arg.TheVariants.{Val, Read, Write}
 use Rattle.tw_rights.specs.Rights.{Right}
 use Rattle.tw_rules.specs.declared.planned.PlannedTask.{PlannedTask}
-use Rattle.tw_rules.specs.declared.plain.PlainArg.{PlainArg}
-use Rattle.tw_rules.specs.declared.plain.PlainArg.TheVariants as plain
-use Rattle.tw_rules.specs.declared.plain.PlainRule.{PlainRule}
+use Rattle.tw_rules.specs.declared.erased.ErasedArg.{ErasedArg}
+use Rattle.tw_rules.specs.declared.erased.ErasedArg.TheVariants as plain
+use Rattle.tw_rules.specs.declared.erased.ErasedRule.{ErasedRule}
 
 -- the pending rules, by their numbers; the number of the next one; and for each engine whether a rule of it can be added without an
 -- allocation
@@ -108,11 +108,11 @@ staged rules number parameter stage = staged_by (map.get rules number)
 
 -- ---- rules without rights
 
-abbrev pub plain_arg : Arg → PlainArg
-plain_arg (Val value) = plain.Val
-plain_arg (Read right) = plain.Read right.id
-plain_arg (Write right) = plain.Write right.id
+abbrev pub erased_arg : Arg → ErasedArg
+erased_arg (Val value) = plain.Val
+erased_arg (Read right) = plain.Read right.id
+erased_arg (Write right) = plain.Write right.id
 
 -- returns a rule with its number, without rights
-abbrev pub told : ℕ × RuleOf Arg → PlainRule
-told e = record { number = e.0; engine = e.1.engine; action = action_of e.1; args = each plain_arg e.1.args; stages = e.1.stages }
+abbrev pub told : ℕ × RuleOf Arg → ErasedRule
+told e = record { number = e.0; engine = e.1.engine; action = action_of e.1; args = each erased_arg e.1.args; stages = e.1.stages }

@@ -2,16 +2,16 @@
 #![tactic(auto)]
 
 mod agenda;
+mod array_vec8;
 mod asks;
 mod entries;
-mod few;
+mod erased;
 mod pending;
-mod plain;
 mod planned;
 mod releases;
 mod table;
 
-pub use few::Few;
-pub use plain::{PlainArg, PlainRule};
+pub use array_vec8::ArrayVec8;
+pub use erased::{ErasedArg, ErasedRule};
 pub use planned::PlannedTask;
 pub use table::RuleTable;

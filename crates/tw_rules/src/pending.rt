@@ -2,11 +2,11 @@
 
 ghost use Rattle.std.specs.Prelude.{◌≡◌, ◌≤◌, length, map};
 ghost use Rattle.tw_types.specs.Rule.{first_stage, first_unasked, has_unasked, is_releasable};
-ghost use Rattle.tw_rules.specs.Table.{plain_arg, told};
+ghost use Rattle.tw_rules.specs.Table.{erased_arg, told};
 ghost use Rattle.tw_rules.specs.Entries.{rule_in};
 
-use crate::few::Few;
-use crate::plain::{PlainArg, PlainRule};
+use crate::array_vec8::ArrayVec8;
+use crate::erased::{ErasedArg, ErasedRule};
 use crate::planned::PlannedTask;
 use tw_rights::{Arg, Bundle};
 use tw_types::{Param, RuleNo, Stage};
@@ -16,7 +16,7 @@ pub struct Pending {
     pub engine: u8,
     pub action: PlannedTask,
     pub args: Bundle,
-    pub stages: Few<Stage>,
+    pub stages: ArrayVec8<Stage>,
 }
 
 impl Pending {
@@ -41,7 +41,7 @@ impl Pending {
     }
 
     /// Ends the rule with its rights, and returns it without rights.
-    pub fn spend(self, number: u64) -> PlainRule
+    pub fn spend(self, number: u64) -> ErasedRule
         ensures { result ≡ told (number, rule_in self) }
     {
         let Pending {
@@ -50,9 +50,9 @@ impl Pending {
             args,
             stages,
         } = self;
-        let plain = plain_args(&args);
+        let plain = erased_args(&args);
         args.shut();
-        PlainRule {
+        ErasedRule {
             number: RuleNo::new(number),
             engine,
             action,
@@ -63,36 +63,36 @@ impl Pending {
 }
 
 /// Returns the stage of each parameter in a new rule.
-pub fn first_stages(params: &[Param]) -> Few<Stage>
+pub fn first_stages(params: &[Param]) -> ArrayVec8<Stage>
     requires { length params.now ≤ 8 }
     ensures { result ≡ map (λ p. first_stage p.mode) params.now }
 {
-    let mut stages = Few::new(Stage::Free);
+    let mut stages = ArrayVec8::new(Stage::Free);
     for param in params {
         stages.push(Stage::first(param.mode));
     }
     stages
 }
 
-fn plain_args(args: &Bundle) -> Few<PlainArg>
-    ensures { result ≡ map plain_arg args.now }
+fn erased_args(args: &Bundle) -> ArrayVec8<ErasedArg>
+    ensures { result ≡ map erased_arg args.now }
 {
-    let mut plain = Few::new(PlainArg::Val);
+    let mut plain = ArrayVec8::new(ErasedArg::Val);
     for place in 0..args.len() {
         match args.get(place) {
-            Some(arg) => plain.push(plain_arg(arg)),
+            Some(arg) => plain.push(erased_arg(arg)),
             None => unreachable!(),
         }
     }
     plain
 }
 
-fn plain_arg(arg: &Arg) -> PlainArg
-    ensures { result ≡ plain_arg arg.now }
+fn erased_arg(arg: &Arg) -> ErasedArg
+    ensures { result ≡ erased_arg arg.now }
 {
     match arg {
-        Arg::Val(_) => PlainArg::Val,
-        Arg::Read(right) => PlainArg::Read(right.id()),
-        Arg::Write(right) => PlainArg::Write(right.id()),
+        Arg::Val(_) => ErasedArg::Val,
+        Arg::Read(right) => ErasedArg::Read(right.id()),
+        Arg::Write(right) => ErasedArg::Write(right.id()),
     }
 }

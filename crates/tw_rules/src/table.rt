@@ -11,8 +11,8 @@ ghost use Rattle.tw_rules.specs.Table.{AreArgsOf, action_of, arg_at, new_rule, r
 
 use crate::agenda::Agenda;
 use crate::entries::{find, number_from, pending, put, set_stage, take};
+use crate::erased::ErasedRule;
 use crate::pending::{Pending, first_stages};
-use crate::plain::PlainRule;
 use crate::planned::PlannedTask;
 use std::alloc::{AllocError, Global};
 use std::collections::HashMap;
@@ -26,7 +26,7 @@ pub struct RuleTable {
     next: u64,
     agendas: [Agenda; 4],
     /// Empty, with capacity for all rules that `shut` returns.
-    told: Vec<PlainRule>,
+    told: Vec<ErasedRule>,
 }
 
 impl Model for RuleTable {
@@ -253,7 +253,7 @@ impl RuleTable {
 
     /// Spends every right, and returns the rules that were pending. Takes them by rising number, so that sorting them finds them
     /// sorted; no proof depends on that.
-    fn spend_all(self) -> Vec<PlainRule>
+    fn spend_all(self) -> Vec<ErasedRule>
         ensures { IsPermutation (each told (map.entries self.rules)) result.items }
     {
         let RuleTable {
@@ -273,7 +273,7 @@ impl RuleTable {
     }
 
     /// Spends every right, and returns the rules that were pending, by rising number. Allocates nothing.
-    pub fn shut(self) -> Vec<PlainRule>
+    pub fn shut(self) -> Vec<ErasedRule>
         ensures { result.items ≡ each told (map.entries self.rules) }
     {
         let mut told = self.spend_all();

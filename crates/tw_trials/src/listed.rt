@@ -7,7 +7,7 @@ ghost use Rattle.tw_rules.specs.Table.{SuitsMode};
 
 use crate::draw::draw;
 use tw_rights::{Arg, Bundle, ReadRight, WriteRight};
-use tw_rules::{PlainArg, PlannedTask};
+use tw_rules::{ErasedArg, PlannedTask};
 use tw_types::{DatumId, Mode, Stage, Value};
 
 /// A rule in the plain list. All rules have three parameters.
@@ -124,25 +124,25 @@ pub fn action_of(number: u64) -> PlannedTask {
     }
 }
 
-pub fn plain_of(arg: Option<&Arg>) -> Option<PlainArg> {
+pub fn plain_of(arg: Option<&Arg>) -> Option<ErasedArg> {
     Some(match arg? {
-        Arg::Val(_) => PlainArg::Val,
-        Arg::Read(right) => PlainArg::Read(right.id()),
-        Arg::Write(right) => PlainArg::Write(right.id()),
+        Arg::Val(_) => ErasedArg::Val,
+        Arg::Read(right) => ErasedArg::Read(right.id()),
+        Arg::Write(right) => ErasedArg::Write(right.id()),
     })
 }
 
 /// Returns the argument of a parameter of a rule.
-fn plain_arg(number: u64, parameter: u64, mode: Mode) -> PlainArg {
+fn plain_arg(number: u64, parameter: u64, mode: Mode) -> ErasedArg {
     let id = datum_of(number, parameter);
     match mode {
-        Mode::Val => PlainArg::Val,
-        Mode::Closed | Mode::Ref => PlainArg::Read(id),
-        Mode::Write => PlainArg::Write(id),
+        Mode::Val => ErasedArg::Val,
+        Mode::Closed | Mode::Ref => ErasedArg::Read(id),
+        Mode::Write => ErasedArg::Write(id),
     }
 }
 
-pub fn plain_args(number: u64, modes: [Mode; 3]) -> [PlainArg; 3] {
+pub fn plain_args(number: u64, modes: [Mode; 3]) -> [ErasedArg; 3] {
     [
         plain_arg(number, 0, modes[0]),
         plain_arg(number, 1, modes[1]),

@@ -9,7 +9,7 @@ use crate::listed::{
 use crate::numbered::{Put, room};
 use std::alloc::{AllocError, Global};
 use tw_rights::Bundle;
-use tw_rules::{PlainRule, RuleTable};
+use tw_rules::{ErasedRule, RuleTable};
 use tw_types::{DataType, Mode, Param, RuleNo, Stage};
 
 // ---- calls of the table
@@ -150,7 +150,7 @@ fn are_listed(table: &RuleTable, list: &[Listed], next: u64) -> bool {
 }
 
 /// Returns whether a rule that was returned at the end is in the list.
-fn is_told_of(list: &[Listed], told: &PlainRule) -> bool {
+fn is_told_of(list: &[Listed], told: &ErasedRule) -> bool {
     let number = told.number.number();
     let mut is_there = false;
     for rule in list {

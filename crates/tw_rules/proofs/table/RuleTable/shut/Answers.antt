@@ -1,7 +1,7 @@
 use Rattle.std.proofs.Common.{map, rules}
 use Rattle.std.specs.FinMap.{entries}
 use Rattle.std.proofs.lemmas.List.Sorted.{IsNonDecreasingBy-from_sort, IsPermutation-trans, answers_always}
-use Rattle.tw_rules.specs.declared.plain.PlainRule.{PlainRule}
+use Rattle.tw_rules.specs.declared.erased.ErasedRule.{ErasedRule}
 use Rattle.tw_rules.specs.Table.{told}
 use Rattle.tw_rules.proofs.SameOrder.{same_order}
 use Rattle.tw_rules.proofs.Told.{told_rise}
@@ -10,6 +10,6 @@ use Rattle.tw_rules.proofs.table.RuleTable.shut.Goals as goal
 pub returns : goal.returns
 returns c =
     let sorted = c.sort_unstable_by_key.new.self.items in
-    same_order (λ (r : PlainRule). r.number) (map told (entries c.args.self.rules)) sorted (told_rise c.args.self.rules)
-    (IsNonDecreasingBy-from_sort (λ (r : PlainRule). r.number) sorted (c.sort_unstable_by_key.ensures.sorted (λ (r : PlainRule). r.number) (answers_always _ _ _ (λ f a r g h. search rules))))
+    same_order (λ (r : ErasedRule). r.number) (map told (entries c.args.self.rules)) sorted (told_rise c.args.self.rules)
+    (IsNonDecreasingBy-from_sort (λ (r : ErasedRule). r.number) sorted (c.sort_unstable_by_key.ensures.sorted (λ (r : ErasedRule). r.number) (answers_always _ _ _ (λ f a r g h. search rules))))
     (IsPermutation-trans _ _ _ c.spend_all-told.ensures c.sort_unstable_by_key.ensures.permutation)

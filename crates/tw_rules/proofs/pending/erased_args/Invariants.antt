@@ -1,10 +1,10 @@
 use Rattle.std.proofs.Common.{◌≡◌, ◌≤◌, length, map, take}
-use Rattle.tw_rules.specs.Table.{plain_arg}
-use Rattle.tw_rules.proofs.pending.plain_args.Given as goal
+use Rattle.tw_rules.specs.Table.{erased_arg}
+use Rattle.tw_rules.proofs.pending.erased_args.Given as goal
 
 abbrev pub invariant-loop-place : goal.invariant-loop-place
 invariant-loop-place l = record {
-  plain : l.plain ≡ map plain_arg (take l.place l.args);
+  plain : l.plain ≡ map erased_arg (take l.place l.args);
   end : l.place-end ≡ length l.args;
   few : length l.args ≤ 8;
 }

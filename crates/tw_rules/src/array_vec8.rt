@@ -6,12 +6,12 @@ use std::marker::Model;
 
 /// At most eight items.
 #[derive(Drop)]
-pub struct Few<T> {
+pub struct ArrayVec8<T> {
     places: [T; 8],
     len: usize,
 }
 
-impl<T> Model for Few<T> {
+impl<T> Model for ArrayVec8<T> {
     ghost use Rattle.std.specs.Prelude.{List, ◌≤◌, ◌≡◌, length, take};
 
     ghost Value = { List T };
@@ -21,12 +21,12 @@ impl<T> Model for Few<T> {
     ghost invariant = { λ few. (length few.places ≡ 8) × (few.len ≤ 8) };
 }
 
-impl<T: Copy> Few<T> {
+impl<T: Copy> ArrayVec8<T> {
     /// Makes an empty list. `blank` fills the free slots.
-    pub fn new(blank: T) -> Few<T>
+    pub fn new(blank: T) -> ArrayVec8<T>
         ensures { result ≡ [] }
     {
-        Few {
+        ArrayVec8 {
             places: [blank; 8],
             len: 0,
         }
