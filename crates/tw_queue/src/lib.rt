@@ -2,10 +2,10 @@
 #![tactic(auto)]
 
 mod index;
-mod lane;
 mod lists;
 mod queues;
 mod rank;
+mod run_queue;
 mod slots;
 mod waiting;
 

@@ -4,15 +4,15 @@ ghost use Rattle.std.specs.Prelude.{◌≡◌, ◌<◌, ◌≤◌, [], IsOk, IfO
 ghost use Rattle.tw_queue.specs.Lists.{ranks_at, AreRoomsKept, IsPushed, IsFirstAt, IsBestLane, IsBest, IsTaken};
 ghost use Rattle.tw_queue.specs.Queues.{lane_of, room_at};
 
-use crate::lane::Lane;
 use crate::rank::Rank;
+use crate::run_queue::RunQueue;
 use std::alloc::{AllocError, Global};
 use std::marker::Model;
 
 /// A run queue for each target, and a last one for tasks that any actor may take.
 #[derive(Drop)]
 pub struct Lists {
-    lanes: Vec<Lane>,
+    lanes: Vec<RunQueue>,
 }
 
 impl Model for Lists {
@@ -38,7 +38,7 @@ impl Lists {
     {
         let mut lanes = Vec::new(alloc);
         for _ in 0..Lists::COUNT {
-            lanes.push(Lane::new(alloc))?;
+            lanes.push(RunQueue::new(alloc))?;
         }
         Ok(Lists { lanes })
     }

@@ -7,7 +7,7 @@ use Rattle.std.specs.List.Sorted.{IsPermutation}
 use Rattle.tw_queue.specs.declared.rank.Rank.{Rank}
 use Rattle.tw_queue.specs.Lanes.{IsFirst}
 use Rattle.tw_queue.proofs.Runs.{rest_gives, rest_less, run_gives}
-use Rattle.tw_queue.proofs.lane.Lane.pop.Goals as goal
+use Rattle.tw_queue.proofs.run_queue.RunQueue.pop.Goals as goal
 
 none_of_run : (r : Option Rank) (Q : Rank → Type 0) (n m k : ℕ) → MatchOption r ((n ≡ 0) × (m ≡ 0)) Q → n ≡ k → IfNone r (k ≤ 0)
 none_of_run None Q n m k none count = let least = none.0 in omega arith

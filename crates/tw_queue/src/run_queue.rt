@@ -14,14 +14,14 @@ use std::marker::Model;
 /// The ranks of one run queue. If tasks of one priority come in order, all ranks are in `run`, and each is added and taken in
 /// constant time.
 #[derive(Drop)]
-pub struct Lane {
+pub struct RunQueue {
     /// Sorted: the first rank is the greatest.
     run: VecDeque<Rank>,
     /// The ranks that were greater than the last of `run` when they were added.
     rest: BinaryHeap<Rank>,
 }
 
-impl Model for Lane {
+impl Model for RunQueue {
     ghost use Rattle.std.specs.Prelude.{◌&&◌, ◌++◌, nat_lt};
     ghost use Rattle.std.specs.BinaryHeap.{IsHeap, heap_items, heap_len, heap_capacity};
     ghost use Rattle.std.specs.VecDeque.{deque_len, deque_capacity};
@@ -38,12 +38,12 @@ impl Model for Lane {
     ghost invariant = { λ p. IsInOrder p.run.items × IsHeap rank_cmp (heap_items p.rest) };
 }
 
-impl Lane {
+impl RunQueue {
     /// Makes a run queue without ranks.
-    pub fn new(alloc: Global) -> Lane
+    pub fn new(alloc: Global) -> RunQueue
         ensures { result.ranks ≡ [] }
     {
-        Lane {
+        RunQueue {
             run: VecDeque::new(alloc),
             rest: BinaryHeap::new(alloc),
         }

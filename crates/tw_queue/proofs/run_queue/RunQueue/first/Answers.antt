@@ -2,7 +2,7 @@ use Rattle.std.proofs.Common.{refl, subst}
 use Rattle.std.specs.BinaryHeap.{heap_items}
 use Rattle.tw_queue.specs.Lanes.{IsFirst}
 use Rattle.tw_queue.proofs.Runs.{run_shows}
-use Rattle.tw_queue.proofs.lane.Lane.first.Goals as goal
+use Rattle.tw_queue.proofs.run_queue.RunQueue.first.Goals as goal
 
 pub returns-then-is_in_front : goal.returns-then-is_in_front
 returns-then-is_in_front c =

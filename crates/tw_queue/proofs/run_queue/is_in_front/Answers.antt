@@ -4,7 +4,7 @@ use Rattle.std.specs.BinaryHeap.{heap_items}
 use Rattle.tw_queue.specs.Ranks.{rank_cmp}
 use Rattle.tw_queue.proofs.Order.{not_back, upper_over}
 use Rattle.tw_queue.proofs.Runs.{front_over, in_front}
-use Rattle.tw_queue.proofs.lane.is_in_front.Goals as goal
+use Rattle.tw_queue.proofs.run_queue.is_in_front.Goals as goal
 
 pub returns-in-Some-Some-clause-yes : goal.returns-in-Some-Some-clause-yes
 returns-in-Some-Some-clause-yes c = λ yes.

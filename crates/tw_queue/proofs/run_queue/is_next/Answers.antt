@@ -3,7 +3,7 @@ use Rattle.std.specs.Ordering.{is_lt}
 use Rattle.tw_queue.specs.Ranks.{rank_cmp}
 use Rattle.tw_queue.proofs.Order.{not_back}
 use Rattle.tw_queue.proofs.Runs.{in_order_pushed}
-use Rattle.tw_queue.proofs.lane.is_next.Goals as goal
+use Rattle.tw_queue.proofs.run_queue.is_next.Goals as goal
 
 pub returns-in-Some : goal.returns-in-Some
 returns-in-Some c = λ yes.

@@ -2,7 +2,7 @@ use Rattle.std.proofs.Common.{◌≡◌, ◌∷◌, [], ◌++◌, sym, subst}
 use Rattle.std.specs.BinaryHeap.{heap_items}
 use Rattle.std.specs.List.Sorted.{IsPermutation}
 use Rattle.tw_queue.proofs.Runs.{rest_more, run_more}
-use Rattle.tw_queue.proofs.lane.Lane.push.Goals as goal
+use Rattle.tw_queue.proofs.run_queue.RunQueue.push.Goals as goal
 
 pub returns-in_ok-push_back-clause-pushed : goal.returns-in_ok-push_back-clause-pushed
 returns-in_ok-push_back-clause-pushed c =
