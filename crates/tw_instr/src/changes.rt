@@ -11,7 +11,7 @@ ghost use Rattle.tw_instr.specs.Parts.{data_of};
 ghost use Rattle.tw_types.specs.Room.{HasReadRoom, HasWriteRoom};
 
 use crate::datum::Datum;
-use crate::freeing::settle;
+use crate::freeing::free_unheld;
 use std::alloc::AllocError;
 use std::collections::BTreeMap;
 use tw_types::{DatumId, Subscriber, Value};
@@ -25,7 +25,7 @@ pub fn set_in(live: &mut BTreeMap<u64, Datum>, id: u64, value: Value)
         unreachable!();
     };
     datum.set(value);
-    settle(live, id);
+    free_unheld(live, id);
 }
 
 /// Takes one write of a container. The last one closes it.
@@ -37,7 +37,7 @@ pub fn drop_write_in(live: &mut BTreeMap<u64, Datum>, id: u64)
         unreachable!();
     };
     datum.take_write();
-    settle(live, id);
+    free_unheld(live, id);
 }
 
 /// Inserts a member into a container.

@@ -50,7 +50,7 @@ fn drop_each(live: &mut BTreeMap<u64, Datum>, members: RankedMap<DatumId>, depth
 }
 
 /// Frees a datum if nobody holds it.
-pub fn settle(live: &mut BTreeMap<u64, Datum>, id: u64)
+pub fn free_unheld(live: &mut BTreeMap<u64, Datum>, id: u64)
     ensures { IfSome (get (data_of live.old.entries) id) (λ x. data_of live.new.entries ≡ settled (data_of live.old.entries) id x) }
 {
     let Some(datum) = live.get(&id) else {

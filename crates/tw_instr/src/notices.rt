@@ -65,7 +65,7 @@ impl Notices {
     }
 
     /// Adds a notice of the datum for each subscriber, or none if an allocation fails.
-    pub fn tell(&mut self, id: DatumId, subscribers: &[Subscriber]) -> Result<(), AllocError>
+    pub fn add_for(&mut self, id: DatumId, subscribers: &[Subscriber]) -> Result<(), AllocError>
         ensures told { OnOk result (self.new ≡ with_notices self.old (map (notice_to id) subscribers.now)) }
         ensures refused { OnErr result (self.new ≡ self.old) }
     {

@@ -88,7 +88,7 @@ fn take_write(store: &mut Data, notices: &mut Notices, id: DatumId) -> Result<()
     ensures told { OnOk result (notices.new ≡ with_notices notices.old (notices_of_write_dropped store.old id)) }
     ensures refused { OnErr result ((store.new ≡ store.old) × (notices.new ≡ notices.old)) }
 {
-    notices.tell(id, store.heard_by_drop_write(id))?;
+    notices.add_for(id, store.heard_by_drop_write(id))?;
     store.drop_write(id);
     Ok(())
 }

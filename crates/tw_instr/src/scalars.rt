@@ -48,7 +48,7 @@ fn set(store: &mut Data, notices: &mut Notices, id: DatumId, value: Value) -> Re
     ensures told { OnOk result (notices.new ≡ with_notices notices.old (notices_of_stored store.old id value)) }
     ensures refused { OnErr result ((store.new ≡ store.old) × (notices.new ≡ notices.old)) }
 {
-    notices.tell(id, store.heard_by_set(id))?;
+    notices.add_for(id, store.heard_by_set(id))?;
     store.set(id, value);
     Ok(())
 }

@@ -9,7 +9,7 @@ ghost use Rattle.tw_types.specs.ValueOrder.{named};
 ghost use Rattle.tw_store.specs.Parts.{data_room_of};
 ghost use Rattle.tw_store.specs.Slots.{slot_at, places_of, AreSeated, IsChanged, IsChangedAt, IsInsertedAt, IsSettled};
 
-use crate::freeing::settle;
+use crate::freeing::free_unheld;
 use crate::member::Member;
 use crate::slot::Slot;
 use slab::Slab;
@@ -29,7 +29,7 @@ pub fn set_at(slab: &mut Slab<Slot>, place: usize, value: Value)
         unreachable!();
     };
     slot.datum.set(value);
-    settle(slab, place);
+    free_unheld(slab, place);
 }
 
 /// Takes one write of the container at a place. The last one closes it.
@@ -44,7 +44,7 @@ pub fn drop_write_at(slab: &mut Slab<Slot>, place: usize)
         unreachable!();
     };
     slot.datum.take_write();
-    settle(slab, place);
+    free_unheld(slab, place);
 }
 
 /// Inserts a member into the container at a place, at a copy of the subscript, unless that is taken. Returns whether it inserted it.

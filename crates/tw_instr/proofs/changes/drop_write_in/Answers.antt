@@ -17,4 +17,4 @@ pub returns : goal.returns
 returns c =
     let there = (found c.args.live.now c.args.id (Some c.in-Some.datum.now) c.in-Some.ensures.value) in
     let changes = written c.args.live.now (c.get_mut.follows.lender c.take_write.new.self) c.args.id c.in-Some.datum.now c.take_write.new.self c.in-Some.ensures.value (c.get_mut.follows.holds c.take_write.new.self) ∙ ap (insert (data_of c.args.live.now.entries) c.args.id) (ap bare c.take_write.ensures) in
-    λ s view. after_is s _ _ _ _ c.in-Some.datum.now.datum one_write_less view there changes c.settle.ensures
+    λ s view. after_is s _ _ _ _ c.in-Some.datum.now.datum one_write_less view there changes c.free_unheld.ensures

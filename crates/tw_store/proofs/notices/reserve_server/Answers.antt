@@ -1,7 +1,7 @@
 use Rattle.std.proofs.Common.{◌≡◌, ◌<◌, ◌%◌, length, ap, ◌∙◌, arith, rules}
 use Rattle.tw_store.proofs.Roomy.{have_room}
 use Rattle.tw_store.proofs.Queues.{same_is, room_is, fits}
-use Rattle.tw_store.proofs.telling.reserve_server.Goals as goal
+use Rattle.tw_store.proofs.notices.reserve_server.Goals as goal
 
 pub returns-clause-same : goal.returns-clause-same
 returns-clause-same c =

@@ -7,7 +7,7 @@ use Rattle.tw_instr.proofs.Live.{found, removed, same_kept}
 use Rattle.tw_types.specs.Store.{drop_read_within}
 use Rattle.tw_types.proofs.Maps.{if_none, if_some}
 use Rattle.tw_types.proofs.Settled.{settled_gone, settled_held}
-use Rattle.tw_instr.proofs.freeing.settle.Goals as goal
+use Rattle.tw_instr.proofs.freeing.free_unheld.Goals as goal
 
 pub returns-in_default : goal.returns-in_default
 returns-in_default c = if_none _ _ (found c.args.live.now c.args.id None c.in_default.ensures.value)
