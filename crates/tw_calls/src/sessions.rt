@@ -33,7 +33,7 @@ fn put(room: &mut [u8], text: &[u8]) -> usize
 }
 
 /// Puts a text and its status's number.
-fn tell(room: &mut [u8], status: &mut u8, ended: Status, text: &[u8]) -> usize
+fn write_answer(room: &mut [u8], status: &mut u8, ended: Status, text: &[u8]) -> usize
     ensures code { status.new ≡ code_of ended }
     ensures count { result ≡ length text.now }
     ensures room { room.new ≡ filled text.now room.old }
@@ -50,15 +50,15 @@ pub fn session(alloc: Global, words: &[u8], input: &[u8], room: &mut [u8], statu
 {
     let Ok(words) = str::from_utf8(words) else {
         let ended = Status::Ended(Close::CommandLine);
-        return tell(room, status, ended, "command line refused\n".as_bytes());
+        return write_answer(room, status, ended, "command line refused\n".as_bytes());
     };
     match answer(alloc, words, input) {
-        Ok(reply) => tell(
+        Ok(reply) => write_answer(
             room,
             status,
             Status::Ended(reply.close),
             reply.text.as_slice(),
         ),
-        Err(_) => tell(room, status, Status::NoMemory, "memory\n".as_bytes()),
+        Err(_) => write_answer(room, status, Status::NoMemory, "memory\n".as_bytes()),
     }
 }

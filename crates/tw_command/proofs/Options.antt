@@ -27,7 +27,7 @@ use Rattle.tw_command.specs.Options.{HasActors, HasStretch, NumberOption, actor_
 use Rattle.tw_command.specs.Order.{HasReason, IsRequest}
 use Rattle.tw_command.specs.CommandLine.{Asked, drawing_faults, given_words, input_faults, picture_faults, replay_faults, run_faults, stretch_faults}
 use Rattle.tw_command.specs.declared.command.NoOrder.TheVariants.{Refused}
-use Rattle.tw_command.specs.declared.shown.Stretch.{Stretch}
+use Rattle.tw_command.specs.declared.shown.EventRange.{EventRange}
 
 -- ---- the digits
 
@@ -138,11 +138,11 @@ has_conflict kinds asked e = has_kind ArgumentConflict kinds asked other e
 -- ---- a picture
 
 -- which ends before it begins
-pub events_backward : (rows : List Row) (s : Stretch) → HasStretch rows s → nat_lt s.to s.from ≡ true → stretch_faults rows ≡ ArgumentConflict ∷ []
+pub events_backward : (rows : List Row) (s : EventRange) → HasStretch rows s → nat_lt s.to s.from ≡ true → stretch_faults rows ≡ ArgumentConflict ∷ []
 events_backward rows s h back = rw (h.0, h.1, back) refl
 
 -- what is wrong with it is wrong with `run`, where the options are right
-pub picture_refused : (rows : List Row) (layout : ActorCounts) (most : ℕ) (s : Stretch) → HasActors rows layout → Some most ≡ number_of limit rows → HasStretch rows s → picture_faults rows ≡ ArgumentConflict ∷ []
+pub picture_refused : (rows : List Row) (layout : ActorCounts) (most : ℕ) (s : EventRange) → HasActors rows layout → Some most ≡ number_of limit rows → HasStretch rows s → picture_faults rows ≡ ArgumentConflict ∷ []
     → run_faults rows ≡ ArgumentConflict ∷ []
 picture_refused rows layout most s actors is shown refused =
     let fit : option_faults number_options rows ≡ [] = rw (actors.0, actors.1, actors.2, sym is, shown.0, shown.1) refl in
@@ -153,7 +153,7 @@ picture_refused rows layout most s actors is shown refused =
 pub unnumbered_refused : (rows : List Row) → option_faults stretch_options rows ≡ ValueValidation ∷ [] → drawing_faults rows ≡ ValueValidation ∷ []
 unnumbered_refused rows e = ap (λ (k : Kinds). or_else k (or_else (stretch_faults rows) (replay_faults rows))) e
 
-pub backward_refused : (rows : List Row) (s : Stretch) → HasStretch rows s → stretch_faults rows ≡ ArgumentConflict ∷ [] → drawing_faults rows ≡ ArgumentConflict ∷ []
+pub backward_refused : (rows : List Row) (s : EventRange) → HasStretch rows s → stretch_faults rows ≡ ArgumentConflict ∷ [] → drawing_faults rows ≡ ArgumentConflict ∷ []
 backward_refused rows s shown refused =
     let fit : option_faults stretch_options rows ≡ [] = rw (shown.0, shown.1) refl in
     ap (λ (k : Kinds). or_else k (or_else (stretch_faults rows) (replay_faults rows))) fit ∙ ap (λ (k : Kinds). or_else k (replay_faults rows)) refused

@@ -13,7 +13,7 @@ use Rattle.tw_command.specs.declared.command.Places.{Places}
 use Rattle.tw_command.specs.declared.command.Places.TheVariants.{Hidden, Shown}
 use Rattle.tw_command.specs.declared.command.Source.{Source}
 use Rattle.tw_command.specs.declared.command.Source.TheVariants.{Hex, Assembly}
-use Rattle.tw_command.specs.declared.shown.Stretch.{Stretch}
+use Rattle.tw_command.specs.declared.shown.EventRange.{EventRange}
 use Rattle.clap.specs.ValueTests.{is_numeral}
 use Rattle.clap.specs.Words.{Kinds, Row, Rule, Text, first_of, new_rule, one_of}
 use Rattle.clap.specs.declared.builder.action.ArgAction.TheVariants.{SetTrue}
@@ -164,11 +164,11 @@ abbrev pub actors_told : List Row → ActorCounts
 actors_told rows = actors (told engines rows) (told servers rows) (told workers rows)
 
 -- the options of a picture's events have numbers, and these are they
-abbrev pub HasStretch : List Row → Stretch → Type 0
+abbrev pub HasStretch : List Row → EventRange → Type 0
 HasStretch rows s = (number_of first_shown rows ≡ Some s.from) × (number_of last_shown rows ≡ Some s.to)
 
-abbrev pub stretch : ℕ → ℕ → Stretch
+abbrev pub stretch : ℕ → ℕ → EventRange
 stretch from to = record { from = from; to = to }
 
-abbrev pub stretch_told : List Row → Stretch
+abbrev pub stretch_told : List Row → EventRange
 stretch_told rows = stretch (told first_shown rows) (told last_shown rows)

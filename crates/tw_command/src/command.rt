@@ -17,7 +17,7 @@ use crate::help::{
     WORKERS_HELP,
 };
 use crate::limit::EventLimit;
-use crate::shown::Stretch;
+use crate::shown::EventRange;
 use clap::Command;
 use std::alloc::{AllocError, AllocFailed, Global};
 use tw_types::{Input, Items, Layout};
@@ -101,7 +101,7 @@ pub enum Answer {
     /// The report, and behind it the numbers of the events.
     Numbers,
     /// The picture of these of them.
-    Picture(Stretch),
+    Picture(EventRange),
 }
 
 /// How a history is replayed.

@@ -29,5 +29,5 @@ pub use input_words::input_of;
 pub use laws::{commands_are_taken, strangers_are_refused, words_spell_one_input};
 pub use limit::EventLimit;
 pub use orders::read_order;
-pub use shown::Stretch;
+pub use shown::EventRange;
 pub use wrong_words::complaint;

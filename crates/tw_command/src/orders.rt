@@ -21,7 +21,7 @@ use crate::found::{
     answer_given, assembling_given, bare_check, check_given, flag_given, inputs_given,
     layout_given, limit_given, places_given, source_given,
 };
-use crate::shown::{run_answer_told, stretch_given};
+use crate::shown::{event_range_given, run_answer_told};
 use clap::error::ErrorKind;
 use clap::{ArgMatches, Error};
 use std::alloc::Global;
@@ -47,7 +47,7 @@ fn run_options(matches: &ArgMatches<'_>) -> Option<RunOptions>
 {
     let layout = layout_given(matches)?;
     let limit = limit_given(matches)?;
-    let stretch = stretch_given(matches)?;
+    let stretch = event_range_given(matches)?;
     let Ok(answer) = run_answer_told(matches, stretch) else {
         return None;
     };
@@ -104,7 +104,7 @@ fn picture_order(alloc: Global, matches: &ArgMatches<'_>) -> Result<Order, NoOrd
         (HasReason (drawing_faults (rows_of (found_of matches.now)))
         (replay_asked (Answers.Picture (stretch_told (rows_of (found_of matches.now)))) (rows_of (found_of matches.now)))) }
 {
-    let Some(stretch) = stretch_given(matches) else {
+    let Some(stretch) = event_range_given(matches) else {
         return Err(NoOrder::Refused);
     };
     if stretch.is_reversed() {

@@ -12,12 +12,12 @@ use clap::ArgMatches;
 
 /// The events from one number to another, which a picture shows. They count from 1; past the last event there are none.
 #[derive(Clone, Copy, PartialEq, Eq)]
-pub struct Stretch {
+pub struct EventRange {
     pub from: u32,
     pub to: u32,
 }
 
-impl Stretch {
+impl EventRange {
     /// Whether the last event is before the first.
     pub(crate) fn is_reversed(self) -> bool
         ensures { result ≡ nat_lt self.to self.from }
@@ -32,20 +32,20 @@ pub(crate) enum Conflict {
     /// A picture isn't written alone.
     PictureWithMore,
     /// Events are named, and no picture is asked for.
-    StretchAlone,
+    RangeAlone,
     /// The last event is before the first.
     Reversed,
 }
 
 /// The events that the options tell; none where one has no number in its range.
-pub(crate) fn stretch_given(matches: &ArgMatches<'_>) -> Option<Stretch>
+pub(crate) fn event_range_given(matches: &ArgMatches<'_>) -> Option<EventRange>
     ensures { MatchOption result
         (option_faults stretch_options (rows_of (found_of matches.now)) ≡ ValueValidation ∷ [])
         (HasStretch (rows_of (found_of matches.now))) }
 {
     let from = number_given(matches, "from", u64::from(u32::MAX), 1)?;
     let to = number_given(matches, "to", u64::from(u32::MAX), u64::from(u32::MAX))?;
-    Some(Stretch {
+    Some(EventRange {
         from: from as u32,
         to: to as u32,
     })
@@ -67,7 +67,7 @@ fn is_cut(matches: &ArgMatches<'_>) -> bool
 /// What `run` writes, where these are the events of a picture.
 pub(crate) fn run_answer_told(
     matches: &ArgMatches<'_>,
-    stretch: Stretch,
+    stretch: EventRange,
 ) -> Result<Answer, Conflict>
     requires { HasStretch (rows_of (found_of matches.now)) stretch }
     ensures taken { IfOk result (λ answer. (picture_faults (rows_of (found_of matches.now)) ≡ [])
@@ -84,7 +84,7 @@ pub(crate) fn run_answer_told(
         return Ok(Answer::Picture(stretch));
     }
     if is_cut(matches) {
-        return Err(Conflict::StretchAlone);
+        return Err(Conflict::RangeAlone);
     }
     Ok(answer_given(matches))
 }

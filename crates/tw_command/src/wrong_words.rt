@@ -9,7 +9,7 @@ ghost use Rattle.tw_command.specs.Order.{HasReason};
 use crate::command::{NoOrder, command};
 use crate::found::{flag_given, number_given};
 use crate::orders::{order_of, reason_of};
-use crate::shown::{Conflict, run_answer_told, stretch_given};
+use crate::shown::{Conflict, event_range_given, run_answer_told};
 use clap::error::ErrorKind;
 use clap::{ArgMatches, Error};
 use std::alloc::{AllocError, Global};
@@ -25,7 +25,7 @@ fn range_line(given: &ArgMatches<'_>) -> Option<&'static str> {
         Some("error: --workers takes a number from 1 to 16\n")
     } else if number_given(given, "limit", 1_000_000, 10_000).is_none() {
         Some("error: --limit takes a number from 1 to 1000000\n")
-    } else if stretch_given(given).is_none() {
+    } else if event_range_given(given).is_none() {
         Some("error: --from and --to take numbers from 1 to 4294967295\n")
     } else {
         None
@@ -35,14 +35,14 @@ fn range_line(given: &ArgMatches<'_>) -> Option<&'static str> {
 fn conflict_line(conflict: Conflict) -> &'static str {
     match conflict {
         Conflict::PictureWithMore => "error: --picture stands without --trace and --stats\n",
-        Conflict::StretchAlone => "error: --from and --to stand with --picture\n",
+        Conflict::RangeAlone => "error: --from and --to stand with --picture\n",
         Conflict::Reversed => "error: --to takes no number before that of --from\n",
     }
 }
 
 /// Which options can't stand together behind a command, if any can't.
 fn conflict_of(command: &str, given: &ArgMatches<'_>) -> Option<Conflict> {
-    let stretch = stretch_given(given)?;
+    let stretch = event_range_given(given)?;
     match command {
         "picture" if stretch.is_reversed() => Some(Conflict::Reversed),
         "picture" => None,

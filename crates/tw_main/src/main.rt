@@ -1,9 +1,9 @@
 //! The command `tw`.
 #![tactic(auto)]
 
-mod teller;
+mod progress_printer;
 
-use crate::teller::Teller;
+use crate::progress_printer::ProgressPrinter;
 use std::rt::Env;
 use std::{env, io};
 use tw_session::{Status, complain, is_quiet, session, without_words};
@@ -17,7 +17,7 @@ fn main(rt: HostRuntime) -> Status {
     match own_words(&rt) {
         Ok(words) => {
             let words = words.as_slice();
-            let teller = Teller::new(rt.stderr(), is_quiet(words));
+            let teller = ProgressPrinter::new(rt.stderr(), is_quiet(words));
             let status = session(&rt, &teller, words, &mut rt.stdin(), &mut writer);
             complain(rt.alloc(), status, words, &mut rt.stderr());
             status

@@ -9,7 +9,7 @@ use Rattle.tw_code.specs.machine.Machine.{run, step}
 use Rattle.tw_code.specs.machine.Pending.{circle}
 use Rattle.tw_command.specs.declared.command.Answer.{Answer}
 use Rattle.tw_command.specs.declared.command.Answer.TheVariants.{Numbers, Picture, Report}
-use Rattle.tw_command.specs.declared.shown.Stretch.{Stretch}
+use Rattle.tw_command.specs.declared.shown.EventRange.{EventRange}
 use Rattle.tw_machine.specs.declared.refusal.OpenRefusal.{OpenRefusal}
 use Rattle.tw_machine.specs.declared.refusal.OpenRefusal.TheVariants as opening
 use Rattle.tw_replay.specs.Opening.{IsOpeningBehind}
@@ -107,12 +107,12 @@ else_behind text start events (Went s) c old other closes = nothing_added (Tells
 else_behind text start events NotEnabled c old other closes = nothing_added (TellsEnding text start events NotEnabled) old refl
 else_behind text start events (Trap cause) c old other closes = nothing_added (TellsEnding text start events (Trap cause)) old refl
 
-pub undrawn : (answer : Answer) → ((shown : Stretch) → answer ≡ Picture shown → ⊥) → IsUndrawn answer
+pub undrawn : (answer : Answer) → ((shown : EventRange) → answer ≡ Picture shown → ⊥) → IsUndrawn answer
 undrawn Report other = tt
 undrawn Numbers other = tt
 undrawn (Picture shown) other = other shown refl
 
-pub picture_behind : (answer : Answer) (shown : Stretch) (text : List ℕ) (start : Start) (events : List Event) (o : Outcome State) (old : List ℕ) → answer ≡ Picture shown → Adds (IsReportBehind answer text start events o) old old
+pub picture_behind : (answer : Answer) (shown : EventRange) (text : List ℕ) (start : Start) (events : List Event) (o : Outcome State) (old : List ℕ) → answer ≡ Picture shown → Adds (IsReportBehind answer text start events o) old old
 picture_behind answer shown text start events o old is = nothing_added (IsReportBehind answer text start events o) old (subst (λ (a : Answer). IsReportBehind a text start events o []) (sym is) refl)
 
 pub report_behind : (answer : Answer) (text : List ℕ) (start : Start) (events : List Event) (o : Outcome State) (old new : List ℕ) → IsUndrawn answer → Adds (TellsEnding text start events o) old new

@@ -9,7 +9,7 @@ use Rattle.tw_code.specs.declared.version.Version.{Version}
 use Rattle.tw_code.specs.machine.Machine.{run, step}
 use Rattle.tw_code.specs.machine.Opening.{opening}
 use Rattle.tw_command.specs.declared.command.ReplayOrder.{ReplayOrder}
-use Rattle.tw_command.specs.declared.shown.Stretch.{Stretch}
+use Rattle.tw_command.specs.declared.shown.EventRange.{EventRange}
 use Rattle.tw_instr.specs.Attempts.{IsStopped}
 use Rattle.tw_instr.specs.declared.stopped.Stopped.{Stopped}
 use Rattle.tw_machine.specs.declared.refusal.OpenRefusal.{OpenRefusal}
@@ -158,7 +158,7 @@ few_taken first events i s t h few =
     let bound : length t.marks.items < 2147483648 = omega (arith, length-take i events) in
     bound
 
-pub picture_of_all : (names : List (List ℕ)) (shown : Stretch) (first : PlainView) (events : List Event) (i : ℕ) (s : State) (r : Reply) → length events ≤ i → IsPicture names shown first (take i events) s r → IsPicture names shown first events s r
+pub picture_of_all : (names : List (List ℕ)) (shown : EventRange) (first : PlainView) (events : List Event) (i : ℕ) (s : State) (r : Reply) → length events ≤ i → IsPicture names shown first (take i events) s r → IsPicture names shown first events s r
 picture_of_all names shown first events i s r all h = subst (λ (es : List Event). IsPicture names shown first es s r) (take_all i events all) h
 
 -- ---- the opening

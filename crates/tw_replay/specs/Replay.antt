@@ -19,7 +19,7 @@ use Rattle.tw_code.specs.machine.State.{State}
 use Rattle.tw_command.specs.declared.command.Answer.{Answer}
 use Rattle.tw_command.specs.declared.command.Answer.TheVariants.{Numbers, Picture, Report}
 use Rattle.tw_command.specs.declared.command.ReplayOrder.{ReplayOrder}
-use Rattle.tw_command.specs.declared.shown.Stretch.{Stretch}
+use Rattle.tw_command.specs.declared.shown.EventRange.{EventRange}
 use Rattle.tw_machine.specs.PlainView.{PlainView}
 use Rattle.tw_machine.specs.declared.refusal.OpenRefusal.{OpenRefusal}
 use Rattle.tw_machine.specs.declared.refusal.OpenRefusal.TheVariants.{MainShape}
@@ -73,7 +73,7 @@ played_from first events = played first.program first.layout 1 events first.stat
 -- ---- the picture
 
 -- the drawing of the events that lead to a state, as one text that shows some of them; the procedures have these names
-abbrev pub IsPicture : List (List ℕ) → Stretch → PlainView → List Event → State → Reply → Type 0
+abbrev pub IsPicture : List (List ℕ) → EventRange → PlainView → List Event → State → Reply → Type 0
 IsPicture names shown first events s r =
     (d : Drawing) × IsDrawing names first events s d × (r ≡ reply (xml_text (picture_of d (between shown.from shown.to))) (close_of (machine.ending s)))
 
@@ -84,7 +84,7 @@ ByOutcome NotEnabled goes stops = stops
 ByOutcome (Trap cause) goes stops = stops
 
 -- their picture, or what `replay` answers
-abbrev pub IsDrawn : List (List ℕ) → Stretch → PlainView → List Event → Reply → Type 0
+abbrev pub IsDrawn : List (List ℕ) → EventRange → PlainView → List Event → Reply → Type 0
 IsDrawn names shown first events r = ByOutcome (run first.program first.layout events first.state) (λ s. IsPicture names shown first events s r) (r ≡ played_from first events)
 
 -- ---- the numbers

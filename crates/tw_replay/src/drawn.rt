@@ -11,7 +11,7 @@ ghost use Rattle.tw_replies.specs.Reply.{reply};
 
 use crate::replay::{close_of, stopped_reply};
 use std::alloc::{AllocError, Global};
-use tw_command::Stretch;
+use tw_command::EventRange;
 use tw_machine::Plain;
 use tw_names::Symbols;
 use tw_picture::{Settings, TimelineBuilder, picture};
@@ -21,7 +21,7 @@ use tw_types::Event;
 /// The picture of these of the events that led to where the machine stands.
 fn picture_reply(
     alloc: Global,
-    shown: Stretch,
+    shown: EventRange,
     names: Symbols,
     plain: &Plain,
     timeline_builder: TimelineBuilder,
@@ -38,7 +38,7 @@ fn picture_reply(
 /// Makes the events and draws these of them, or tells the first that doesn't go.
 pub fn draw(
     alloc: Global,
-    shown: Stretch,
+    shown: EventRange,
     names: Symbols,
     first: Plain,
     events: &[Event],

@@ -4,7 +4,7 @@ use Rattle.tw_run_report.proofs.RunNames.{Event, Procedure, State, circle}
 use Rattle.tw_command.specs.declared.command.Answer.{Answer}
 use Rattle.tw_command.specs.declared.command.Answer.TheVariants.{Numbers, Picture, Report}
 use Rattle.tw_command.specs.declared.command.RunOrder.{RunOrder}
-use Rattle.tw_command.specs.declared.shown.Stretch.{Stretch}
+use Rattle.tw_command.specs.declared.shown.EventRange.{EventRange}
 use Rattle.tw_pool.specs.declared.answer.Closing.{Closing}
 use Rattle.tw_pool.specs.declared.answer.Closing.TheVariants as closing
 use Rattle.tw_replay.specs.Circle.{TellsCircle}
@@ -30,7 +30,7 @@ run_told Report text program order events s c old new other h = h
 run_told Numbers text program order events s c old new other h = h
 run_told (Picture shown) text program order events s c old new other h = absurd other
 
-pub run_drawn : (answer : Answer) (shown : Stretch) (text : List ℕ) (program : List Procedure) (order : RunOrder) (events : List Event) (s : State) (c : Closing) (old : List ℕ) → answer ≡ Picture shown
+pub run_drawn : (answer : Answer) (shown : EventRange) (text : List ℕ) (program : List Procedure) (order : RunOrder) (events : List Event) (s : State) (c : Closing) (old : List ℕ) → answer ≡ Picture shown
     → Adds (IsRunBehind answer (Some text) program order events s c) old old
 run_drawn answer shown text program order events s c old is =
     subst (λ (a : Answer). Adds (IsRunBehind a (Some text) program order events s c) old old) (sym is) (nothing_added (IsRunBehind (Picture shown) (Some text) program order events s c) old refl)

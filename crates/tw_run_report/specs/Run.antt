@@ -12,7 +12,7 @@ use Rattle.tw_pool.specs.declared.answer.Closing.TheVariants.{Quiet, Stuck, Stop
 use Rattle.tw_command.specs.declared.command.Answer.{Answer}
 use Rattle.tw_command.specs.declared.command.Answer.TheVariants.{Numbers, Picture, Report}
 use Rattle.tw_command.specs.declared.command.RunOrder.{RunOrder}
-use Rattle.tw_command.specs.declared.shown.Stretch.{Stretch}
+use Rattle.tw_command.specs.declared.shown.EventRange.{EventRange}
 use Rattle.tw_machine.specs.PlainView.{PlainView}
 use Rattle.tw_picture.specs.declared.drawing.Drawing.{Drawing}
 use Rattle.tw_machine.specs.Moments.{history}
@@ -62,7 +62,7 @@ AreRunNumbers names program order events text =
     (version : Version) → (budgets : List ℕ) × AreBudgets program budgets × AreNumbers names program order.layout budgets (history (begins version program order) events) text
 
 -- the picture of these of them; it is the same in each version, too
-abbrev pub IsRunPicture : List (List ℕ) → Stretch → List Procedure → RunOrder → List Event → State → List ℕ → Type 0
+abbrev pub IsRunPicture : List (List ℕ) → EventRange → List Procedure → RunOrder → List Event → State → List ℕ → Type 0
 IsRunPicture names shown program order events s text =
     (version : Version) → (d : Drawing) × IsDrawing names (begins version program order) events s d × (text ≡ xml_text (picture_of d (between shown.from shown.to)))
 

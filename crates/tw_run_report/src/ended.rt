@@ -18,7 +18,7 @@ use crate::end_report::report;
 use crate::run_details::put_run_details;
 use std::alloc::{AllocError, Global};
 use tw_code::Program;
-use tw_command::{Answer, RunOrder, Stretch};
+use tw_command::{Answer, EventRange, RunOrder};
 use tw_machine::Plain;
 use tw_pool::{Closing, Final, History};
 use tw_replay::{Counting, budgets_of, count, draw, put_bytes};
@@ -143,7 +143,7 @@ fn put_run_picture(
     alloc: Global,
     out: &mut Vec<u8>,
     source: &Option<SourceText<'_>>,
-    shown: Stretch,
+    shown: EventRange,
     order: &RunOrder,
     verified: Verified,
     history: &History,

@@ -13,9 +13,9 @@ returns-in_default c = record {
   status = Ended CommandLine;
   text = c.as_bytes.result.now;
   answers = inr (c.in_default.ensures.cases.0, refl, c.as_bytes.ensures.value);
-  code_is = c.tell.ensures.code;
-  count_is = c.tell.ensures.count;
-  room = c.tell.ensures.room;
+  code_is = c.write_answer.ensures.code;
+  count_is = c.write_answer.ensures.count;
+  room = c.write_answer.ensures.room;
 }
 
 pub returns-in-Ok-answer : goal.returns-in-Ok-answer
@@ -28,7 +28,7 @@ returns-in-Ok-answer c =
       status = Ended r.close;
       text = c.as_slice.result.now;
       answers = subst (λ (t : List ℕ). Answers c.args.words.now input (Ended r.close) t) (sym c.as_slice.ensures.value) (inl (words.1, told));
-      code_is = c.tell-in-Ok-answer.ensures.code;
-      count_is = c.tell-in-Ok-answer.ensures.count;
-      room = c.tell-in-Ok-answer.ensures.room;
+      code_is = c.write_answer-in-Ok-answer.ensures.code;
+      count_is = c.write_answer-in-Ok-answer.ensures.count;
+      room = c.write_answer-in-Ok-answer.ensures.room;
     }

@@ -61,22 +61,26 @@ impl Look {
 /// Tells on standard error once a second how many events a run in threads has so far, if it takes more than two seconds. It also reports
 /// there that wakes of idle threads got lost, which none does unless the host has a fault.
 #[derive(Drop)]
-pub struct Teller {
+pub struct ProgressPrinter {
     stderr: Stderr,
     is_quiet: bool,
 }
 
-impl Teller {
+impl ProgressPrinter {
     /// Makes one that tells nothing if it is quiet, and no progress if standard error is no terminal.
-    pub fn new(stderr: Stderr, is_quiet: bool) -> Teller
+    pub fn new(stderr: Stderr, is_quiet: bool) -> ProgressPrinter
         ensures { result.is_quiet ≡ is_quiet }
     {
-        Teller { stderr, is_quiet }
+        ProgressPrinter { stderr, is_quiet }
     }
 }
 
 /// Looks at a run until it is over, and tells of it when that is due.
-fn tell<R: Wait + Clock, P: Progress>(rt: &R, terminal: &Stderr, run: &P) -> io::Result<()> {
+fn print_progress<R: Wait + Clock, P: Progress>(
+    rt: &R,
+    terminal: &Stderr,
+    run: &P,
+) -> io::Result<()> {
     let mut look = Look::new(rt)?;
     for _ in rt.forever() {
         let Some(events) = run.events() else {
@@ -90,7 +94,7 @@ fn tell<R: Wait + Clock, P: Progress>(rt: &R, terminal: &Stderr, run: &P) -> io:
     unreachable!()
 }
 
-impl Gate for Teller {
+impl Gate for ProgressPrinter {
     ghost unwatched = { Unit {0} };
 
     fn watches(&self) -> bool {
@@ -104,7 +108,7 @@ impl Gate for Teller {
     /// Where the clock or the terminal fails nothing more is told.
     fn monitor<R: Wait + Clock, P: Progress>(&self, rt: &R, run: &P) {
         if !self.is_quiet && self.stderr.is_terminal() {
-            let _told = tell(rt, &self.stderr, run);
+            let _told = print_progress(rt, &self.stderr, run);
         }
     }
 
