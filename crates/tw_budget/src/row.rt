@@ -2,7 +2,7 @@
 
 ghost use Rattle.std.specs.Prelude.{◌≡◌, ◌+◌, ◌<◌, ◌≤◌, length, min, slice_get};
 ghost use Rattle.tw_code.specs.accepting.Flow.{flows};
-ghost use Rattle.tw_budget.specs.Rows.{IsRow, RowsFrom, most_told};
+ghost use Rattle.tw_budget.specs.Rows.{IsRow, RowsFrom, greatest_length};
 ghost use Rattle.tw_budget.specs.Sound.{IsSound};
 
 use tw_code::{Flow, Instr, Procedure, flow_at};
@@ -16,8 +16,8 @@ pub struct Row {
 }
 
 /// Caps a length at one more than the greatest budget.
-fn told(length: u64) -> u64
-    ensures { result ≡ min length most_told }
+fn capped(length: u64) -> u64
+    ensures { result ≡ min length greatest_length }
 {
     length.min(Procedure::MAX_BUDGET + 1)
 }
@@ -27,7 +27,7 @@ pub fn row_of(code: &[Instr], rows: &[Row], from: usize, place: usize) -> Row
     requires within { place < length code.now }
     requires known { RowsFrom (flows code.now) rows.now from }
     ensures row { IsRow (flows code.now) place result }
-    ensures bound { result.longest ≤ most_told }
+    ensures bound { result.longest ≤ greatest_length }
 {
     rows[place]
 }
@@ -44,7 +44,7 @@ pub fn row_at(code: &[Instr], rows: &[Row], place: usize) -> Row
         Flow::Straight => {
             let on = row_of(code, rows, next, next);
             Row {
-                longest: told(1 + on.longest),
+                longest: capped(1 + on.longest),
                 end: on.end,
             }
         }
@@ -52,14 +52,14 @@ pub fn row_at(code: &[Instr], rows: &[Row], place: usize) -> Row
             let on = row_of(code, rows, next, next);
             let skipped = row_of(code, rows, next, next + skip as usize);
             Row {
-                longest: told(1 + on.longest.max(skipped.longest)),
+                longest: capped(1 + on.longest.max(skipped.longest)),
                 end: on.end,
             }
         }
         Flow::Jump(skip) => {
             let on = row_of(code, rows, next, next + skip as usize);
             Row {
-                longest: told(1 + on.longest),
+                longest: capped(1 + on.longest),
                 end: on.end,
             }
         }
@@ -88,7 +88,7 @@ fn loop_row(code: &[Instr], rows: &[Row], place: usize, turns: u16) -> Row
         Some(end) => {
             let on = row_of(code, rows, place + 1, end + 1);
             Row {
-                longest: told(1 + turns as u64 * body.longest + on.longest),
+                longest: capped(1 + turns as u64 * body.longest + on.longest),
                 end: on.end,
             }
         }
