@@ -100,7 +100,7 @@ abbrev sort_in : Form → ℕ
 sort_in form.Value = 1
 sort_in form.Right = 2
 sort_in form.Number = 3
-sort_in form.Turns = 4
+sort_in form.Iterations = 4
 sort_in form.Literal = 5
 sort_in form.TypeOf = 6
 sort_in form.Skip = 7
@@ -127,7 +127,7 @@ contents_in [] parts = tt
 contents_in (form.Value ∷ fs) parts = (size (part_in parts), contents_in fs (parts_behind parts))
 contents_in (form.Right ∷ fs) parts = (size (part_in parts), contents_in fs (parts_behind parts))
 contents_in (form.Number ∷ fs) parts = (signed (part_in parts), contents_in fs (parts_behind parts))
-contents_in (form.Turns ∷ fs) parts = (size (part_in parts), contents_in fs (parts_behind parts))
+contents_in (form.Iterations ∷ fs) parts = (size (part_in parts), contents_in fs (parts_behind parts))
 contents_in (form.Literal ∷ fs) parts = (text (part_in parts), contents_in fs (parts_behind parts))
 contents_in (form.TypeOf ∷ fs) parts = (type_in (part_in parts), contents_in fs (parts_behind parts))
 contents_in (form.Skip ∷ fs) parts = (size (part_in parts), contents_in fs (parts_behind parts))

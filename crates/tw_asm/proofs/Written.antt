@@ -283,9 +283,9 @@ operand_in : (o : Operand) → IsOperand o → AllByRecursion IsInPart (operand_
 operand_in (holds form.Value register) h = (h, tt)
 operand_in (holds form.Right register) h = (h, tt)
 operand_in (holds form.Number n) h = (h, tt)
-operand_in (holds form.Turns turns) h = (few h.1, tt)
+operand_in (holds form.Iterations iterations) h = (few h.1, tt)
   where
-    few : turns ≤ 1000 → turns ≤ 65535
+    few : iterations ≤ 1000 → iterations ≤ 65535
     few high = omega arith
 operand_in (holds form.Literal text) h = (h.utf8, tt)
 operand_in (holds form.TypeOf ty) h = (tt, tt)

@@ -59,7 +59,7 @@ abbrev pub operand_parts : Operand → List Part
 operand_parts (holds form.Value register) = Value register ∷ []
 operand_parts (holds form.Right register) = Right register ∷ []
 operand_parts (holds form.Number number) = Number number ∷ []
-operand_parts (holds form.Turns turns) = Natural turns ∷ []
+operand_parts (holds form.Iterations iterations) = Natural iterations ∷ []
 operand_parts (holds form.Literal text) = Literal text ∷ []
 operand_parts (holds form.TypeOf ty) = TypeOf ty ∷ []
 operand_parts (holds form.Skip skip) = Skip skip ∷ []

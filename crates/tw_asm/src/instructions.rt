@@ -177,7 +177,7 @@ fn plain_of<'a>(version: Version, opcode: Opcode, words: &[Word<'a>]) -> Result<
         Opcode::Copy => { let (to, (from, ())) = two_values(words)?; Ok(straight(Instr::Local(LocalInstr::Copy { to, from }))) }
         Opcode::Length => { let (to, (from, ())) = two_values(words)?; Ok(straight(Instr::Local(LocalInstr::Length { to, from }))) }
         Opcode::Show => { let (to, (from, ())) = two_values(words)?; Ok(straight(Instr::Local(LocalInstr::Show { to, from }))) }
-        Opcode::Repeat => { let (turns, ()) = only_turns(words)?; Ok(straight(Instr::Local(LocalInstr::Repeat { turns }))) }
+        Opcode::Repeat => { let (iterations, ()) = only_iterations(words)?; Ok(straight(Instr::Local(LocalInstr::Repeat { iterations }))) }
         Opcode::End => { nothing_of(words)?; Ok(straight(Instr::Local(LocalInstr::End))) }
         Opcode::New => { let (write, (read, ty)) = two_rights_and_type(version, words)?; Ok(straight(Instr::Data(DataInstr::New { write, read, ty }))) }
         Opcode::Store => { let (datum, (from, ())) = right_and_value(words)?; Ok(straight(Instr::Data(DataInstr::Store { datum, from }))) }

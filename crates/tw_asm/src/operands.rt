@@ -85,12 +85,12 @@ pub fn byte_of(low: u8, high: u8, word: &Word<'_>) -> Result<u8, TokenError>
     }
 }
 
-/// The number of turns of a loop, 1 to 1,000.
-pub fn turns_of(word: &Word<'_>) -> Result<u16, TokenError>
+/// The number of iterations of a loop, 1 to 1,000.
+pub fn iterations_of(word: &Word<'_>) -> Result<u16, TokenError>
     ensures { result ≡ natural_in 1 1000 (seen_word word.now) }
 {
     match word {
-        Word::Bare(text) => match digits_of(text, 1, u64::from(LocalInstr::MAX_TURNS)) {
+        Word::Bare(text) => match digits_of(text, 1, u64::from(LocalInstr::MAX_ITERATIONS)) {
             Ok(number) => Ok(number as u16),
             Err(flaw) => Err(flaw),
         },

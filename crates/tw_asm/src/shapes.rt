@@ -52,12 +52,12 @@ fn only_number(words: &[Word<'_>]) -> Result<(i64, ()), TokenError>
     }
 }
 
-/// The number of turns of a loop.
-pub fn only_turns(words: &[Word<'_>]) -> Result<(u16, ()), TokenError>
+/// The number of iterations of a loop.
+pub fn only_iterations(words: &[Word<'_>]) -> Result<(u16, ()), TokenError>
     ensures { result ≡ line_in (more (natural 1 1000) nothing) (map seen_word words.now) }
 {
     match words {
-        [word, others @ ..] => both_of(turns_of(word), nothing_of(others)),
+        [word, others @ ..] => both_of(iterations_of(word), nothing_of(others)),
         [] => Err(TokenError::Form),
     }
 }

@@ -160,7 +160,7 @@ fn put_operand(
         Operand::Value(register) => put_numbered(alloc, out, " v", usize::from(*register)),
         Operand::Right(register) => put_numbered(alloc, out, " d", usize::from(*register)),
         Operand::Number(number) => put_number(alloc, out, *number),
-        Operand::Turns(turns) => put_numbered(alloc, out, " ", usize::from(*turns)),
+        Operand::Iterations(iterations) => put_numbered(alloc, out, " ", usize::from(*iterations)),
         Operand::Literal(text) => put_literal(out, text),
         Operand::TypeOf(ty) => put_type(out, *ty),
         Operand::Skip(skip) => put_goal(alloc, out, label, *skip),

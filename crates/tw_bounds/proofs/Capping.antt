@@ -24,7 +24,7 @@ AreAlike a b = min a cap ≡ min b cap
 turns_alike : (c k s t a b : ℕ) → a ≡ min s cap → b ≡ min t cap → min (c + suc k * a + b) cap ≡ min (c + suc k * s + t) cap
 turns_alike c k s t a b e f = grind arith
 
-loop_alike : (c d turns s t u v : ℕ) → AreAlike c d → AreAlike s t → AreAlike u v → AreAlike (c + turns * s + u) (d + turns * t + v)
+loop_alike : (c d iterations s t u v : ℕ) → AreAlike c d → AreAlike s t → AreAlike u v → AreAlike (c + iterations * s + u) (d + iterations * t + v)
 loop_alike c d zero s t u v first turn rest = omega (arith, first, rest)
 loop_alike c d (suc k) s t u v first turn rest =
     let one = turns_alike c k s u (min s cap) (min u cap) refl refl in
@@ -42,8 +42,8 @@ flow_alike : (c d place : ℕ) (rest : List Flow) (f g : ℕ → ℕ) (i : Flow)
 flow_alike c d place rest f g Straight first alike = let h = alike 0 in omega (arith, first, h)
 flow_alike c d place rest f g (Branch skip) first alike = let h = alike 0 in let k = alike skip in omega (arith, first, h, k)
 flow_alike c d place rest f g (Jump skip) first alike = let h = alike skip in omega (arith, first, h)
-flow_alike c d place rest f g (Begin turns) first alike =
-    loop_alike c d turns (f 0) (g 0) (after_loop place f (end_from (place + 1) 0 rest)) (after_loop place g (end_from (place + 1) 0 rest)) first (alike 0) (after_alike place f g (end_from (place + 1) 0 rest) alike)
+flow_alike c d place rest f g (Begin iterations) first alike =
+    loop_alike c d iterations (f 0) (g 0) (after_loop place f (end_from (place + 1) 0 rest)) (after_loop place g (end_from (place + 1) 0 rest)) first (alike 0) (after_alike place f g (end_from (place + 1) 0 rest) alike)
 flow_alike c d place rest f g Close first alike = first
 flow_alike c d place rest f g Stop first alike = first
 

@@ -53,13 +53,13 @@ branch_at cost code place skip at =
 pub jump_at : (cost : ℕ → ℕ) (code : List Flow) (place skip : ℕ) → slice_get code place ≡ Some (Jump skip) → greatest_cost cost code place ≡ cost place + greatest_cost cost code (goal_of place skip)
 jump_at cost code place skip at = let h = at_flow cost code place (Jump skip) at in let q = on_at cost code place skip (goal_of place skip) refl in omega arith
 
-pub begin_at : (cost : ℕ → ℕ) (code : List Flow) (place turns end : ℕ) → slice_get code place ≡ Some (Begin turns) → end_of code (place + 1) ≡ Some end → place < end → greatest_cost cost code place ≡ cost place + turns * greatest_cost cost code (place + 1) + greatest_cost cost code (end + 1)
-begin_at cost code place turns end at e ahead =
-    let h = at_flow cost code place (Begin turns) at in
+pub begin_at : (cost : ℕ → ℕ) (code : List Flow) (place iterations end : ℕ) → slice_get code place ≡ Some (Begin iterations) → end_of code (place + 1) ≡ Some end → place < end → greatest_cost cost code place ≡ cost place + iterations * greatest_cost cost code (place + 1) + greatest_cost cost code (end + 1)
+begin_at cost code place iterations end at e ahead =
+    let h = at_flow cost code place (Begin iterations) at in
     let o = on_at cost code place 0 (place + 1) (omega arith) in
     let q = on_at cost code place (end - place) (end + 1) (omega arith) in
     let b = ap (λ (u : Option ℕ). after_loop place (greatest_cost_in cost (place + 1) (drop (place + 1) code)) u) e in
-    h ∙ ap (λ (n : ℕ). cost place + turns * greatest_cost_in cost (place + 1) (drop (place + 1) code) 0 + n) (b ∙ q) ∙ ap (λ (n : ℕ). cost place + turns * n + greatest_cost cost code (end + 1)) o
+    h ∙ ap (λ (n : ℕ). cost place + iterations * greatest_cost_in cost (place + 1) (drop (place + 1) code) 0 + n) (b ∙ q) ∙ ap (λ (n : ℕ). cost place + iterations * n + greatest_cost cost code (end + 1)) o
 
 pub close_at : (cost : ℕ → ℕ) (code : List Flow) (place : ℕ) → slice_get code place ≡ Some Close → greatest_cost cost code place ≡ cost place
 close_at cost code place at = at_flow cost code place Close at
@@ -69,12 +69,12 @@ stop_at cost code place at = at_flow cost code place Stop at
 
 -- ---- the rest of a task
 
--- turns of a loop after the one that is begun
+-- iterations of a loop after the one that is begun
 abbrev pub further : ℕ → ℕ → ℕ
 further zero turn = 0
 further (suc k) turn = k * turn
 
--- to the END of the inner loop, the turns that are left of it, and what is left after it
+-- to the END of the inner loop, the iterations that are left of it, and what is left after it
 abbrev pub left : (ℕ → ℕ) → List Flow → ℕ → List Loop → ℕ
 left cost code place [] = greatest_cost cost code place
 left cost code place (inner ∷ outer) = greatest_cost cost code place + further inner.left (greatest_cost cost code inner.first) + left cost code (unwrap_or (end_of code place) 0 + 1) outer
@@ -108,7 +108,7 @@ pays cost code s place (Jump skip) loops Completed to at f e =
     let h = jump_at cost code place skip at in
     moves_to cost code place loops _ to e (through cost code place (goal_of place skip) (cost place) loops (sym (jump_goal code s place skip at).1) (omega arith))
 pays cost code s place (Jump skip) loops Skipped to at f e = cc
-pays cost code s place (Begin zero) loops Completed to at f e = absurd (omega (arith, s.turns place 0 at))
+pays cost code s place (Begin zero) loops Completed to at f e = absurd (omega (arith, s.iterations place 0 at))
 pays cost code s place (Begin (suc k)) loops Completed to at f e =
     let b = begun code s place (suc k) at in
     let h = begin_at cost code place (suc k) b.0 at b.1 b.3 in
@@ -116,12 +116,12 @@ pays cost code s place (Begin (suc k)) loops Completed to at f e =
     let t = through cost code place (b.0 + 1) (cost place + suc k * d) loops b.5 (omega arith) in
     let same : left cost code (unwrap_or (end_of code (place + 1)) 0 + 1) loops ≡ left cost code (b.0 + 1) loops = ap (λ (o : Option ℕ). left cost code (unwrap_or o 0 + 1) loops) b.1 in
     moves_to cost code place loops _ to e (omega arith)
-pays cost code s place (Begin turns) loops Skipped to at f e = cc
+pays cost code s place (Begin iterations) loops Skipped to at f e = cc
 pays cost code s place Close [] Completed to at f e = cc
 pays cost code s place Close (inner ∷ outer) Completed to at f e = ended inner.first inner.left f.0 f.1 f.2 f.3 e
   where
-    ended : (first turns end : ℕ) → end_of code place ≡ Some end → end_of code first ≡ Some end → 0 < turns → Some (turned place first turns outer) ≡ Some to
-        → cost place + left cost code to.place to.loops ≤ greatest_cost cost code place + further turns (greatest_cost cost code first) + left cost code (unwrap_or (end_of code place) 0 + 1) outer
+    ended : (first iterations end : ℕ) → end_of code place ≡ Some end → end_of code first ≡ Some end → 0 < iterations → Some (turned place first iterations outer) ≡ Some to
+        → cost place + left cost code to.place to.loops ≤ greatest_cost cost code place + further iterations (greatest_cost cost code first) + left cost code (unwrap_or (end_of code place) 0 + 1) outer
     ended first zero end g h b e = absurd (omega arith)
     ended first (suc zero) end g h b e =
         let here : left cost code (unwrap_or (end_of code place) 0 + 1) outer ≡ left cost code (place + 1) outer = ap (λ (o : Option ℕ). left cost code (unwrap_or o 0 + 1) outer) (close_end code place at) in

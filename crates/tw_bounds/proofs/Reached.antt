@@ -77,7 +77,7 @@ module _ (cost : ℕ → ℕ) (code : List Flow) (s : IsSound code) where
       let goal = jump_goal code s place skip at in
       let x = far (goal_of place skip) (omega arith) goal.0 in
       so_much place _ (sym (jump_at cost code place skip at)) (reaches_on place (goal_of place skip) (Jump skip) Completed _ _ at (λ loops. refl) (same_loops place (goal_of place skip) _ goal.1 x))
-  reaches_here place (Begin zero) at far = absurd (omega (arith, s.turns place 0 at))
+  reaches_here place (Begin zero) at far = absurd (omega (arith, s.iterations place 0 at))
   reaches_here place (Begin (suc k)) at far =
       let b = begun code s place (suc k) at in
       let x = far (place + 1) (omega arith) (not_last code s place (Begin (suc k)) at refl) in

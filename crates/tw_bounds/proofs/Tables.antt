@@ -35,8 +35,8 @@ module _ (cost : ℕ → ℕ) (code : List Flow) where
   turns_capped : (c k s t a b : ℕ) → a ≡ min s cap → b ≡ min t cap → min (c + suc k * a + b) cap ≡ min (c + suc k * s + t) cap
   turns_capped c k s t a b e f = grind arith
 
-  pub begin_row : IsSound code → (place turns : ℕ) (x y : Row) (end : ℕ) → slice_get code place ≡ Some (Begin turns) → IsRow cost code (place + 1) x → x.end ≡ Some end → IsRow cost code (end + 1) y → (n : ℕ) → n ≡ min (cost place + turns * x.greatest_cost + y.greatest_cost) cap → IsRow cost code place (record { greatest_cost = n; end = y.end })
-  begin_row s place zero x y end at r e q n m = absurd (omega (arith, s.turns place 0 at))
+  pub begin_row : IsSound code → (place iterations : ℕ) (x y : Row) (end : ℕ) → slice_get code place ≡ Some (Begin iterations) → IsRow cost code (place + 1) x → x.end ≡ Some end → IsRow cost code (end + 1) y → (n : ℕ) → n ≡ min (cost place + iterations * x.greatest_cost + y.greatest_cost) cap → IsRow cost code place (record { greatest_cost = n; end = y.end })
+  begin_row s place zero x y end at r e q n m = absurd (omega (arith, s.iterations place 0 at))
   begin_row s place (suc k) x y end at r e q n m =
       let b = begun code s place (suc k) at in
       let inner : end_of code (place + 1) ≡ Some end = sym r.ends ∙ e in
@@ -62,7 +62,7 @@ module _ (cost : ℕ → ℕ) (code : List Flow) where
   }
 
   -- a loop's first place has a later END, and the code continues after it
-  pub begun_ends : IsSound code → (place turns : ℕ) → slice_get code place ≡ Some (Begin turns) → (x : Row) → IsRow cost code (place + 1) x → (x.end ≡ None → ⊥) × ((end : ℕ) → x.end ≡ Some end → (place < end) × (end + 1 < length code))
-  begun_ends s place turns at x r =
-      let b = begun code s place turns at in
+  pub begun_ends : IsSound code → (place iterations : ℕ) → slice_get code place ≡ Some (Begin iterations) → (x : Row) → IsRow cost code (place + 1) x → (x.end ≡ None → ⊥) × ((end : ℕ) → x.end ≡ Some end → (place < end) × (end + 1 < length code))
+  begun_ends s place iterations at x r =
+      let b = begun code s place iterations at in
       (λ none. let e = sym none ∙ r.ends ∙ b.1 in cc, λ end e. let same : b.0 ≡ end = ap (λ (o : Option ℕ). elim o as (λ _. ℕ) [ None ↦ end | Some z ↦ z ]) (sym b.1 ∙ sym r.ends ∙ e) in (omega (arith, same, b.3), omega (arith, same, b.4)))

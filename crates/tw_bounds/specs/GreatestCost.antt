@@ -14,7 +14,7 @@ abbrev pub by_flow : ℕ → ℕ → List Flow → (ℕ → ℕ) → Flow → �
 by_flow cost place rest on Straight = cost + on 0
 by_flow cost place rest on (Branch skip) = cost + max (on 0) (on skip)
 by_flow cost place rest on (Jump skip) = cost + on skip
-by_flow cost place rest on (Begin turns) = cost + turns * on 0 + after_loop place on (end_from (place + 1) 0 rest)
+by_flow cost place rest on (Begin iterations) = cost + iterations * on 0 + after_loop place on (end_from (place + 1) 0 rest)
 by_flow cost place rest on Close = cost
 by_flow cost place rest on Stop = cost
 

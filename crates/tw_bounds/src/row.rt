@@ -79,7 +79,7 @@ pub fn row_at(code: &[Instr], costs: &[u64], rows: &[Row], place: usize) -> Row
                 end: on.end,
             }
         }
-        Flow::Begin(turns) => loop_row(code, costs, rows, place, turns),
+        Flow::Begin(iterations) => loop_row(code, costs, rows, place, iterations),
         Flow::Close => Row {
             greatest_cost: capped(cost),
             end: Some(place),
@@ -92,11 +92,11 @@ pub fn row_at(code: &[Instr], costs: &[u64], rows: &[Row], place: usize) -> Row
 }
 
 /// Returns the row of a REPEAT: its iterations, and the rest after the loop.
-fn loop_row(code: &[Instr], costs: &[u64], rows: &[Row], place: usize, turns: u16) -> Row
+fn loop_row(code: &[Instr], costs: &[u64], rows: &[Row], place: usize, iterations: u16) -> Row
     requires within { place < length code.now }
     requires weighted { length costs.now ≡ length code.now }
     requires small { AreSmall costs.now }
-    requires begins { slice_get (flows code.now) place ≡ Some (Flow.Begin turns) }
+    requires begins { slice_get (flows code.now) place ≡ Some (Flow.Begin iterations) }
     requires sound { IsSound (flows code.now) }
     requires known { RowsFrom (cost_in costs.now) (flows code.now) rows.now (place + 1) }
     ensures { IsRow (cost_in costs.now) (flows code.now) place result }
@@ -107,7 +107,9 @@ fn loop_row(code: &[Instr], costs: &[u64], rows: &[Row], place: usize, turns: u1
         Some(end) => {
             let on = row_of(code, costs, rows, place + 1, end + 1);
             Row {
-                greatest_cost: capped(cost + turns as u64 * body.greatest_cost + on.greatest_cost),
+                greatest_cost: capped(
+                    cost + iterations as u64 * body.greatest_cost + on.greatest_cost,
+                ),
                 end: on.end,
             }
         }

@@ -6,5 +6,5 @@ use Rattle.tw_code.specs.accepting.Structure.{structure_refusal_at}
 
 pub record IsSound (code : List Flow) : Type 0 where
   pub long : 0 < length code
-  pub turns : (place turns : ℕ) → slice_get code place ≡ Some (Begin turns) → 0 < turns
+  pub iterations : (place iterations : ℕ) → slice_get code place ≡ Some (Begin iterations) → 0 < iterations
   pub each : (place : ℕ) → structure_refusal_at code place ≡ None

@@ -63,7 +63,7 @@ pub fn row_at(code: &[Instr], rows: &[Row], place: usize) -> Row
                 end: on.end,
             }
         }
-        Flow::Begin(turns) => loop_row(code, rows, place, turns),
+        Flow::Begin(iterations) => loop_row(code, rows, place, iterations),
         Flow::Close => Row {
             longest: 1,
             end: Some(place),
@@ -76,9 +76,9 @@ pub fn row_at(code: &[Instr], rows: &[Row], place: usize) -> Row
 }
 
 /// Returns the row of a REPEAT: its iterations, and the rest after the loop.
-fn loop_row(code: &[Instr], rows: &[Row], place: usize, turns: u16) -> Row
+fn loop_row(code: &[Instr], rows: &[Row], place: usize, iterations: u16) -> Row
     requires within { place < length code.now }
-    requires begins { slice_get (flows code.now) place ≡ Some (Flow.Begin turns) }
+    requires begins { slice_get (flows code.now) place ≡ Some (Flow.Begin iterations) }
     requires sound { IsSound (flows code.now) }
     requires known { RowsFrom (flows code.now) rows.now (place + 1) }
     ensures { IsRow (flows code.now) place result }
@@ -88,7 +88,7 @@ fn loop_row(code: &[Instr], rows: &[Row], place: usize, turns: u16) -> Row
         Some(end) => {
             let on = row_of(code, rows, place + 1, end + 1);
             Row {
-                longest: capped(1 + turns as u64 * body.longest + on.longest),
+                longest: capped(1 + iterations as u64 * body.longest + on.longest),
                 end: on.end,
             }
         }

@@ -5,7 +5,7 @@ use Rattle.std.proofs.lemmas.Bool.{eqb-true}
 use Rattle.tw_bytes.specs.declared.fault.Broken.{Broken}
 use Rattle.tw_bytes.specs.declared.fault.FaultNo.TheVariants.{Unknown}
 use Rattle.tw_code.specs.declared.form.Form.{Form}
-use Rattle.tw_code.specs.declared.form.Form.TheVariants.{Value, Right, Number, Turns, Literal, TypeOf, Skip, Callee, Target, Args}
+use Rattle.tw_code.specs.declared.form.Form.TheVariants.{Value, Right, Number, Iterations, Literal, TypeOf, Skip, Callee, Target, Args}
 use Rattle.tw_code.specs.declared.instr.Instr.{Instr}
 use Rattle.tw_code.specs.declared.instr.Instr.TheVariants as instr
 use Rattle.tw_code.specs.declared.opcode.Opcode.{Opcode}
@@ -55,7 +55,7 @@ content_strict : (version : Version) (form : Form) → IsStrict (λ (x : Content
 content_strict version Value = register_strict
 content_strict version Right = register_strict
 content_strict version Number = number_strict
-content_strict version Turns = wide_strict 1 1000 (omega arith) (omega arith)
+content_strict version Iterations = wide_strict 1 1000 (omega arith) (omega arith)
 content_strict version Literal = text_strict
 content_strict version TypeOf = type_strict version 3
 content_strict version Skip = wide_strict 0 65535 (omega arith) (omega arith)

@@ -22,7 +22,7 @@ use Rattle.tw_bytes.specs.declared.fault.FaultNo.TheVariants.{Magic, Missing, Li
 use Rattle.tw_bytes.specs.declared.fault.Stop.{Stop}
 use Rattle.tw_bytes.specs.declared.fault.Stop.TheVariants as stop
 use Rattle.tw_code.specs.declared.form.Form.{Form}
-use Rattle.tw_code.specs.declared.form.Form.TheVariants.{Value, Right, Number, Turns, Literal, TypeOf, Skip, Callee, Target, Args}
+use Rattle.tw_code.specs.declared.form.Form.TheVariants.{Value, Right, Number, Iterations, Literal, TypeOf, Skip, Callee, Target, Args}
 use Rattle.tw_code.specs.declared.instr.Instr.{Instr}
 use Rattle.tw_code.specs.declared.opcode.Opcode.{Opcode}
 use Rattle.tw_code.specs.declared.procedure.Procedure.{Procedure}
@@ -158,7 +158,7 @@ abbrev pub content_at : Version → (form : Form) → Reading (Content form)
 content_at version Value = register_at
 content_at version Right = register_at
 content_at version Number = number_at
-content_at version Turns = wide_at 1 1000
+content_at version Iterations = wide_at 1 1000
 content_at version Literal = text_at
 content_at version TypeOf = type_at version 3
 content_at version Skip = skip_at

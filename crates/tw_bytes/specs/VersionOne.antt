@@ -2,7 +2,7 @@
 -- bytes since, and are defined here without them. Items and codes are those of `Spelling` and of Table.
 use Rattle.std.specs.Prelude.{◌≡◌, ◌↔◌, ℕ, List, [], ◌∷◌, ◌++◌, Some, slice_get}
 use Rattle.std.specs.List.{concat, flat_map}
-use Rattle.tw_code.specs.declared.form.Form.TheVariants.{Value, Right, Number, Turns, Literal, TypeOf, Skip, Callee, Target, Args}
+use Rattle.tw_code.specs.declared.form.Form.TheVariants.{Value, Right, Number, Iterations, Literal, TypeOf, Skip, Callee, Target, Args}
 use Rattle.tw_code.specs.declared.instr.DataInstr.{DataInstr}
 use Rattle.tw_code.specs.declared.instr.DataInstr.TheVariants as on_data
 use Rattle.tw_code.specs.declared.instr.Instr.{Instr}
@@ -33,7 +33,7 @@ abbrev pub operand_items : Operand → List Item
 operand_items (holds Value register) = byte register ∷ []
 operand_items (holds Right register) = byte register ∷ []
 operand_items (holds Number n) = number n ∷ []
-operand_items (holds Turns turns) = wide turns ∷ []
+operand_items (holds Iterations iterations) = wide iterations ∷ []
 operand_items (holds Literal text) = text_items text
 operand_items (holds TypeOf ty) = type_items ty
 operand_items (holds Skip skip) = wide skip ∷ []

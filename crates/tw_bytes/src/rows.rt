@@ -42,12 +42,12 @@ fn number<'a>(bytes: &mut &'a [u8]) -> Result<i64, Stop>
     Ok(number)
 }
 
-fn turns<'a>(bytes: &mut &'a [u8]) -> Result<u16, Stop>
+fn iterations<'a>(bytes: &mut &'a [u8]) -> Result<u16, Stop>
     ensures { Gives (λ x. (x, bytes.new.now)) result (wide_at 1 1000 bytes.old.now) }
 {
-    let (turns, rest) = wide_of(1, LocalInstr::MAX_TURNS, bytes)?;
+    let (iterations, rest) = wide_of(1, LocalInstr::MAX_ITERATIONS, bytes)?;
     *bytes = rest;
-    Ok(turns)
+    Ok(iterations)
 }
 
 fn text<'a>(alloc: Global, bytes: &mut &'a [u8]) -> Result<Text, Stop>
@@ -186,7 +186,7 @@ fn operands_of<'a>(alloc: Global, version: Version, opcode: Opcode, bytes: &mut 
         Opcode::Jump => Ok(Instr::Local(LocalInstr::Jump { skip: skip(bytes)? })),
         Opcode::JumpEqual => { let (left, right, skip) = two_and_skip(bytes)?; Ok(Instr::Local(LocalInstr::JumpEqual { left, right, skip })) }
         Opcode::JumpLess => { let (left, right, skip) = two_and_skip(bytes)?; Ok(Instr::Local(LocalInstr::JumpLess { left, right, skip })) }
-        Opcode::Repeat => Ok(Instr::Local(LocalInstr::Repeat { turns: turns(bytes)? })),
+        Opcode::Repeat => Ok(Instr::Local(LocalInstr::Repeat { iterations: iterations(bytes)? })),
         Opcode::End => Ok(Instr::Local(LocalInstr::End)),
         Opcode::New => { let (write, read) = two(bytes)?; Ok(Instr::Data(DataInstr::New { write, read, ty: data_type(version, bytes)? })) }
         Opcode::Store => { let (datum, from) = two(bytes)?; Ok(Instr::Data(DataInstr::Store { datum, from })) }

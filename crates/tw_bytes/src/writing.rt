@@ -124,7 +124,7 @@ fn put_operand(out: &mut Vec<u8>, operand: &Operand<'_>) -> Result<(), AllocErro
             out.extend_from_slice(&[*byte])
         }
         Operand::Number(number) => out.extend_from_slice(&number.to_be_bytes()),
-        Operand::Turns(number) | Operand::Skip(number) => {
+        Operand::Iterations(number) | Operand::Skip(number) => {
             out.extend_from_slice(&number.to_be_bytes())
         }
         Operand::Literal(text) => put_literal(out, text),

@@ -3,7 +3,7 @@
 use Rattle.std.proofs.Common.{◌≡◌, ◌==◌, ℕ, pos, List, [], ◌∷◌, Option, Some, None, refl}
 use Rattle.std.specs.List.{find}
 use Rattle.tw_code.specs.declared.form.Form.{Form}
-use Rattle.tw_code.specs.declared.form.Form.TheVariants.{Value, Right, Number, Turns, Literal, TypeOf, Skip, Callee, Target, Args}
+use Rattle.tw_code.specs.declared.form.Form.TheVariants.{Value, Right, Number, Iterations, Literal, TypeOf, Skip, Callee, Target, Args}
 use Rattle.tw_code.specs.declared.instr.Arithmetic.{Arithmetic}
 use Rattle.tw_code.specs.declared.instr.Arithmetic.TheVariants as operation
 use Rattle.tw_code.specs.declared.instr.DataInstr.{DataInstr}
@@ -50,8 +50,8 @@ content_in Right (holds Right register) = register
 content_in Right o = 0
 content_in Number (holds Number n) = n
 content_in Number o = pos 0
-content_in Turns (holds Turns turns) = turns
-content_in Turns o = 0
+content_in Iterations (holds Iterations iterations) = iterations
+content_in Iterations o = 0
 content_in Literal (holds Literal text) = text
 content_in Literal o = []
 content_in TypeOf (holds TypeOf ty) = ty

@@ -61,7 +61,7 @@ abbrev HasEarlier : State → Type 0
 HasEarlier s = (n : ℕ) (task : Task) → get s.tasks n ≡ Some task → n < s.next_task
 
 -- an event takes these: they waited, and no longer do. Each task that waits then waited before, or the event put it.
-record Turns (taken : List ℕ) (s t : State) : Type 0 where
+record Iterations (taken : List ℕ) (s t : State) : Type 0 where
   numbers : s.next_task ≤ t.next_task
   waits : (n : ℕ) → Waits t n → Waits s n ⊎ (is_among n (put_between s t) ≡ true)
   gone : (n : ℕ) → is_among n taken ≡ true → Waits s n × (Waits t n → ⊥)
@@ -78,7 +78,7 @@ put_next s t n grown = by (s.next_task == t.next_task) refl
         let more = eqb-false s.next_task t.next_task e in
         (is, omega arith)
 
-earlier_still : (taken : List ℕ) (s t : State) → Turns taken s t → HasEarlier s → HasEarlier t
+earlier_still : (taken : List ℕ) (s t : State) → Iterations taken s t → HasEarlier s → HasEarlier t
 earlier_still taken s t turn h n task at = elim (turn.waits n (task, at)) [
   | inl before ↦ let below = h n before.0 before.1 in let grown = turn.numbers in omega arith
   | inr now ↦ (put_next s t n turn.numbers now).1
@@ -86,7 +86,7 @@ earlier_still taken s t turn h n task at = elim (turn.waits n (task, at)) [
 
 module _ (s : State) where
   -- no task is added or removed
-  same_tasks : (t : State) → t.tasks ≡ s.tasks → t.next_task ≡ s.next_task → Turns [] s t
+  same_tasks : (t : State) → t.tasks ≡ s.tasks → t.next_task ≡ s.next_task → Iterations [] s t
   same_tasks t same next = record {
     numbers = omega arith;
     waits = λ n h. inl (h.0, sym (ap (λ (m : Tasks). get m n) same) ∙ h.1);
@@ -95,7 +95,7 @@ module _ (s : State) where
   }
 
   -- one is added
-  one_put : (t : State) (task : Task) → t.tasks ≡ insert s.tasks s.next_task task → t.next_task ≡ s.next_task + 1 → Turns [] s t
+  one_put : (t : State) (task : Task) → t.tasks ≡ insert s.tasks s.next_task task → t.next_task ≡ s.next_task + 1 → Iterations [] s t
   one_put t task more next = record {
     numbers = omega arith;
     waits = λ n h. elim (put_or_before nat_cmp_total nat_cmp-IsAntisymmetric s.tasks s.next_task task n h.0 (sym (ap (λ (m : Tasks). get m n) more) ∙ h.1)) [
@@ -110,7 +110,7 @@ module _ (s : State) where
       put_here n is = rw (ne_eqb s.next_task t.next_task (λ e. omega arith), eq-eqb s.next_task n (sym is)) refl
 
   -- one is removed
-  one_taken : (t : State) (e : ℕ × Task) → get s.tasks e.0 ≡ Some e.1 → t.tasks ≡ remove s.tasks e.0 → t.next_task ≡ s.next_task → Turns (e.0 ∷ []) s t
+  one_taken : (t : State) (e : ℕ × Task) → get s.tasks e.0 ≡ Some e.1 → t.tasks ≡ remove s.tasks e.0 → t.next_task ≡ s.next_task → Iterations (e.0 ∷ []) s t
   one_taken t e waited less next = record {
     numbers = omega arith;
     waits = λ n h. inl (h.0, (left n h).1);
@@ -121,7 +121,7 @@ module _ (s : State) where
       left : (n : ℕ) (h : Waits t n) → (n ≡ e.0 → ⊥) × (get s.tasks n ≡ Some h.0)
       left n h = before_removal nat_cmp_total nat_cmp-IsAntisymmetric s.tasks e.0 n h.0 (sym (ap (λ (m : Tasks). get m n) less) ∙ h.1)
 
-  event_turns : (program : List Procedure) (layout : ActorCounts) (event : Event) → IfWent (step program layout event s) (Turns (taken_by event s) s)
+  event_turns : (program : List Procedure) (layout : ActorCounts) (event : Event) → IfWent (step program layout event s) (Iterations (taken_by event s) s)
   unfolding step
   event_turns program layout (Take actor) = take_leaves program actor s layout (λ e frame first _. rw first (one_taken _ e (best_waits actor s.tasks e first) refl refl))
   event_turns program layout (Local actor n) = local_leaves program actor s n (λ frame at _ _. same_tasks _ refl refl)
@@ -143,7 +143,7 @@ nothing_follows : (s : State) → Follows [] [] s
 nothing_follows s = record { waited = λ n h. cc; later = λ n h. cc; distinct = tt }
 
 -- an event, and the events after it
-joined : (now taken put : List ℕ) (s t : State) → HasEarlier s → Turns now s t → Follows taken put t → Follows (now ++ taken) (put_between s t ++ put) s
+joined : (now taken put : List ℕ) (s t : State) → HasEarlier s → Iterations now s t → Follows taken put t → Follows (now ++ taken) (put_between s t ++ put) s
 joined now taken put s t h turn rest = record {
   waited = λ n among. elim (among_either now taken n among) [
     | inl first ↦ inl (turn.gone n first).0
@@ -170,9 +170,9 @@ joined now taken put s t h turn rest = record {
 module _ (program : List Procedure) (layout : ActorCounts) where
   run_follows : (events : List Event) (s : State) → HasEarlier s → Follows (takes program layout events s) (puts program layout events s) s
   run_follows [] s h = nothing_follows s
-  run_follows (event ∷ events) s h = by (step program layout event s) (λ t e. went_of (step program layout event s) (Turns (taken_by event s) s) t (event_turns s program layout event) e) (λ t later. run_follows events t later)
+  run_follows (event ∷ events) s h = by (step program layout event s) (λ t e. went_of (step program layout event s) (Iterations (taken_by event s) s) t (event_turns s program layout event) e) (λ t later. run_follows events t later)
     where
-      by : (o : Outcome State) → ((t : State) → o ≡ Went t → Turns (taken_by event s) s t) → ((t : State) → HasEarlier t → Follows (takes program layout events t) (puts program layout events t) t)
+      by : (o : Outcome State) → ((t : State) → o ≡ Went t → Iterations (taken_by event s) s t) → ((t : State) → HasEarlier t → Follows (takes program layout events t) (puts program layout events t) t)
           → Follows (if_went o (λ t. taken_by event s ++ takes program layout events t)) (if_went o (λ t. put_between s t ++ puts program layout events t)) s
       by (Went t) turn rest = joined (taken_by event s) (takes program layout events t) (puts program layout events t) s t h (turn t refl) (rest t (earlier_still (taken_by event s) s t (turn t refl) h))
       by NotEnabled turn rest = nothing_follows s

@@ -44,7 +44,7 @@ impl LocalInstr {
             | LocalInstr::JumpEqual { skip, .. }
             | LocalInstr::JumpLess { skip, .. } => Flow::Branch(*skip),
             LocalInstr::Jump { skip } => Flow::Jump(*skip),
-            LocalInstr::Repeat { turns } => Flow::Begin(*turns),
+            LocalInstr::Repeat { iterations } => Flow::Begin(*iterations),
             LocalInstr::End => Flow::Close,
             _ => Flow::Straight,
         }

@@ -10,7 +10,7 @@ pub enum Form {
     /// An integer.
     Number,
     /// The number of iterations of a loop.
-    Turns,
+    Iterations,
     /// A text.
     Literal,
     /// The type of a datum.

@@ -106,7 +106,7 @@ pub enum LocalInstr {
     },
     /// REPEAT: begins a loop at the next place, with this many iterations.
     Repeat {
-        turns: u16,
+        iterations: u16,
     },
     /// END: ends one iteration of the innermost loop. Continues at the loop's first place if iterations are left, else at the next place.
     End,
@@ -114,7 +114,7 @@ pub enum LocalInstr {
 
 impl LocalInstr {
     /// The greatest number of iterations of REPEAT; the least is 1.
-    pub const MAX_TURNS: u16 = 1_000;
+    pub const MAX_ITERATIONS: u16 = 1_000;
 }
 
 /// An instruction on data, which also reads and changes the store, its notices and the task's right registers.

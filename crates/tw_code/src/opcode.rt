@@ -7,7 +7,7 @@ ghost use Rattle.tw_code.specs.format.Table.{code_of, forms_of, has_opcode, opco
 
 use crate::form::Form;
 use crate::version::Version;
-use Form::{Args, Callee, Literal, Number, Right, Skip, Target, Turns, TypeOf, Value};
+use Form::{Args, Callee, Iterations, Literal, Number, Right, Skip, Target, TypeOf, Value};
 
 /// An instruction without its operands, by its code.
 #[derive(Clone, Copy)]
@@ -92,7 +92,7 @@ impl Opcode {
             Opcode::Add | Opcode::Subtract | Opcode::Multiply | Opcode::Divide | Opcode::Remainder | Opcode::Concatenate => &[Value, Value, Value, Skip],
             Opcode::ReadInt | Opcode::JumpEqual | Opcode::JumpLess => &[Value, Value, Skip],
             Opcode::Jump => &[Skip],
-            Opcode::Repeat => &[Turns],
+            Opcode::Repeat => &[Iterations],
             Opcode::End | Opcode::Ret => &[],
             Opcode::New => &[Right, Right, TypeOf],
             Opcode::Store => &[Right, Value],

@@ -20,7 +20,7 @@ pub enum Operand<'a> {
     /// A right register.
     Right(u8),
     Number(i64),
-    Turns(u16),
+    Iterations(u16),
     Literal(&'a str),
     TypeOf(DataType),
     Skip(u16),
@@ -31,7 +31,7 @@ pub enum Operand<'a> {
     Args(&'a [u8]),
 }
 
-use Operand::{Args, Callee, Literal, Number, Right, Skip, Target, Turns, TypeOf, Value};
+use Operand::{Args, Callee, Iterations, Literal, Number, Right, Skip, Target, TypeOf, Value};
 
 /// A format, which appends instructions to its output.
 pub trait Sink {
@@ -72,7 +72,7 @@ fn put_local<S: Sink>(sink: &mut S, instr: &LocalInstr) -> Result<(), AllocError
         LocalInstr::Jump { skip } => sink.put(Opcode::Jump, &[Skip(*skip)]),
         LocalInstr::JumpEqual { left, right, skip } => sink.put(Opcode::JumpEqual, &[Value(*left), Value(*right), Skip(*skip)]),
         LocalInstr::JumpLess { left, right, skip } => sink.put(Opcode::JumpLess, &[Value(*left), Value(*right), Skip(*skip)]),
-        LocalInstr::Repeat { turns } => sink.put(Opcode::Repeat, &[Turns(*turns)]),
+        LocalInstr::Repeat { iterations } => sink.put(Opcode::Repeat, &[Iterations(*iterations)]),
         LocalInstr::End => sink.put(Opcode::End, &[]),
     }
 }

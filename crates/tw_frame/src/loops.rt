@@ -7,12 +7,12 @@ use std::marker::Model;
 
 /// A loop: its first place, and the iterations that are left, this one included.
 #[derive(Clone, Copy)]
-struct Turns {
+struct LoopState {
     first: u32,
     left: u32,
 }
 
-impl Model for Turns {
+impl Model for LoopState {
     ghost use Rattle.tw_code.specs.machine.Position.{Loop as Meaning};
 
     ghost Value = { Meaning };
@@ -22,7 +22,7 @@ impl Model for Turns {
     ghost inverse = { λ l. record { first = l.first; left = l.left } };
 }
 
-fn same_turns(left: Turns, right: Turns) -> bool
+fn same_loop(left: LoopState, right: LoopState) -> bool
     ensures { IsTrue result ↔ (left ≡ right) }
 {
     if left.first == right.first {
@@ -35,7 +35,7 @@ fn same_turns(left: Turns, right: Turns) -> bool
 /// At most four nested loops; the innermost is the last.
 #[derive(Drop)]
 pub(crate) struct Loops {
-    begun: [Turns; 4],
+    begun: [LoopState; 4],
     depth: usize,
 }
 
@@ -56,27 +56,27 @@ impl Loops {
         ensures { result ≡ [] }
     {
         Loops {
-            begun: [Turns { first: 0, left: 0 }; 4],
+            begun: [LoopState { first: 0, left: 0 }; 4],
             depth: 0,
         }
     }
 
     /// Begins a loop inside the others.
     #[inline(always)]
-    pub(crate) fn begin(&mut self, first: u32, turns: u16)
+    pub(crate) fn begin(&mut self, first: u32, iterations: u16)
         requires { length self.old < 4 }
-        ensures { self.new ≡ record { first = first; left = turns } ∷ self.old }
+        ensures { self.new ≡ record { first = first; left = iterations } ∷ self.old }
     {
-        self.begun[self.depth] = Turns {
+        self.begun[self.depth] = LoopState {
             first,
-            left: u32::from(turns),
+            left: u32::from(iterations),
         };
         self.depth += 1;
     }
 
     /// Ends an iteration of the innermost loop. Returns the next place.
     #[inline(always)]
-    pub(crate) fn end_turn(&mut self, place: usize) -> usize
+    pub(crate) fn end_iteration(&mut self, place: usize) -> usize
         requires begun { 0 < length self.old }
         requires inside { place < 2 ^ 63 }
         ensures { after_end place self.old ≡ Some (record { place = result; loops = self.new }) }
@@ -99,7 +99,7 @@ impl Loops {
             return false;
         }
         for index in 0..self.depth {
-            if !same_turns(self.begun[index], other.begun[index]) {
+            if !same_loop(self.begun[index], other.begun[index]) {
                 return false;
             }
         }

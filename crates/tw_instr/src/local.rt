@@ -216,7 +216,7 @@ fn local_instr(alloc: Global, instr: &LocalInstr, position: &mut Position) -> Re
         LocalInstr::JumpLess { left, right, skip } => {
             Ok(jump_less(position, *left, *right, *skip)?)
         }
-        LocalInstr::Repeat { turns } => Ok(position.begin_loop(*turns)?),
+        LocalInstr::Repeat { iterations } => Ok(position.begin_loop(*iterations)?),
         LocalInstr::End => Ok(end(position)?),
     }
 }

@@ -95,14 +95,17 @@ impl Position {
         self.place += 1 + usize::from(skip);
     }
 
-    /// Begins a loop of `turns` iterations at the next place.
-    pub fn begin_loop(&mut self, turns: u16) -> Result<(), AllocError>
+    /// Begins a loop of `iterations` iterations at the next place.
+    pub fn begin_loop(&mut self, iterations: u16) -> Result<(), AllocError>
         requires { self.old.place < 2 ^ 63 }
-        ensures begun { OnOk result (self.new ≡ record self.old { place = self.old.place + 1; loops = record { first = self.old.place + 1; left = turns } ∷ self.old.loops }) }
+        ensures begun { OnOk result (self.new ≡ record self.old { place = self.old.place + 1; loops = record { first = self.old.place + 1; left = iterations } ∷ self.old.loops }) }
         ensures kept { OnErr result (self.new ≡ self.old) }
     {
         let first = self.place + 1;
-        self.loops.push(Loop { first, left: turns })?;
+        self.loops.push(Loop {
+            first,
+            left: iterations,
+        })?;
         self.place = first;
         Ok(())
     }

@@ -80,7 +80,7 @@ abbrev pub asked_by : List Bank → Form → List Expected
 asked_by banks form.Value = asked.Value ∷ []
 asked_by banks form.Right = asked.Right ∷ []
 asked_by banks form.Number = asked.Number ∷ []
-asked_by banks form.Turns = asked.Number ∷ []
+asked_by banks form.Iterations = asked.Number ∷ []
 asked_by banks form.Target = asked.Number ∷ []
 asked_by banks form.Callee = asked.Procedure ∷ []
 asked_by banks form.Args = map argument_of banks

@@ -39,7 +39,7 @@ fn push_asked(asked: &mut Vec<Expected>, banks: &[Bank], form: Form) -> Result<(
     match form {
         Form::Value => asked.push(Expected::Value)?,
         Form::Right => asked.push(Expected::Right)?,
-        Form::Number | Form::Turns | Form::Target => asked.push(Expected::Number)?,
+        Form::Number | Form::Iterations | Form::Target => asked.push(Expected::Number)?,
         Form::Callee => asked.push(Expected::Procedure)?,
         Form::Literal | Form::TypeOf | Form::Skip => asked.push(Expected::Nothing)?,
         Form::Args => {

@@ -26,12 +26,12 @@ begun_on code place (Branch skip) loops Completed to at e b = subst (λ (c : Cur
 begun_on code place (Branch skip) loops Skipped to at e b = subst (λ (c : Cursor). AreBegun code c.loops) (same_Some _ to e) b
 begun_on code place (Jump skip) loops Completed to at e b = subst (λ (c : Cursor). AreBegun code c.loops) (same_Some _ to e) b
 begun_on code place (Jump skip) loops Skipped to at e b = cc
-begun_on code place (Begin turns) loops Completed to at e b = subst (λ (c : Cursor). AreBegun code c.loops) (same_Some _ to e) ((place, turns, refl, at), b)
-begun_on code place (Begin turns) loops Skipped to at e b = cc
+begun_on code place (Begin iterations) loops Completed to at e b = subst (λ (c : Cursor). AreBegun code c.loops) (same_Some _ to e) ((place, iterations, refl, at), b)
+begun_on code place (Begin iterations) loops Skipped to at e b = cc
 begun_on code place Close [] Completed to at e b = cc
 begun_on code place Close (inner ∷ outer) Completed to at e b = ended inner.first inner.left b.0 b.1 e
   where
-    ended : (first left : ℕ) → (begin : ℕ) × (turns : ℕ) × (first ≡ begin + 1) × (slice_get code begin ≡ Some (Begin turns)) → AreBegun code outer → Some (turned place first left outer) ≡ Some to → AreBegun code to.loops
+    ended : (first left : ℕ) → (begin : ℕ) × (iterations : ℕ) × (first ≡ begin + 1) × (slice_get code begin ≡ Some (Begin iterations)) → AreBegun code outer → Some (turned place first left outer) ≡ Some to → AreBegun code to.loops
     ended first zero here rest e = subst (λ (c : Cursor). AreBegun code c.loops) (same_Some _ to e) rest
     ended first (suc zero) here rest e = subst (λ (c : Cursor). AreBegun code c.loops) (same_Some _ to e) rest
     ended first (suc (suc left)) here rest e = subst (λ (c : Cursor). AreBegun code c.loops) (same_Some _ to e) (here, rest)
@@ -55,8 +55,8 @@ forward_or_back place (Branch skip) loops Completed to e = inl (ap (λ (c : Curs
 forward_or_back place (Branch skip) loops Skipped to e = inl (ap (λ (c : Cursor). Some c.place) (same_Some _ to e))
 forward_or_back place (Jump skip) loops Completed to e = inl (ap (λ (c : Cursor). Some c.place) (same_Some _ to e))
 forward_or_back place (Jump skip) loops Skipped to e = cc
-forward_or_back place (Begin turns) loops Completed to e = inl (ap (λ (c : Cursor). Some c.place) (same_Some _ to e))
-forward_or_back place (Begin turns) loops Skipped to e = cc
+forward_or_back place (Begin iterations) loops Completed to e = inl (ap (λ (c : Cursor). Some c.place) (same_Some _ to e))
+forward_or_back place (Begin iterations) loops Skipped to e = cc
 forward_or_back place Close [] Completed to e = cc
 forward_or_back place Close (inner ∷ outer) Completed to e = ended inner.left refl e
   where

@@ -216,8 +216,8 @@ module _ (registers : List Scalar) (at : Position) (fits : ValuesFit registers a
       (goes (int_at at right) _ _ b.0 b.1
       (branch_moves registers at fits (int_lt a.0 b.0) skip))
 
-  repeat_moves : (turns : ℕ) → Goes (local_instr (local.Repeat turns) at) (Moves registers (Begin turns) at)
-  repeat_moves turns = record { way = Completed; goes_on = refl; values = fits }
+  repeat_moves : (iterations : ℕ) → Goes (local_instr (local.Repeat iterations) at) (Moves registers (Begin iterations) at)
+  repeat_moves iterations = record { way = Completed; goes_on = refl; values = fits }
 
   end_moves : HasLoop at → Goes (local_instr local.End at) (Moves registers Close at)
   end_moves (cursor, e) = goes (ok_or (after_end at.place at.loops) NoLoop) _ _ cursor (at_some (after_end at.place at.loops) NoLoop cursor e) (record { way = Completed; goes_on = e; values = fits })
@@ -235,5 +235,5 @@ module _ (registers : List Scalar) (at : Position) (fits : ValuesFit registers a
   local_moves (local.Jump skip) met loop = jump_moves skip
   local_moves (local.JumpEqual left right skip) met loop = equal_moves left right skip met
   local_moves (local.JumpLess left right skip) met loop = less_moves left right skip met
-  local_moves (local.Repeat turns) met loop = repeat_moves turns
+  local_moves (local.Repeat iterations) met loop = repeat_moves iterations
   local_moves local.End met loop = end_moves (loop refl)

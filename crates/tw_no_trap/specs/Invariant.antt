@@ -81,7 +81,7 @@ RuleArgsFit s (p ∷ params) (stage ∷ stages) (arg ∷ args) =
 -- holds if each loop was begun by a REPEAT
 abbrev pub AreBegun : List Flow → List Loop → Type 0
 AreBegun code [] = Unit {0}
-AreBegun code (inner ∷ outer) = ((begin : ℕ) × (turns : ℕ) × (inner.first ≡ begin + 1) × (slice_get code begin ≡ Some (Begin turns))) × AreBegun code outer
+AreBegun code (inner ∷ outer) = ((begin : ℕ) × (iterations : ℕ) × (inner.first ≡ begin + 1) × (slice_get code begin ≡ Some (Begin iterations))) × AreBegun code outer
 
 -- ---- the parts
 

@@ -24,7 +24,7 @@ same_local registers (local.ReadInt to from skip) = refl
 same_local registers (local.Jump skip) = refl
 same_local registers (local.JumpEqual left right skip) = refl
 same_local registers (local.JumpLess left right skip) = refl
-same_local registers (local.Repeat turns) = refl
+same_local registers (local.Repeat iterations) = refl
 same_local registers local.End = refl
 
 same_data : (registers : List Scalar) (i : DataInstr) (typing : Typing) → map question_of (checks_data registers i typing) ≡ asks_data registers i typing

@@ -85,7 +85,7 @@ abbrev pub stands_last : OperandForm → Bool
 stands_last form.Value = false
 stands_last form.Right = false
 stands_last form.Number = false
-stands_last form.Turns = false
+stands_last form.Iterations = false
 stands_last form.Literal = false
 stands_last form.TypeOf = true
 stands_last form.Skip = true
@@ -199,9 +199,9 @@ module _ (version : Version) (name : Bor (List ℕ)) where
     line_goes (form.Number ∷ fs) k cut l [] = sym (goes_due k (form.Number ∷ fs) cut [])
     line_goes (form.Number ∷ fs) k cut l (w ∷ ws) =
         operand_goes number (has_form (number_in w)) fs k w ws refl (line_goes fs (k + 1) (next_cut k form.Number fs cut) (tail_lasts form.Number fs l) ws) ∙ sym (goes_due k (form.Number ∷ fs) cut (w ∷ ws))
-    line_goes (form.Turns ∷ fs) k cut l [] = sym (goes_due k (form.Turns ∷ fs) cut [])
-    line_goes (form.Turns ∷ fs) k cut l (w ∷ ws) =
-        operand_goes (natural 1 1000) (has_form (natural_in 1 1000 w)) fs k w ws refl (line_goes fs (k + 1) (next_cut k form.Turns fs cut) (tail_lasts form.Turns fs l) ws) ∙ sym (goes_due k (form.Turns ∷ fs) cut (w ∷ ws))
+    line_goes (form.Iterations ∷ fs) k cut l [] = sym (goes_due k (form.Iterations ∷ fs) cut [])
+    line_goes (form.Iterations ∷ fs) k cut l (w ∷ ws) =
+        operand_goes (natural 1 1000) (has_form (natural_in 1 1000 w)) fs k w ws refl (line_goes fs (k + 1) (next_cut k form.Iterations fs cut) (tail_lasts form.Iterations fs l) ws) ∙ sym (goes_due k (form.Iterations ∷ fs) cut (w ∷ ws))
     line_goes (form.Literal ∷ fs) k cut l [] = sym (goes_due k (form.Literal ∷ fs) cut [])
     line_goes (form.Literal ∷ fs) k cut l (w ∷ ws) =
         operand_goes literal (is_quoted w) fs k w ws (literal_form w) (line_goes fs (k + 1) (next_cut k form.Literal fs cut) (tail_lasts form.Literal fs l) ws) ∙ sym (goes_due k (form.Literal ∷ fs) cut (w ∷ ws))

@@ -19,7 +19,7 @@ goes_on : (place inner : ℕ) (flow : Flow) (rest : List Flow) → is_end inner 
 goes_on place inner Straight rest e = refl
 goes_on place inner (Branch skip) rest e = refl
 goes_on place inner (Jump skip) rest e = refl
-goes_on place inner (Begin turns) rest e = let more : suc inner ≡ inner + 1 = omega arith in ap (λ (n : ℕ). end_from (place + 1) n rest) more
+goes_on place inner (Begin iterations) rest e = let more : suc inner ≡ inner + 1 = omega arith in ap (λ (n : ℕ). end_from (place + 1) n rest) more
 goes_on place zero Close rest e = absurd (untrue (sym e))
 goes_on place (suc inner) Close rest e = let less : inner ≡ suc inner - 1 = omega arith in ap (λ (n : ℕ). end_from (place + 1) n rest) less
 goes_on place inner Stop rest e = refl
@@ -28,7 +28,7 @@ ends_here : (place inner : ℕ) (flow : Flow) (rest : List Flow) → is_end inne
 ends_here place inner Straight rest e = absurd (untrue e)
 ends_here place inner (Branch skip) rest e = absurd (untrue e)
 ends_here place inner (Jump skip) rest e = absurd (untrue e)
-ends_here place inner (Begin turns) rest e = absurd (untrue e)
+ends_here place inner (Begin iterations) rest e = absurd (untrue e)
 ends_here place zero Close rest e = refl
 ends_here place (suc inner) Close rest e = let none : suc inner ≡ 0 = eqb-true (suc inner) 0 e in absurd (omega (arith, none))
 ends_here place inner Stop rest e = absurd (untrue e)

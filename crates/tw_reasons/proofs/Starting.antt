@@ -158,8 +158,8 @@ line_ends version (form.Right ∷ fs) l =
 line_ends version (form.Number ∷ fs) l =
     let (ws, e, fine) = line_ends version fs (behind_first form.Number fs l) in
     (Bare (codes "0") ∷ ws, both_fit (number_in (Bare (codes "0"))) (line_in (line_of version fs) ws) number_fits e, (tt, fine))
-line_ends version (form.Turns ∷ fs) l =
-    let (ws, e, fine) = line_ends version fs (behind_first form.Turns fs l) in
+line_ends version (form.Iterations ∷ fs) l =
+    let (ws, e, fine) = line_ends version fs (behind_first form.Iterations fs l) in
     (Bare (codes "1") ∷ ws, both_fit (natural_in 1 1000 (Bare (codes "1"))) (line_in (line_of version fs) ws) turns_fit e, (tt, fine))
 line_ends version (form.Literal ∷ fs) l =
     let (ws, e, fine) = line_ends version fs (behind_first form.Literal fs l) in

@@ -21,6 +21,6 @@ is_end inner flow = false
 
 -- how many are begun and not ended after one more
 abbrev pub inner_after : ℕ → Flow → ℕ
-inner_after inner (Begin turns) = inner + 1
+inner_after inner (Begin iterations) = inner + 1
 inner_after inner Close = inner - 1
 inner_after inner flow = inner

@@ -46,7 +46,7 @@ abbrev pub is_operand : Form → Word → Bool
 is_operand form.Value w = has_form (register_in 118 w)
 is_operand form.Right w = has_form (register_in 100 w)
 is_operand form.Number w = has_form (number_in w)
-is_operand form.Turns w = has_form (natural_in 1 1000 w)
+is_operand form.Iterations w = has_form (natural_in 1 1000 w)
 is_operand form.Literal w = is_quoted w
 is_operand form.TypeOf w = false
 is_operand form.Skip w = is_goal w

@@ -84,7 +84,7 @@ abbrev pub skip_of : Flow → ℕ
 skip_of Straight = 0
 skip_of (Branch skip) = skip
 skip_of (Jump skip) = skip
-skip_of (Begin turns) = 0
+skip_of (Begin iterations) = 0
 skip_of Close = 0
 skip_of Stop = 0
 

@@ -134,7 +134,7 @@ checks_local registers (local.ReadInt to from skip) = checks_two registers to sc
 checks_local registers (local.Jump skip) = []
 checks_local registers (local.JumpEqual left right skip) = checks_alike registers left right
 checks_local registers (local.JumpLess left right skip) = checks_two registers left scalar.Int right scalar.Int
-checks_local registers (local.Repeat turns) = []
+checks_local registers (local.Repeat iterations) = []
 checks_local registers local.End = []
 
 abbrev pub checks_data : List Scalar → DataInstr → Typing → List RegisterCheck

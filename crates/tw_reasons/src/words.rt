@@ -173,7 +173,7 @@ pub(crate) fn is_operand(ask: Ask, form: Form, word: &Word<'_>) -> bool
         Form::Value => is_register(ask, b'v', word),
         Form::Right => is_register(ask, b'd', word),
         Form::Number => is_number(ask, word),
-        Form::Turns => is_natural(ask, 1, 1000, word),
+        Form::Iterations => is_natural(ask, 1, 1000, word),
         Form::Callee => is_natural(ask, 0, 255, word),
         Form::Literal => is_literal(ask, word),
         Form::Skip => is_goal(ask, word),

@@ -26,11 +26,11 @@ no_end (Begin n ∷ xs) place inner e = no_end xs (place + 1) (suc inner) e
 no_end (Close ∷ xs) place zero e = cc
 no_end (Close ∷ xs) place (suc inner) e = no_end xs (place + 1) inner e
 
-pub begin_no_end : (code : List Flow) (place turns : ℕ) → slice_get code place ≡ Some (Begin turns) → end_of code (place + 1) ≡ None → end_of code place ≡ None
-begin_no_end code place turns at e = ap (λ (xs : List Flow). end_from place 0 xs) (drop_at code place (Begin turns) at) ∙ no_end (drop (place + 1) code) (place + 1) 0 e
+pub begin_no_end : (code : List Flow) (place iterations : ℕ) → slice_get code place ≡ Some (Begin iterations) → end_of code (place + 1) ≡ None → end_of code place ≡ None
+begin_no_end code place iterations at e = ap (λ (xs : List Flow). end_from place 0 xs) (drop_at code place (Begin iterations) at) ∙ no_end (drop (place + 1) code) (place + 1) 0 e
 
-pub begin_end : (code : List Flow) (place turns end : ℕ) → slice_get code place ≡ Some (Begin turns) → end_of code (place + 1) ≡ Some end → end_of code place ≡ end_of code (end + 1)
-begin_end code place turns end at e = ap (λ (xs : List Flow). end_from place 0 xs) (drop_at code place (Begin turns) at) ∙ end_past code (drop (place + 1) code) (place + 1) 0 0 end refl e
+pub begin_end : (code : List Flow) (place iterations end : ℕ) → slice_get code place ≡ Some (Begin iterations) → end_of code (place + 1) ≡ Some end → end_of code place ≡ end_of code (end + 1)
+begin_end code place iterations end at e = ap (λ (xs : List Flow). end_from place 0 xs) (drop_at code place (Begin iterations) at) ∙ end_past code (drop (place + 1) code) (place + 1) 0 0 end refl e
 
 -- no END lies past the code
 pub end_past_code : (code : List Flow) → end_of code (length code) ≡ None
@@ -99,7 +99,7 @@ one_end code a b s t end before at there e f =
     absurd (omega arith)
 
 pub one_loop : (code : List Instr) (a b place : ℕ) → IsEndOf code a place → IsEndOf code b place → a ≡ b
-one_loop code a b place (begin, turns, first, at, end) (other, more, second, there, far) = by (cases_lt begin other) (cases_lt other begin)
+one_loop code a b place (begin, iterations, first, at, end) (other, more, second, there, far) = by (cases_lt begin other) (cases_lt other begin)
   where
     own : end_of (flows code) (begin + 1) ≡ Some place
     own = ap (λ (n : ℕ). end_of (flows code) n) (sym first) ∙ end
@@ -108,17 +108,17 @@ one_loop code a b place (begin, turns, first, at, end) (other, more, second, the
     its = ap (λ (n : ℕ). end_of (flows code) n) (sym second) ∙ far
 
     by : (begin < other) ⊎ (other ≤ begin) → (other < begin) ⊎ (begin ≤ other) → a ≡ b
-    by (inl before) _ = absurd (one_end (flows code) begin other turns more place before at there own its)
-    by (inr _) (inl before) = absurd (one_end (flows code) other begin more turns place before there at its own)
+    by (inl before) _ = absurd (one_end (flows code) begin other iterations more place before at there own its)
+    by (inr _) (inl before) = absurd (one_end (flows code) other begin more iterations place before there at its own)
     by (inr low) (inr high) = omega arith
 
 -- a loop has one END
 end_same : (code : List Instr) (first a b : ℕ) → IsEndOf code first a → IsEndOf code first b → a ≡ b
-end_same code first a b (begin, turns, is, at, end) (other, more, was, there, far) = same_Some a b (sym end ∙ far)
+end_same code first a b (begin, iterations, is, at, end) (other, more, was, there, far) = same_Some a b (sym end ∙ far)
 
 -- it lies ahead, in the code
 pub loop_within : (code : List Instr) (first place : ℕ) → IsEndOf code first place → (0 < first) × (first ≤ place) × (place < length code)
-loop_within code first place (begin, turns, is, at, end) =
+loop_within code first place (begin, iterations, is, at, end) =
     let e = end_within (flows code) first place end in
     (omega arith, e.1, omega (arith, e.2, length-map code flow_of))
 

@@ -13,13 +13,13 @@ pub onward_later : (way : Way) (place : ℕ) (flow : Flow) (next : ℕ) → onwa
 onward_later Completed place Straight next h = let e = same_Some (place + 1) next h in omega (arith, e)
 onward_later Completed place (Branch skip) next h = let e = same_Some (place + 1) next h in omega (arith, e)
 onward_later Completed place (Jump skip) next h = let e = same_Some (goal_of place skip) next h in omega (arith, e)
-onward_later Completed place (Begin turns) next h = let e = same_Some (place + 1) next h in omega (arith, e)
+onward_later Completed place (Begin iterations) next h = let e = same_Some (place + 1) next h in omega (arith, e)
 onward_later Completed place Close next h = let e = same_Some (place + 1) next h in omega (arith, e)
 onward_later Completed place Stop next h = cc
 onward_later Skipped place Straight next h = cc
 onward_later Skipped place (Branch skip) next h = let e = same_Some (goal_of place skip) next h in omega (arith, e)
 onward_later Skipped place (Jump skip) next h = cc
-onward_later Skipped place (Begin turns) next h = cc
+onward_later Skipped place (Begin iterations) next h = cc
 onward_later Skipped place Close next h = cc
 onward_later Skipped place Stop next h = cc
 

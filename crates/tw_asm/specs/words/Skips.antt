@@ -7,6 +7,6 @@ abbrev pub skip_in : Flow → Option ℕ
 skip_in Straight = None
 skip_in (Branch skip) = Some skip
 skip_in (Jump skip) = Some skip
-skip_in (Begin turns) = None
+skip_in (Begin iterations) = None
 skip_in Close = None
 skip_in Stop = None

@@ -5,7 +5,7 @@ use Rattle.std.specs.Prelude.{ℕ, ℤ, Bool, true, false, List, [], ◌∷◌, 
 use Rattle.std.specs.List.{find}
 use Rattle.std.specs.Str.{bytes_eq}
 use Rattle.tw_code.specs.declared.form.Form.{Form}
-use Rattle.tw_code.specs.declared.form.Form.TheVariants.{Value, Right, Number, Turns, Literal, TypeOf, Skip, Callee, Target, Args}
+use Rattle.tw_code.specs.declared.form.Form.TheVariants.{Value, Right, Number, Iterations, Literal, TypeOf, Skip, Callee, Target, Args}
 use Rattle.tw_code.specs.declared.instr.Action.{Action}
 use Rattle.tw_code.specs.declared.instr.Arithmetic.{Arithmetic}
 use Rattle.tw_code.specs.declared.instr.Arithmetic.TheVariants as operation
@@ -33,7 +33,7 @@ abbrev pub Content : Form → Type 0
 Content Value = ℕ
 Content Right = ℕ
 Content Number = ℤ
-Content Turns = ℕ
+Content Iterations = ℕ
 Content Literal = List ℕ
 Content TypeOf = NestedScalar
 Content Skip = ℕ
@@ -74,7 +74,7 @@ row_of opcode.ReadInt = a_row 0x1b (Value ∷ Value ∷ Skip ∷ []) (λ x. inst
 row_of opcode.Jump = a_row 0x20 (Skip ∷ []) (λ x. instr.Local (local.Jump x.0))
 row_of opcode.JumpEqual = a_row 0x21 (Value ∷ Value ∷ Skip ∷ []) (λ x. instr.Local (local.JumpEqual x.0 x.1.0 x.1.1.0))
 row_of opcode.JumpLess = a_row 0x22 (Value ∷ Value ∷ Skip ∷ []) (λ x. instr.Local (local.JumpLess x.0 x.1.0 x.1.1.0))
-row_of opcode.Repeat = a_row 0x23 (Turns ∷ []) (λ x. instr.Local (local.Repeat x.0))
+row_of opcode.Repeat = a_row 0x23 (Iterations ∷ []) (λ x. instr.Local (local.Repeat x.0))
 row_of opcode.End = a_row 0x24 [] (λ x. instr.Local local.End)
 row_of opcode.New = a_row 0x30 (Right ∷ Right ∷ TypeOf ∷ []) (λ x. instr.Data (on_data.New x.0 x.1.0 x.1.1.0))
 row_of opcode.Store = a_row 0x31 (Right ∷ Value ∷ []) (λ x. instr.Data (on_data.Store x.0 x.1.0))
@@ -203,7 +203,7 @@ local_row (local.ReadInt to from skip) = (opcode.ReadInt, holds Value to ∷ hol
 local_row (local.Jump skip) = (opcode.Jump, holds Skip skip ∷ [])
 local_row (local.JumpEqual left right skip) = (opcode.JumpEqual, holds Value left ∷ holds Value right ∷ holds Skip skip ∷ [])
 local_row (local.JumpLess left right skip) = (opcode.JumpLess, holds Value left ∷ holds Value right ∷ holds Skip skip ∷ [])
-local_row (local.Repeat turns) = (opcode.Repeat, holds Turns turns ∷ [])
+local_row (local.Repeat iterations) = (opcode.Repeat, holds Iterations iterations ∷ [])
 local_row local.End = (opcode.End, [])
 
 -- returns one opcode for integers as subscripts, and another for texts

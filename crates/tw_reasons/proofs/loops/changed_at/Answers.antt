@@ -14,7 +14,7 @@ loop-begin-preserved c =
 
 pub returns : goal.returns
 returns c = λ first d is.
-    let (begin, turns, next, at, end) = is.end in
-    let inside = slice_get_within (flows c.args.code.now) begin (Begin turns) at in
+    let (begin, iterations, next, at, end) = is.end in
+    let inside = slice_get_within (flows c.args.code.now) begin (Begin iterations) at in
     c.loop-begin.invariant begin (omega (arith, inside, length-map c.args.code.now flow_of, c.loop-begin-test.false)) d
     (subst (λ (n : ℕ). IsChange c.args.code.now c.args.typings.now n c.args.place d) next is)
