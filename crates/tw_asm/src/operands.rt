@@ -99,7 +99,7 @@ pub fn iterations_of(word: &Word<'_>) -> Result<u16, TokenError>
 }
 
 /// The number of a register, behind its letter.
-fn number_behind(letter: u8, text: &[u8]) -> Result<u8, TokenError>
+fn number_after(letter: u8, text: &[u8]) -> Result<u8, TokenError>
     ensures { result ≡ register_in letter (Bare text.now) }
 {
     match text {
@@ -113,7 +113,7 @@ fn register_of(letter: u8, word: &Word<'_>) -> Result<u8, TokenError>
     ensures { result ≡ register_in letter (seen_word word.now) }
 {
     match word {
-        Word::Bare(text) => number_behind(letter, text),
+        Word::Bare(text) => number_after(letter, text),
         Word::Quoted(_) => Err(TokenError::Form),
     }
 }

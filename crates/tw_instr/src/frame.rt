@@ -165,7 +165,7 @@ impl Frame {
     }
 
     /// Moves to the place after a RULE or PUT, which is counted, with these right registers.
-    pub fn go_behind(&mut self, rights: [Option<DatumId>; 16])
+    pub fn finish_action(&mut self, rights: [Option<DatumId>; 16])
         requires place { self.old.position.place < 2 ^ 63 }
         requires spent { self.old.spent < 2 ^ 63 }
         ensures { self.new ≡ gone_behind self.old rights }

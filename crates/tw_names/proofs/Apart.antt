@@ -8,7 +8,7 @@ use Rattle.tw_names.proofs.TextNames.{AreTaken, Line, Names, Procedures, Said, T
 use Rattle.tw_names.specs.Answers.{lists_entry}
 use Rattle.tw_names.specs.Laws.{IsListedAs, NamesDiffer}
 use Rattle.tw_names.specs.Meanings.{above, is_bank, is_listed, is_origin, lists}
-use Rattle.tw_names.specs.Registers.{names_behind, registers_at, said_then}
+use Rattle.tw_names.specs.Registers.{names_after_line, registers_at, said_then}
 use Rattle.tw_names.specs.declared.meaning.Bank.{Bank}
 use Rattle.tw_names.specs.declared.meaning.Bank.TheVariants as bank
 use Rattle.tw_names.specs.declared.meaning.Origin.{Origin}
@@ -178,7 +178,7 @@ apart_step = record {
 line_apart : (p : Procedures) (number : ℕ) (names : Names) (front : List ℕ) (t : Line) (said : Names × List ℕ) → taken_says p number names front t ≡ Ok said → IsApart names → IsApart said.0
 line_apart p number names front t = taken_step StaysApart apart_step p number names front t (λ first others _ _ later e _. head_step StaysApart apart_step p number names (front ++ first) (flat_map pieces others) later e (tt, tt))
 
-lines_apart : (p : Procedures) (last number : ℕ) (names : Names) (front : List ℕ) (all : List Line) (after : Names) → names_behind p last number names front all ≡ Some after → IsApart names → IsApart after
+lines_apart : (p : Procedures) (last number : ℕ) (names : Names) (front : List ℕ) (all : List Line) (after : Names) → names_after_line p last number names front all ≡ Some after → IsApart names → IsApart after
 lines_apart p last number names front [] after e h = absurd cc
 lines_apart p last number names front (t ∷ others) after e h =
     by (taken_says p number names front t) (line_apart p number names front t) e (λ (said : Names × List ℕ). lines_apart p last (number + 1) said.0 said.1 others after) h
@@ -191,10 +191,10 @@ lines_apart p last number names front (t ∷ others) after e h =
     or_further false here more g further k = further g k
 
     by : (says : Said) → ((said : Names × List ℕ) → says ≡ Ok said → IsApart names → IsApart said.0)
-        → said_then says (λ said. cond (number == last) (Some said.0) (names_behind p last (number + 1) said.0 said.1 others)) ≡ Some after
-        → ((said : Names × List ℕ) → names_behind p last (number + 1) said.0 said.1 others ≡ Some after → IsApart said.0 → IsApart after) → IsApart names → IsApart after
+        → said_then says (λ said. cond (number == last) (Some said.0) (names_after_line p last (number + 1) said.0 said.1 others)) ≡ Some after
+        → ((said : Names × List ℕ) → names_after_line p last (number + 1) said.0 said.1 others ≡ Some after → IsApart said.0 → IsApart after) → IsApart names → IsApart after
     by (Err flaw) each g further k = absurd cc
-    by (Ok said) each g further k = or_further (number == last) said.0 (names_behind p last (number + 1) said.0 said.1 others) g (further said) (each said refl k)
+    by (Ok said) each g further k = or_further (number == last) said.0 (names_after_line p last (number + 1) said.0 said.1 others) g (further said) (each said refl k)
 
 -- ---- one name a register
 
@@ -223,9 +223,9 @@ one_name (x ∷ table) name other b n (suc i) zero apart e d =
 one_name (x ∷ table) name other b n (suc i) (suc j) apart e d = one_name table name other b n i j apart.1 e d
 
 registers_apart : (all : List Line) (last : ℕ) → AreApart (registers_at all last)
-registers_apart all last = by (names_behind (procedures_of all) last 1 no_names [] all) refl
+registers_apart all last = by (names_after_line (procedures_of all) last 1 no_names [] all) refl
   where
-    by : (o : Option Names) → names_behind (procedures_of all) last 1 no_names [] all ≡ o → AreApart (option_map_or (λ (names : Names). names.registers) o [])
+    by : (o : Option Names) → names_after_line (procedures_of all) last 1 no_names [] all ≡ o → AreApart (option_map_or (λ (names : Names). names.registers) o [])
     by None e = tt
     by (Some names) e = (lines_apart (procedures_of all) last 1 no_names [] all names e (tt, tt)).0
 

@@ -6,14 +6,14 @@ use Rattle.std.proofs.lemmas.Bool.{eqb-true}
 use Rattle.std.proofs.lemmas.Bool.Decides.{nat_tests}
 use Rattle.tw_names.specs.declared.refusal.NameNo.TheVariants as no
 use Rattle.tw_names.specs.declared.refusal.NameRefusal.{NameRefusal}
-use Rattle.tw_names.specs.Registers.{entry_name, first_part, is_register, last_name, names_behind}
+use Rattle.tw_names.specs.Registers.{entry_name, first_part, is_register, last_name, names_after_line}
 use Rattle.tw_names.specs.declared.meaning.Bank.{Bank}
 use Rattle.tw_names.specs.declared.meaning.Binding.{Binding}
 use Rattle.tw_names.proofs.Walk.{taken_at, taken_length}
 
 -- what is known behind the line is what those behind this many lines tell, with these names and behind this text
 abbrev pub HasGone : Procedures → ℕ → List (List ℕ) → ℕ → Names → List ℕ → Type 0
-HasGone p last ls n names front = (all : List Line) → AreTaken all ls → names_behind p last 1 no_names [] all ≡ names_behind p last (n + 1) names front (drop n all)
+HasGone p last ls n names front = (all : List Line) → AreTaken all ls → names_after_line p last 1 no_names [] all ≡ names_after_line p last (n + 1) names front (drop n all)
 
 same_number : (a b : ℕ) → a ≡ b → (a == b) ≡ true
 same_number a b e = grind (arith, nat_tests)
@@ -26,11 +26,11 @@ other_number a b other = by (a == b) refl
     by false e = refl
 
 goes : (p : Procedures) (last n : ℕ) (names : Names) (front : List ℕ) (t : Line) (after : Names) (text : List ℕ) (others : List Line) → taken_says p n names front t ≡ Ok (after, text)
-    → names_behind p last n names front (t ∷ others) ≡ cond (n == last) (Some after) (names_behind p last (n + 1) after text others)
+    → names_after_line p last n names front (t ∷ others) ≡ cond (n == last) (Some after) (names_after_line p last (n + 1) after text others)
 goes p last n names front t after text others e = rw e refl
 
 refuses : (p : Procedures) (last n : ℕ) (names : Names) (front : List ℕ) (t : Line) (others : List Line) (says : Said) → taken_says p n names front t ≡ says → IsErr says
-    → names_behind p last n names front (t ∷ others) ≡ None
+    → names_after_line p last n names front (t ∷ others) ≡ None
 refuses p last n names front t others (Ok said) e h = absurd cc
 refuses p last n names front t others (Err flaw) e h = rw e refl
 
@@ -38,13 +38,13 @@ module _ (p : Procedures) (last : ℕ) (ls before others : List (List ℕ)) (lin
   here : (all : List Line) → AreTaken all ls → (t : Line) × IsTaken t line × (drop (length before) all ≡ t ∷ drop (suc (length before)) all)
   here all are = taken_at all before line others (subst (AreTaken all) parts are)
 
-  to_here : (all : List Line) (are : AreTaken all ls) → names_behind p last 1 no_names [] all ≡ names_behind p last (index + 1) names front ((here all are).0 ∷ drop (suc (length before)) all)
+  to_here : (all : List Line) (are : AreTaken all ls) → names_after_line p last 1 no_names [] all ≡ names_after_line p last (index + 1) names front ((here all are).0 ∷ drop (suc (length before)) all)
   to_here all are =
-      so_far all are ∙ ap (names_behind p last (length before + 1) names front) (here all are).2
-      ∙ ap (λ (k : ℕ). names_behind p last (k + 1) names front ((here all are).0 ∷ drop (suc (length before)) all)) (sym at)
+      so_far all are ∙ ap (names_after_line p last (length before + 1) names front) (here all are).2
+      ∙ ap (λ (k : ℕ). names_after_line p last (k + 1) names front ((here all are).0 ∷ drop (suc (length before)) all)) (sym at)
 
   stepped : (after : Names) (text : List ℕ) → ((t : Line) → IsTaken t line → taken_says p (index + 1) names front t ≡ Ok (after, text)) → (all : List Line) → AreTaken all ls
-      → names_behind p last 1 no_names [] all ≡ cond ((index + 1) == last) (Some after) (names_behind p last ((index + 1) + 1) after text (drop (suc (length before)) all))
+      → names_after_line p last 1 no_names [] all ≡ cond ((index + 1) == last) (Some after) (names_after_line p last ((index + 1) + 1) after text (drop (suc (length before)) all))
   stepped after text says all are =
       let o = here all are in
       to_here all are ∙ goes p last (index + 1) names front o.0 after text (drop (suc (length before)) all) (says o.0 o.1)
@@ -53,23 +53,23 @@ module _ (p : Procedures) (last : ℕ) (ls before others : List (List ℕ)) (lin
   gone_more after text says other all are =
       let number : (index + 1) + 1 ≡ suc (length before) + 1 = omega (arith, at) in
       stepped after text says all are
-      ∙ ap (λ (b : Bool). cond b (Some after) (names_behind p last ((index + 1) + 1) after text (drop (suc (length before)) all))) (other_number (index + 1) last other)
-      ∙ ap (λ (k : ℕ). names_behind p last k after text (drop (suc (length before)) all)) number
+      ∙ ap (λ (b : Bool). cond b (Some after) (names_after_line p last ((index + 1) + 1) after text (drop (suc (length before)) all))) (other_number (index + 1) last other)
+      ∙ ap (λ (k : ℕ). names_after_line p last k after text (drop (suc (length before)) all)) number
 
   pub gone_here : (after : Names) (text : List ℕ) → ((t : Line) → IsTaken t line → taken_says p (index + 1) names front t ≡ Ok (after, text)) → index + 1 ≡ last
-      → (all : List Line) → AreTaken all ls → names_behind p last 1 no_names [] all ≡ Some after
+      → (all : List Line) → AreTaken all ls → names_after_line p last 1 no_names [] all ≡ Some after
   gone_here after text says this all are =
-      stepped after text says all are ∙ ap (λ (b : Bool). cond b (Some after) (names_behind p last ((index + 1) + 1) after text (drop (suc (length before)) all))) (same_number (index + 1) last this)
+      stepped after text says all are ∙ ap (λ (b : Bool). cond b (Some after) (names_after_line p last ((index + 1) + 1) after text (drop (suc (length before)) all))) (same_number (index + 1) last this)
 
-  pub gone_refused : ((t : Line) → IsTaken t line → IsErr (taken_says p (index + 1) names front t)) → (all : List Line) → AreTaken all ls → names_behind p last 1 no_names [] all ≡ None
+  pub gone_refused : ((t : Line) → IsTaken t line → IsErr (taken_says p (index + 1) names front t)) → (all : List Line) → AreTaken all ls → names_after_line p last 1 no_names [] all ≡ None
   gone_refused says all are =
       let o = here all are in
       to_here all are ∙ refuses p last (index + 1) names front o.0 (drop (suc (length before)) all) (taken_says p (index + 1) names front o.0) refl (says o.0 o.1)
 
-pub gone_end : (p : Procedures) (last : ℕ) (ls : List (List ℕ)) (n : ℕ) (names : Names) (front : List ℕ) → HasGone p last ls n names front → n ≡ length ls → (all : List Line) → AreTaken all ls → names_behind p last 1 no_names [] all ≡ None
+pub gone_end : (p : Procedures) (last : ℕ) (ls : List (List ℕ)) (n : ℕ) (names : Names) (front : List ℕ) → HasGone p last ls n names front → n ≡ length ls → (all : List Line) → AreTaken all ls → names_after_line p last 1 no_names [] all ≡ None
 gone_end p last ls n names front gone e all are =
     let short : length all ≤ n = omega (arith, e, taken_length all ls are) in
-    gone all are ∙ ap (names_behind p last (n + 1) names front) (drop_all n all short)
+    gone all are ∙ ap (names_after_line p last (n + 1) names front) (drop_all n all short)
 
 -- a refusal that isn't want of memory
 pub says_refused : (number : ℕ) (f : NameRefusal) (says : Said) → (f.no ≡ no.NoMemory → ⊥) → IsMemory f ⊎ ((f.line ≡ number) × (says ≡ Err (record { no = f.no; word = f.word.now }))) → IsErr says

@@ -172,8 +172,8 @@ module _ (Q : List ℕ → Type 0) (kept : IsKept Q) where
       )
 
   -- behind a first word
-  behind_first : (front first : List ℕ) (says : Said) → Q first → SaysKept Q (front ++ first) says → SaysKept Q front says
-  behind_first front first says h each said e =
+  after_first : (front first : List ℕ) (says : Said) → Q first → SaysKept Q (front ++ first) says → SaysKept Q front says
+  after_first front first says h each said e =
       let more = each said e in
       (first ++ more.0, more.1 ∙ append_assoc front first more.0, kept.both first more.0 h more.2, more.3)
 
@@ -285,6 +285,6 @@ module _ (Q : List ℕ → Type 0) (kept : IsKept Q) where
       either (SaysKept Q front) (is_names_line first ws) _ _ (nothing_more names front h)
       (either (SaysKept Q front) (bytes_eq first (codes "const")) _ _ (only_more names front (constant_says p names first ws) h (const_types p names first ws))
       (either (SaysKept Q front) (bytes_eq first (codes "let")) _ _ (only_more names front (let_says p names first ws) h (let_types p names first ws))
-      (either (SaysKept Q front) (bytes_eq first (codes "proc")) _ _ (behind_first front first _ k.0 (head_kept p number names (front ++ first) (flat_map pieces ws) (pieces_kept ws k.1)))
-      (either (SaysKept Q front) (bytes_eq first (codes "regs")) _ _ (behind_first front first _ k.0 (registers_kept p names (front ++ first) (flat_map pieces ws) h (pieces_kept ws k.1)))
-      (behind_first front first _ k.0 (body_kept p names (opcode_in Two first) (front ++ first) ws h k.1))))))
+      (either (SaysKept Q front) (bytes_eq first (codes "proc")) _ _ (after_first front first _ k.0 (head_kept p number names (front ++ first) (flat_map pieces ws) (pieces_kept ws k.1)))
+      (either (SaysKept Q front) (bytes_eq first (codes "regs")) _ _ (after_first front first _ k.0 (registers_kept p names (front ++ first) (flat_map pieces ws) h (pieces_kept ws k.1)))
+      (after_first front first _ k.0 (body_kept p names (opcode_in Two first) (front ++ first) ws h k.1))))))

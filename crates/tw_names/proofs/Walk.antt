@@ -50,9 +50,9 @@ blank_no_names [] are has = has
 blank_no_names (l ∷ ls) (first, more) (inl (rest, names)) = not_blank [] (codes "names") l rest names first
 blank_no_names (l ∷ ls) (first, more) (inr (_, has)) = blank_no_names ls more has
 
-pub names_behind : (before : List (List ℕ)) (others : List (List ℕ)) → AreBlank before → HasNames others → HasNames (before ++ others)
-names_behind [] others are has = has
-names_behind (l ∷ before) others (first, more) has = inr (first, names_behind before others more has)
+pub names_after_line : (before : List (List ℕ)) (others : List (List ℕ)) → AreBlank before → HasNames others → HasNames (before ++ others)
+names_after_line [] others are has = has
+names_after_line (l ∷ before) others (first, more) has = inr (first, names_after_line before others more has)
 
 pub behind_names : (before : List (List ℕ)) (others : List (List ℕ)) → AreBlank before → HasNames (before ++ others) → HasNames others
 behind_names [] others are has = has

@@ -16,13 +16,13 @@ said_then (Ok said) next = next said
 said_then (Err flaw) next = None
 
 -- the names behind the line of one number, where these lines count from another; none where there is no such line
-abbrev pub names_behind : Procedures → ℕ → ℕ → Names → List ℕ → List Line → Option Names
-names_behind procedures last number names front [] = None
-names_behind procedures last number names front (line ∷ others) =
-    said_then (taken_says procedures number names front line) (λ said. if number == last then Some said.0 else names_behind procedures last (number + 1) said.0 said.1 others)
+abbrev pub names_after_line : Procedures → ℕ → ℕ → Names → List ℕ → List Line → Option Names
+names_after_line procedures last number names front [] = None
+names_after_line procedures last number names front (line ∷ others) =
+    said_then (taken_says procedures number names front line) (λ said. if number == last then Some said.0 else names_after_line procedures last (number + 1) said.0 said.1 others)
 
 abbrev pub registers_at : List Line → ℕ → Table
-registers_at all last = option_map_or (λ (names : Names). names.registers) (names_behind (procedures_of all) last 1 no_names [] all) []
+registers_at all last = option_map_or (λ (names : Names). names.registers) (names_after_line (procedures_of all) last 1 no_names [] all) []
 
 abbrev pub is_register : Bank → ℕ → Binding → Bool
 is_register in_bank number (binding.Register other place by) = is_bank in_bank other && (number == place)

@@ -39,7 +39,7 @@ fn nothing_after<'a>(words: &[&'a [u8]]) -> Result<(), Refusal<'a>>
 }
 
 /// Returns the number behind `=`, of the words behind a constant's name.
-fn number_behind<'a>(first: &'a [u8], words: &[&'a [u8]]) -> Result<i64, Refusal<'a>>
+fn number_after<'a>(first: &'a [u8], words: &[&'a [u8]]) -> Result<i64, Refusal<'a>>
     ensures { Gives (λ n. n) result (value_behind number_of first.now (texts words.now)) }
 {
     let word = assigned(first, words)?;
@@ -51,7 +51,7 @@ fn number_behind<'a>(first: &'a [u8], words: &[&'a [u8]]) -> Result<i64, Refusal
 }
 
 /// Returns the register behind `=`, of the words behind its name.
-fn register_behind<'a>(first: &'a [u8], words: &[&'a [u8]]) -> Result<(Bank, usize), Refusal<'a>>
+fn register_after<'a>(first: &'a [u8], words: &[&'a [u8]]) -> Result<(Bank, usize), Refusal<'a>>
     ensures { Gives (λ r. r) result (value_behind register_of first.now (texts words.now)) }
 {
     let word = assigned(first, words)?;
@@ -104,7 +104,7 @@ pub fn with_const<'a>(
         return Err(Refusal::Flawed(NameNo::Form, first));
     };
     may_name(procedures, &names, name)?;
-    let number = number_behind(first, others)?;
+    let number = number_after(first, others)?;
     with_constant(procedures, names, name, number)
 }
 
@@ -121,6 +121,6 @@ pub fn with_let<'a>(
         return Err(Refusal::Flawed(NameNo::Form, first));
     };
     may_name(procedures, &names, name)?;
-    let (bank, number) = register_behind(first, others)?;
+    let (bank, number) = register_after(first, others)?;
     with_register(procedures, names, name, bank, number, Origin::Chosen)
 }

@@ -178,7 +178,7 @@ fn first_asked(asked: &[Expected]) -> Expected
 }
 
 /// What is asked in the places behind it.
-fn behind_first(asked: &[Expected]) -> &[Expected]
+fn after_first(asked: &[Expected]) -> &[Expected]
     ensures { result.now ≡ drop 1 asked.now }
 {
     match asked {
@@ -201,7 +201,7 @@ pub fn put_words<'a>(
     let mut left = asked;
     for word in words {
         put_word(alloc, procedures, names, out, first_asked(left), word)?;
-        left = behind_first(left);
+        left = after_first(left);
     }
     Ok(())
 }

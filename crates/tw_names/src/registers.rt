@@ -5,7 +5,7 @@ ghost use Rattle.std.specs.Result.{IsErr};
 ghost use Rattle.std.specs.Str.Lines.{lines};
 ghost use Rattle.tw_names.specs.Lines.{AreTaken, IsTaken, Line};
 ghost use Rattle.tw_names.specs.Meanings.{no_names};
-ghost use Rattle.tw_names.specs.Registers.{IsWithName, entry_name, first_part, is_register, last_name, name_of, name_text, names_behind, registers_at};
+ghost use Rattle.tw_names.specs.Registers.{IsWithName, entry_name, first_part, is_register, last_name, name_of, name_text, names_after_line, registers_at};
 ghost use Rattle.tw_names.specs.LineExpansion.{register_of};
 ghost use Rattle.tw_names.specs.Seen.{now, seen_names, seen_procedures, seen_table};
 ghost use Rattle.tw_names.specs.Expansion.{taken_says};
@@ -41,14 +41,14 @@ fn names_after<'a>(
 }
 
 /// The names behind the line of this number, unless it or one before is refused, or there is no such line.
-fn names_behind<'a>(
+fn names_after_line<'a>(
     alloc: Global,
     procedures: &Procedures<'_>,
     text: &'a str,
     last: usize,
 ) -> Result<Option<Names<'a>>, AllocError>
     ensures { (all : List Line) → AreTaken all (lines text.entry.now) → IfOk result (λ found.
-        option_map seen_names found ≡ names_behind (seen_procedures procedures.now) last 1 no_names [] all) }
+        option_map seen_names found ≡ names_after_line (seen_procedures procedures.now) last 1 no_names [] all) }
 {
     let mut names = Names::new(alloc, procedures.hash);
     let mut out = Vec::new(alloc);
@@ -128,7 +128,7 @@ fn put_name(out: &mut Vec<u8>, name: Option<&[u8]>) -> Result<(), AllocError>
 }
 
 /// The name of the register of a word, by those behind the line of this number.
-fn name_behind<'a>(
+fn name_after_line<'a>(
     alloc: Global,
     text: &'a str,
     last: usize,
@@ -137,7 +137,7 @@ fn name_behind<'a>(
     ensures { IfOk result (λ name. (all : List Line) × AreTaken all (lines text.entry.now) × (option_map now name ≡ name_of (registers_at all last) (register_of word.now))) }
 {
     let procedures = procedures_of(alloc, text)?;
-    let names = names_behind(alloc, &procedures, text, last)?;
+    let names = names_after_line(alloc, &procedures, text, last)?;
     let Some((bank, number)) = register_of(word) else {
         return Ok(None);
     };
@@ -160,6 +160,6 @@ pub fn put_with_name(
 {
     let (word, rest) = cut(told);
     out.extend_from_slice(word)?;
-    put_name(out, name_behind(alloc, text, line, word)?)?;
+    put_name(out, name_after_line(alloc, text, line, word)?)?;
     out.extend_from_slice(rest)
 }

@@ -11,7 +11,7 @@ use Rattle.tw_code.specs.machine.Ending.{is_quiet}
 use Rattle.tw_code.specs.machine.Pending.{circle, pending_rules}
 use Rattle.tw_code.specs.machine.State.{State}
 use Rattle.tw_picture.specs.declared.drawing.Wait.{Wait}
-use Rattle.tw_picture.specs.History.{AreArrows, IsRound, links_in, place_behind}
+use Rattle.tw_picture.specs.History.{AreArrows, IsRound, links_in, place_after}
 
 abbrev nexts : List Link → List ℕ
 nexts links = map (λ (l : Link). l.next) links
@@ -120,7 +120,7 @@ back_in (first ∷ links) i l round at back =
     sym (get_behind (rules_of links) first.rule i last) ∙ ap (λ (ns : List ℕ). slice_get ns i) (sym round) ∙ get_map (λ (m : Link). m.next) (first ∷ links) i l at
 
 -- the rule behind one in the circle is the one for which it waits
-pub next_in : (links : List Link) (i : ℕ) (l : Link) → IsRound links → slice_get links i ≡ Some l → i < length links → slice_get (rules_of links) (place_behind i (length links)) ≡ Some l.next
+pub next_in : (links : List Link) (i : ℕ) (l : Link) → IsRound links → slice_get links i ≡ Some l → i < length links → slice_get (rules_of links) (place_after i (length links)) ≡ Some l.next
 next_in links i l round at inside = by (i + 1 == length links) refl
   where
     by : (b : Bool) → (i + 1 == length links) ≡ b → slice_get (rules_of links) (if b then 0 else i + 1) ≡ Some l.next

@@ -95,8 +95,8 @@ IsRound [] = Unit {0}
 IsRound (l ∷ links) = map (λ m. m.next) (l ∷ links) ≡ rules_of links ++ l.rule ∷ []
 
 -- the place of the next one
-abbrev pub place_behind : ℕ → ℕ → ℕ
-place_behind place count = if place + 1 == count then 0 else place + 1
+abbrev pub place_after : ℕ → ℕ → ℕ
+place_after place count = if place + 1 == count then 0 else place + 1
 
 -- each stands at its own place in the circle, the first of them at this one, and its arrow leads to the rule that may write its datum
 abbrev pub AreArrows : List Link → ℕ → List Wait → Type 0

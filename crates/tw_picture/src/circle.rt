@@ -2,7 +2,7 @@
 
 ghost use Rattle.std.specs.Prelude.{◌≡◌, ◌<◌, ◌≤◌, IfOk, length, map, take};
 ghost use Rattle.tw_code.specs.machine.Pending.{circle};
-ghost use Rattle.tw_picture.specs.History.{AreArrows, IsRound, links_in, place_behind};
+ghost use Rattle.tw_picture.specs.History.{AreArrows, IsRound, links_in, place_after};
 
 use crate::drawing::Wait;
 use std::alloc::{AllocError, Global};
@@ -14,9 +14,9 @@ use tw_types::Link;
 const MOST_RULES: usize = 1000;
 
 /// The next place in a circle of so many.
-fn place_behind(place: usize, count: usize) -> usize
+fn place_after(place: usize, count: usize) -> usize
     requires { place < 1000 }
-    ensures value { result ≡ place_behind place count }
+    ensures value { result ≡ place_after place count }
     ensures small { result ≤ 1000 }
 {
     let next = place + 1;
@@ -35,7 +35,7 @@ fn waits_of(alloc: Global, links: &[Link]) -> Result<Vec<Wait>, AllocError>
     for (index, link) in links[..most].iter().enumerate() {
         waits.push(Wait {
             from: index as u32,
-            to: place_behind(index, links.len()) as u32,
+            to: place_after(index, links.len()) as u32,
             link: *link,
         })?;
     }

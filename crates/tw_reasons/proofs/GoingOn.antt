@@ -1,7 +1,7 @@
 -- A line is gone along just where some statement goes on so.
 use Rattle.std.proofs.Common.{◌≡◌, ◌+◌, ◌&&◌, ◌||◌, ◌==◌, ℕ, zero, suc, Bool, true, false, not, cond, List, [], ◌∷◌, codes, drop, length, Option, None, Some, Ok, Err, refl, sym, ap, ◌∙◌, add-one}
 use Rattle.std.specs.Cmp.{second_so}
-use Rattle.tw_reasons.proofs.ReasonNames.{Bare, Form, Limit, Operand, Quoted, Version, Word, behind_operand, bytes_eq, each, ends_at, form_behind, go_on, goal, goes, has_form, is_any, is_goal, is_quoted, line_in, line_of, literal, nat_lt, natural, number, only_if, operand_in, right, slice_get, target, type_in, value}
+use Rattle.tw_reasons.proofs.ReasonNames.{Bare, Form, Limit, Operand, Quoted, Version, Word, after_operand, bytes_eq, each, ends_at, form_behind, go_on, goal, goes, has_form, is_any, is_goal, is_quoted, line_in, line_of, literal, nat_lt, natural, number, only_if, operand_in, right, slice_get, target, type_in, value}
 use Rattle.std.specs.Borrow.{Bor}
 use Rattle.tw_types.specs.DataType.{scalar_type}
 use Rattle.tw_code.specs.declared.form.Form.{Form as OperandForm}
@@ -132,7 +132,7 @@ module _ (version : Version) (name : Bor (List ℕ)) where
   -- the words from a place on, where this operand is due there
   abbrev by_form : ℕ → Option OperandForm → List Word → Bool
   by_form k f [] = ends_at f
-  by_form k f (w ∷ ws) = go_on (behind_operand version name k w f) (λ next. goes version next ws)
+  by_form k f (w ∷ ws) = go_on (after_operand version name k w f) (λ next. goes version next ws)
 
   goes_by : (k : ℕ) (ws : List Word) → goes version (at k) ws ≡ by_form k (form_behind version name.now k) ws
   goes_by k [] = refl

@@ -1,7 +1,7 @@
 -- Behind its first word a line is gone along just where some statement goes on so; and from wherever it stands some words end it.
 use Rattle.std.proofs.Common.{◌≡◌, ◌&&◌, ℕ, zero, suc, Bool, true, false, not, cond, List, [], ◌∷◌, codes, drop, Option, None, Some, Result, refl, sym, ap, ◌∙◌, inl, inr}
 use Rattle.std.specs.Cmp.{second_so}
-use Rattle.tw_reasons.proofs.ReasonNames.{AllByRecursion, Bare, TokenError, IsExpected, IsLabelWord, Quoted, Version, Word, behind_operand, bytes_eq, ends_at, first_read, form_behind, go_on, goes, has_form, slice_get}
+use Rattle.tw_reasons.proofs.ReasonNames.{AllByRecursion, Bare, TokenError, IsExpected, IsLabelWord, Quoted, Version, Word, after_operand, bytes_eq, ends_at, first_read, form_behind, go_on, goes, has_form, slice_get}
 use Rattle.std.specs.Borrow.{Bor}
 use Rattle.std.specs.Option.{is_some, option_and_then}
 use Rattle.std.proofs.lemmas.Str.{IsUtf8-nil}
@@ -78,7 +78,7 @@ label_goes version word [] e (name, is, same) =
     ap (λ (r : Option (List ℕ)). has_form (named_in r)) (ap before_colon same ∙ before name)
     ∙ form_as_is label_read (name_in name) ∙ name_form name ∙ (name_decide name).1 is
     ∙ sym (ap ends_at (none_behind version word.now 0 e))
-label_goes version word (w ∷ ws) e label = sym (ap (λ (f : Option OperandForm). go_on (behind_operand version word 0 w f) (λ next. goes version next ws)) (none_behind version word.now 0 e))
+label_goes version word (w ∷ ws) e label = sym (ap (λ (f : Option OperandForm). go_on (after_operand version word 0 w f) (λ next. goes version next ws)) (none_behind version word.now 0 e))
 
 -- ---- behind the first word
 
@@ -143,36 +143,36 @@ version_fits = refl
 both_fit : {A B : Type 0} (a : Result A TokenError) (b : Result B TokenError) → has_form a ≡ true → has_form b ≡ true → has_form (both a b) ≡ true
 both_fit a b e f = form_both a b ∙ ap (λ (x : Bool). x && has_form b) e ∙ f
 
-behind_first : (f : OperandForm) (fs : List OperandForm) → lasts (f ∷ fs) ≡ true → lasts fs ≡ true
-behind_first f [] l = refl
-behind_first f (g ∷ fs) l = second_so (not (stands_last f)) (lasts (g ∷ fs)) l
+after_first : (f : OperandForm) (fs : List OperandForm) → lasts (f ∷ fs) ≡ true → lasts fs ≡ true
+after_first f [] l = refl
+after_first f (g ∷ fs) l = second_so (not (stands_last f)) (lasts (g ∷ fs)) l
 
 line_ends : (version : Version) (fs : List OperandForm) → lasts fs ≡ true → Ends version fs
 line_ends version [] l = ([], refl, tt)
 line_ends version (form.Value ∷ fs) l =
-    let (ws, e, fine) = line_ends version fs (behind_first form.Value fs l) in
+    let (ws, e, fine) = line_ends version fs (after_first form.Value fs l) in
     (Bare (codes "v0") ∷ ws, both_fit (register_in 118 (Bare (codes "v0"))) (line_in (line_of version fs) ws) value_fits e, (tt, fine))
 line_ends version (form.Right ∷ fs) l =
-    let (ws, e, fine) = line_ends version fs (behind_first form.Right fs l) in
+    let (ws, e, fine) = line_ends version fs (after_first form.Right fs l) in
     (Bare (codes "d0") ∷ ws, both_fit (register_in 100 (Bare (codes "d0"))) (line_in (line_of version fs) ws) right_fits e, (tt, fine))
 line_ends version (form.Number ∷ fs) l =
-    let (ws, e, fine) = line_ends version fs (behind_first form.Number fs l) in
+    let (ws, e, fine) = line_ends version fs (after_first form.Number fs l) in
     (Bare (codes "0") ∷ ws, both_fit (number_in (Bare (codes "0"))) (line_in (line_of version fs) ws) number_fits e, (tt, fine))
 line_ends version (form.Iterations ∷ fs) l =
-    let (ws, e, fine) = line_ends version fs (behind_first form.Iterations fs l) in
+    let (ws, e, fine) = line_ends version fs (after_first form.Iterations fs l) in
     (Bare (codes "1") ∷ ws, both_fit (natural_in 1 1000 (Bare (codes "1"))) (line_in (line_of version fs) ws) turns_fit e, (tt, fine))
 line_ends version (form.Literal ∷ fs) l =
-    let (ws, e, fine) = line_ends version fs (behind_first form.Literal fs l) in
+    let (ws, e, fine) = line_ends version fs (after_first form.Literal fs l) in
     (Quoted [] ∷ ws, both_fit (literal_in (Quoted [])) (line_in (line_of version fs) ws) refl e, (IsUtf8-nil, fine))
 line_ends version (form.TypeOf ∷ []) l = (Bare (codes "int") ∷ [], refl, (tt, tt))
 line_ends version (form.TypeOf ∷ g ∷ fs) l = absurd (untrue l)
 line_ends version (form.Skip ∷ []) l = (Bare (codes "+0") ∷ [], skip_fits version, (tt, tt))
 line_ends version (form.Skip ∷ g ∷ fs) l = absurd (untrue l)
 line_ends version (form.Callee ∷ fs) l =
-    let (ws, e, fine) = line_ends version fs (behind_first form.Callee fs l) in
+    let (ws, e, fine) = line_ends version fs (after_first form.Callee fs l) in
     (Bare (codes "0") ∷ ws, both_fit (natural_in 0 255 (Bare (codes "0"))) (line_in (line_of version fs) ws) callee_fits e, (tt, fine))
 line_ends version (form.Target ∷ fs) l =
-    let (ws, e, fine) = line_ends version fs (behind_first form.Target fs l) in
+    let (ws, e, fine) = line_ends version fs (after_first form.Target fs l) in
     (Bare (codes "any") ∷ ws, both_fit (target_in (Bare (codes "any"))) (line_in (line_of version fs) ws) refl e, (tt, fine))
 line_ends version (form.Args ∷ []) l = ([], refl, tt)
 line_ends version (form.Args ∷ g ∷ fs) l = absurd (untrue l)
@@ -181,7 +181,7 @@ drop_lasts : (fs : List OperandForm) (k : ℕ) → lasts fs ≡ true → lasts (
 drop_lasts [] zero l = refl
 drop_lasts [] (suc k) l = refl
 drop_lasts (f ∷ fs) zero l = l
-drop_lasts (f ∷ fs) (suc k) l = drop_lasts fs k (behind_first f fs l)
+drop_lasts (f ∷ fs) (suc k) l = drop_lasts fs k (after_first f fs l)
 
 abbrev pub CanEnd : Version → Read → Type 0
 CanEnd version r = (ws : List Word) × (goes version r ws ≡ true) × AllByRecursion IsFine ws

@@ -67,29 +67,29 @@ form_behind version name place = option_and_then (λ o. slice_get (forms_of o) p
 abbrev pub only_if : Bool → Read → Option Read
 only_if b next = if b then Some next else None
 
-abbrev pub behind_type : Version → Word → Read → Read → Option Read
-behind_type version w inside whole = if has_form (scalar_in w) then Some whole else only_if (has_form (container_in version w)) inside
+abbrev pub after_type : Version → Word → Read → Read → Option Read
+after_type version w inside whole = if has_form (scalar_in w) then Some whole else only_if (has_form (container_in version w)) inside
 
-abbrev pub behind_operand : Version → Bor (List ℕ) → ℕ → Word → Option Form → Option Read
-behind_operand version name place w None = None
-behind_operand version name place w (Some form.TypeOf) = behind_type version w (read.Operands name place) (read.Operands name (place + 1))
-behind_operand version name place w (Some form.Args) = only_if (has_form (natural_in 0 15 w)) (read.Operands name place)
-behind_operand version name place w (Some f) = only_if (is_operand f w) (read.Operands name (place + 1))
+abbrev pub after_operand : Version → Bor (List ℕ) → ℕ → Word → Option Form → Option Read
+after_operand version name place w None = None
+after_operand version name place w (Some form.TypeOf) = after_type version w (read.Operands name place) (read.Operands name (place + 1))
+after_operand version name place w (Some form.Args) = only_if (has_form (natural_in 0 15 w)) (read.Operands name place)
+after_operand version name place w (Some f) = only_if (is_operand f w) (read.Operands name (place + 1))
 
-abbrev pub behind_mode : Option Mode → Option Read
-behind_mode None = None
-behind_mode (Some Val) = Some read.Val
-behind_mode (Some Closed) = Some read.RightMode
-behind_mode (Some Ref) = Some read.RightMode
-behind_mode (Some Write) = Some read.RightMode
+abbrev pub after_mode : Option Mode → Option Read
+after_mode None = None
+after_mode (Some Val) = Some read.Val
+after_mode (Some Closed) = Some read.RightMode
+after_mode (Some Ref) = Some read.RightMode
+after_mode (Some Write) = Some read.RightMode
 
 -- what has been read with this word
 abbrev pub after : Version → Read → Word → Option Read
-after version (read.Operands name place) w = behind_operand version name place w (form_behind version name.now place)
+after version (read.Operands name place) w = after_operand version name place w (form_behind version name.now place)
 after version read.Version w = only_if (has_form (natural_in 1 2 w)) read.Whole
 after version read.Head w = only_if (has_form (kind_in w)) read.Params
-after version read.Params w = behind_mode (found (mode_in w))
-after version read.RightMode w = behind_type version w read.RightMode read.Params
+after version read.Params w = after_mode (found (mode_in w))
+after version read.RightMode w = after_type version w read.RightMode read.Params
 after version read.Val w = only_if (has_form (scalar_in w)) read.Params
 after version read.Registers w = only_if (has_form (scalar_in w)) read.Registers
 after version read.Whole w = None

@@ -42,20 +42,20 @@ stage_text stage.AfterHead = codes "regs"
 stage_text stage.InBody = codes "proc, a label or an instruction"
 
 -- behind a line that says this
-abbrev pub stage_behind : Stage → LineRole → Stage
-stage_behind now says.Nothing = now
-stage_behind now (says.Version version) = stage.AfterVersion
-stage_behind now says.Head = stage.AfterHead
-stage_behind now says.Registers = stage.InBody
-stage_behind now says.Label = now
-stage_behind now says.Code = now
+abbrev pub stage_after : Stage → LineRole → Stage
+stage_after now says.Nothing = now
+stage_after now (says.Version version) = stage.AfterVersion
+stage_after now says.Head = stage.AfterHead
+stage_after now says.Registers = stage.InBody
+stage_after now says.Label = now
+stage_after now says.Code = now
 
-abbrev pub version_behind : Version → LineRole → Version
-version_behind now (says.Version version) = version
-version_behind now s = now
+abbrev pub version_after : Version → LineRole → Version
+version_after now (says.Version version) = version
+version_after now s = now
 
 abbrev pub behind : declared.ParserState → LineRole → declared.ParserState
-behind now s = record { version = version_behind now.version s; stage = stage_behind now.stage s }
+behind now s = record { version = version_after now.version s; stage = stage_after now.stage s }
 
 -- ---- the first head
 

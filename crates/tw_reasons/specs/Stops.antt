@@ -13,8 +13,8 @@ use Rattle.tw_reasons.specs.declared.error_position.ErrorPosition.{ErrorPosition
 -- ---- columns
 
 -- the column behind these bytes, counted in characters from 1
-abbrev pub column_behind : List ℕ → ℕ
-column_behind front = count_by begins_character front + 1
+abbrev pub column_after : List ℕ → ℕ
+column_after front = count_by begins_character front + 1
 
 -- ---- words
 
@@ -40,7 +40,7 @@ pub record IsStop (line : List ℕ) (stop : ErrorPosition) : Type 0 where
   pub rest : List ℕ
   pub stands : Stands line before front rest
   pub word : stop.word ≡ length before + 1
-  pub column : stop.column ≡ column_behind front
+  pub column : stop.column ≡ column_after front
   pub found : IsFound stop.found rest
 
 -- ---- words that begin no statement

@@ -10,7 +10,7 @@ ghost use Rattle.tw_words.specs.Seen.{seen};
 ghost use Rattle.tw_words.specs.reading.Next.{IsAfterGap};
 ghost use Rattle.tw_reasons.specs.Going.{may_end};
 ghost use Rattle.tw_reasons.specs.declared.error_position.Token.TheVariants as found;
-ghost use Rattle.tw_reasons.specs.Stops.{Begin, Ends, IsFirstStop, IsFound, IsStop, column_behind};
+ghost use Rattle.tw_reasons.specs.Stops.{Begin, Ends, IsFirstStop, IsFound, IsStop, column_after};
 ghost use Rattle.tw_reasons.specs.Diagnostics.{found_word, is_long_label};
 ghost use Rattle.tw_words.specs.Names.{before_colon};
 
@@ -46,8 +46,8 @@ pub(crate) struct ErrorPosition<'a> {
 }
 
 /// The column behind these bytes.
-fn column_behind(front: &[u8]) -> usize
-    ensures { result ≡ column_behind front.now }
+fn column_after(front: &[u8]) -> usize
+    ensures { result ≡ column_after front.now }
 {
     let mut column = 1;
     for byte in front {
@@ -77,7 +77,7 @@ fn stop_with<'a>(
     let front = &line[..line.len().saturating_sub(here.len())];
     ErrorPosition {
         word: before + 1,
-        column: column_behind(front),
+        column: column_after(front),
         found,
         due,
     }
@@ -113,7 +113,7 @@ fn end_stop<'a>(
 }
 
 /// Where a line stops behind its first word, if it does.
-fn stop_behind<'a>(
+fn position_after<'a>(
     alloc: Global,
     ask: Ask,
     version: Version,
@@ -127,7 +127,7 @@ fn stop_behind<'a>(
     ensures first { ask ≡ Ask.Form → (expected : First) → IsExpected version expected first.entry.now
         → IfOk result (λ stop. MatchOption stop (HasWords version line.entry.now) (IsFirstStop version line.entry.now)) }
 {
-    let mut ahead = LineProgress::behind_first(first);
+    let mut ahead = LineProgress::after_first(first);
     let mut rest = after;
     let mut before = 1usize;
     'words: loop {
@@ -201,7 +201,7 @@ fn word_stop<'a>(
         → IfOk result (λ stop. MatchOption stop (HasWords version line.entry.now) (IsFirstStop version line.entry.now)) }
 {
     match word {
-        Word::Bare(first) => stop_behind(alloc, ask, version, line, first, after),
+        Word::Bare(first) => position_after(alloc, ask, version, line, first, after),
         Word::Quoted(_) => Ok(None),
     }
 }

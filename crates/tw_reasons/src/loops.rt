@@ -66,7 +66,7 @@ fn begins_loop(code: &[Instr], begin: usize, place: usize) -> bool
 }
 
 /// Returns where what is at the END of a loop differs from what is at its first place.
-fn difference_behind(typings: &[Typing], first: usize, place: usize) -> Option<Difference>
+fn difference_at_end(typings: &[Typing], first: usize, place: usize) -> Option<Difference>
     ensures { MatchOption result
         ((begun here : HeldBy) (d : ADifference) → slice_get typings.now first ≡ Some begun → slice_get typings.now place ≡ Some here → IsDifference here begun d → ⊥)
         (λ d. (begun here : HeldBy) × (slice_get typings.now first ≡ Some begun) × (slice_get typings.now place ≡ Some here) × IsDifference here begun d) }
@@ -85,7 +85,7 @@ fn change_by(code: &[Instr], typings: &[Typing], begin: usize, place: usize) -> 
         (λ d. IsChange code.now typings.now (begin + 1) place d) }
 {
     if begins_loop(code, begin, place) {
-        difference_behind(typings, begin + 1, place)
+        difference_at_end(typings, begin + 1, place)
     } else {
         None
     }

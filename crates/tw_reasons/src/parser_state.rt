@@ -9,7 +9,7 @@ ghost use Rattle.tw_words.specs.Words.{Bare};
 ghost use Rattle.tw_asm.specs.Fault.{LineSays, LinesSay, ParserState as Standing, at_start, situation};
 ghost use Rattle.tw_asm.specs.Statement.{Say, Statement, version_by};
 ghost use Rattle.tw_code.specs.declared.version.Version.{Version as AVersion};
-ghost use Rattle.tw_reasons.specs.LineRole.{HasNoHead, IsFirstHead, behind, is_head, says_of, situation_of, stage_behind, stage_text, version_behind};
+ghost use Rattle.tw_reasons.specs.LineRole.{HasNoHead, IsFirstHead, behind, is_head, says_of, situation_of, stage_after, stage_text, version_after};
 
 use std::alloc::{AllocError, Global};
 use tw_code::Version;
@@ -82,7 +82,7 @@ fn version_in(text: &[u8]) -> Version
 }
 
 /// The version of the number behind `version`.
-fn version_behind(others: &[Word<'_>]) -> Version
+fn version_after(others: &[Word<'_>]) -> Version
     ensures { (number : ℕ) (text : List ℕ) → map seen others.now ≡ Bare text ∷ [] → SpellsDigits number text → IsWithin 1 2 number → result ≡ version_by number }
 {
     match others {
@@ -108,7 +108,7 @@ fn words_role(first: &[u8], others: &[Word<'_>]) -> LineRole
     ensures { (version : AVersion) (statement : Statement) → Say version statement (Bare first.now ∷ map seen others.now) → result ≡ says_of (Some statement) }
 {
     if first == b"version".as_slice() {
-        return LineRole::Version(version_behind(others));
+        return LineRole::Version(version_after(others));
     }
     if first == b"proc".as_slice() {
         return LineRole::Head;
@@ -143,8 +143,8 @@ pub fn line_role(alloc: Global, line: &str) -> Result<LineRole, AllocError>
     Ok(said_in(&read.words))
 }
 
-fn stage_behind(stage: Stage, says: LineRole) -> Stage
-    ensures { result ≡ stage_behind stage says }
+fn stage_after(stage: Stage, says: LineRole) -> Stage
+    ensures { result ≡ stage_after stage says }
 {
     match says {
         LineRole::Nothing => stage,
@@ -155,8 +155,8 @@ fn stage_behind(stage: Stage, says: LineRole) -> Stage
     }
 }
 
-fn version_behind_line(version: Version, says: LineRole) -> Version
-    ensures { result ≡ version_behind version says }
+fn version_after_line(version: Version, says: LineRole) -> Version
+    ensures { result ≡ version_after version says }
 {
     match says {
         LineRole::Version(said) => said,
@@ -173,8 +173,8 @@ fn behind(situation: ParserState, says: LineRole) -> ParserState
     ensures { result ≡ behind situation says }
 {
     ParserState {
-        version: version_behind_line(situation.version, says),
-        stage: stage_behind(situation.stage, says),
+        version: version_after_line(situation.version, says),
+        stage: stage_after(situation.stage, says),
     }
 }
 

@@ -2,7 +2,7 @@
 
 ghost use Rattle.std.specs.Prelude.{◌≡◌, ◌<◌, IfSome, option_map};
 ghost use Rattle.tw_words.specs.Seen.{seen};
-ghost use Rattle.tw_reasons.specs.Going.{after, behind_mode, behind_operand, behind_type, ends_at, first_read, may_end, only_if};
+ghost use Rattle.tw_reasons.specs.Going.{after, after_mode, after_operand, after_type, ends_at, first_read, may_end, only_if};
 ghost use Rattle.tw_reasons.specs.declared.words.Ask.TheVariants as asked;
 ghost use Rattle.tw_reasons.specs.declared.step.Read.TheVariants as read;
 
@@ -66,7 +66,7 @@ fn ends_at(form: Option<Form>) -> bool
 
 impl<'a> LineProgress<'a> {
     /// Behind the first word of a statement.
-    pub(crate) fn behind_first(word: &'a [u8]) -> LineProgress<'a>
+    pub(crate) fn after_first(word: &'a [u8]) -> LineProgress<'a>
         ensures { result.read ≡ first_read word.entry }
     {
         LineProgress {
@@ -160,14 +160,14 @@ impl<'a> LineProgress<'a> {
     }
 
     /// One word more of a type, with this behind it.
-    fn behind_type(
+    fn after_type(
         self,
         ask: Ask,
         version: Version,
         word: &Word<'_>,
         whole: Read<'a>,
     ) -> Option<LineProgress<'a>>
-        ensures { ask ≡ asked.Form → option_map (λ a. a.read) result ≡ behind_type version (seen word.now) self.entry.read whole.entry }
+        ensures { ask ≡ asked.Form → option_map (λ a. a.read) result ≡ after_type version (seen word.now) self.entry.read whole.entry }
     {
         if is_scalar(word) {
             Some(self.with(whole))
@@ -176,7 +176,7 @@ impl<'a> LineProgress<'a> {
         }
     }
 
-    fn behind_operand(
+    fn after_operand(
         self,
         ask: Ask,
         version: Version,
@@ -187,12 +187,12 @@ impl<'a> LineProgress<'a> {
     ) -> Option<LineProgress<'a>>
         requires read { self.read ≡ read.Operands name place }
         requires few { IfSome form (λ _. place < 4) }
-        ensures { ask ≡ asked.Form → option_map (λ a. a.read) result ≡ behind_operand version name.entry place (seen word.now) form }
+        ensures { ask ≡ asked.Form → option_map (λ a. a.read) result ≡ after_operand version name.entry place (seen word.now) form }
     {
         match form {
             None => None,
             Some(Form::TypeOf) => {
-                self.behind_type(ask, version, word, Read::Operands(name, place + 1))
+                self.after_type(ask, version, word, Read::Operands(name, place + 1))
             }
             Some(Form::Args) => self.one_more(ask, 8, is_natural(ask, 0, 15, word), self.read),
             Some(form) => {
@@ -201,8 +201,8 @@ impl<'a> LineProgress<'a> {
         }
     }
 
-    fn behind_mode(self, ask: Ask, mode: Option<Mode>) -> Option<LineProgress<'a>>
-        ensures { ask ≡ asked.Form → option_map (λ a. a.read) result ≡ behind_mode mode }
+    fn after_mode(self, ask: Ask, mode: Option<Mode>) -> Option<LineProgress<'a>>
+        ensures { ask ≡ asked.Form → option_map (λ a. a.read) result ≡ after_mode mode }
     {
         match mode {
             None => None,
@@ -219,11 +219,11 @@ impl<'a> LineProgress<'a> {
         ensures { ask ≡ asked.Form → option_map (λ a. a.read) result ≡ after version self.entry.read (seen word.now) }
     {
         match self.read {
-            Read::Operands(name, place) => self.behind_operand(ask, version, name, place, form_at(version, name, place), word),
+            Read::Operands(name, place) => self.after_operand(ask, version, name, place, form_at(version, name, place), word),
             Read::Version => self.only_if(is_natural(ask, 1, 2, word), Read::Whole),
             Read::Head => self.only_if(is_kind(word), Read::Params),
-            Read::Params => self.behind_mode(ask, mode_of(word)),
-            Read::RightMode => self.behind_type(ask, version, word, Read::Params),
+            Read::Params => self.after_mode(ask, mode_of(word)),
+            Read::RightMode => self.after_type(ask, version, word, Read::Params),
             Read::Val => self.only_if(is_scalar(word), Read::Params),
             Read::Registers => self.one_more(ask, 16, is_scalar(word), self.read),
             Read::Whole => None,

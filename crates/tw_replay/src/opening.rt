@@ -184,7 +184,7 @@ fn put_inputs_reason(
 }
 
 /// Adds what stands behind the refusal of an opening.
-fn put_opening_behind(
+fn put_opening_details(
     alloc: Global,
     out: &mut Vec<u8>,
     source: &Option<SourceText<'_>>,
@@ -223,6 +223,6 @@ pub fn inputs_refused_reply(
 {
     let mut text = Vec::new(alloc);
     put_opening_line(&mut text, number)?;
-    put_opening_behind(alloc, &mut text, source, program, inputs)?;
+    put_opening_details(alloc, &mut text, source, program, inputs)?;
     Ok(refused_by(text))
 }

@@ -22,7 +22,7 @@ ghost use Rattle.tw_replies.specs.Reply.{Reply as AReply, reply};
 
 use crate::drawn::draw;
 use crate::numbers::{Budgeted, counted_reply, with_budgets};
-use crate::replay_details::{behind_reply, unopened_reply};
+use crate::replay_details::{details_reply, unopened_reply};
 use std::alloc::{AllocError, Global};
 use tw_code::Program;
 use tw_command::{Answer, ReplayOptions, ReplayOrder, Source, inputs_of};
@@ -162,7 +162,7 @@ fn opened_reply(
     match Plain::open(alloc, program, order.inputs.as_slice(), order.layout) {
         Ok(plain) => {
             let told = answer_of(alloc, order.answer, names, plain, events, budgets)?;
-            behind_reply(alloc, source, order, events, told)
+            details_reply(alloc, source, order, events, told)
         }
         Err(refused) => unopened_reply(alloc, source, order, &refused),
     }

@@ -48,7 +48,7 @@ pub fn unopened_reply(
 }
 
 /// Adds what stands behind a report, by how it ends.
-fn put_ending_behind(
+fn put_ending_details(
     alloc: Global,
     out: &mut Vec<u8>,
     source: &SourceText<'_>,
@@ -74,7 +74,7 @@ fn put_ending_behind(
 }
 
 /// Adds what stands behind a report or a picture.
-fn put_report_behind(
+fn put_report_details(
     alloc: Global,
     out: &mut Vec<u8>,
     source: &SourceText<'_>,
@@ -88,12 +88,12 @@ fn put_report_behind(
 {
     match order.answer {
         Answer::Picture(_) => Ok(()),
-        _ => put_ending_behind(alloc, out, source, order, events, close),
+        _ => put_ending_details(alloc, out, source, order, events, close),
     }
 }
 
 /// Adds what stands behind an answer.
-fn put_answer_behind(
+fn put_answer_details(
     alloc: Global,
     out: &mut Vec<u8>,
     source: &Option<SourceText<'_>>,
@@ -106,13 +106,13 @@ fn put_answer_behind(
         → (more : List ℕ) × IsAnswerBehind (text_of source.now) order.now.answer start events.now more × (out.new.items ≡ out.old.items ++ more)) }
 {
     match source {
-        Some(source) => put_report_behind(alloc, out, source, order, events, close),
+        Some(source) => put_report_details(alloc, out, source, order, events, close),
         None => Ok(()),
     }
 }
 
 /// An answer with what stands behind it.
-pub fn behind_reply(
+pub fn details_reply(
     alloc: Global,
     source: &Option<SourceText<'_>>,
     order: &ReplayOrder,
@@ -125,6 +125,6 @@ pub fn behind_reply(
         → IsAnswered (text_of source.now) order.now program events.now (reply r.text.items r.close)) }
 {
     let Reply { mut text, close } = told;
-    put_answer_behind(alloc, &mut text, source, order, events, close)?;
+    put_answer_details(alloc, &mut text, source, order, events, close)?;
     Ok(Reply { text, close })
 }

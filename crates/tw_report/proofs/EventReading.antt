@@ -14,7 +14,7 @@ use Rattle.tw_types.specs.declared.event.Event.TheVariants.{Take, Local, Call, E
 use Rattle.tw_types.specs.Actor.{number_in_kind}
 use Rattle.tw_words.specs.Number.{SpellsDigits}
 use Rattle.tw_report.specs.Events.{IsByte, IsEvent, Name, Number, Parameter, Part, SpellParts, SpellsPart, SpellsEvent, actor_part, event_parts, words_in}
-use Rattle.tw_report.specs.reading.Event.{actor_in, alone, ask_in, behind, deliver_in, event_in, first, for_actor, local_in, named, number_in, parameter_in, release_in, words_64}
+use Rattle.tw_report.specs.reading.Event.{actor_in, alone, ask_in, number_after, deliver_in, event_in, first, for_actor, local_in, named, number_in, parameter_in, release_in, words_64}
 use Rattle.tw_report.specs.reading.Words.{with_word}
 use Rattle.tw_report.proofs.Readings.{number_read, number_spelled}
 
@@ -23,12 +23,12 @@ use Rattle.tw_report.proofs.Readings.{number_read, number_spelled}
 plain_read : (low high n : ℕ) (word : List ℕ) → IsInRange low high n → SpellsPart (Number [] n) word → number_in low high word ≡ Some n
 plain_read low high n word inside (digits, spells, is) = number_read low high n word (subst (SpellsDigits n) (sym is) spells) inside
 
-behind_read : (letter n : ℕ) (word : List ℕ) → (letter == letter) ≡ true → IsByte n → SpellsPart (Number (letter ∷ []) n) word → behind letter word ≡ Some n
-unfolding behind
+behind_read : (letter n : ℕ) (word : List ℕ) → (letter == letter) ≡ true → IsByte n → SpellsPart (Number (letter ∷ []) n) word → number_after letter word ≡ Some n
+unfolding number_after
 behind_read letter n word same inside (digits, spells, is) = rw (is, same) (number_read 0 255 n digits spells inside)
 
-not_behind : (letter other : ℕ) (word digits : List ℕ) → word ≡ other ∷ digits → (other == letter) ≡ false → behind letter word ≡ None
-unfolding behind
+not_behind : (letter other : ℕ) (word digits : List ℕ) → word ≡ other ∷ digits → (other == letter) ≡ false → number_after letter word ≡ None
+unfolding number_after
 not_behind letter other word digits is apart = rw (is, apart) refl
 
 actor_read : (actor : Actor) (word : List ℕ) → IsByte (number_in_kind actor) → SpellsPart (actor_part actor) word → actor_in word ≡ Some actor
@@ -55,8 +55,8 @@ parameter_spelled parameter word e = by (words_64 word) refl e
 plain_spelled : (low high n : ℕ) (word : List ℕ) → number_in low high word ≡ Some n → IsInRange low high n × SpellsPart (Number [] n) word
 plain_spelled low high n word e = let s = number_spelled low high n word e in (s.1, (word, s.0, refl))
 
-behind_spelled : (letter n : ℕ) (word : List ℕ) → behind letter word ≡ Some n → IsByte n × SpellsPart (Number (letter ∷ []) n) word
-unfolding behind
+behind_spelled : (letter n : ℕ) (word : List ℕ) → number_after letter word ≡ Some n → IsByte n × SpellsPart (Number (letter ∷ []) n) word
+unfolding number_after
 behind_spelled letter n [] e = cc
 behind_spelled letter n (b ∷ rest) e = by (b == letter) refl e
   where
@@ -66,12 +66,12 @@ behind_spelled letter n (b ∷ rest) e = by (b == letter) refl e
 
 actor_spelled : (actor : Actor) (word : List ℕ) → actor_in word ≡ Some actor → IsByte (number_in_kind actor) × SpellsPart (actor_part actor) word
 unfolding actor_in
-actor_spelled actor word e = by (behind 101 word) (behind 115 word) (behind 119 word) refl refl refl e
+actor_spelled actor word e = by (number_after 101 word) (number_after 115 word) (number_after 119 word) refl refl refl e
   where
     Is : Actor → Type 0
     Is a = IsByte (number_in_kind a) × SpellsPart (actor_part a) word
 
-    by : (e s w : Option ℕ) → behind 101 word ≡ e → behind 115 word ≡ s → behind 119 word ≡ w → option_or (option_map Engine e) (option_or (option_map Server s) (option_map Worker w)) ≡ Some actor → IsByte (number_in_kind actor) × SpellsPart (actor_part actor) word
+    by : (e s w : Option ℕ) → number_after 101 word ≡ e → number_after 115 word ≡ s → number_after 119 word ≡ w → option_or (option_map Engine e) (option_or (option_map Server s) (option_map Worker w)) ≡ Some actor → IsByte (number_in_kind actor) × SpellsPart (actor_part actor) word
     by (Some n) s w is _ _ f = let same : Engine n ≡ actor = cc in subst (λ a. IsByte (number_in_kind a) × SpellsPart (actor_part a) word) same (behind_spelled 101 n word is)
     by None (Some n) w _ is _ f = let same : Server n ≡ actor = cc in subst (λ a. IsByte (number_in_kind a) × SpellsPart (actor_part a) word) same (behind_spelled 115 n word is)
     by None None (Some n) _ _ is f = let same : Worker n ≡ actor = cc in subst (λ a. IsByte (number_in_kind a) × SpellsPart (actor_part a) word) same (behind_spelled 119 n word is)
@@ -104,18 +104,18 @@ event_read (Call a) words may = name_read (codes "call") (actor_part a ∷ []) w
 event_read (End a) words may = name_read (codes "end") (actor_part a ∷ []) words (End a) (λ rest. step_read actor_in _ (actor_part a) [] rest a (End a) (λ w. actor_read a w may) (alone_read (End a)))
 event_read (Ask e r j) words may =
     name_read (codes "ask") (actor_part (Engine e) ∷ Number [] r ∷ Parameter j ∷ []) words (Ask e r j)
-    (λ rest. step_read (behind 101) _ (actor_part (Engine e)) (Number [] r ∷ Parameter j ∷ []) rest e (Ask e r j) (λ w. behind_read 101 e w refl may.0)
+    (λ rest. step_read (number_after 101) _ (actor_part (Engine e)) (Number [] r ∷ Parameter j ∷ []) rest e (Ask e r j) (λ w. behind_read 101 e w refl may.0)
     (λ rest. step_read words_64 _ (Number [] r) (Parameter j ∷ []) rest r (Ask e r j) (λ w. plain_read 0 0xFFFFFFFFFFFFFFFF r w may.1)
     (λ rest. step_read parameter_in _ (Parameter j) [] rest j (Ask e r j) (λ w. parameter_read j w) (alone_read (Ask e r j)))))
 event_read (Deliver s d r j) words may =
     name_read (codes "deliver") (actor_part (Server s) ∷ Number [] d ∷ Number [] r ∷ Parameter j ∷ []) words (Deliver s d r j)
-    (λ rest. step_read (behind 115) _ (actor_part (Server s)) (Number [] d ∷ Number [] r ∷ Parameter j ∷ []) rest s (Deliver s d r j) (λ w. behind_read 115 s w refl may.0)
+    (λ rest. step_read (number_after 115) _ (actor_part (Server s)) (Number [] d ∷ Number [] r ∷ Parameter j ∷ []) rest s (Deliver s d r j) (λ w. behind_read 115 s w refl may.0)
     (λ rest. step_read words_64 _ (Number [] d) (Number [] r ∷ Parameter j ∷ []) rest d (Deliver s d r j) (λ w. plain_read 0 0xFFFFFFFFFFFFFFFF d w may.1)
     (λ rest. step_read words_64 _ (Number [] r) (Parameter j ∷ []) rest r (Deliver s d r j) (λ w. plain_read 0 0xFFFFFFFFFFFFFFFF r w may.2)
     (λ rest. step_read parameter_in _ (Parameter j) [] rest j (Deliver s d r j) (λ w. parameter_read j w) (alone_read (Deliver s d r j))))))
 event_read (Release e r) words may =
     name_read (codes "release") (actor_part (Engine e) ∷ Number [] r ∷ []) words (Release e r)
-    (λ rest. step_read (behind 101) _ (actor_part (Engine e)) (Number [] r ∷ []) rest e (Release e r) (λ w. behind_read 101 e w refl may.0)
+    (λ rest. step_read (number_after 101) _ (actor_part (Engine e)) (Number [] r ∷ []) rest e (Release e r) (λ w. behind_read 101 e w refl may.0)
     (λ rest. step_read words_64 _ (Number [] r) [] rest r (Release e r) (λ w. plain_read 0 0xFFFFFFFFFFFFFFFF r w may.1) (alone_read (Release e r))))
 
 -- ---- an event that is read was written so
@@ -172,7 +172,7 @@ local_told event words e =
 
 ask_told : (event : Event) (words : List (List ℕ)) → ask_in words ≡ Some event → Told (codes "ask") event words
 ask_told event words e =
-    let s = stepped (behind 101) _ words event e in
+    let s = stepped (number_after 101) _ words event e in
     let t = stepped words_64 _ s.rest event s.goes_on in
     let u = stepped parameter_in _ t.rest event t.goes_on in
     let last = alone_is (Ask s.a t.a u.a) event u.rest u.goes_on in
@@ -184,7 +184,7 @@ ask_told event words e =
 
 deliver_told : (event : Event) (words : List (List ℕ)) → deliver_in words ≡ Some event → Told (codes "deliver") event words
 deliver_told event words e =
-    let s = stepped (behind 115) _ words event e in
+    let s = stepped (number_after 115) _ words event e in
     let t = stepped words_64 _ s.rest event s.goes_on in
     let u = stepped words_64 _ t.rest event t.goes_on in
     let v = stepped parameter_in _ u.rest event u.goes_on in
@@ -204,7 +204,7 @@ deliver_told event words e =
 
 release_told : (event : Event) (words : List (List ℕ)) → release_in words ≡ Some event → Told (codes "release") event words
 release_told event words e =
-    let s = stepped (behind 101) _ words event e in
+    let s = stepped (number_after 101) _ words event e in
     let t = stepped words_64 _ s.rest event s.goes_on in
     let last = alone_is (Release s.a t.a) event t.rest t.goes_on in
     let engine = behind_spelled 101 s.a s.word s.says in
@@ -273,8 +273,8 @@ pub parameter_none : parameter_in [] ≡ None
 unfolding parameter_in
 parameter_none = ap (option_map (λ (k : ℕ). min k 255)) (number_none 0 0xFFFFFFFFFFFFFFFF)
 
-pub behind_none : (letter : ℕ) → behind letter [] ≡ None
-unfolding behind
+pub behind_none : (letter : ℕ) → number_after letter [] ≡ None
+unfolding number_after
 behind_none letter = refl
 
 pub actor_none : actor_in [] ≡ None

@@ -5,7 +5,7 @@ ghost use Rattle.std.specs.Option.{option_map};
 ghost use Rattle.tw_types.specs.declared.event.Event.{Event as AnEvent};
 ghost use Rattle.tw_types.specs.declared.event.Event.TheVariants.{Take, Call, End};
 ghost use Rattle.tw_report.specs.Events.{SpellsEvent, words_in};
-ghost use Rattle.tw_report.specs.reading.Event.{actor_in, alone, ask_in, behind, deliver_in, event_in, first, for_actor, local_in, named, number_in, parameter_in, release_in};
+ghost use Rattle.tw_report.specs.reading.Event.{actor_in, alone, ask_in, number_after, deliver_in, event_in, first, for_actor, local_in, named, number_in, parameter_in, release_in};
 
 use crate::words::{first_word, is_blank};
 use tw_types::{Actor, DatumId, Event, RuleNo};
@@ -38,9 +38,9 @@ fn parameter_in(word: &[u8]) -> Option<u8>
 }
 
 /// Returns the number after a letter.
-#[tactic(auto, unfolding(crate::specs::reading::Event::behind))]
-fn behind(letter: u8, word: &[u8]) -> Option<u8>
-    ensures { result ≡ behind letter word.now }
+#[tactic(auto, unfolding(crate::specs::reading::Event::number_after))]
+fn number_after(letter: u8, word: &[u8]) -> Option<u8>
+    ensures { result ≡ number_after letter word.now }
 {
     match word {
         [first, rest @ ..] if *first == letter => byte_in(rest),
@@ -52,13 +52,13 @@ fn behind(letter: u8, word: &[u8]) -> Option<u8>
 fn actor_in(word: &[u8]) -> Option<Actor>
     ensures { result ≡ actor_in word.now }
 {
-    if let Some(number) = behind(b'e', word) {
+    if let Some(number) = number_after(b'e', word) {
         return Some(Actor::Engine(number));
     }
-    if let Some(number) = behind(b's', word) {
+    if let Some(number) = number_after(b's', word) {
         return Some(Actor::Server(number));
     }
-    match behind(b'w', word) {
+    match number_after(b'w', word) {
         Some(number) => Some(Actor::Worker(number)),
         None => None,
     }
@@ -80,11 +80,11 @@ fn first_parameter(line: &[u8]) -> Option<(u8, &[u8])>
     Some((number, rest))
 }
 
-fn first_behind(letter: u8, line: &[u8]) -> Option<(u8, &[u8])>
-    ensures { option_map (λ f. (f.0, words_in f.1.now)) result ≡ first (behind letter) (words_in line.now) }
+fn first_number_after(letter: u8, line: &[u8]) -> Option<(u8, &[u8])>
+    ensures { option_map (λ f. (f.0, words_in f.1.now)) result ≡ first (number_after letter) (words_in line.now) }
 {
     let (word, rest) = first_word(line);
-    let number = behind(letter, word)?;
+    let number = number_after(letter, word)?;
     Some((number, rest))
 }
 
@@ -135,7 +135,7 @@ fn end_in(line: &[u8]) -> Option<Event>
 fn ask_in(line: &[u8]) -> Option<Event>
     ensures { result ≡ ask_in (words_in line.now) }
 {
-    let (engine, rest) = first_behind(b'e', line)?;
+    let (engine, rest) = first_number_after(b'e', line)?;
     let (rule, rest) = first_number(rest, 0, u64::MAX)?;
     let (parameter, rest) = first_parameter(rest)?;
     alone(Event::Ask(engine, RuleNo::new(rule), parameter), rest)
@@ -144,7 +144,7 @@ fn ask_in(line: &[u8]) -> Option<Event>
 fn deliver_in(line: &[u8]) -> Option<Event>
     ensures { result ≡ deliver_in (words_in line.now) }
 {
-    let (server, rest) = first_behind(b's', line)?;
+    let (server, rest) = first_number_after(b's', line)?;
     let (datum, rest) = first_number(rest, 0, u64::MAX)?;
     let (rule, rest) = first_number(rest, 0, u64::MAX)?;
     let (parameter, rest) = first_parameter(rest)?;
@@ -157,7 +157,7 @@ fn deliver_in(line: &[u8]) -> Option<Event>
 fn release_in(line: &[u8]) -> Option<Event>
     ensures { result ≡ release_in (words_in line.now) }
 {
-    let (engine, rest) = first_behind(b'e', line)?;
+    let (engine, rest) = first_number_after(b'e', line)?;
     let (rule, rest) = first_number(rest, 0, u64::MAX)?;
     alone(Event::Release(engine, RuleNo::new(rule)), rest)
 }

@@ -35,7 +35,7 @@ impl Next {
     }
 
     /// Goes behind an event that makes this.
-    pub fn go_behind(&mut self, made: &Option<Dependency>)
+    pub fn advance_past(&mut self, made: &Option<Dependency>)
         ensures { AreBehind self.old made.now self.new }
     {
         match made {

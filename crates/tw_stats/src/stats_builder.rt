@@ -79,7 +79,7 @@ impl StatsBuilder {
         let needed = needs(event, &executor, &pre_state.asked);
         let brought = provides(event, &executor, &pre_state.made);
         self.chains.add(event, &needed, &brought)?;
-        self.next.go_behind(&pre_state.made);
+        self.next.advance_past(&pre_state.made);
         Ok(())
     }
 }

@@ -61,7 +61,7 @@ fn make_rule(
     )?;
     let rule = Rule::new(alloc, caller.actor.number(), params, task)?;
     tables.rules.add(rule)?;
-    frame.go_behind(rights);
+    frame.finish_action(rights);
     Ok(())
 }
 
@@ -92,7 +92,7 @@ fn put_task(
         action,
     )?;
     tables.tasks.put(task)?;
-    frame.go_behind(rights);
+    frame.finish_action(rights);
     Ok(())
 }
 

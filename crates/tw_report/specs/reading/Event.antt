@@ -16,12 +16,12 @@ unfoldable pub number_in : ℕ → ℕ → List ℕ → Option ℕ
 number_in low high text = if are_digits text then (if is_within low high (digits_value 10 text) then Some (digits_value 10 text) else None) else None
 
 -- returns the number of one byte after a letter
-unfoldable pub behind : ℕ → List ℕ → Option ℕ
-behind letter [] = None
-behind letter (b ∷ rest) = if b == letter then number_in 0 255 rest else None
+unfoldable pub number_after : ℕ → List ℕ → Option ℕ
+number_after letter [] = None
+number_after letter (b ∷ rest) = if b == letter then number_in 0 255 rest else None
 
 unfoldable pub actor_in : List ℕ → Option Actor
-actor_in word = option_or (option_map Engine (behind 101 word)) (option_or (option_map Server (behind 115 word)) (option_map Worker (behind 119 word)))
+actor_in word = option_or (option_map Engine (number_after 101 word)) (option_or (option_map Server (number_after 115 word)) (option_map Worker (number_after 119 word)))
 
 -- ---- the words
 
@@ -50,15 +50,15 @@ local_in words = option_and_then (λ a. option_and_then (λ n. alone (Local a.0 
 
 abbrev pub ask_in : List (List ℕ) → Option Event
 ask_in words =
-    option_and_then (λ e. option_and_then (λ r. option_and_then (λ j. alone (Ask e.0 r.0 j.0) j.1) (first parameter_in r.1)) (first words_64 e.1)) (first (behind 101) words)
+    option_and_then (λ e. option_and_then (λ r. option_and_then (λ j. alone (Ask e.0 r.0 j.0) j.1) (first parameter_in r.1)) (first words_64 e.1)) (first (number_after 101) words)
 
 abbrev pub deliver_in : List (List ℕ) → Option Event
 deliver_in words =
     option_and_then (λ s. option_and_then (λ d. option_and_then (λ r. option_and_then (λ j. alone (Deliver s.0 d.0 r.0 j.0) j.1) (first parameter_in r.1)) (first words_64 d.1)) (first words_64 s.1))
-    (first (behind 115) words)
+    (first (number_after 115) words)
 
 abbrev pub release_in : List (List ℕ) → Option Event
-release_in words = option_and_then (λ e. option_and_then (λ r. alone (Release e.0 r.0) r.1) (first words_64 e.1)) (first (behind 101) words)
+release_in words = option_and_then (λ e. option_and_then (λ r. alone (Release e.0 r.0) r.1) (first words_64 e.1)) (first (number_after 101) words)
 
 -- parses the words after a name
 unfoldable pub named : List ℕ → List (List ℕ) → Option Event

@@ -16,7 +16,7 @@ loop-index-preserved c =
     let waits = c.loop-index.waits.items in
     let kept = c.loop-index.invariant in
     let there = there_in links c.min-most.result i link c.loop-index-test.true c.link-item.is in
-    let w : Wait = record { from = i; to = c.place_behind.result; link = link } in
+    let w : Wait = record { from = i; to = c.place_after.result; link = link } in
     record {
       same =
           ap (λ (ws : List Wait). map (λ (v : Wait). v.link) ws) c.in_ok-push.ensures.items ∙ map-append (λ (v : Wait). v.link) waits (w ∷ []) ∙ ap (λ (ls : List Link). ls ++ link ∷ []) kept.same
@@ -24,7 +24,7 @@ loop-index-preserved c =
       count = ap (λ (ws : List Wait). length ws) c.in_ok-push.ensures.items ∙ length-append waits (w ∷ []) ∙ ap (λ (n : ℕ). n + 1) kept.count;
       arrows =
           subst (λ (ws : List Wait). AreArrows links 0 ws) (sym c.in_ok-push.ensures.items)
-          (arrows_more links 0 waits w kept.arrows (omega (arith, kept.count)) (ap (slice_get (rules_of links)) c.place_behind.ensures.value ∙ next_in links i link c.requires there.0 there.2));
+          (arrows_more links 0 waits w kept.arrows (omega (arith, kept.count)) (ap (slice_get (rules_of links)) c.place_after.ensures.value ∙ next_in links i link c.requires there.0 there.2));
     }
 
 pub returns-clause-same : goal.returns-clause-same

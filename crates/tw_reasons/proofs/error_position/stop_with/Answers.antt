@@ -1,6 +1,6 @@
 use Rattle.std.proofs.Common.{◌+◌, ◌-◌, length, take, ap, ◌∙◌}
 use Rattle.tw_reasons.proofs.Standing.{stands}
-use Rattle.tw_reasons.specs.Stops.{column_behind}
+use Rattle.tw_reasons.specs.Stops.{column_after}
 use Rattle.tw_reasons.proofs.error_position.stop_with.Goals as goal
 
 pub returns-clause-stands : goal.returns-clause-stands
@@ -10,7 +10,7 @@ returns-clause-stands c = λ words after are gap count found. record {
   rest = c.args.here.now;
   stands = stands words c.args.line.now after c.args.here.now are gap;
   word = ap (λ n. n + 1) count;
-  column = c.column_behind.ensures ∙ ap (λ n. column_behind (take n c.args.line.now)) c.saturating_sub.ensures;
+  column = c.column_after.ensures ∙ ap (λ n. column_after (take n c.args.line.now)) c.saturating_sub.ensures;
   found = found;
 }
 
@@ -22,7 +22,7 @@ returns-clause-first c = λ version words after are gap count found begin ends. 
     rest = c.args.here.now;
     stands = stands words c.args.line.now after c.args.here.now are gap;
     word = ap (λ n. n + 1) count;
-    column = c.column_behind.ensures ∙ ap (λ n. column_behind (take n c.args.line.now)) c.saturating_sub.ensures;
+    column = c.column_after.ensures ∙ ap (λ n. column_after (take n c.args.line.now)) c.saturating_sub.ensures;
     found = found;
   };
   begin = begin;

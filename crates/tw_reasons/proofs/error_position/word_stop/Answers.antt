@@ -8,7 +8,7 @@ pub returns-in-Bare-clause-first : goal.returns-in-Bare-clause-first
 returns-in-Bare-clause-first c = λ form expected word rest is ex.
     let here : IsFirstWord (Bare c.in-Bare.first.now) c.args.line.now c.args.after.now = rw c.in-Bare.is at c.requires.first in
     let same = bare_is word c.in-Bare.first.now (first_word_once (Bare word) (Bare c.in-Bare.first.now) c.args.line.now rest c.args.after.now is here).0 in
-    c.stop_behind.ensures.first form expected (subst (IsExpected c.args.version expected) same ex)
+    c.position_after.ensures.first form expected (subst (IsExpected c.args.version expected) same ex)
 
 pub returns-in-Quoted-clause-first : goal.returns-in-Quoted-clause-first
 returns-in-Quoted-clause-first c = λ form expected word rest is ex.

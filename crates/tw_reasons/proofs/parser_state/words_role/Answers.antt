@@ -6,7 +6,7 @@ use Rattle.tw_reasons.proofs.parser_state.words_role.Goals as goal
 pub returns-then-eq : goal.returns-then-eq
 returns-then-eq c = λ version statement say.
     let e : bytes_eq c.args.first.now (codes "version") ≡ true = search rules in
-    version_tells version c.args.first.now (map seen c.args.others.now) c.version_behind.result (is_word c.args.first.now (codes "version") e) c.version_behind.ensures statement say
+    version_tells version c.args.first.now (map seen c.args.others.now) c.version_after.result (is_word c.args.first.now (codes "version") e) c.version_after.ensures statement say
 
 pub returns-then-eq-2 : goal.returns-then-eq-2
 returns-then-eq-2 c = λ version statement say.

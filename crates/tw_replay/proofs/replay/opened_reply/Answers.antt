@@ -26,7 +26,7 @@ returns-in_ok-told-in-Ok c =
     let none : refusal_of program.procedures order.inputs ≡ None = subst (λ (given : List Input). refusal_of program.procedures given ≡ None) c.as_slice.ensures c.in-Ok.ensures.asked in
     let here = opened_is order program c.as_slice.result.now c.in-Ok.plain c.as_slice.ensures c.in-Ok.ensures.opened in
     let is = subst (λ (v : PlainView). IsAnswer c.in_ok-names.names order.answer v events told) here c.in_ok-told-in-Ok.ensures in
-    IfOk-weaker _ _ _ (λ (r : Reply) h. opened_answer text order program events (reply r.text.items r.close) none (h program c.requires.source none c.requires.few c.requires.sizes c.in_ok-names.names c.in_ok-names.ensures is)) c.behind_reply.ensures
+    IfOk-weaker _ _ _ (λ (r : Reply) h. opened_answer text order program events (reply r.text.items r.close) none (h program c.requires.source none c.requires.few c.requires.sizes c.in_ok-names.names c.in_ok-names.ensures is)) c.details_reply.ensures
 
 pub returns-in-Err : goal.returns-in-Err
 returns-in-Err c =

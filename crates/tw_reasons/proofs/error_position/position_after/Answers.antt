@@ -6,13 +6,13 @@ use Rattle.tw_words.proofs.Texts.{rest_utf8}
 use Rattle.tw_asm.proofs.Whole.{all_fine}
 use Rattle.tw_reasons.proofs.Standing.{first_passed, first_room, one_passed, one_room}
 use Rattle.tw_reasons.proofs.Stopping.{begins, ended, follows_first, follows_on, vain_end, vain_found, whole}
-use Rattle.tw_reasons.proofs.error_position.stop_behind.Goals as goal
+use Rattle.tw_reasons.proofs.error_position.position_after.Goals as goal
 
 pub words-init : goal.words-init
 words-init c = record {
   utf8 = c.requires.utf8;
   passed = first_passed (Bare c.args.first.now) c.args.line.now c.args.after.now c.requires.first;
-  follows = λ form. follows_first c.args.version c.args.first c.args.line.now c.args.after.now c.behind_first-ahead.result.read c.requires.first c.behind_first-ahead.ensures;
+  follows = λ form. follows_first c.args.version c.args.first c.args.line.now c.args.after.now c.after_first-ahead.result.read c.requires.first c.after_first-ahead.ensures;
   room = first_room (Bare c.args.first.now) c.args.line.now c.args.after.now c.requires.first;
 }
 

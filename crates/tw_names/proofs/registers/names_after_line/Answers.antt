@@ -5,7 +5,7 @@ use Rattle.std.proofs.lemmas.Iterator.Splits.{YieldsList-from_lines}
 use Rattle.tw_words.proofs.LineLoops.{all_lines, line_turn}
 use Rattle.tw_names.proofs.Loops.{lines_in, one_more_length}
 use Rattle.tw_names.proofs.RegisterNames.{HasGone, gone_end, gone_here, gone_more, gone_refused}
-use Rattle.tw_names.proofs.registers.names_behind.Goals as goal
+use Rattle.tw_names.proofs.registers.names_after_line.Goals as goal
 
 pub returns-in-Some-2 : goal.returns-in-Some-2
 returns-in-Some-2 c = λ all are.

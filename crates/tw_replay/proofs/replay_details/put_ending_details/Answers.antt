@@ -1,7 +1,7 @@
 use Rattle.std.proofs.Common.{◌∙◌, sym}
 use Rattle.std.proofs.lemmas.Result.{on_ok_weaker}
 use Rattle.tw_replay.proofs.Behinds.{else_behind, stuck_behind}
-use Rattle.tw_replay.proofs.replay_details.put_ending_behind.Goals as goal
+use Rattle.tw_replay.proofs.replay_details.put_ending_details.Goals as goal
 
 pub returns-in-Stuck : goal.returns-in-Stuck
 returns-in-Stuck c =

@@ -2,7 +2,7 @@ use Rattle.std.proofs.Common.{length}
 use Rattle.tw_names.proofs.TextNames.{lines, seen_names, seen_procedures}
 use Rattle.tw_names.proofs.Loops.{lines_in}
 use Rattle.tw_names.proofs.RegisterNames.{HasGone}
-use Rattle.tw_names.proofs.registers.names_behind.Given as goal
+use Rattle.tw_names.proofs.registers.names_after_line.Given as goal
 
 abbrev pub invariant-loop-index : goal.invariant-loop-index
 invariant-loop-index l = record {

@@ -2,7 +2,7 @@ use Rattle.std.proofs.Common.{◌≡◌, ◌+◌, ◌≤◌, length, IsUtf8}
 use Rattle.tw_reasons.specs.declared.words.Ask.TheVariants as ask
 use Rattle.tw_reasons.proofs.Standing.{Passed}
 use Rattle.tw_reasons.proofs.Stopping.{Follows}
-use Rattle.tw_reasons.proofs.error_position.stop_behind.Given as goal
+use Rattle.tw_reasons.proofs.error_position.position_after.Given as goal
 
 abbrev pub invariant-words : goal.invariant-words
 invariant-words l = record {
