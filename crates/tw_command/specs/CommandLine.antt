@@ -118,13 +118,13 @@ pub data Asked : Type 0 where
 abbrev pub answer_told : List Row → Answer
 answer_told rows = if is_given stats rows then Numbers else Report
 
-abbrev pub run_answer_told : List Row → Answer
-run_answer_told rows = if is_given picture rows then Picture (stretch_told rows) else answer_told rows
+abbrev pub run_answer : List Row → Answer
+run_answer rows = if is_given picture rows then Picture (stretch_told rows) else answer_told rows
 
 -- `run`, by what clap found behind it
 abbrev pub run_asked : List Row → Asked
 run_asked rows =
-    Runs (source_told rows) (run_answer_told rows) (actors_told rows) (told limit rows) (is_given trace rows) (is_given in_turn rows) (words_told rows)
+    Runs (source_told rows) (run_answer rows) (actors_told rows) (told limit rows) (is_given trace rows) (is_given in_turn rows) (words_told rows)
 
 -- `replay` or `picture`, by what clap found behind it
 abbrev pub replay_asked : Answer → List Row → Asked

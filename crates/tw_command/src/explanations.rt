@@ -306,7 +306,7 @@ fn text_of(alloc: Global, row: &Explanation) -> Result<Vec<u8>, AllocError>
 }
 
 /// Returns what a number means, if it is one.
-fn row_told(alloc: Global, number: &[u8]) -> Result<Option<Vec<u8>>, AllocError>
+fn row_meaning(alloc: Global, number: &[u8]) -> Result<Option<Vec<u8>>, AllocError>
     ensures { IfOk result (λ told. MatchOption told (is_number number.now ≡ false) (λ text. (is_number number.now ≡ true) × IsExplanation number.now text.items)) }
 {
     match row_of(number) {
@@ -316,12 +316,12 @@ fn row_told(alloc: Global, number: &[u8]) -> Result<Option<Vec<u8>>, AllocError>
 }
 
 /// Returns what the number means that a word means, if it means one.
-fn word_told(alloc: Global, word: &[u8]) -> Result<Option<Vec<u8>>, AllocError>
+fn word_meaning(alloc: Global, word: &[u8]) -> Result<Option<Vec<u8>>, AllocError>
     ensures { IfOk result (λ told. MatchOption told (is_number (meant word.now) ≡ false) (λ text. (is_number (meant word.now) ≡ true) × IsExplanation (meant word.now) text.items)) }
 {
     let capitals = word.to_ascii_uppercase(alloc)?;
     let number = full_number(alloc, &capitals)?;
-    row_told(alloc, &number)
+    row_meaning(alloc, &number)
 }
 
 /// Returns what a word after `explain` asks for: what a number means, or for no word all numbers; none if it means no number.
@@ -331,6 +331,6 @@ pub fn explained(alloc: Global, word: &str) -> Result<Option<Vec<u8>>, AllocErro
     if word.is_empty() {
         Ok(Some(listing(alloc)?))
     } else {
-        word_told(alloc, word.as_bytes())
+        word_meaning(alloc, word.as_bytes())
     }
 }

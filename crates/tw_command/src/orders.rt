@@ -21,7 +21,7 @@ use crate::found::{
     answer_given, assembling_given, bare_check, check_given, flag_given, inputs_given,
     layout_given, limit_given, places_given, source_given,
 };
-use crate::shown::{event_range_given, run_answer_told};
+use crate::shown::{event_range_given, run_answer};
 use clap::error::ErrorKind;
 use clap::{ArgMatches, Error};
 use std::alloc::Global;
@@ -48,7 +48,7 @@ fn run_options(matches: &ArgMatches<'_>) -> Option<RunOptions>
     let layout = layout_given(matches)?;
     let limit = limit_given(matches)?;
     let stretch = event_range_given(matches)?;
-    let Ok(answer) = run_answer_told(matches, stretch) else {
+    let Ok(answer) = run_answer(matches, stretch) else {
         return None;
     };
     Some(RunOptions {

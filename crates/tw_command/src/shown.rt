@@ -3,7 +3,7 @@
 ghost use Rattle.std.specs.Prelude.{◌≡◌, [], ◌∷◌, is_some, nat_lt, IfErr, IfOk, MatchOption};
 ghost use Rattle.clap.specs.Words.{first_of, found_of, rows_of};
 ghost use Rattle.clap.specs.declared.error.ErrorKind.TheVariants.{ArgumentConflict, ValueValidation};
-ghost use Rattle.tw_command.specs.CommandLine.{is_cut, picture_faults, run_answer_told, stretch_faults};
+ghost use Rattle.tw_command.specs.CommandLine.{is_cut, picture_faults, run_answer, stretch_faults};
 ghost use Rattle.tw_command.specs.Options.{HasStretch, option_faults, stretch_options, stretch_told};
 
 use crate::command::Answer;
@@ -65,13 +65,10 @@ fn is_cut(matches: &ArgMatches<'_>) -> bool
 }
 
 /// What `run` writes, where these are the events of a picture.
-pub(crate) fn run_answer_told(
-    matches: &ArgMatches<'_>,
-    stretch: EventRange,
-) -> Result<Answer, Conflict>
+pub(crate) fn run_answer(matches: &ArgMatches<'_>, stretch: EventRange) -> Result<Answer, Conflict>
     requires { HasStretch (rows_of (found_of matches.now)) stretch }
     ensures taken { IfOk result (λ answer. (picture_faults (rows_of (found_of matches.now)) ≡ [])
-        × (answer ≡ run_answer_told (rows_of (found_of matches.now)))) }
+        × (answer ≡ run_answer (rows_of (found_of matches.now)))) }
     ensures refused { IfErr result (λ conflict. picture_faults (rows_of (found_of matches.now)) ≡ ArgumentConflict ∷ []) }
 {
     if flag_given(matches, "picture") {

@@ -9,7 +9,7 @@ ghost use Rattle.tw_command.specs.Order.{HasReason};
 use crate::command::{NoOrder, command};
 use crate::found::{flag_given, number_given};
 use crate::orders::{order_of, reason_of};
-use crate::shown::{Conflict, event_range_given, run_answer_told};
+use crate::shown::{Conflict, event_range_given, run_answer};
 use clap::error::ErrorKind;
 use clap::{ArgMatches, Error};
 use std::alloc::{AllocError, Global};
@@ -46,7 +46,7 @@ fn conflict_of(command: &str, given: &ArgMatches<'_>) -> Option<Conflict> {
     match command {
         "picture" if stretch.is_reversed() => Some(Conflict::Reversed),
         "picture" => None,
-        _ => run_answer_told(given, stretch).err(),
+        _ => run_answer(given, stretch).err(),
     }
 }
 
@@ -107,7 +107,7 @@ fn refused_line(alloc: Global, words: &[String], error: &Error) -> Result<String
 }
 
 /// The line, where the words give no order since they are refused.
-fn told_of(alloc: Global, no_order: NoOrder, line: &str) -> Result<Option<String>, AllocError>
+fn complaint_of(alloc: Global, no_order: NoOrder, line: &str) -> Result<Option<String>, AllocError>
     ensures { (kinds : Kinds) (asked : Asked) → HasReason kinds asked no_order → IfOk result (HasComplaint kinds) }
 {
     match no_order {
@@ -128,11 +128,11 @@ pub fn complaint(alloc: Global, words: &[String]) -> Result<Option<String>, Allo
     match command(alloc)?.try_get_matches_from(words) {
         Ok(matches) => match order_of(alloc, &matches) {
             Ok(_order) => Ok(None),
-            Err(no_order) => told_of(alloc, no_order, own_line(&matches)),
+            Err(no_order) => complaint_of(alloc, no_order, own_line(&matches)),
         },
         Err(error) => {
             let line = refused_line(alloc, words, &error)?;
-            told_of(alloc, reason_of(alloc, &error), &line)
+            complaint_of(alloc, reason_of(alloc, &error), &line)
         }
     }
 }

@@ -42,8 +42,8 @@ abbrev pub bare : {M : Type 0} → (M → ℕ) → Subscript × M → Subscript 
 bare id e = (e.0, id e.1)
 
 -- like `bare`, when the subscript is borrowed
-abbrev pub lent : {S : Type 0} → Bor S × ℕ → S × ℕ
-lent e = (e.0.now, e.1)
+abbrev pub borrowed_entry : {S : Type 0} → Bor S × ℕ → S × ℕ
+borrowed_entry e = (e.0.now, e.1)
 
 -- returns the entry if its subscript is an integer
 abbrev pub by_int : Subscript × ℕ → Option (ℤ × ℕ)

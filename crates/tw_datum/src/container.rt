@@ -8,7 +8,7 @@ ghost use Rattle.tw_types.specs.StoreCalls.{members_in, subscript_after};
 ghost use Rattle.tw_types.specs.TypedStore.{AreSubscriptsFor};
 ghost use Rattle.tw_types.specs.Value.{IsProper, scalar_of};
 ghost use Rattle.tw_types.specs.ValueOrder.{named};
-ghost use Rattle.tw_datum.specs.Kept.{AreMembers, IsMemberAdded, bare, by_int, lent, with_kept_member};
+ghost use Rattle.tw_datum.specs.Kept.{AreMembers, IsMemberAdded, bare, by_int, borrowed_entry, with_kept_member};
 
 use crate::datum::{Content, Datum};
 use crate::member::Member;
@@ -17,8 +17,8 @@ use std::alloc::AllocError;
 use tw_types::{DatumId, Value, ValueRef};
 
 /// Returns the id of a member, with its subscript.
-fn lent<M: Member>(entry: Option<&(Value, M)>) -> Option<(&Value, DatumId)>
-    ensures { option_map lent result ≡ option_map (bare M.id) (option_copied entry.entry) }
+fn borrowed_entry<M: Member>(entry: Option<&(Value, M)>) -> Option<(&Value, DatumId)>
+    ensures { option_map borrowed_entry result ≡ option_map (bare M.id) (option_copied entry.entry) }
 {
     match entry {
         Some((subscript, member)) => Some((subscript, member.id())),
@@ -59,10 +59,10 @@ impl<M: Member> Datum<M> {
 
     /// Returns the member with `index` smaller subscripts, and its subscript of either type.
     pub fn entry(&self, index: usize) -> Option<(&Value, DatumId)>
-        ensures { option_map lent result ≡ slice_get (map.entries (members_in self.now.datum.content)) index }
+        ensures { option_map borrowed_entry result ≡ slice_get (map.entries (members_in self.now.datum.content)) index }
     {
         match self.members() {
-            Some(members) => lent(members.nth(index)),
+            Some(members) => borrowed_entry(members.nth(index)),
             None => None,
         }
     }

@@ -249,7 +249,7 @@ impl<'a> Frame<'a> {
     }
 
     /// Moves to the next place, and counts one instruction.
-    pub fn go_on(&mut self)
+    pub fn to_next_place(&mut self)
         requires place { self.old.position.place < 2 ^ 63 }
         requires spent { self.old.spent < 2 ^ 63 }
         ensures { self.new ≡ record self.old { position = at_next_place self.old.position; spent = self.old.spent + 1 } }

@@ -57,7 +57,7 @@ impl<'a> Frame<'a> {
 
     /// Moves the arguments out of the registers, into memory with capacity for them, and moves to the next place.
     #[inline(always)]
-    pub fn hand_over(
+    pub fn take_args(
         &mut self,
         params: &[Param],
         args: &[u8],
@@ -73,7 +73,7 @@ impl<'a> Frame<'a> {
         ensures rest { self.new ≡ record self.old { held = self.new.held; position = at_next_place self.old.position; spent = self.old.spent + 1 } }
     {
         let bundle = self.rights.bundle(params, args, vals, room);
-        self.go_on();
+        self.to_next_place();
         bundle
     }
 }

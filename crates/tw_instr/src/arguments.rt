@@ -95,7 +95,7 @@ pub fn called<'a>(
     )?;
     let priority = priority_of(frame.position(), action.priority)?;
     let mut rights = frame.rights();
-    let args = hand_over(alloc, frame.position(), &mut rights, params, registers)?;
+    let args = take_args(alloc, frame.position(), &mut rights, params, registers)?;
     must(
         all_pass(Need::Live, store, params, &args),
         Cause::FreedDatum,
@@ -167,7 +167,7 @@ fn take_right(rights: &mut [Option<DatumId>; 16], register: u8) -> Result<DatumI
 }
 
 /// Returns the arguments: copies values, and takes rights out of their registers. On an error the earlier rights have been taken.
-fn hand_over(
+fn take_args(
     alloc: Global,
     position: &Position,
     rights: &mut [Option<DatumId>; 16],

@@ -38,7 +38,7 @@ pub fn insert(
         let own = at.try_clone(alloc)?;
         store.insert(id, own, inner)?;
         frame.empty(member);
-        frame.go_on();
+        frame.to_next_place();
     }
     Ok(())
 }
@@ -64,7 +64,7 @@ pub fn look(
         Some(inner) => {
             store.add_read(inner);
             frame.fill(member, inner);
-            frame.go_on();
+            frame.to_next_place();
         }
         None => frame.skip(skip),
     }

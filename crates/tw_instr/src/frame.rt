@@ -157,11 +157,11 @@ impl Frame {
     }
 
     /// Moves to the next place.
-    pub(crate) fn go_on(&mut self)
+    pub(crate) fn to_next_place(&mut self)
         requires { self.old.position.place < 2 ^ 63 }
         ensures { self.new ≡ record self.old { position = at_next_place self.old.position } }
     {
-        self.position.go_on();
+        self.position.to_next_place();
     }
 
     /// Moves to the place after a RULE or PUT, which is counted, with these right registers.
@@ -170,7 +170,7 @@ impl Frame {
         requires spent { self.old.spent < 2 ^ 63 }
         ensures { self.new ≡ gone_behind self.old rights }
     {
-        self.position.go_on();
+        self.position.to_next_place();
         self.rights = rights;
         self.spent += 1;
     }

@@ -149,7 +149,7 @@ fn skip_if(position: &mut Position, condition: bool, skip: u16)
     if condition {
         position.skip(skip);
     } else {
-        position.go_on();
+        position.to_next_place();
     }
 }
 

@@ -80,7 +80,7 @@ impl Position {
     }
 
     /// Moves to the next place.
-    pub fn go_on(&mut self)
+    pub fn to_next_place(&mut self)
         requires { self.old.place < 2 ^ 63 }
         ensures { self.new ≡ at_next_place self.old }
     {

@@ -36,7 +36,7 @@ pub fn create(
     let id = store.create(alloc, ty)?;
     frame.fill(write, id);
     frame.fill(read, id);
-    frame.go_on();
+    frame.to_next_place();
     Ok(())
 }
 
@@ -50,7 +50,7 @@ pub fn copy_read(store: &mut Data, frame: &mut Frame, to: u8, from: u8) -> Resul
     store.may_be_read(id)?;
     store.add_read(id);
     frame.fill(to, id);
-    frame.go_on();
+    frame.to_next_place();
     Ok(())
 }
 
@@ -64,7 +64,7 @@ pub fn copy_write(store: &mut Data, frame: &mut Frame, to: u8, from: u8) -> Resu
     store.may_copy_write(id)?;
     store.add_write(id);
     frame.fill(to, id);
-    frame.go_on();
+    frame.to_next_place();
     Ok(())
 }
 
@@ -76,7 +76,7 @@ pub fn drop_read(store: &mut Data, frame: &mut Frame, right: u8) -> Result<(), C
     store.may_drop_read(id)?;
     store.drop_read(id);
     frame.empty(right);
-    frame.go_on();
+    frame.to_next_place();
     Ok(())
 }
 
@@ -106,6 +106,6 @@ pub fn drop_write(
     store.may_drop_write(id)?;
     take_write(store, notices, id)?;
     frame.empty(right);
-    frame.go_on();
+    frame.to_next_place();
     Ok(())
 }

@@ -73,7 +73,7 @@ pub fn store(
     let value = value.try_clone(alloc)?;
     set(store, notices, id, value)?;
     frame.empty(datum);
-    frame.go_on();
+    frame.to_next_place();
     Ok(())
 }
 

@@ -115,9 +115,9 @@ module _ (R : Names → Names → Type 0) (step : IsStep R) where
 
   instruction_step : (p : Procedures) (names : Names) (o : Opcode) (front : List ℕ) (ws : List (List ℕ)) → StepSaid names (instruction_says p names o front ws)
   instruction_step p names o front ws said e =
-      let asked_in = λ (n : Names). drop (makes o) (flat_map (asked_by (banks_of p n ws)) (forms_of o)) in
-      let first = went_then (made_say p names front (take (makes o) ws)) (λ (s : Names × List ℕ). and_then (words_say p s.0 (asked_in s.0) s.1 (drop (makes o) ws)) (λ (text : List ℕ). Ok (s.0, text))) said e in
-      let next = went_then (words_say p first.0.0 (asked_in first.0.0) first.0.1 (drop (makes o) ws)) (λ (text : List ℕ). Ok (first.0.0, text)) said first.2 in
+      let expected_in = λ (n : Names). drop (makes o) (flat_map (asked_by (banks_of p n ws)) (forms_of o)) in
+      let first = went_then (made_say p names front (take (makes o) ws)) (λ (s : Names × List ℕ). and_then (words_say p s.0 (expected_in s.0) s.1 (drop (makes o) ws)) (λ (text : List ℕ). Ok (s.0, text))) said e in
+      let next = went_then (words_say p first.0.0 (expected_in first.0.0) first.0.1 (drop (makes o) ws)) (λ (text : List ℕ). Ok (first.0.0, text)) said first.2 in
       subst (λ (x : Names × List ℕ). R names x.0) (ok_is (first.0.0, next.0) said next.2) (all_made_step p names front (take (makes o) ws) first.0 first.1)
 
   -- ---- a line

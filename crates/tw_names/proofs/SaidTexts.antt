@@ -243,11 +243,11 @@ module _ (Q : List ℕ → Type 0) (kept : IsKept Q) where
 
   instruction_kept : (p : Procedures) (names : Names) (o : Opcode) (front : List ℕ) (ws : List (List ℕ)) → AllKept Q names.types → AllKept Q ws → SaysKept Q front (instruction_says p names o front ws)
   instruction_kept p names o front ws h k said e =
-      let asked_in = λ (n : Names). drop (makes o) (flat_map (asked_by (banks_of p n ws)) (forms_of o)) in
-      let first = went_then (made_say p names front (take (makes o) ws)) (λ (s : Names × List ℕ). and_then (words_say p s.0 (asked_in s.0) s.1 (drop (makes o) ws)) (λ (text : List ℕ). Ok (s.0, text))) said e in
-      let next = went_then (words_say p first.0.0 (asked_in first.0.0) first.0.1 (drop (makes o) ws)) (λ (text : List ℕ). Ok (first.0.0, text)) said first.2 in
+      let expected_in = λ (n : Names). drop (makes o) (flat_map (asked_by (banks_of p n ws)) (forms_of o)) in
+      let first = went_then (made_say p names front (take (makes o) ws)) (λ (s : Names × List ℕ). and_then (words_say p s.0 (expected_in s.0) s.1 (drop (makes o) ws)) (λ (text : List ℕ). Ok (s.0, text))) said e in
+      let next = went_then (words_say p first.0.0 (expected_in first.0.0) first.0.1 (drop (makes o) ws)) (λ (text : List ℕ). Ok (first.0.0, text)) said first.2 in
       let made = made_kept p names front (take (makes o) ws) first.0 (all_taken Q (makes o) ws k) first.1 in
-      let line = words_kept p first.0.0 (asked_in first.0.0) first.0.1 (drop (makes o) ws) next.0 (all_left Q (makes o) ws k) next.1 in
+      let line = words_kept p first.0.0 (expected_in first.0.0) first.0.1 (drop (makes o) ws) next.0 (all_left Q (makes o) ws k) next.1 in
       let is = ok_is (first.0.0, next.0) said next.2 in (
         made.0 ++ line.0,
         ap (λ (x : Names × List ℕ). x.1) (sym is) ∙ line.1 ∙ ap (λ (t : List ℕ). t ++ line.0) made.1 ∙ append_assoc front made.0 line.0,

@@ -13,7 +13,7 @@ ghost use Rattle.tw_names.specs.Seen.{seen_names, seen_procedures, texts};
 use crate::meaning::{Bank, Binding, Expected, Origin};
 use crate::names::{Names, is_name, known, with_register};
 use crate::numbers::natural;
-use crate::operand_text::{asked_after, count, first_words, put_word, put_words, words_after};
+use crate::operand_text::{count, expected_after, first_words, put_word, put_words, words_after};
 use crate::procedures::Procedures;
 use crate::refusal::Refusal;
 use std::alloc::{AllocError, Global};
@@ -33,7 +33,7 @@ fn argument_of(bank: Bank) -> Expected
 }
 
 /// Adds what an operand of a form asks, where the procedure's parameters are of these banks.
-fn push_asked(asked: &mut Vec<Expected>, banks: &[Bank], form: Form) -> Result<(), AllocError>
+fn push_expected(asked: &mut Vec<Expected>, banks: &[Bank], form: Form) -> Result<(), AllocError>
     ensures { OnOk result (asked.new.items ≡ asked.old.items ++ asked_by banks.now form) }
 {
     match form {
@@ -52,12 +52,12 @@ fn push_asked(asked: &mut Vec<Expected>, banks: &[Bank], form: Form) -> Result<(
 }
 
 /// What the operands of forms ask.
-fn asked_in(alloc: Global, banks: &[Bank], forms: &[Form]) -> Result<Vec<Expected>, AllocError>
+fn expected_in(alloc: Global, banks: &[Bank], forms: &[Form]) -> Result<Vec<Expected>, AllocError>
     ensures { IfOk result (λ asked. asked.items ≡ flat_map (asked_by banks.now) forms.now) }
 {
     let mut asked = Vec::new(alloc);
     for form in forms {
-        push_asked(&mut asked, banks, *form)?;
+        push_expected(&mut asked, banks, *form)?;
     }
     Ok(asked)
 }
@@ -181,14 +181,14 @@ fn put_others<'a>(
         (drop (makes opcode) (flat_map (asked_by (banks_of (seen_procedures procedures.now) (seen_names names.now) (texts words.now))) (forms_of opcode)))
         out.old.items (drop (makes opcode) (texts words.now))) }
 {
-    let asked = asked_in(alloc, banks_of(procedures, names, words), opcode.forms())?;
+    let asked = expected_in(alloc, banks_of(procedures, names, words), opcode.forms())?;
     let made = makes(opcode);
     put_words(
         alloc,
         procedures,
         names,
         out,
-        asked_after(&asked, made),
+        expected_after(&asked, made),
         words_after(words, made),
     )
 }

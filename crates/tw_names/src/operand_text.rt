@@ -25,7 +25,7 @@ pub enum OperandText {
 }
 
 /// What stands in the place of a name that means this, if it is what is asked.
-fn standing_of(asked: Expected, binding: Binding) -> Option<OperandText>
+fn operand_text_of(asked: Expected, binding: Binding) -> Option<OperandText>
     ensures { option_map standing_text result ≡ stands asked binding }
 {
     match binding {
@@ -50,7 +50,11 @@ fn standing_of(asked: Expected, binding: Binding) -> Option<OperandText>
     }
 }
 
-fn put_standing(alloc: Global, out: &mut Vec<u8>, standing: OperandText) -> Result<(), AllocError>
+fn put_operand_text(
+    alloc: Global,
+    out: &mut Vec<u8>,
+    standing: OperandText,
+) -> Result<(), AllocError>
     ensures { OnOk result (out.new.items ≡ out.old.items ++ standing_text standing) }
 {
     match standing {
@@ -100,7 +104,7 @@ pub fn words_after<'b, 'a>(words: &'b [&'a [u8]], count: usize) -> &'b [&'a [u8]
 
 /// Returns what is required after the first so many places.
 #[tactic(auto, using(std::proofs::lemmas::List::drop_all))]
-pub fn asked_after(asked: &[Expected], count: usize) -> &[Expected]
+pub fn expected_after(asked: &[Expected], count: usize) -> &[Expected]
     ensures { result.now ≡ drop count asked.now }
 {
     if count < asked.len() {
@@ -141,11 +145,11 @@ fn put_named<'a>(
     let Some(binding) = binding else {
         return Err(Refusal::Flawed(NameNo::Unknown, word));
     };
-    let Some(standing) = standing_of(asked, binding) else {
+    let Some(standing) = operand_text_of(asked, binding) else {
         return Err(Refusal::Flawed(NameNo::Kind(binding, asked), word));
     };
     out.extend_from_slice(b" ")?;
-    put_standing(alloc, out, standing)?;
+    put_operand_text(alloc, out, standing)?;
     Ok(())
 }
 
@@ -168,7 +172,7 @@ pub fn put_word<'a>(
 }
 
 /// What is asked in the first place.
-fn first_asked(asked: &[Expected]) -> Expected
+fn first_expected(asked: &[Expected]) -> Expected
     ensures { result ≡ unwrap_or (slice_get asked.now 0) Nothing }
 {
     match asked {
@@ -200,7 +204,7 @@ pub fn put_words<'a>(
 {
     let mut left = asked;
     for word in words {
-        put_word(alloc, procedures, names, out, first_asked(left), word)?;
+        put_word(alloc, procedures, names, out, first_expected(left), word)?;
         left = after_first(left);
     }
     Ok(())

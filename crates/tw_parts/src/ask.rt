@@ -15,7 +15,7 @@ ghost use Rattle.tw_parts.specs.Parts.{state_of};
 
 use crate::parts::Parts;
 use std::alloc::AllocError;
-use tw_store::Asked;
+use tw_store::AskResult;
 use tw_types::RuleNo;
 
 impl<'a> Parts<'a> {
@@ -37,11 +37,11 @@ impl<'a> Parts<'a> {
             return Err(AllocError);
         };
         match asked {
-            Asked::Closed => {
+            AskResult::Closed => {
                 self.rules.mark_ready(rule, parameter);
                 Ok(Some((rule, parameter)))
             }
-            Asked::Noted => {
+            AskResult::Noted => {
                 self.rules.mark_asked(rule, parameter);
                 Ok(Some((rule, parameter)))
             }

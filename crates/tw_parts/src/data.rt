@@ -10,13 +10,15 @@ ghost use Rattle.tw_parts.specs.Memory.{TakesMemory};
 ghost use Rattle.tw_parts.specs.Events.{IsLent, IsOwed, MakesBehind, StandsAt, Untouched};
 
 mod containers;
-pub(crate) mod give;
+pub(crate) mod results;
 mod rights;
 mod scalars;
 
-use crate::data::containers::{insert_member, look_up, size, subscript_at};
-use crate::data::rights::{copy_read, copy_write, drop_read, drop_write, new_datum};
-use crate::data::scalars::{get_value, store_value};
+use crate::data::containers::{exec_insert, exec_look, exec_size, exec_subscript_at};
+use crate::data::rights::{
+    exec_copy_read, exec_copy_write, exec_drop_read, exec_drop_write, exec_new,
+};
+use crate::data::scalars::{exec_get, exec_store};
 use crate::parts::Parts;
 use std::alloc::Global;
 use tw_code::DataInstr;
@@ -44,11 +46,11 @@ fn run_at_once<'a>(
             container,
             subscript,
             skip,
-        } => look_up(store, frame, *by, *member, *container, *subscript, *skip),
-        DataInstr::Size { to, container } => size(store, frame, draft, *to, *container),
-        DataInstr::CopyRead { to, from } => copy_read(store, frame, *to, *from),
-        DataInstr::CopyWrite { to, from } => copy_write(store, frame, *to, *from),
-        DataInstr::DropRead { right } => drop_read(store, frame, *right),
+        } => exec_look(store, frame, *by, *member, *container, *subscript, *skip),
+        DataInstr::Size { to, container } => exec_size(store, frame, draft, *to, *container),
+        DataInstr::CopyRead { to, from } => exec_copy_read(store, frame, *to, *from),
+        DataInstr::CopyWrite { to, from } => exec_copy_write(store, frame, *to, *from),
+        DataInstr::DropRead { right } => exec_drop_read(store, frame, *right),
         DataInstr::New { .. } | DataInstr::Store { .. } | DataInstr::Get { .. } => unreachable!(),
         DataInstr::Insert { .. } | DataInstr::SubscriptAt { .. } => unreachable!(),
         DataInstr::DropWrite { .. } => unreachable!(),
@@ -69,18 +71,18 @@ fn run_data<'a>(
     ensures { IsAnswer instr.now store.old store.new frame.old frame.new done.entry result }
 {
     match instr {
-        DataInstr::New { write, read, ty } => new_datum(
+        DataInstr::New { write, read, ty } => exec_new(
             store, frame, alloc, done, *write, *read, *ty,
         ),
-        DataInstr::Store { datum, from } => store_value(store, frame, alloc, done, *datum, *from),
-        DataInstr::Get { to, datum } => get_value(store, frame, alloc, done, *to, *datum),
+        DataInstr::Store { datum, from } => exec_store(store, frame, alloc, done, *datum, *from),
+        DataInstr::Get { to, datum } => exec_get(store, frame, alloc, done, *to, *datum),
         DataInstr::Insert {
             by,
             container,
             subscript,
             member,
             skip,
-        } => insert_member(
+        } => exec_insert(
             store, frame, alloc, done, *by, *container, *subscript, *member, *skip,
         ),
         DataInstr::SubscriptAt {
@@ -89,10 +91,10 @@ fn run_data<'a>(
             container,
             index,
             skip,
-        } => subscript_at(
+        } => exec_subscript_at(
             store, frame, alloc, done, *by, *to, *container, *index, *skip,
         ),
-        DataInstr::DropWrite { right } => drop_write(store, frame, done, *right),
+        DataInstr::DropWrite { right } => exec_drop_write(store, frame, done, *right),
         other => {
             let mut draft = frame.complete_job(done);
             run_at_once(store, frame, &mut draft, other);

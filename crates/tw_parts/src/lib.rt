@@ -7,7 +7,7 @@ mod ask;
 mod data;
 mod deliver;
 mod end;
-mod givens;
+mod input_data;
 mod open;
 mod operands;
 mod outputs;

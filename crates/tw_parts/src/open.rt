@@ -11,7 +11,7 @@ ghost use Rattle.tw_queue.specs.Queues.{room_for};
 ghost use Rattle.tw_parts.specs.OpenedParts.{Adds, AreForAll, IsMade, MainWaits, MayAdd};
 ghost use Rattle.tw_parts.specs.Opening.{IsOpening};
 
-use crate::givens::add_input;
+use crate::input_data::add_input;
 use crate::outputs::Outputs;
 use crate::parts::Parts;
 use crate::seats::Seats;

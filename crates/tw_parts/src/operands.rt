@@ -5,7 +5,7 @@ ghost use Rattle.tw_code.specs.declared.procedure.Procedure.{Procedure as Callee
 ghost use Rattle.tw_code.specs.machine.Arguments.{priority_at, values_suit};
 ghost use Rattle.tw_parts.specs.Copies.{named_values};
 
-use crate::data::give::number_at;
+use crate::data::results::number_at;
 use crate::release::procedure_at;
 use std::alloc::{AllocError, Global};
 use tw_code::{Action, Priority, Procedure};

@@ -43,7 +43,7 @@ impl<'a> Parts<'a> {
         };
         let (args, job) = self
             .seats
-            .hand_over(actor, event_no, done, registers, asked, room);
+            .take_args(actor, event_no, done, registers, asked, room);
         let task = Task {
             no: TaskNo::new(self.next_task),
             procedure: action.procedure,

@@ -44,7 +44,7 @@ impl<'a> Parts<'a> {
         };
         let (args, job) = self
             .seats
-            .hand_over(actor, event_no, done, registers, asked, room);
+            .take_args(actor, event_no, done, registers, asked, room);
         let planned = PlannedTask {
             procedure: action.procedure,
             priority,

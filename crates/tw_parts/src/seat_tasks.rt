@@ -89,7 +89,7 @@ impl<'a> SeatTasks<'a> {
 
     /// Completes the job of the task there, moves arguments out of its registers, moves to the next place, and issues the next job.
     #[inline(always)]
-    pub(crate) fn hand_over(
+    pub(crate) fn take_args(
         &mut self,
         seat: usize,
         event_no: u64,
@@ -113,7 +113,7 @@ impl<'a> SeatTasks<'a> {
         match place {
             Some(frame) => {
                 let draft = frame.complete_job(done);
-                let bundle = frame.hand_over(params, args, vals, room);
+                let bundle = frame.take_args(params, args, vals, room);
                 (bundle, frame.lend(event_no, draft))
             }
             None => unreachable!(),

@@ -220,7 +220,7 @@ impl<'a> Seats<'a> {
 
     /// Completes the actor's job, moves arguments out of its registers, moves to the next place, and issues the next job.
     #[inline(always)]
-    pub(crate) fn hand_over(
+    pub(crate) fn take_args(
         &mut self,
         actor: Actor,
         event_no: u64,
@@ -246,7 +246,7 @@ impl<'a> Seats<'a> {
         } = asked;
         let params = callee.params.as_slice();
         self.seat_tasks
-            .hand_over(actor.place(), event_no, done, params, args, vals, room)
+            .take_args(actor.place(), event_no, done, params, args, vals, room)
     }
 
     /// Completes the actor's job, executes an instruction on data, and issues the next job. Returns the `Done` if an allocation fails.

@@ -179,7 +179,7 @@ impl TimelineBuilder {
     }
 
     /// Keeps the event that led to where the machine stands.
-    pub fn keep(&mut self, plain: &Plain, event: Event) -> Result<(), AllocError>
+    pub fn add_event(&mut self, plain: &Plain, event: Event) -> Result<(), AllocError>
         requires { HasFew self.old }
         ensures { OnOk result ((first : PlainView) (events : List AnEvent) (s : AState) → IsTrail first events s self.old → step first.program first.layout event s ≡ Went plain.now.state → IsTrail first (events ++ event ∷ []) plain.now.state self.new) }
     {

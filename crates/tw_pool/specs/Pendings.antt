@@ -25,5 +25,5 @@ written_at plain.Val = []
 written_at (plain.Read id) = []
 written_at (plain.Write id) = id ∷ []
 
-abbrev pub pending_told : ErasedRule → Pending
-pending_told rule = record { number = rule.number; waits = waits_in rule.stages rule.args; writes = flat_map written_at rule.args }
+abbrev pub pending_with_data : ErasedRule → Pending
+pending_with_data rule = record { number = rule.number; waits = waits_in rule.stages rule.args; writes = flat_map written_at rule.args }

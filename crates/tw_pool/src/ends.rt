@@ -39,14 +39,14 @@ impl Model for Final {
     ghost Value = { FinalView };
 
     ghost use Rattle.std.specs.Prelude.{map};
-    ghost use Rattle.tw_pool.specs.Pendings.{pending_told};
+    ghost use Rattle.tw_pool.specs.Pendings.{pending_with_data};
 
     ghost coded = { Prim.hlevel (codes, code {X = DatumMeaning} {R = nat_cmp} coded_ℕ (Prim.hlevel (codes, code {R = value_cmp} (Prim.hlevel codes) coded_ℕ)), code {R = nat_cmp} coded_ℕ coded_ℕ) };
 
     ghost view = { λ f. record {
       store = f.remains.store;
       outputs = f.remains.outputs.items;
-      pending = map pending_told f.remains.pending.items;
+      pending = map pending_with_data f.remains.pending.items;
       closing = f.closing;
     } };
 }

@@ -3,7 +3,7 @@
 ghost use Rattle.std.specs.Prelude.{◌≡◌, ◌++◌, ◌∷◌, [], if◌then◌else◌, map, IfOk, OnOk};
 ghost use Rattle.std.specs.List.{flat_map};
 ghost use Rattle.tw_types.specs.Rule.{is_waiting};
-ghost use Rattle.tw_pool.specs.Pendings.{pending_told, waited_at, waits_in, written_at};
+ghost use Rattle.tw_pool.specs.Pendings.{pending_with_data, waited_at, waits_in, written_at};
 
 use std::alloc::{AllocError, Global};
 use tw_rules::{ErasedArg, ErasedRule};
@@ -68,8 +68,8 @@ fn writes_in(alloc: Global, args: &[ErasedArg]) -> Result<Vec<DatumId>, AllocErr
     Ok(ids)
 }
 
-fn pending_told(alloc: Global, rule: &ErasedRule) -> Result<Pending, AllocError>
-    ensures { IfOk result (λ p. p ≡ pending_told rule.now) }
+fn pending_with_data(alloc: Global, rule: &ErasedRule) -> Result<Pending, AllocError>
+    ensures { IfOk result (λ p. p ≡ pending_with_data rule.now) }
 {
     let waits = waits_in(alloc, rule.stages.as_slice(), rule.args.as_slice())?;
     let writes = writes_in(alloc, rule.args.as_slice())?;
@@ -82,11 +82,11 @@ fn pending_told(alloc: Global, rule: &ErasedRule) -> Result<Pending, AllocError>
 
 /// Returns the rules with the data for which they wait, and those that they may write.
 pub(crate) fn all_pending(alloc: Global, rules: &[ErasedRule]) -> Result<Vec<Pending>, AllocError>
-    ensures { IfOk result (λ pending. pending.items ≡ map pending_told rules.now) }
+    ensures { IfOk result (λ pending. pending.items ≡ map pending_with_data rules.now) }
 {
     let mut pending = Vec::new(alloc);
     for rule in rules {
-        pending.push(pending_told(alloc, rule)?)?;
+        pending.push(pending_with_data(alloc, rule)?)?;
     }
     Ok(pending)
 }

@@ -103,7 +103,7 @@ fn instr_at(verified: &Verified, procedure: u8, place: usize) -> &Instr
 
 impl<'a> Pool<'a> {
     /// Completes the actor's job, and issues the next one.
-    pub(crate) fn go_on(&mut self, actor: Actor, done: Done<'a>) -> Turn<'a>
+    pub(crate) fn continue_task(&mut self, actor: Actor, done: Done<'a>) -> Turn<'a>
         requires actor { is_in self.old.layout actor ≡ true }
         requires room { length self.old.history < self.old.limit }
         requires owed { IsOwedBy self.old actor done }
@@ -123,7 +123,7 @@ impl<'a> Pool<'a> {
         requires owed { IsOwedBy self.old actor done }
         ensures { IsTurnBy (λ s. Answers (answer.Over Limit) (steps_of actor done.entry)) self.old result self.new }
     {
-        let _run = self.go_on(actor, done);
+        let _run = self.continue_task(actor, done);
         Turn::Over(Closing::Limit)
     }
 
@@ -206,7 +206,7 @@ impl<'a> Pool<'a> {
         ensures { IsTurnBy (λ s. TakesBack done.entry.short (is_last self.old done.entry) self.old actor done.entry) self.old result self.new }
     {
         if done.short() {
-            return self.go_on(actor, done);
+            return self.continue_task(actor, done);
         }
         if self.is_last(&done) {
             return self.stop_at_limit(actor, done);

@@ -53,7 +53,7 @@ pub fn draw(
     let mut timeline_builder = TimelineBuilder::new(alloc);
     for (index, event) in events.iter().enumerate() {
         match plain.step(alloc, *event) {
-            Ok(()) => timeline_builder.keep(&plain, *event)?,
+            Ok(()) => timeline_builder.add_event(&plain, *event)?,
             Err(stopped) => return stopped_reply(alloc, stopped, index + 1),
         }
     }

@@ -125,7 +125,7 @@ pub fn count(alloc: Global, first: Plain, events: &[Event]) -> Result<Counting, 
     for (index, event) in events.iter().enumerate() {
         let pre_state = stats_builder.pre_state(&plain, event);
         match plain.step(alloc, *event) {
-            Ok(()) => stats_builder.keep(&plain, event, &pre_state)?,
+            Ok(()) => stats_builder.count_event(&plain, event, &pre_state)?,
             Err(stopped) => return stopped_counting(alloc, stopped, index + 1),
         }
     }

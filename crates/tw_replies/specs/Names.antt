@@ -29,24 +29,24 @@ abbrev pub name_line : NameNo → ℕ → List ℕ
 name_line which line = codes "refused N0" ++ (decimal (name_number which) ++ (codes " at line " ++ (decimal line ++ codes "\n")))
 
 -- what a name means
-abbrev pub thing_words : Binding → List ℕ
-thing_words (binding.Constant number) = codes "a constant"
-thing_words (binding.Register bank.Value number by) = codes "a value register"
-thing_words (binding.Register bank.Right number by) = codes "a right register"
-thing_words (binding.Procedure number) = codes "a procedure"
+abbrev pub binding_words : Binding → List ℕ
+binding_words (binding.Constant number) = codes "a constant"
+binding_words (binding.Register bank.Value number by) = codes "a value register"
+binding_words (binding.Register bank.Right number by) = codes "a right register"
+binding_words (binding.Procedure number) = codes "a procedure"
 
 -- what is required in a name's place
-abbrev pub asked_words : Expected → List ℕ
-asked_words asked.Value = codes "a value register"
-asked_words asked.ValueArgument = codes "a value register"
-asked_words asked.Right = codes "a right register"
-asked_words asked.RightArgument = codes "a right register"
-asked_words asked.Number = codes "a number"
-asked_words asked.Procedure = codes "a procedure"
-asked_words asked.Nothing = codes "no name"
+abbrev pub expected_words : Expected → List ℕ
+expected_words asked.Value = codes "a value register"
+expected_words asked.ValueArgument = codes "a value register"
+expected_words asked.Right = codes "a right register"
+expected_words asked.RightArgument = codes "a right register"
+expected_words asked.Number = codes "a number"
+expected_words asked.Procedure = codes "a procedure"
+expected_words asked.Nothing = codes "no name"
 
 abbrev pub kind_reason : Binding → Expected → List ℕ
-kind_reason x a = (codes "it is " ++ thing_words x) ++ ((codes ", " ++ asked_words a) ++ codes " is required")
+kind_reason x a = (codes "it is " ++ binding_words x) ++ ((codes ", " ++ expected_words a) ++ codes " is required")
 
 abbrev pub fixed_reason : NameNo → List ℕ
 fixed_reason no.Form = codes "expected const NAME = NUMBER, let NAME = REGISTER, or NAME: with a mode or type behind it"

@@ -67,7 +67,7 @@ fn put_bounds(alloc: Global, out: &mut Vec<u8>, verified: &Verified) -> Result<(
 }
 
 /// Adds that if it is asked for.
-pub(crate) fn put_asked_bounds(
+pub(crate) fn put_requested_bounds(
     alloc: Global,
     out: &mut Vec<u8>,
     asked: bool,

@@ -10,7 +10,7 @@ ghost use Rattle.tw_replies.specs.Reply.{reply};
 ghost use Rattle.tw_replies.specs.Source.{MayBeSource, text_of};
 ghost use Rattle.tw_verify.specs.Refusal.{verify_refusal_number};
 
-use crate::bounds::put_asked_bounds;
+use crate::bounds::put_requested_bounds;
 use crate::lines::put_verify_line;
 use crate::listing::{refused_text, typed_text};
 use crate::reply::{Reply, refused_by};
@@ -160,7 +160,7 @@ pub fn checked_text(
     ensures { IfOk result (λ text. IsToldByCheck order (text_of source.now) verified.now.program text.items) }
 {
     let mut text = budgets_text(alloc, source, order.places, verified)?;
-    put_asked_bounds(alloc, &mut text, order.bounds, verified)?;
+    put_requested_bounds(alloc, &mut text, order.bounds, verified)?;
     Ok(text)
 }
 

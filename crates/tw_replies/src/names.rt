@@ -5,7 +5,7 @@ ghost use Rattle.std.specs.Str.Lines.{lines};
 ghost use Rattle.tw_reasons.specs.Diagnostics.{IsTextReason};
 ghost use Rattle.tw_names.specs.Answers.{told};
 ghost use Rattle.tw_names.specs.Expansion.{IsFirstRefusal, StandsFor};
-ghost use Rattle.tw_replies.specs.Names.{IsFaultBehind, RepliesByPlain, asked_words, fixed_reason, is_same_line, kind_reason, line_text, name_behind, name_line, name_reason, thing_words, written_text};
+ghost use Rattle.tw_replies.specs.Names.{IsFaultBehind, RepliesByPlain, expected_words, fixed_reason, is_same_line, kind_reason, line_text, name_behind, name_line, name_reason, binding_words, written_text};
 ghost use Rattle.tw_words.specs.Shown.{shortened};
 ghost use Rattle.tw_replies.specs.Reply.{reply};
 
@@ -44,8 +44,8 @@ pub fn put_name_line(
     put(out, "\n")
 }
 
-fn thing_words(binding: Binding) -> &'static str
-    ensures { result.now ≡ thing_words binding }
+fn binding_words(binding: Binding) -> &'static str
+    ensures { result.now ≡ binding_words binding }
 {
     match binding {
         Binding::Constant(_) => "a constant",
@@ -55,8 +55,8 @@ fn thing_words(binding: Binding) -> &'static str
     }
 }
 
-fn asked_words(asked: Expected) -> &'static str
-    ensures { result.now ≡ asked_words asked }
+fn expected_words(asked: Expected) -> &'static str
+    ensures { result.now ≡ expected_words asked }
 {
     match asked {
         Expected::Value | Expected::ValueArgument => "a value register",
@@ -71,8 +71,8 @@ fn asked_words(asked: Expected) -> &'static str
 fn put_kind(out: &mut Vec<u8>, binding: Binding, asked: Expected) -> Result<(), AllocError>
     ensures { OnOk result (out.new.items ≡ out.old.items ++ kind_reason binding asked) }
 {
-    put_both(out, "it is ", thing_words(binding))?;
-    put_both(out, ", ", asked_words(asked))?;
+    put_both(out, "it is ", binding_words(binding))?;
+    put_both(out, ", ", expected_words(asked))?;
     put(out, " is required")
 }
 

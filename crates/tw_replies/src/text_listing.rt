@@ -91,7 +91,7 @@ fn put_code(
 }
 
 /// Adds a line that says this, where so much was said before it.
-fn put_said_line(
+fn put_role_line(
     alloc: Global,
     out: &mut Vec<u8>,
     all: &[Items<Typing>],
@@ -130,7 +130,7 @@ fn said_text(
     };
     for (line, own) in text.lines().zip(plain.lines()) {
         let says = line_role(alloc, own)?;
-        put_said_line(alloc, &mut out, all, counts, line, says)?;
+        put_role_line(alloc, &mut out, all, counts, line, says)?;
         counts = counts.behind(says);
     }
     Ok(out)

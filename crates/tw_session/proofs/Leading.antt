@@ -6,9 +6,9 @@ use Rattle.tw_replies.specs.declared.source.SourceText.{SourceText}
 use Rattle.tw_session.specs.declared.programs.ProgramAction.TheVariants as answered
 
 pub leads_on : (A B : RunOrder → Type 0) (source : Option SourceText) (P Q : Reply → Type 0) → ((run : RunOrder) → A run → B run) → ((r : Reply) → P r → Q r) → (a : ProgramAction) → Leads A source P a → Leads B source Q a
-leads_on A B source P Q f g (answered.Told r) h = g (reply r.text.items r.close) h
+leads_on A B source P Q f g (answered.Finished r) h = g (reply r.text.items r.close) h
 leads_on A B source P Q f g (answered.Run o) h = (f o.order h.0, h.1, λ r is. g r (h.2 r is))
 
 pub comes_on : (A B : Type 0) (P Q : Reply → Type 0) → (B → A) → ((r : Reply) → P r → Q r) → (s : OrderAction) → Comes A P s → Comes B Q s
-comes_on A B P Q f g (step.Told r) h = g (reply r.text.items r.close) h
-comes_on A B P Q f g (step.Asks a) h = ((λ b. h.0 (f b)), (λ r is. g r (h.1 r is)))
+comes_on A B P Q f g (step.Finished r) h = g (reply r.text.items r.close) h
+comes_on A B P Q f g (step.Request a) h = ((λ b. h.0 (f b)), (λ r is. g r (h.1 r is)))

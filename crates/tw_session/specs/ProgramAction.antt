@@ -15,13 +15,13 @@ use Rattle.tw_replies.specs.declared.source.SourceText.{SourceText}
 
 -- a reply that may be answered so; or the run of such an order, of a program that was read from this text if from one, whose replies may
 abbrev pub Leads : (RunOrder → Type 0) → Option SourceText → (Reply → Type 0) → ProgramAction → Type 0
-Leads IsOrder source Answers (answered.Told r) = Answers (reply r.text.items r.close)
+Leads IsOrder source Answers (answered.Finished r) = Answers (reply r.text.items r.close)
 Leads IsOrder source Answers (answered.Run o) =
     IsOrder o.order × MayBeSource source o.verified.program × ((r : Reply) → RepliesByOpening (text_of source) o.verified.program o.order r → Answers r)
 
 -- the same of a program that is to be read, which is run in turn if that is asked
 abbrev pub Comes : Type 0 → (Reply → Type 0) → OrderAction → Type 0
-Comes InTurn Answers (step.Told r) = Answers (reply r.text.items r.close)
-Comes InTurn Answers (step.Asks a) =
+Comes InTurn Answers (step.Finished r) = Answers (reply r.text.items r.close)
+Comes InTurn Answers (step.Request a) =
     (InTurn → IsProgramInTurn a.order)
     × ((r : Reply) → RepliesBySource a.source a.program.items (RepliesByProgram (text_told a.source a.program.items) a.order) r → Answers r)

@@ -42,8 +42,8 @@ pub struct ProgramRequest {
 /// What an order comes to: a reply, or a program that is to be read.
 #[derive(Drop)]
 pub enum OrderAction {
-    Told(Reply),
-    Asks(ProgramRequest),
+    Finished(Reply),
+    Request(ProgramRequest),
 }
 
 /// A program that is to be run with the inputs that stand behind it.
@@ -59,14 +59,14 @@ fn inputs_step(
 {
     let parts = input_parts(alloc, text)?;
     match inputs_of(alloc, &parts.words) {
-        Ok(inputs) => Ok(OrderAction::Asks(ProgramRequest {
+        Ok(inputs) => Ok(OrderAction::Request(ProgramRequest {
             source,
             order: ProgramOrder::Verified(VerifiedOrder::Run(options.with_inputs(inputs))),
             program: parts.program,
         })),
         Err(why) => {
             let reply = refused_words_reply(alloc, why)?;
-            Ok(OrderAction::Told(reply))
+            Ok(OrderAction::Finished(reply))
         }
     }
 }
@@ -84,7 +84,7 @@ fn run_inputs_step(
         Ok(text) => inputs_step(alloc, source, options, text),
         Err(_) => {
             let reply = not_utf8_reply(alloc)?;
-            Ok(OrderAction::Told(reply))
+            Ok(OrderAction::Finished(reply))
         }
     }
 }
@@ -97,23 +97,23 @@ fn ordered_step(alloc: Global, order: Order, input: Vec<u8>) -> Result<OrderActi
     match order {
         Order::Assemble(what) => {
             let reply = assembled_reply(alloc, what, &input)?;
-            Ok(OrderAction::Told(reply))
+            Ok(OrderAction::Finished(reply))
         }
-        Order::Program(source, order) => Ok(OrderAction::Asks(ProgramRequest {
+        Order::Program(source, order) => Ok(OrderAction::Request(ProgramRequest {
             source,
             order,
             program: input,
         })),
         Order::Replay(source, order) => {
             let reply = replay_reply(alloc, source, &order, &input)?;
-            Ok(OrderAction::Told(reply))
+            Ok(OrderAction::Finished(reply))
         }
         Order::Inputs(source, InputsOrder::ToRun(options)) => {
             run_inputs_step(alloc, source, options, &input)
         }
         Order::Inputs(source, InputsOrder::ToReplay(options)) => {
             let reply = replay_inputs_reply(alloc, source, options, &input)?;
-            Ok(OrderAction::Told(reply))
+            Ok(OrderAction::Finished(reply))
         }
     }
 }
@@ -124,7 +124,7 @@ fn step_of(alloc: Global, order: Order, input: Vec<u8>) -> Result<OrderAction, A
 {
     if input.len() > MOST_BYTES {
         let reply = fixed_reply(alloc, "refused H02\n", Close::Refused)?;
-        Ok(OrderAction::Told(reply))
+        Ok(OrderAction::Finished(reply))
     } else {
         ordered_step(alloc, order, input)
     }
@@ -167,7 +167,7 @@ fn source_reply<H: Threads + Wait + Clock + Sync, G: Gate + Sync>(
                 source: text,
             } = read;
             match program_reply(alloc, &text, order, program)? {
-                ProgramAction::Told(reply) => Ok(reply),
+                ProgramAction::Finished(reply) => Ok(reply),
                 ProgramAction::Run(ordered) => run_as_ordered(rt, alloc, gate, &text, ordered),
             }
         }
@@ -192,7 +192,7 @@ fn source_in_turn(
                 source: text,
             } = read;
             match program_reply(alloc, &text, order, program)? {
-                ProgramAction::Told(reply) => Ok(reply),
+                ProgramAction::Finished(reply) => Ok(reply),
                 ProgramAction::Run(ordered) => {
                     let RunRequest { order, verified } = ordered;
                     reply_single_threaded(alloc, &text, &order, verified)
@@ -214,8 +214,8 @@ pub fn reply_to<H: Threads + Wait + Clock + Sync, G: Gate + Sync>(
     ensures { IfOk result (λ r. MayReply order input.items (reply r.text.items r.close)) }
 {
     match step_of(alloc, order, input)? {
-        OrderAction::Told(reply) => Ok(reply),
-        OrderAction::Asks(asking) => {
+        OrderAction::Finished(reply) => Ok(reply),
+        OrderAction::Request(asking) => {
             let ProgramRequest {
                 source,
                 order,
@@ -232,8 +232,8 @@ pub fn reply_in_turn(alloc: Global, order: Order, input: Vec<u8>) -> Result<Repl
     ensures { IfOk result (λ r. MayReply order input.items (reply r.text.items r.close)) }
 {
     match step_of(alloc, order, input)? {
-        OrderAction::Told(reply) => Ok(reply),
-        OrderAction::Asks(asking) => {
+        OrderAction::Finished(reply) => Ok(reply),
+        OrderAction::Request(asking) => {
             let ProgramRequest {
                 source,
                 order,

@@ -24,7 +24,7 @@ pub struct RunRequest {
 /// What comes of a program: a reply, or a run.
 #[derive(Drop)]
 pub enum ProgramAction {
-    Told(Reply),
+    Finished(Reply),
     Run(RunRequest),
 }
 
@@ -40,7 +40,7 @@ fn accepted_reply(
     ensures { IfOk result (Leads (λ run. order ≡ Run run) source.now (RepliesByAccepted (text_of source.now) order verified.program)) }
 {
     match order {
-        VerifiedOrder::Check(order) => Ok(ProgramAction::Told(Reply {
+        VerifiedOrder::Check(order) => Ok(ProgramAction::Finished(Reply {
             text: checked_text(alloc, source, order, &verified)?,
             close: Close::Success,
         })),
@@ -75,7 +75,7 @@ fn verified_reply(
             VerifyRefusal::NoMemory => Err(AllocError),
             _ => {
                 let reply = refusal_reply(alloc, source, places, &refused)?;
-                Ok(ProgramAction::Told(reply))
+                Ok(ProgramAction::Finished(reply))
             }
         },
     }
@@ -92,7 +92,7 @@ pub fn program_reply(
     ensures { IfOk result (Leads (λ run. order ≡ ordered.Verified (Run run)) source.now (RepliesByProgram (text_of source.now) order program)) }
 {
     match order {
-        ProgramOrder::Disassemble(places) => Ok(ProgramAction::Told(Reply {
+        ProgramOrder::Disassemble(places) => Ok(ProgramAction::Finished(Reply {
             text: disassembled(alloc, places, &program)?,
             close: Close::Success,
         })),

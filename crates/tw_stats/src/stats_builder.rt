@@ -63,7 +63,7 @@ impl StatsBuilder {
     }
 
     /// Counts the event that led to where the machine stands, of which this was seen before.
-    pub fn keep(
+    pub fn count_event(
         &mut self,
         plain: &Plain,
         event: &Event,

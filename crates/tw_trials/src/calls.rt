@@ -16,7 +16,7 @@ use crate::store_checks::{
 };
 use std::alloc::Global;
 use tw_rights::{ReadRight, WriteRight};
-use tw_store::{Asked, Store};
+use tw_store::{AskResult, Store};
 use tw_types::{DataType, RuleNo, Scalar, Text, Value, ValueRef};
 
 /// A call. The first number is the id of the datum.
@@ -155,8 +155,8 @@ fn ask(store: &mut Store, right: &ReadRight, rule: u64, parameter: u8) -> Answer
     requires { IsHere store.old right.now }
 {
     match store.ask(right, RuleNo::new(rule), parameter) {
-        Ok(Asked::Closed) => Answer::Closed,
-        Ok(Asked::Noted) => Answer::Noted,
+        Ok(AskResult::Closed) => Answer::Closed,
+        Ok(AskResult::Noted) => Answer::Noted,
         Err(_) => Answer::Refused,
     }
 }

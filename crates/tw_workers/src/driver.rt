@@ -49,7 +49,7 @@ fn run_job<'a, D: DriverCalls<'a>, R: Wait>(
 }
 
 /// Submits a `Done` once more after a failed allocation, and stops the run.
-fn give_up<'a, D: DriverCalls<'a>, R: Wait>(
+fn retry_and_stop<'a, D: DriverCalls<'a>, R: Wait>(
     rt: &R,
     alloc: Global,
     driver_calls: &D,
@@ -81,14 +81,14 @@ fn work<'a, D: DriverCalls<'a>, R: Wait>(
 {
     let done = run_job(rt, alloc, driver_calls, seat, job);
     if done.short() {
-        give_up(rt, alloc, driver_calls, seat, Some(done));
+        retry_and_stop(rt, alloc, driver_calls, seat, Some(done));
         return Err(End { memory: true });
     }
     Ok(Some(done))
 }
 
 /// Handles the result of a step. Returns the `Done` for the next one, or the end of the driver.
-fn go_on<'a, D: DriverCalls<'a>, R: Wait + Clock>(
+fn handle_turn<'a, D: DriverCalls<'a>, R: Wait + Clock>(
     rt: &R,
     alloc: Global,
     driver_calls: &D,
@@ -108,7 +108,7 @@ fn go_on<'a, D: DriverCalls<'a>, R: Wait + Clock>(
             Ok(None)
         }
         Ok(Turn::NoMemory(done)) => {
-            give_up(rt, alloc, driver_calls, seat, done);
+            retry_and_stop(rt, alloc, driver_calls, seat, done);
             Err(End { memory: true })
         }
         Ok(Turn::Foreign(_)) | Ok(Turn::Owed) | Err(_) => {
@@ -131,7 +131,7 @@ pub fn drive_at<'a, D: DriverCalls<'a>, R: Wait + Clock>(
     let mut done: Option<Done<'a>> = None;
     for _ in rt.forever() {
         let answer = driver_calls.run_batch(rt, alloc, seat, done.take());
-        match go_on(rt, alloc, driver_calls, seat, answer) {
+        match handle_turn(rt, alloc, driver_calls, seat, answer) {
             Ok(next) => done = next,
             Err(End { memory }) => return memory,
         }
@@ -140,7 +140,7 @@ pub fn drive_at<'a, D: DriverCalls<'a>, R: Wait + Clock>(
 }
 
 /// Drives a borrowed seat. Returns whether an allocation failed.
-pub(crate) fn drive_lent<'a, N: Named, G: Gate, R: Wait + Clock>(
+pub(crate) fn drive_borrowed<'a, N: Named, G: Gate, R: Wait + Clock>(
     rt: &R,
     alloc: Global,
     host: &Host<'a, N>,
@@ -167,6 +167,6 @@ pub fn drive<'a, N: Named, G: Gate, R: Wait + Clock>(
     ensures driven { (steps : List Step) × FoldsTo (AtSeat N.run G.unwatched) (told_by seat.actor seat.told.items) steps (told_by result.seat.actor result.seat.told.items) × Drives None steps result.memory }
 {
     let mut seat = seat;
-    let memory = drive_lent(rt, alloc, host, &mut seat, gate);
+    let memory = drive_borrowed(rt, alloc, host, &mut seat, gate);
     Driven { seat, memory }
 }

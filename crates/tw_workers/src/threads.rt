@@ -6,7 +6,7 @@ ghost use Rattle.tw_host.specs.Ends.{Closes};
 ghost use Rattle.tw_host.specs.Seats.{Told, actor_count, actors_of, told_by};
 ghost use Rattle.tw_workers.specs.Threads.{AllDrove, Drove};
 
-use crate::driver::drive_lent;
+use crate::driver::drive_borrowed;
 use crate::gate::Gate;
 use std::alloc::Global;
 use std::marker::{Brand, PhantomData};
@@ -56,7 +56,7 @@ fn begin<'s, 'e, 'a, N: Named + Send + Sync, G: Gate + Sync, R: Threads + Wait +
     };
     let work = move || -> bool
         ensures { Drove N.run G.unwatched (told_by seat.entry.now.actor seat.entry.now.told.items) result }
-    { drive_lent(rt, alloc, host, seat, gate) };
+    { drive_borrowed(rt, alloc, host, seat, gate) };
     match scope.spawn_with(begun, work) {
         Ok(driver) => Ok(driver),
         Err(back) => {

@@ -1,7 +1,7 @@
 -- What is found of a run's options.
 use Rattle.std.specs.Prelude.{◌≡◌, List, []}
 use Rattle.clap.specs.Words.{Row}
-use Rattle.tw_command.specs.CommandLine.{picture_faults, run_answer_told}
+use Rattle.tw_command.specs.CommandLine.{picture_faults, run_answer}
 use Rattle.tw_command.specs.Options.{actors_told, in_turn, is_given, limit, number_options, option_faults, told, trace}
 use Rattle.tw_command.specs.declared.command.RunOptions.{RunOptions}
 
@@ -9,7 +9,7 @@ use Rattle.tw_command.specs.declared.command.RunOptions.{RunOptions}
 pub record IsRunBy (rows : List Row) (o : RunOptions) : Type 0 where
   pub numbers : option_faults number_options rows ≡ []
   pub picture : picture_faults rows ≡ []
-  pub answer : o.answer ≡ run_answer_told rows
+  pub answer : o.answer ≡ run_answer rows
   pub layout : o.layout ≡ actors_told rows
   pub limit : o.limit ≡ told limit rows
   pub trace : o.trace ≡ is_given trace rows

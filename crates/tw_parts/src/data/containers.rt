@@ -6,7 +6,7 @@ ghost use Rattle.tw_frame.specs.Jobs.{draft_of, job_of};
 ghost use Rattle.tw_parts.specs.Coming.{come};
 ghost use Rattle.tw_parts.specs.Data.{IsAnswer, IsDone, MayDo};
 
-use crate::data::give::{copied_twice, give, number_at};
+use crate::data::results::{copied_twice, number_at, set_result};
 use std::alloc::Global;
 use tw_frame::{Done, Draft, Frame};
 use tw_rights::Held;
@@ -14,7 +14,7 @@ use tw_store::{Inserted, Store};
 use tw_types::{Scalar, Value};
 
 /// Executes INS: it is refused, and skips, if the subscript is taken.
-pub(crate) fn insert_member<'a>(
+pub(crate) fn exec_insert<'a>(
     store: &mut Store,
     frame: &mut Frame<'a>,
     alloc: Global,
@@ -34,7 +34,7 @@ pub(crate) fn insert_member<'a>(
     match store.insert_under(alloc, frame.peek_write(container), at, right) {
         Ok(Inserted::Done) => {
             let draft = frame.complete_job(done);
-            frame.go_on();
+            frame.to_next_place();
             Ok(draft)
         }
         Ok(Inserted::Present(back)) => {
@@ -51,7 +51,7 @@ pub(crate) fn insert_member<'a>(
 }
 
 /// Executes LOOK: it is refused, and skips, if there is no member at the subscript.
-pub(crate) fn look_up(
+pub(crate) fn exec_look(
     store: &mut Store,
     frame: &mut Frame<'_>,
     by: Scalar,
@@ -69,13 +69,13 @@ pub(crate) fn look_up(
         None => frame.skip(skip),
         Some(right) => {
             frame.fill(member, Held::Read(right));
-            frame.go_on();
+            frame.to_next_place();
         }
     }
 }
 
 /// Executes SIZE.
-pub(crate) fn size<'a>(
+pub(crate) fn exec_size<'a>(
     store: &Store,
     frame: &mut Frame<'a>,
     draft: &mut Draft<'a>,
@@ -88,11 +88,11 @@ pub(crate) fn size<'a>(
     ensures drafted { draft.new ≡ draft_of frame.new }
 {
     let size = store.size(frame.peek_read(container)) as i64;
-    give(frame, draft, to, Value::Int(size), Value::Int(size));
+    set_result(frame, draft, to, Value::Int(size), Value::Int(size));
 }
 
 /// Executes SUBAT: it is refused, and skips, if there is no subscript with that many smaller ones.
-pub(crate) fn subscript_at<'a>(
+pub(crate) fn exec_subscript_at<'a>(
     store: &Store,
     frame: &mut Frame<'a>,
     alloc: Global,
@@ -115,7 +115,7 @@ pub(crate) fn subscript_at<'a>(
             };
             let (value, copy) = copies;
             let mut draft = frame.complete_job(done);
-            give(frame, &mut draft, to, value, copy);
+            set_result(frame, &mut draft, to, value, copy);
             Ok(draft)
         }
         None => {

@@ -13,7 +13,7 @@ use tw_store::Store;
 use tw_types::DataType;
 
 /// Executes NEW.
-pub(crate) fn new_datum<'a>(
+pub(crate) fn exec_new<'a>(
     store: &mut Store,
     frame: &mut Frame<'a>,
     alloc: Global,
@@ -33,45 +33,45 @@ pub(crate) fn new_datum<'a>(
     let draft = frame.complete_job(done);
     frame.fill(write, Held::Write(writes));
     frame.fill(read, Held::Read(reads));
-    frame.go_on();
+    frame.to_next_place();
     Ok(draft)
 }
 
 /// Executes DUPR.
-pub(crate) fn copy_read(store: &mut Store, frame: &mut Frame<'_>, to: u8, from: u8)
+pub(crate) fn exec_copy_read(store: &mut Store, frame: &mut Frame<'_>, to: u8, from: u8)
     requires { MayDo (on_data.CopyRead to from) store.old frame.old }
     ensures done { IsDone (on_data.CopyRead to from) store.old store.new frame.old frame.new }
     ensures values { frame.new.position.values ≡ frame.old.position.values }
 {
     let right = store.copy_read(frame.peek_read(from));
     frame.fill(to, Held::Read(right));
-    frame.go_on();
+    frame.to_next_place();
 }
 
 /// Executes DUPW.
-pub(crate) fn copy_write(store: &mut Store, frame: &mut Frame<'_>, to: u8, from: u8)
+pub(crate) fn exec_copy_write(store: &mut Store, frame: &mut Frame<'_>, to: u8, from: u8)
     requires { MayDo (on_data.CopyWrite to from) store.old frame.old }
     ensures done { IsDone (on_data.CopyWrite to from) store.old store.new frame.old frame.new }
     ensures values { frame.new.position.values ≡ frame.old.position.values }
 {
     let right = store.copy_write(frame.peek_write(from));
     frame.fill(to, Held::Write(right));
-    frame.go_on();
+    frame.to_next_place();
 }
 
 /// Executes DROPR.
-pub(crate) fn drop_read(store: &mut Store, frame: &mut Frame<'_>, datum: u8)
+pub(crate) fn exec_drop_read(store: &mut Store, frame: &mut Frame<'_>, datum: u8)
     requires { MayDo (on_data.DropRead datum) store.old frame.old }
     ensures done { IsDone (on_data.DropRead datum) store.old store.new frame.old frame.new }
     ensures values { frame.new.position.values ≡ frame.old.position.values }
 {
     let right = frame.take_read(datum);
     store.drop_read(right);
-    frame.go_on();
+    frame.to_next_place();
 }
 
 /// Executes DROPW: if the container closes, its subscribers get notices.
-pub(crate) fn drop_write<'a>(
+pub(crate) fn exec_drop_write<'a>(
     store: &mut Store,
     frame: &mut Frame<'a>,
     done: Done<'a>,
@@ -85,7 +85,7 @@ pub(crate) fn drop_write<'a>(
     match store.drop_write(right) {
         Ok(()) => {
             let draft = frame.complete_job(done);
-            frame.go_on();
+            frame.to_next_place();
             Ok(draft)
         }
         Err(right) => {

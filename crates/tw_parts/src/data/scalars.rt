@@ -11,7 +11,7 @@ ghost use Rattle.tw_frame.specs.Jobs.{job_of};
 ghost use Rattle.tw_parts.specs.Coming.{come};
 ghost use Rattle.tw_parts.specs.Data.{IsAnswer, MayDo};
 
-use crate::data::give::give;
+use crate::data::results::set_result;
 use std::alloc::{AllocError, Global};
 use tw_frame::{Done, Draft, Frame};
 use tw_rights::{Held, ReadRight};
@@ -19,7 +19,7 @@ use tw_store::Store;
 use tw_types::Value;
 
 /// Executes STORE: the subscribers of the datum get notices.
-pub(crate) fn store_value<'a>(
+pub(crate) fn exec_store<'a>(
     store: &mut Store,
     frame: &mut Frame<'a>,
     alloc: Global,
@@ -38,7 +38,7 @@ pub(crate) fn store_value<'a>(
     match store.store(right, value) {
         Ok(()) => {
             let draft = frame.complete_job(done);
-            frame.go_on();
+            frame.to_next_place();
             Ok(draft)
         }
         Err(back) => {
@@ -71,7 +71,7 @@ fn two_copies(store: &Store, alloc: Global, right: &ReadRight) -> Result<(Value,
 }
 
 /// Executes GET: sets a register of the frame, and of its draft.
-pub(crate) fn get_value<'a>(
+pub(crate) fn exec_get<'a>(
     store: &Store,
     frame: &mut Frame<'a>,
     alloc: Global,
@@ -88,6 +88,6 @@ pub(crate) fn get_value<'a>(
     };
     let (value, copy) = copies;
     let mut draft = frame.complete_job(done);
-    give(frame, &mut draft, to, value, copy);
+    set_result(frame, &mut draft, to, value, copy);
     Ok(draft)
 }

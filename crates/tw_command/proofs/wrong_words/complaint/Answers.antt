@@ -15,11 +15,11 @@ returns-in-Ok c =
     let words = map string_bytes c.args.words.now in
     let faults = faults_are _ words c.in-Ok.matches c.in_ok-command.ensures c.in-Ok.ensures.kinds c.in-Ok.ensures.matches in
     let asked = asked_are _ words c.in-Ok.matches c.in_ok-command.ensures c.in-Ok.ensures.kinds c.in-Ok.ensures.matches in
-    c.told_of.ensures (word_faults words) (asked_by_words words)
+    c.complaint_of.ensures (word_faults words) (asked_by_words words)
     (subst (λ (k : Kinds). HasReason k (asked_by_words words) c.in-Err-order_of.no_order) (sym faults)
     (subst (λ (a : Asked). HasReason (faults_behind (subcommand_rows_of c.in-Ok.matches)) a c.in-Err-order_of.no_order) (sym asked) c.in-Err-order_of.ensures.refused))
 
 pub returns : goal.returns
 returns c =
     let words = map string_bytes c.args.words.now in
-    c.told_of-in-Err.ensures (word_faults words) (asked_by_words words) (refused _ words c.in-Err.error c.reason_of.result (asked_by_words words) c.in_ok-command.ensures c.in-Err.ensures.kinds c.reason_of.ensures)
+    c.complaint_of-in-Err.ensures (word_faults words) (asked_by_words words) (refused _ words c.in-Err.error c.reason_of.result (asked_by_words words) c.in_ok-command.ensures c.in-Err.ensures.kinds c.reason_of.ensures)

@@ -16,8 +16,8 @@ use Rattle.tw_replay.proofs.drawn.draw.Goals as goal
 pub step-requires-clause-small : goal.step-requires-clause-small
 step-requires-clause-small c = below_more (opening_bound + 1000000000 * c.loop-index.index) _ _ (omega (arith, c.requires.few, c.loop-index-test.true)) c.loop-index.invariant.below
 
-pub keep-requires : goal.keep-requires
-keep-requires c = few_taken c.args.first c.args.events.now c.loop-index.index c.loop-index.plain.state c.loop-index.timeline_builder c.loop-index.invariant.timeline_builder c.requires.few
+pub add_event-requires : goal.add_event-requires
+add_event-requires c = few_taken c.args.first c.args.events.now c.loop-index.index c.loop-index.plain.state c.loop-index.timeline_builder c.loop-index.invariant.timeline_builder c.requires.few
 
 pub returns-in-Err : goal.returns-in-Err
 returns-in-Err c =
@@ -50,7 +50,7 @@ loop-index-preserved c =
       same = went_on first.program first.program first.layout first.layout events i event at.state next.state (played_from first events) refl refl inside is went kept.same;
       runs = run_on first.program first.layout events i event at.state next.state (run first.program first.layout events first.state) inside is went kept.runs;
       below = below_more _ _ _ (omega arith) (c.step.ensures.below (opening_bound + 1000000000 * i) kept.below);
-      timeline_builder = trail_on first events i event next.state c.keep.new.self inside is (c.in_ok-keep-in-Ok.ensures first (take i events) at.state kept.timeline_builder went);
+      timeline_builder = trail_on first events i event next.state c.add_event.new.self inside is (c.in_ok-add_event-in-Ok.ensures first (take i events) at.state kept.timeline_builder went);
     }
 
 pub picture_reply-requires : goal.picture_reply-requires

@@ -43,8 +43,8 @@ loop-index-preserved c =
       runs = run_on first.program first.layout events i event at.state next.state (run first.program first.layout events first.state) inside is went kept.runs;
       below = below_more _ _ _ (omega arith) (c.step.ensures.below (opening_bound + 1000000000 * i) kept.below);
       stats_builder =
-          tally_on first events i event next.state c.keep.new.self inside is
-          (c.in_ok-keep-in-Ok.ensures first (take i events) at.state kept.stats_builder (came first at event c.pre_state-pre_state.result kept.stays (c.pre_state-pre_state.ensures kept.stats_builder.next)) went before behind (small_on first events i event inside is c.requires.sizes c.requires.few));
+          tally_on first events i event next.state c.count_event.new.self inside is
+          (c.in_ok-count_event-in-Ok.ensures first (take i events) at.state kept.stats_builder (came first at event c.pre_state-pre_state.result kept.stays (c.pre_state-pre_state.ensures kept.stats_builder.next)) went before behind (small_on first events i event inside is c.requires.sizes c.requires.few));
     }
 
 pub returns : goal.returns

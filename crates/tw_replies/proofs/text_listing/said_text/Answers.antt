@@ -21,10 +21,10 @@ loop-line-preserved c =
       next = search rules;
       finite = search rules;
       listed =
-          subst (λ (xs : List (List ℕ)). AreLinesListed typings xs (own_in (pairs ++ (line, own) ∷ [])) c.behind-counts.result c.put_said_line.new.out.items) (sym ls)
-          (subst (λ (ys : List (List ℕ)). AreLinesListed typings (written_in pairs ++ line.now ∷ []) ys c.behind-counts.result c.put_said_line.new.out.items) (sym owns)
-          (line_listed typings (written_in pairs) (own_in pairs) line.now own.now c.loop-line.counts c.behind-counts.result c.loop-line.out.items c.put_said_line.new.out.items c.in_ok-says.says (pairs_length pairs) c.loop-line.invariant.listed
-          c.in_ok-says.ensures c.in_ok-put_said_line.ensures c.behind-counts.ensures));
+          subst (λ (xs : List (List ℕ)). AreLinesListed typings xs (own_in (pairs ++ (line, own) ∷ [])) c.behind-counts.result c.put_role_line.new.out.items) (sym ls)
+          (subst (λ (ys : List (List ℕ)). AreLinesListed typings (written_in pairs ++ line.now ∷ []) ys c.behind-counts.result c.put_role_line.new.out.items) (sym owns)
+          (line_listed typings (written_in pairs) (own_in pairs) line.now own.now c.loop-line.counts c.behind-counts.result c.loop-line.out.items c.put_role_line.new.out.items c.in_ok-says.says (pairs_length pairs) c.loop-line.invariant.listed
+          c.in_ok-says.ensures c.in_ok-put_role_line.ensures c.behind-counts.ensures));
     }
 
 pub returns : goal.returns

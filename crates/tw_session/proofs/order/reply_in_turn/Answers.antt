@@ -4,12 +4,12 @@ use Rattle.tw_replies.specs.declared.reply.Reply.{Reply}
 use Rattle.tw_session.proofs.order.reply_in_turn.Goals as goal
 
 pub source_in_turn-requires : goal.source_in_turn-requires
-source_in_turn-requires c = let asks = subst (λ (s : OrderAction). Comes (IsInTurn c.args.order) (MayReply c.args.order c.args.input.items) s) c.in-Asks.is c.in_ok-reply.ensures in asks.0 c.requires
+source_in_turn-requires c = let asks = subst (λ (s : OrderAction). Comes (IsInTurn c.args.order) (MayReply c.args.order c.args.input.items) s) c.in-Request.is c.in_ok-reply.ensures in asks.0 c.requires
 
-pub returns-in-Asks : goal.returns-in-Asks
-returns-in-Asks c =
-    let a = c.in-Asks.asking in
-    let asks = subst (λ (s : OrderAction). Comes (IsInTurn c.args.order) (MayReply c.args.order c.args.input.items) s) c.in-Asks.is c.in_ok-reply.ensures in
+pub returns-in-Request : goal.returns-in-Request
+returns-in-Request c =
+    let a = c.in-Request.asking in
+    let asks = subst (λ (s : OrderAction). Comes (IsInTurn c.args.order) (MayReply c.args.order c.args.input.items) s) c.in-Request.is c.in_ok-reply.ensures in
     IfOk-weaker _ _ _
     (λ (r : Reply) h. asks.1 (reply r.text.items r.close)
     (subst (λ (bytes : List ℕ). RepliesBySource a.source bytes (RepliesByProgram (text_told a.source bytes) a.order) (reply r.text.items r.close)) c.deref.ensures.value h)) c.source_in_turn.ensures

@@ -3,10 +3,10 @@ use Rattle.tw_session.proofs.SessionNames.{Comes, IfOk-weaker, IsInTurn, MayRepl
 use Rattle.tw_replies.specs.declared.reply.Reply.{Reply}
 use Rattle.tw_session.proofs.order.reply_to.Goals as goal
 
-pub returns-in-Asks : goal.returns-in-Asks
-returns-in-Asks g c =
-    let a = c.in-Asks.asking in
-    let asks = subst (λ (s : OrderAction). Comes (IsInTurn c.args.order) (MayReply c.args.order c.args.input.items) s) c.in-Asks.is c.in_ok-reply.ensures in
+pub returns-in-Request : goal.returns-in-Request
+returns-in-Request g c =
+    let a = c.in-Request.asking in
+    let asks = subst (λ (s : OrderAction). Comes (IsInTurn c.args.order) (MayReply c.args.order c.args.input.items) s) c.in-Request.is c.in_ok-reply.ensures in
     IfOk-weaker _ _ _
     (λ (r : Reply) h. asks.1 (reply r.text.items r.close)
     (subst (λ (bytes : List ℕ). RepliesBySource a.source bytes (RepliesByProgram (text_told a.source bytes) a.order) (reply r.text.items r.close)) c.deref.ensures.value h)) c.source_reply.ensures

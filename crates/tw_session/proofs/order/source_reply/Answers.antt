@@ -10,10 +10,10 @@ program_reply-requires g c = c.in-Ok.ensures.source
 pub run_as_ordered-requires : goal.run_as_ordered-requires
 run_as_ordered-requires g c = let run = subst (λ (a : ProgramAction). Leads (λ (run : RunOrder). c.args.order ≡ Verified (Run run)) c.in-Ok.read.source (RepliesByProgram (text_of c.in-Ok.read.source) c.args.order c.in-Ok.read.program) a) c.in-Run.is c.in_ok-reply-in-Ok.ensures in (search rules, (search rules, run.1))
 
-pub returns-in-Told : goal.returns-in-Told
-returns-in-Told g c =
-    let r = c.in-Told.reply in
-    let told = subst (λ (a : ProgramAction). Leads (λ (run : RunOrder). c.args.order ≡ Verified (Run run)) c.in-Ok.read.source (RepliesByProgram (text_of c.in-Ok.read.source) c.args.order c.in-Ok.read.program) a) c.in-Told.is c.in_ok-reply-in-Ok.ensures in
+pub returns-in-Finished : goal.returns-in-Finished
+returns-in-Finished g c =
+    let r = c.in-Finished.reply in
+    let told = subst (λ (a : ProgramAction). Leads (λ (run : RunOrder). c.args.order ≡ Verified (Run run)) c.in-Ok.read.source (RepliesByProgram (text_of c.in-Ok.read.source) c.args.order c.in-Ok.read.program) a) c.in-Finished.is c.in_ok-reply-in-Ok.ensures in
     inl (c.in-Ok.read.program, c.in-Ok.ensures.spells, subst (λ (t : Option (List ℕ)). RepliesByProgram t c.args.order c.in-Ok.read.program (reply r.text.items r.close)) c.in-Ok.ensures.text told)
 
 pub returns-in-Ok : goal.returns-in-Ok

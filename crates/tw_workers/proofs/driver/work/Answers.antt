@@ -6,7 +6,7 @@ use Rattle.tw_workers.proofs.driver.work.Goals as goal
 pub returns-then-short-clause-steps : goal.returns-then-short-clause-steps
 returns-then-short-clause-steps g c =
     let done = c.run_job-done.result in
-    let rest = c.give_up.ensures in (
+    let rest = c.retry_and_stop.ensures in (
       working c.args.job done ++ rest.0,
       joined g.D.DriverCalls.does _ _ _ (working c.args.job done) rest.0 c.run_job-done.ensures.steps rest.1,
       (done, rest.0, c.run_job-done.ensures.before, search rules, rest.2, refl, refl),

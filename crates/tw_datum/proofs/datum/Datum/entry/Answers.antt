@@ -6,7 +6,7 @@ use Rattle.tw_datum.proofs.Members.{no_entries}
 use Rattle.tw_datum.proofs.datum.Datum.entry.Goals as goal
 
 pub returns-in-Some : goal.returns-in-Some
-returns-in-Some g c = let id = g.M.Member.id in c.lent.ensures ∙ ap (option_map (entry_by id)) c.nth.ensures ∙ sym (nth_mapped id c.in-Some.members.now c.args.index) ∙ ap (λ m. slice_get (map.entries m) c.args.index) (sym c.in-Some.ensures.0)
+returns-in-Some g c = let id = g.M.Member.id in c.borrowed_entry.ensures ∙ ap (option_map (entry_by id)) c.nth.ensures ∙ sym (nth_mapped id c.in-Some.members.now c.args.index) ∙ ap (λ m. slice_get (map.entries m) c.args.index) (sym c.in-Some.ensures.0)
 
 pub returns-in-None : goal.returns-in-None
 returns-in-None g c = ap (λ es. slice_get es c.args.index) (sym no_entries) ∙ ap (λ m. slice_get (map.entries m) c.args.index) (sym c.in-None.ensures.0)

@@ -2,7 +2,7 @@ use Rattle.tw_pool.proofs.Turning as turning
 use Rattle.tw_pool.proofs.pool.Pool.complete_job.Goals as goal
 
 pub returns-then-short : goal.returns-then-short
-returns-then-short c = turning.back_short c.args.self.now _ c.args.actor c.args.done _ c.if-short.ensures c.go_on.ensures
+returns-then-short c = turning.back_short c.args.self.now _ c.args.actor c.args.done _ c.if-short.ensures c.continue_task.ensures
 
 pub returns-then-is_last : goal.returns-then-is_last
 returns-then-is_last c = turning.back_last c.args.self.now _ c.args.actor c.args.done _ c.if-short.ensures c.if-is_last.ensures c.stop_at_limit.ensures

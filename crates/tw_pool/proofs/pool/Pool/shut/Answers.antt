@@ -8,7 +8,7 @@ use Rattle.tw_code.specs.machine.Pending.{pending_of}
 use Rattle.tw_code.specs.machine.State.{State}
 use Rattle.tw_no_trap.specs.EndsWell.{EndsWell}
 use Rattle.tw_parts.specs.Parts.{state_of}
-use Rattle.tw_pool.specs.Pendings.{pending_told}
+use Rattle.tw_pool.specs.Pendings.{pending_with_data}
 use Rattle.tw_pool.specs.PoolView.{PoolView, HasState}
 use Rattle.tw_pool.proofs.Pendings.{pending_is}
 use Rattle.tw_pool.proofs.Turning as turning
@@ -21,8 +21,8 @@ returns-clause-left c = record {
   left = record {
     store = ap (λ (s : Served). s.store) c.shut-remains.ensures.store;
     outputs = c.shut-remains.ensures.outputs;
-    pending = ap (map pending_told) c.shut-remains.ensures.pending
-        ∙ subst (λ (p : PoolView). map pending_told (map told (entries c.self.inside.parts.rules.rules)) ≡ map (pending_of p.program.program) (entries (mapped bare_rule c.self.inside.parts.rules.rules))) c.self.view_is
+    pending = ap (map pending_with_data) c.shut-remains.ensures.pending
+        ∙ subst (λ (p : PoolView). map pending_with_data (map told (entries c.self.inside.parts.rules.rules)) ≡ map (pending_of p.program.program) (entries (mapped bare_rule c.self.inside.parts.rules.rules))) c.self.view_is
         (pending_is c.self.inside.verified.now.program c.self.inside.parts.store.places c.self.inside.parts.rules.rules c.self.invariant.parts.stand.rules);
   };
   closing = c.closing-closing.ensures _ (turning.at_here _ _ _ c.self.inside.stopped c.self.inside.history c.self.inside.parts c.self.invariant c.args.self c.self.view_is);

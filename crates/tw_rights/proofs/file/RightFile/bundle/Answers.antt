@@ -18,14 +18,14 @@ loop-index-init c =
 pub bounds-args-index : goal.bounds-args-index
 bounds-args-index c = has_register _ _ _ _ _ _ c.loop-index.index c.loop-index.invariant.0 c.index-params-index.result (omega (arith, c.loop-index-test.true))
 
-pub hand_over-arg-requires : goal.hand_over-arg-requires
-hand_over-arg-requires c = one_there _ _ _ _ _ _ c.loop-index.index c.loop-index.invariant.0 c.index-params-index.result (omega (arith, c.loop-index-test.true)) 0
+pub take_arg-arg-requires : goal.take_arg-arg-requires
+take_arg-arg-requires c = one_there _ _ _ _ _ _ c.loop-index.index c.loop-index.invariant.0 c.index-params-index.result (omega (arith, c.loop-index-test.true)) 0
 
 pub loop-index-preserved : goal.loop-index-preserved
 loop-index-preserved c =
-    let on = goes_on _ _ _ _ _ _ c.loop-index.index c.loop-index.invariant.0 c.index-params-index.result (omega (arith, c.loop-index-test.true)) 0 _ c.hand_over-arg.ensures in (
-      subst (λ (done : List Arg). IsUnderWay (bundled c.args.self.now c.args.params.now c.args.args.now c.args.vals.items) c.hand_over-arg.new.self (drop (c.loop-index.index + 1) c.args.params.now) (drop (c.loop-index.index + 1) c.args.args.now) (into_iter_items c.hand_over-arg.new.vals) done) (sym c.push_reserved.ensures.items) on,
-      omega (arith, ap length c.push_reserved.ensures.items, length-append c.loop-index.bundle.items (c.hand_over-arg.result ∷ []), c.loop-index.invariant.1),
+    let on = goes_on _ _ _ _ _ _ c.loop-index.index c.loop-index.invariant.0 c.index-params-index.result (omega (arith, c.loop-index-test.true)) 0 _ c.take_arg-arg.ensures in (
+      subst (λ (done : List Arg). IsUnderWay (bundled c.args.self.now c.args.params.now c.args.args.now c.args.vals.items) c.take_arg-arg.new.self (drop (c.loop-index.index + 1) c.args.params.now) (drop (c.loop-index.index + 1) c.args.args.now) (into_iter_items c.take_arg-arg.new.vals) done) (sym c.push_reserved.ensures.items) on,
+      omega (arith, ap length c.push_reserved.ensures.items, length-append c.loop-index.bundle.items (c.take_arg-arg.result ∷ []), c.loop-index.invariant.1),
       subst (λ n. length c.args.params.now ≤ n) (sym c.push_reserved.ensures.capacity) c.loop-index.invariant.2,
     )
 

@@ -1,6 +1,0 @@
-use Rattle.std.proofs.Common.{[], ◌∷◌, refl, rules}
-use Rattle.tw_workers.specs.Driving.{Stopped}
-use Rattle.tw_workers.proofs.driver.go_on.Goals as goal
-
-pub returns-clause-steps : goal.returns-clause-steps
-returns-clause-steps g c = (Stopped ∷ [], (_, c.stop.ensures, refl), search rules)
