@@ -11,8 +11,8 @@ use Rattle.tw_asm.proofs.OperandWords.{IsFine}
 use Rattle.tw_asm.proofs.Sayings.{label_answered, nonempty, registers_answered, version_answered}
 use Rattle.tw_asm.specs.Seen.{Read, seen}
 use Rattle.tw_asm.specs.LineAnswers.{Answers}
-use Rattle.tw_asm.specs.declared.refusal.Refusal.{Refusal}
-use Rattle.tw_asm.specs.declared.refusal.Refusal.TheVariants as refusal
+use Rattle.tw_asm.specs.declared.rejection.Rejection.{Rejection}
+use Rattle.tw_asm.specs.declared.rejection.Rejection.TheVariants as rejection
 use Rattle.tw_asm.specs.declared.statement.Statement as statements
 use Rattle.tw_asm.specs.reading.Lines.{Gives, body_in, head_in, registers_in, statement_in, version_in}
 use Rattle.tw_code.specs.format.Table.{opcode_in}
@@ -64,7 +64,7 @@ all_fine [] = tt
 all_fine (word.Bare bytes ∷ ws) = (tt, all_fine ws)
 all_fine (word.Quoted text ∷ ws) = (IsUtf8-string_bytes text, all_fine ws)
 
-pub answered : (version : Version) (r : Result statements.Statement Refusal) (ws : List Word) → AllByRecursion IsFine ws → Gives seen r (statement_in version ws) → Answers version r ws
+pub answered : (version : Version) (r : Result statements.Statement Rejection) (ws : List Word) → AllByRecursion IsFine ws → Gives seen r (statement_in version ws) → Answers version r ws
 answered version (Ok statement) ws fine gives = subst (λ (read : Result Read TokenError). Judged version read ws) gives (judged version ws fine)
-answered version (Err refusal.NoMemory) ws fine gives = tt
-answered version (Err (refusal.Flawed flaw)) ws fine gives = subst (λ (read : Result Read TokenError). Judged version read ws) gives (judged version ws fine)
+answered version (Err rejection.NoMemory) ws fine gives = tt
+answered version (Err (rejection.Flawed flaw)) ws fine gives = subst (λ (read : Result Read TokenError). Judged version read ws) gives (judged version ws fine)

@@ -7,8 +7,8 @@ use Rattle.tw_asm.specs.Seen.{IsRead, seen}
 use Rattle.tw_asm.specs.Statement.{Statement, HaveForm, Say}
 use Rattle.tw_words.specs.declared.numbers.TokenError.{TokenError}
 use Rattle.tw_words.specs.declared.numbers.TokenError.TheVariants as flaw
-use Rattle.tw_asm.specs.declared.refusal.Refusal.{Refusal}
-use Rattle.tw_asm.specs.declared.refusal.Refusal.TheVariants as refusal
+use Rattle.tw_asm.specs.declared.rejection.Rejection.{Rejection}
+use Rattle.tw_asm.specs.declared.rejection.Rejection.TheVariants as rejection
 
 -- what is wrong with these words, after a first word that lets expect a statement
 abbrev pub IsFlawed : Version → TokenError → List Word → Type 0
@@ -16,7 +16,7 @@ IsFlawed version flaw.Form words = HaveForm version words → ⊥
 IsFlawed version flaw.Limit words = HaveForm version words × ((statement : Statement) → Say version statement words → ⊥)
 
 -- what reading answers, memory aside
-abbrev pub Answers : Version → Result statements.Statement Refusal → List Word → Type 0
+abbrev pub Answers : Version → Result statements.Statement Rejection → List Word → Type 0
 Answers version (Ok read) words = IsRead version (seen read) words
-Answers version (Err refusal.NoMemory) words = Unit {0}
-Answers version (Err (refusal.Flawed flaw)) words = IsFlawed version flaw words
+Answers version (Err rejection.NoMemory) words = Unit {0}
+Answers version (Err (rejection.Flawed flaw)) words = IsFlawed version flaw words

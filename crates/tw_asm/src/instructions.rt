@@ -14,7 +14,7 @@ ghost use Rattle.tw_words.specs.Digits.{as_is};
 
 use crate::gathering::args_of;
 use crate::operands::*;
-use crate::refusal::Refusal;
+use crate::rejection::Rejection;
 use crate::shapes::*;
 use crate::statement::Unlinked;
 use std::alloc::Global;
@@ -37,7 +37,7 @@ fn going<'a>(instr: Instr, label: Option<&'a [u8]>) -> Unlinked<'a>
 }
 
 /// A value register and a text.
-fn value_and_literal(alloc: Global, words: &[Word<'_>]) -> Result<(u8, (Text, ())), Refusal>
+fn value_and_literal(alloc: Global, words: &[Word<'_>]) -> Result<(u8, (Text, ())), Rejection>
     ensures { Gives (λ x. x) result (line_in (more value (more literal nothing)) (map seen_word words.now)) }
 {
     match words {
@@ -45,7 +45,7 @@ fn value_and_literal(alloc: Global, words: &[Word<'_>]) -> Result<(u8, (Text, ()
             let text = literal_of(alloc, text)?;
             Ok(both_of(value_of(first), both_of(text, nothing_of(others)))?)
         }
-        _ => Err(Refusal::Flawed(TokenError::Form)),
+        _ => Err(Rejection::Flawed(TokenError::Form)),
     }
 }
 
@@ -53,7 +53,7 @@ fn value_and_literal(alloc: Global, words: &[Word<'_>]) -> Result<(u8, (Text, ()
 fn action_parts(
     alloc: Global,
     words: &[Word<'_>],
-) -> Result<(u8, (i64, (Option<u8>, Items<u8>))), Refusal>
+) -> Result<(u8, (i64, (Option<u8>, Items<u8>))), Rejection>
     ensures { Gives (λ x. x) result (line_in (more (natural 0 255) (more number (more target args))) (map seen_word words.now)) }
 {
     match words {
@@ -65,7 +65,7 @@ fn action_parts(
                 both_of(number_of(priority), both_of(target_of(target), args)),
             )?)
         }
-        _ => Err(Refusal::Flawed(TokenError::Form)),
+        _ => Err(Rejection::Flawed(TokenError::Form)),
     }
 }
 
@@ -73,7 +73,7 @@ fn action_parts(
 fn computed_parts(
     alloc: Global,
     words: &[Word<'_>],
-) -> Result<(u8, (u8, (Option<u8>, Items<u8>))), Refusal>
+) -> Result<(u8, (u8, (Option<u8>, Items<u8>))), Rejection>
     ensures { Gives (λ x. x) result (line_in (more (natural 0 255) (more value (more target args))) (map seen_word words.now)) }
 {
     match words {
@@ -85,7 +85,7 @@ fn computed_parts(
                 both_of(value_of(priority), both_of(target_of(target), args)),
             )?)
         }
-        _ => Err(Refusal::Flawed(TokenError::Form)),
+        _ => Err(Rejection::Flawed(TokenError::Form)),
     }
 }
 
@@ -198,7 +198,7 @@ pub fn draft_of<'a>(
     version: Version,
     opcode: Opcode,
     words: &[Word<'a>],
-) -> Result<Unlinked<'a>, Refusal>
+) -> Result<Unlinked<'a>, Rejection>
     ensures { Gives drafted result (draft_in version opcode (map seen_word words.now)) }
 {
     let instr = match opcode {

@@ -20,7 +20,7 @@ mod listing;
 mod operands;
 mod read;
 mod reading;
-mod refusal;
+mod rejection;
 mod shapes;
 mod skip;
 mod statement;

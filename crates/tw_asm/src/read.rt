@@ -13,7 +13,7 @@ use crate::gathering::scalars_of;
 use crate::heads::{kind_of, params_of};
 use crate::instructions::draft_of;
 use crate::operands::{both_of, byte_of, name_of};
-use crate::refusal::Refusal;
+use crate::rejection::Rejection;
 use crate::statement::Statement;
 use std::alloc::Global;
 use tw_code::{Version, opcode_in};
@@ -31,7 +31,7 @@ fn version_by(number: u8) -> Version
 }
 
 /// What stands behind `version`.
-fn version_of<'a>(words: &[Word<'_>]) -> Result<Statement<'a>, Refusal>
+fn version_of<'a>(words: &[Word<'_>]) -> Result<Statement<'a>, Rejection>
     ensures { Gives seen result (version_in (map seen_word words.now)) }
 {
     match words {
@@ -39,7 +39,7 @@ fn version_of<'a>(words: &[Word<'_>]) -> Result<Statement<'a>, Refusal>
             let number = byte_of(1, 2, word)?;
             Ok(Statement::Version(version_by(number)))
         }
-        _ => Err(Refusal::Flawed(TokenError::Form)),
+        _ => Err(Rejection::Flawed(TokenError::Form)),
     }
 }
 
@@ -48,11 +48,11 @@ fn head_of<'a>(
     alloc: Global,
     version: Version,
     words: &[Word<'_>],
-) -> Result<Statement<'a>, Refusal>
+) -> Result<Statement<'a>, Rejection>
     ensures { Gives seen result (head_in version (map seen_word words.now)) }
 {
     match words {
-        [] => Err(Refusal::Flawed(TokenError::Form)),
+        [] => Err(Rejection::Flawed(TokenError::Form)),
         [kind, params @ ..] => {
             let params = params_of(alloc, version, params)?;
             let (kind, params) = both_of(kind_of(kind), params)?;
@@ -62,7 +62,7 @@ fn head_of<'a>(
 }
 
 /// What stands behind `regs`.
-fn registers_of<'a>(alloc: Global, words: &[Word<'_>]) -> Result<Statement<'a>, Refusal>
+fn registers_of<'a>(alloc: Global, words: &[Word<'_>]) -> Result<Statement<'a>, Rejection>
     ensures { Gives seen result (registers_in (map seen_word words.now)) }
 {
     let registers = scalars_of(alloc, words)?;
@@ -70,15 +70,15 @@ fn registers_of<'a>(alloc: Global, words: &[Word<'_>]) -> Result<Statement<'a>, 
 }
 
 /// A label, as one word.
-fn label_of<'a>(word: &'a [u8], others: &[Word<'_>]) -> Result<Statement<'a>, Refusal>
+fn label_of<'a>(word: &'a [u8], others: &[Word<'_>]) -> Result<Statement<'a>, Rejection>
     ensures { Gives seen result (label_line word.entry.now (map seen_word others.now)) }
 {
     if !others.is_empty() {
-        return Err(Refusal::Flawed(TokenError::Form));
+        return Err(Rejection::Flawed(TokenError::Form));
     }
     match before_colon(word) {
         Some(name) => Ok(Statement::Label(name_of(name)?)),
-        None => Err(Refusal::Flawed(TokenError::Form)),
+        None => Err(Rejection::Flawed(TokenError::Form)),
     }
 }
 
@@ -88,7 +88,7 @@ fn body_of<'a>(
     version: Version,
     word: &'a [u8],
     others: &[Word<'a>],
-) -> Result<Statement<'a>, Refusal>
+) -> Result<Statement<'a>, Rejection>
     ensures { Gives seen result (body_in version (opcode_in version word.entry.now) word.entry.now (map seen_word others.now)) }
 {
     match opcode_in(version, word) {
@@ -104,7 +104,7 @@ fn words_read<'a>(
     version: Version,
     first: &'a [u8],
     others: &[Word<'a>],
-) -> Result<Statement<'a>, Refusal>
+) -> Result<Statement<'a>, Rejection>
     ensures { Gives seen result (statement_in version (Bare first.entry.now ∷ map seen_word others.now)) }
 {
     if first == b"proc".as_slice() {
@@ -123,14 +123,14 @@ fn read_of<'a>(
     alloc: Global,
     version: Version,
     words: &[Word<'a>],
-) -> Result<Statement<'a>, Refusal>
+) -> Result<Statement<'a>, Rejection>
     ensures { Gives seen result (statement_in version (map seen_word words.now)) }
 {
     match words {
-        [] => Err(Refusal::Flawed(TokenError::Form)),
+        [] => Err(Rejection::Flawed(TokenError::Form)),
         [first, others @ ..] => match first {
             Word::Bare(word) => words_read(alloc, version, word, others),
-            Word::Quoted(_) => Err(Refusal::Flawed(TokenError::Form)),
+            Word::Quoted(_) => Err(Rejection::Flawed(TokenError::Form)),
         },
     }
 }
@@ -140,7 +140,7 @@ pub fn statement_of<'a>(
     alloc: Global,
     version: Version,
     words: &[Word<'a>],
-) -> Result<Statement<'a>, Refusal>
+) -> Result<Statement<'a>, Rejection>
     ensures { Answers version result (map seen_word words.now) }
 {
     read_of(alloc, version, words)

@@ -14,7 +14,7 @@ use crate::bodies::{take_draft, take_label};
 use crate::fault::{AsmFault, FaultNo};
 use crate::first::first_of;
 use crate::read::statement_of;
-use crate::refusal::Refusal;
+use crate::rejection::Rejection;
 use crate::statement::{First, Statement, Unlinked};
 use indexmap::IndexMap;
 use std::alloc::Global;
@@ -142,9 +142,9 @@ fn read_words<'a>(
     }
     match statement_of(alloc, reading.version, &read.words) {
         Ok(statement) => Ok(Some(statement)),
-        Err(Refusal::NoMemory) => Err(AsmFault::memory()),
-        Err(Refusal::Flawed(TokenError::Form)) => Err(AsmFault::new(FaultNo::Operand, number)),
-        Err(Refusal::Flawed(TokenError::Limit)) => {
+        Err(Rejection::NoMemory) => Err(AsmFault::memory()),
+        Err(Rejection::Flawed(TokenError::Form)) => Err(AsmFault::new(FaultNo::Operand, number)),
+        Err(Rejection::Flawed(TokenError::Limit)) => {
             Err(AsmFault::new(FaultNo::Limit, limit_line(reading, expected, number)))
         }
     }

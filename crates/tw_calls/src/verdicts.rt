@@ -1,13 +1,13 @@
 //! Verdicts.
 
 ghost use Rattle.std.specs.Prelude.{◌≡◌, ◌≢◌, ◌⊎◌};
-ghost use Rattle.tw_verify.specs.Refusal.{verify_refusal_number};
-ghost use Rattle.tw_calls.specs.Verdict.{IsProgramVerdict, IsVerdict, accepted as accepted_is, fault as fault_is, no_memory as no_memory_is, refusal as refusal_is};
+ghost use Rattle.tw_verify.specs.Rejection.{verify_error_code};
+ghost use Rattle.tw_calls.specs.Verdict.{IsProgramVerdict, IsVerdict, accepted as accepted_is, fault as fault_is, no_memory as no_memory_is, rejection as rejection_is};
 
 use std::alloc::Global;
 use tw_bytes::{Fault, FaultNo, decode};
 use tw_code::Program;
-use tw_verify::{Refused, Verified, VerifyRefusal};
+use tw_verify::{Refused, Verified, VerifyError};
 
 /// What the verifier says of a program's bytes.
 #[repr(C)]
@@ -69,12 +69,12 @@ fn fault_verdict(fault: &Fault) -> Verdict
     }
 }
 
-fn refusal_verdict(refused: &Refused) -> Verdict
-    ensures { ((refused.now.no ≢ VerifyRefusal.NoMemory) × (result ≡ refusal_is (verify_refusal_number refused.now.no) refused.now.procedure refused.now.place))
-        ⊎ ((refused.now.no ≡ VerifyRefusal.NoMemory) × (result ≡ no_memory_is)) }
+fn rejection_verdict(refused: &Refused) -> Verdict
+    ensures { ((refused.now.no ≢ VerifyError.NoMemory) × (result ≡ rejection_is (verify_error_code refused.now.no) refused.now.procedure refused.now.place))
+        ⊎ ((refused.now.no ≡ VerifyError.NoMemory) × (result ≡ no_memory_is)) }
 {
     match refused.no {
-        VerifyRefusal::NoMemory => no_memory(),
+        VerifyError::NoMemory => no_memory(),
         no => refused_at(b'V', no.number(), refused.procedure, refused.place),
     }
 }
@@ -84,7 +84,7 @@ fn program_verdict(alloc: Global, program: Program) -> Verdict
 {
     match tw_verify::verify(alloc, program) {
         Ok(verified) => accepted(&verified),
-        Err(refused) => refusal_verdict(&refused),
+        Err(refused) => rejection_verdict(&refused),
     }
 }
 

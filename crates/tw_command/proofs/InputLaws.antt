@@ -7,7 +7,7 @@ use Rattle.tw_types.specs.declared.input.Input.TheVariants as input
 use Rattle.tw_words.specs.Quoted.{SpellsQuoted}
 use Rattle.tw_command.specs.InputWords.{AreBehind, AreJoined, AreSpelled, IsRefusedWord, OneInput, OneRefusedWord, RefusedWord, refused_word, SpellsInput, SpellsInt, SpellsMember, SpellsMembers, SpellsRest, head_of}
 use Rattle.tw_command.specs.InputReasons.{reason_line}
-use Rattle.tw_command.specs.Order.{IsInputReason, IsRefusal}
+use Rattle.tw_command.specs.Order.{IsInputReason, IsRejection}
 use Rattle.tw_command.specs.declared.command.NoOrder.{NoOrder}
 use Rattle.tw_command.specs.declared.command.NoOrder.TheVariants.{Help, Refused, InputWord, Explanation, NoMemory}
 use Rattle.tw_command.specs.CommandLine.{Asked, Assembles, Disassembles, Checks, Explains, Runs, Replays, IsAsked, IsRefusedInput}
@@ -175,8 +175,8 @@ one_word_more inputs new words i d x lt h k is =
 
 -- the first word that spells no input
 pub refused_at : (inputs : List Input) (words : List (Bor (List ℕ))) (i : ℕ) (d : Bor (List ℕ)) → i < length words → AreSpelled inputs (take i (map (λ w. w.now) words))
-    → ((given : Input) → SpellsInput given (get_or words i d).now → ⊥) → (why : NoOrder) → IsRefusal (i + 1) (get_or words i d).now why → IsInputReason (map (λ w. w.now) words) why
-refused_at inputs words i d lt h none why refusal =
+    → ((given : Input) → SpellsInput given (get_or words i d).now → ⊥) → (why : NoOrder) → IsRejection (i + 1) (get_or words i d).now why → IsInputReason (map (λ w. w.now) words) why
+refused_at inputs words i d lt h none why rejection =
     let texts = map (λ (w : Bor (List ℕ)). w.now) words in
     let all : length texts ≡ length words = length-map words (λ (w : Bor (List ℕ)). w.now) in
     let parts : texts ≡ take i texts ++ (get_or words i d).now ∷ drop (i + 1) texts =
@@ -191,9 +191,9 @@ refused_at inputs words i d lt h none why refusal =
       h,
       none,
       ap (λ (n : ℕ). refused_word n reason) (is ∙ count) ∙ ap (refused_word (suc (length (take i texts)))) (line ∙ ap (λ (n : ℕ). reason_line n (get_or words i d).now) count),
-    )) refusal
+    )) rejection
   where
-    by : (r : NoOrder) → ((at : ℕ) (reason : List ℕ) → at ≡ i + 1 → reason ≡ reason_line (i + 1) (get_or words i d).now → IsRefusedWord (map (λ (w : Bor (List ℕ)). w.now) words) (refused_word at reason)) → IsRefusal (i + 1) (get_or words i d).now r
+    by : (r : NoOrder) → ((at : ℕ) (reason : List ℕ) → at ≡ i + 1 → reason ≡ reason_line (i + 1) (get_or words i d).now → IsRefusedWord (map (λ (w : Bor (List ℕ)). w.now) words) (refused_word at reason)) → IsRejection (i + 1) (get_or words i d).now r
         → IsInputReason (map (λ (w : Bor (List ℕ)). w.now) words) r
     by (Help text) all h = absurd h
     by Refused all h = absurd h

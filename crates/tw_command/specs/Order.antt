@@ -30,12 +30,12 @@ IsInputReason words (InputWord number reason) = IsRefusedWord words (refused_wor
 IsInputReason words (Explanation text) = ⊥
 
 -- this word is refused, with the line that says why
-abbrev pub IsRefusal : ℕ → List ℕ → NoOrder → Type 0
-IsRefusal number word NoMemory = ⊤
-IsRefusal number word (Help text) = ⊥
-IsRefusal number word Refused = ⊥
-IsRefusal number word (InputWord at reason) = (at ≡ number) × (reason.items ≡ reason_line number word)
-IsRefusal number word (Explanation text) = ⊥
+abbrev pub IsRejection : ℕ → List ℕ → NoOrder → Type 0
+IsRejection number word NoMemory = ⊤
+IsRejection number word (Help text) = ⊥
+IsRejection number word Refused = ⊥
+IsRejection number word (InputWord at reason) = (at ≡ number) × (reason.items ≡ reason_line number word)
+IsRejection number word (Explanation text) = ⊥
 
 -- the reason comes of one of the kinds; or the words are taken, and it comes of the input words, or is
 -- the explanation that they ask for

@@ -3,7 +3,7 @@
 ghost use Rattle.std.specs.Prelude.{◌≡◌, ◌++◌, IfOk, OnOk};
 ghost use Rattle.tw_words.specs.Digits.{signed_in};
 ghost use Rattle.tw_command.specs.InputReasons.{form_by_int, form_by_text, has, input_text, int_reason, list_reason, reason_line, text_reason, word_reason};
-ghost use Rattle.tw_command.specs.Order.{IsRefusal};
+ghost use Rattle.tw_command.specs.Order.{IsRejection};
 
 use crate::command::NoOrder;
 use std::alloc::{AllocError, Global};
@@ -131,7 +131,7 @@ fn reason_line(alloc: Global, number: usize, word: &[u8]) -> Result<Vec<u8>, All
 
 /// Refuses the input word of this number, counted from 1.
 pub(crate) fn refused_word(alloc: Global, number: usize, word: &str) -> NoOrder
-    ensures { IsRefusal number word.now result }
+    ensures { IsRejection number word.now result }
 {
     match reason_line(alloc, number, word.as_bytes()) {
         Ok(line) => NoOrder::InputWord(number, line),

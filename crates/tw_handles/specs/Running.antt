@@ -2,8 +2,8 @@
 use Rattle.std.specs.Prelude.{◌≡◌, ◌⊎◌, ◌++◌, ◌∷◌, [], ℕ, List, IsUtf8, Option, Some, None, MatchOption}
 use Rattle.tw_in_turn.specs.InTurn.{IsLeft}
 use Rattle.tw_in_turn.specs.declared.run.InTurnResult.{InTurnResult}
-use Rattle.tw_pool.specs.Openings.{IsRefusal, MayOpen, open_refusal_number, opened}
-use Rattle.tw_pool.specs.declared.open.OpenRefusal.{OpenRefusal}
+use Rattle.tw_pool.specs.Openings.{IsRejection, MayOpen, open_error_code, opened}
+use Rattle.tw_pool.specs.declared.open.OpenError.{OpenError}
 use Rattle.tw_types.specs.Layout.{ActorCounts, IsLayout}
 use Rattle.tw_types.specs.declared.input.Input.{Input}
 use Rattle.tw_types.specs.declared.input.Input.TheVariants as input
@@ -30,7 +30,7 @@ IsTextAdded bytes old new code =
 abbrev pub IsRunOn : TypedProgram → List Input → ActorCounts → ℕ → Option Held → Option Held → ℕ → Type 0
 IsRunOn verified inputs counts limit old new code =
     ((left : InTurnResult) × (report_in new ≡ Some left) × MayOpen verified.program inputs counts limit × IsLeft (opened verified inputs counts limit) left × (code ≡ done))
-    ⊎ ((why : OpenRefusal) × IsRefusal verified.program inputs counts limit why × Fails (open_refusal_number why) old new code)
+    ⊎ ((why : OpenError) × IsRejection verified.program inputs counts limit why × Fails (open_error_code why) old new code)
 
 -- actors are refused before the run
 abbrev pub IsRunIn : TypedProgram → List Input → ActorCounts → ℕ → Option Held → Option Held → ℕ → Type 0

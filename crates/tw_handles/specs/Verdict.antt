@@ -2,7 +2,7 @@
 use Rattle.std.specs.Prelude.{◌≡◌, ◌⊎◌, ℕ, List, Result, Ok, Err}
 use Rattle.tw_types.specs.declared.actor.Kind.TheVariants.{Control, Leaf}
 use Rattle.tw_code.specs.accepting.Needs.{needed}
-use Rattle.tw_code.specs.accepting.WellTyped.{IsAccepted, IsFirstRefusal}
+use Rattle.tw_code.specs.accepting.WellTyped.{IsAccepted, IsFirstRejection}
 use Rattle.tw_bytes.specs.declared.fault.Fault.{Fault}
 use Rattle.tw_code.specs.declared.procedure.Procedure.{Procedure}
 use Rattle.tw_bytes.specs.Fault.{fault_number}
@@ -15,8 +15,8 @@ abbrev pub accepted : List Procedure → Verdict
 accepted program = record { letter = 0; number = 0; engines = needed Control program; workers = needed Leaf program; procedure = 0; place = 0 }
 
 -- the letter V, the error's code, and its position
-abbrev pub refusal : ℕ → ℕ → ℕ → Verdict
-refusal number procedure place = record { letter = 86; number = number; engines = 0; workers = 0; procedure = procedure; place = place }
+abbrev pub rejection : ℕ → ℕ → ℕ → Verdict
+rejection number procedure place = record { letter = 86; number = number; engines = 0; workers = 0; procedure = procedure; place = place }
 
 -- the letter F, the fault's number, and the byte
 abbrev pub fault : Fault → Verdict
@@ -30,7 +30,7 @@ no_memory = record { letter = 77; number = 0; engines = 0; workers = 0; procedur
 abbrev pub IsProgramVerdict : List Procedure → Verdict → Type 0
 IsProgramVerdict program v =
     (IsAccepted program × (v ≡ accepted program))
-    ⊎ ((number : ℕ) × (procedure : ℕ) × (place : ℕ) × IsFirstRefusal program number procedure place × (v ≡ refusal number procedure place))
+    ⊎ ((number : ℕ) × (procedure : ℕ) × (place : ℕ) × IsFirstRejection program number procedure place × (v ≡ rejection number procedure place))
 
 -- the bytes are a program, or this is their first fault
 abbrev pub IsReadVerdict : Result Versioned Fault → Verdict → Type 0

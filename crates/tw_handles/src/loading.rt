@@ -6,7 +6,7 @@ ghost use Rattle.tw_handles.specs.Verdict.{IsVerdict};
 
 use crate::handle::Handle;
 use crate::held::Held;
-use crate::verdict::{Verdict, accepted, fault_verdict, no_memory, refusal_verdict};
+use crate::verdict::{Verdict, accepted, fault_verdict, no_memory, rejection_verdict};
 use std::alloc::{AllocError, Global};
 use std::sync::Arc;
 use tw_bytes::decode;
@@ -22,7 +22,7 @@ fn accept(alloc: Global, program: Program) -> (Option<Verified>, Verdict)
             let verdict = accepted(&verified);
             (Some(verified), verdict)
         }
-        Err(refused) => (None, refusal_verdict(&refused)),
+        Err(refused) => (None, rejection_verdict(&refused)),
     }
 }
 

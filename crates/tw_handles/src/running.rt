@@ -11,7 +11,7 @@ use crate::handle::Handle;
 use crate::held::Held;
 use std::alloc::Global;
 use tw_in_turn::{InTurnResult, run_in_turn};
-use tw_pool::OpenRefusal;
+use tw_pool::OpenError;
 use tw_types::{Input, Layout};
 use tw_verify::Verified;
 
@@ -35,7 +35,7 @@ fn run_on(
             *report = handle;
             codes::DONE
         }
-        Err(_) => OpenRefusal::NoMemory.number(),
+        Err(_) => OpenError::NoMemory.number(),
     }
 }
 

@@ -1,11 +1,11 @@
 //! Verdicts.
 
 ghost use Rattle.std.specs.Prelude.{◌≡◌, ◌≢◌, ◌⊎◌};
-ghost use Rattle.tw_verify.specs.Refusal.{verify_refusal_number};
-ghost use Rattle.tw_handles.specs.Verdict.{accepted as accepted_is, fault as fault_is, no_memory as no_memory_is, refusal as refusal_is};
+ghost use Rattle.tw_verify.specs.Rejection.{verify_error_code};
+ghost use Rattle.tw_handles.specs.Verdict.{accepted as accepted_is, fault as fault_is, no_memory as no_memory_is, rejection as rejection_is};
 
 use tw_bytes::{Fault, FaultNo};
-use tw_verify::{Refused, Verified, VerifyRefusal};
+use tw_verify::{Refused, Verified, VerifyError};
 
 /// The verdict on a program's bytes.
 #[repr(C)]
@@ -67,12 +67,12 @@ pub(crate) fn fault_verdict(fault: &Fault) -> Verdict
     }
 }
 
-pub(crate) fn refusal_verdict(refused: &Refused) -> Verdict
-    ensures { ((refused.now.no ≢ VerifyRefusal.NoMemory) × (result ≡ refusal_is (verify_refusal_number refused.now.no) refused.now.procedure refused.now.place))
-        ⊎ ((refused.now.no ≡ VerifyRefusal.NoMemory) × (result ≡ no_memory_is)) }
+pub(crate) fn rejection_verdict(refused: &Refused) -> Verdict
+    ensures { ((refused.now.no ≢ VerifyError.NoMemory) × (result ≡ rejection_is (verify_error_code refused.now.no) refused.now.procedure refused.now.place))
+        ⊎ ((refused.now.no ≡ VerifyError.NoMemory) × (result ≡ no_memory_is)) }
 {
     match refused.no {
-        VerifyRefusal::NoMemory => no_memory(),
+        VerifyError::NoMemory => no_memory(),
         no => refused_at(b'V', no.number(), refused.procedure, refused.place),
     }
 }

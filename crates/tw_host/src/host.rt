@@ -1,7 +1,7 @@
 //! The pool of a run under its lock.
 
 ghost use Rattle.std.specs.Prelude.{◌≡◌, ◌<◌, ◌≤◌, IfErr, IfOk, [], map, vec_len, vec_capacity};
-ghost use Rattle.tw_pool.specs.Openings.{IsRefusal, MayOpen};
+ghost use Rattle.tw_pool.specs.Openings.{IsRejection, MayOpen};
 ghost use Rattle.tw_host.specs.Seats.{actors_of, actor_count};
 ghost use Rattle.tw_host.specs.Holds.{TellsAll, TellsUpTo};
 ghost use Rattle.tw_host.specs.Tells.{IsAnswerOf, IsDoneOf, Tells};
@@ -18,7 +18,7 @@ use std::alloc::Global;
 use std::sync::ledger::Blank;
 use std::sync::{Mutex, MutexGuard, Wait};
 use tw_frame::Done;
-use tw_pool::{Events, OpenRefusal, Pool, Turn};
+use tw_pool::{Events, OpenError, Pool, Turn};
 use tw_types::{Input, Layout};
 use tw_verify::Verified;
 
@@ -61,23 +61,23 @@ impl<'a, N: Named> Host<'a, N> {
         inputs: &'a [Input],
         layout: Layout,
         limit: usize,
-    ) -> Result<(Host<'a, N>, Vec<Seat<N>>), OpenRefusal>
+    ) -> Result<(Host<'a, N>, Vec<Seat<N>>), OpenError>
         requires ledger { (blank.name ≡ N.name) × (blank.parts ≡ N.parts) × (blank.parts ≡ actor_count layout) }
         requires run { N.run ≡ record { program = verified.now; inputs = inputs.now; layout = layout; limit = limit } }
         ensures allowed { IfOk result (λ _. MayOpen verified.now.program inputs.now layout limit) }
         ensures len { IfOk result (λ r. vec_len r.1 ≡ actor_count layout) }
         ensures actors { IfOk result (λ r. map (λ s. s.actor) r.1.items ≡ actors_of layout) }
         ensures told { IfOk result (λ r. map (λ s. s.told.items) r.1.items ≡ map (λ _. []) (actors_of layout)) }
-        ensures refused { IfErr result (IsRefusal verified.now.program inputs.now layout limit) }
+        ensures refused { IfErr result (IsRejection verified.now.program inputs.now layout limit) }
     {
         let pool = Pool::open(alloc, verified, inputs, layout, limit)?;
         let Ok(parkers) = Parkers::new(alloc, layout) else {
             let _ = pool.shut();
-            return Err(OpenRefusal::NoMemory);
+            return Err(OpenError::NoMemory);
         };
         let Ok((seats, by_seat)) = seat_memory(alloc, layout.actor_count()) else {
             let _ = pool.shut();
-            return Err(OpenRefusal::NoMemory);
+            return Err(OpenError::NoMemory);
         };
         let (book, mut spare) = blank.open::<N>();
         let seats = seats_of(alloc, layout, seats, &mut spare);

@@ -1,7 +1,7 @@
 //! A whole run in one thread.
 
 ghost use Rattle.std.specs.Prelude.{IfErr, IfOk};
-ghost use Rattle.tw_pool.specs.Openings.{IsRefusal, MayOpen, opened};
+ghost use Rattle.tw_pool.specs.Openings.{IsRejection, MayOpen, opened};
 ghost use Rattle.tw_pool.specs.PoolView.{PoolView};
 ghost use Rattle.tw_in_turn.specs.InTurn.{ComesTo, IsLeft};
 ghost use Rattle.tw_in_turn.specs.Rounds.{AreKept, Ends, IsGrown, IsOpened};
@@ -9,7 +9,7 @@ ghost use Rattle.tw_in_turn.specs.Rounds.{AreKept, Ends, IsGrown, IsOpened};
 use crate::rounds::{End, turn_all};
 use std::alloc::{AllocError, Global};
 use tw_frame::Done;
-use tw_pool::{Final, History, OpenRefusal, Pool};
+use tw_pool::{Final, History, OpenError, Pool};
 use tw_types::{Input, Layout};
 use tw_verify::Verified;
 
@@ -41,15 +41,15 @@ pub fn run_in_turn(
     inputs: &[Input],
     layout: Layout,
     limit: usize,
-) -> Result<InTurnResult, OpenRefusal>
+) -> Result<InTurnResult, OpenError>
     ensures allowed { IfOk result (λ _. MayOpen verified.now.program inputs.now layout limit) }
     ensures left { IfOk result (IsLeft (opened verified.now inputs.now layout limit)) }
-    ensures refused { IfErr result (IsRefusal verified.now.program inputs.now layout limit) }
+    ensures refused { IfErr result (IsRejection verified.now.program inputs.now layout limit) }
 {
     let mut pool = Pool::open(alloc, verified, inputs, layout, limit)?;
     let Ok(mut kept) = nothing_kept(alloc, layout.actor_count()) else {
         let (_outcome, _history) = pool.shut();
-        return Err(OpenRefusal::NoMemory);
+        return Err(OpenError::NoMemory);
     };
     let end = turn_all(alloc, &mut pool, kept.as_mut_slice());
     let (outcome, history) = pool.shut();

@@ -14,8 +14,8 @@ use Rattle.tw_code.specs.machine.Inputs.{AreInputsOf, are_inputs_of, has_fitting
 use Rattle.tw_code.specs.machine.Opening.{Opened, main_params, nothing_opened, opened, opening, opening_of, with_given, with_output}
 use Rattle.tw_code.specs.machine.State.{State}
 use Rattle.tw_code.proofs.Growth.{opening_is_small}
-use Rattle.tw_machine.specs.Opening.{refusal_of}
-use Rattle.tw_machine.specs.declared.refusal.OpenRefusal.TheVariants.{InputCount, InputType, MainShape}
+use Rattle.tw_machine.specs.Opening.{rejection_of}
+use Rattle.tw_machine.specs.declared.rejection.OpenError.TheVariants.{InputCount, InputType, MainShape}
 use Rattle.tw_types.proofs.Elements.{no_items}
 use Rattle.tw_code.proofs.Givens.{input_next, none_fit, skips, takes}
 
@@ -73,7 +73,7 @@ module _ (params : List Param) (inputs : List Input) (index : ℕ) (o left : Ope
 -- ---- the checks of an opening
 
 -- if the opening has no error, the inputs are those that main takes
-are_inputs : (program : List Procedure) (inputs : List Input) → refusal_of program inputs ≡ None → AreInputsOf program inputs
+are_inputs : (program : List Procedure) (inputs : List Input) → rejection_of program inputs ≡ None → AreInputsOf program inputs
 are_inputs program inputs = by (has_main_shape program) (has_input_count program inputs) (has_fitting_inputs program inputs) refl refl
   where
     by : (a b c : Bool) → has_input_count program inputs ≡ b → has_fitting_inputs program inputs ≡ c
@@ -85,10 +85,10 @@ are_inputs program inputs = by (has_main_shape program) (has_input_count program
 
 module _ (program given : List Procedure) (inputs : List Input) (same : given ≡ program) where
   -- like that, as the code checks and opens
-  none_of : None ≡ refusal_of given inputs → refusal_of program inputs ≡ None
-  none_of h = ap (λ p. refusal_of p inputs) (sym same) ∙ sym h
+  none_of : None ≡ rejection_of given inputs → rejection_of program inputs ≡ None
+  none_of h = ap (λ p. rejection_of p inputs) (sym same) ∙ sym h
 
-  pub is_small : None ≡ refusal_of given inputs → IsProgram program → AreBelow opening_bound (opening program inputs)
+  pub is_small : None ≡ rejection_of given inputs → IsProgram program → AreBelow opening_bound (opening program inputs)
   is_small h within = opening_is_small program inputs within (are_inputs program inputs (none_of h))
 
 pub opened_as : (program given : List Procedure) (params : List Param) (inputs : List Input) (state : State) → given ≡ program → params ≡ main_params given

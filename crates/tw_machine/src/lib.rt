@@ -12,7 +12,7 @@ mod events;
 mod opened;
 mod opening;
 mod plain;
-mod refusal;
+mod rejection;
 mod rule;
 mod rules;
 mod state;
@@ -21,7 +21,7 @@ mod tasks;
 
 pub use event_actor::actor_of;
 pub use plain::Plain;
-pub use refusal::{OpenRefusal, OpenRefused};
+pub use rejection::{OpenError, OpenRefused};
 pub use rule::Rule;
 pub use state::State;
 pub use tw_instr::{Arg, Datum, Frame, Stopped, Task};

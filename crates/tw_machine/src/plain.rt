@@ -7,10 +7,10 @@ ghost use Rattle.tw_code.specs.machine.Opening.{opening};
 ghost use Rattle.tw_code.specs.machine.Machine.{step};
 ghost use Rattle.tw_instr.specs.Attempts.{Changes};
 ghost use Rattle.tw_machine.specs.Memory.{TakesMemory};
-ghost use Rattle.tw_machine.specs.Opening.{IsTold, refusal_of};
+ghost use Rattle.tw_machine.specs.Opening.{IsTold, rejection_of};
 
-use crate::opening::refusal_of;
-use crate::refusal::{OpenRefusal, OpenRefused};
+use crate::opening::rejection_of;
+use crate::rejection::{OpenError, OpenRefused};
 use crate::state::State;
 use std::alloc::Global;
 use std::marker::Model;
@@ -64,11 +64,11 @@ impl Plain {
         layout: Layout,
     ) -> Result<Plain, OpenRefused>
         ensures opened { IfOk result (λ plain. plain ≡ record { version = program.version; program = program.procedures; layout = layout; state = opening program.procedures inputs.now }) }
-        ensures asked { MatchResult result (λ _. refusal_of program.procedures inputs.now ≡ None) (λ refused. IsTold (refusal_of program.procedures inputs.now) refused.no) }
+        ensures asked { MatchResult result (λ _. rejection_of program.procedures inputs.now ≡ None) (λ refused. IsTold (rejection_of program.procedures inputs.now) refused.no) }
         ensures back { IfErr result (λ refused. refused.program ≡ program) }
         ensures below { IfOk result (λ plain. AreBelow opening_bound plain.state) }
     {
-        if let Some(no) = refusal_of(program.procedures(), inputs) {
+        if let Some(no) = rejection_of(program.procedures(), inputs) {
             return Err(OpenRefused { program, no });
         }
         match State::open(alloc, main_params(program.procedures()), inputs) {
@@ -79,7 +79,7 @@ impl Plain {
             }),
             Err(_) => Err(OpenRefused {
                 program,
-                no: OpenRefusal::NoMemory,
+                no: OpenError::NoMemory,
             }),
         }
     }

@@ -1,6 +1,6 @@
 -- A text with names stands for as many lines as it has, and where it is in UTF-8 for a text in UTF-8.
 use Rattle.std.proofs.Common.{[], ◌≡◌, ◌==◌, ◌<◌, ◌-◌, ◌+◌, ℕ, suc, Bool, true, false, cond, List, ◌∷◌, ◌++◌, length, take, drop, get_or, Result, Ok, Err, inl, inr, refl, sym, ap, subst, ◌∙◌, append_assoc, append-nil, arith}
-use Rattle.tw_names.proofs.TextNames.{AllByRecursion, AreTaken, Broken, IsTaken, IsUtf8, Line, Names, Procedures, Refusal, Said, Says, StandFirst, Worded, at_number, ended, line_rest, line_words, lines, lines_of_parts, lines_say, no_names, onto_first, procedures_of, slice_index, slice_split, strip_carriage_return, take-append-drop, taken_says}
+use Rattle.tw_names.proofs.TextNames.{AllByRecursion, AreTaken, Broken, IsTaken, IsUtf8, Line, Names, Procedures, Rejection, Said, Says, StandFirst, Worded, at_number, ended, line_rest, line_words, lines, lines_of_parts, lines_say, no_names, onto_first, procedures_of, slice_index, slice_split, strip_carriage_return, take-append-drop, taken_says}
 use Rattle.std.proofs.lemmas.Bool.{eqb-true}
 use Rattle.std.proofs.lemmas.List.Splits.{slice_split-cons_no}
 use Rattle.std.proofs.lemmas.Str.{IsCharBoundary-before_ascii, IsUtf8-append, IsUtf8-nil, IsUtf8-take}
@@ -21,11 +21,11 @@ abbrev joined : List (List ℕ) → List ℕ
 joined [] = []
 joined (l ∷ ls) = l ++ 10 ∷ joined ls
 
-number_then : (n : ℕ) (says : Said) (next : Names × List ℕ → Result (List ℕ) Refusal) (plain : List ℕ) → at_number n says next ≡ Ok plain → (said : Names × List ℕ) × (says ≡ Ok said) × (next said ≡ Ok plain)
+number_then : (n : ℕ) (says : Said) (next : Names × List ℕ → Result (List ℕ) Rejection) (plain : List ℕ) → at_number n says next ≡ Ok plain → (said : Names × List ℕ) × (says ≡ Ok said) × (next said ≡ Ok plain)
 number_then n (Ok said) next plain e = (said, refl, e)
 number_then n (Err flaw) next plain e = absurd cc
 
-plain_is : (a b : List ℕ) → ◌≡◌ {A = Result (List ℕ) Refusal} (Ok a) (Ok b) → a ≡ b
+plain_is : (a b : List ℕ) → ◌≡◌ {A = Result (List ℕ) Rejection} (Ok a) (Ok b) → a ≡ b
 plain_is a b e = cc
 
 module _ (Q : List ℕ → Type 0) (kept : IsKept Q) where

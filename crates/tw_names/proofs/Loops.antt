@@ -1,7 +1,7 @@
 -- The loops over a text's lines.
 use Rattle.std.proofs.Common.{[], ◌≡◌, ◌⊎◌, ◌≤◌, ℕ, suc, ◌+◌, List, ◌∷◌, ◌++◌, length, map, drop, Ok, Err, refl, sym, ap, subst, ◌∙◌, inl, inr, arith}
-use Rattle.tw_names.proofs.TextNames.{AreTaken, Bor, IsMemory, IsTaken, Line, Names, Procedures, Refusal, drop_all, length-append, lines_say, map-append, no_names, procedures_of, taken_says, told, with_line}
-use Rattle.tw_names.specs.declared.refusal.NameRefusal.{NameRefusal}
+use Rattle.tw_names.proofs.TextNames.{AreTaken, Bor, IsMemory, IsTaken, Line, Names, Procedures, Rejection, drop_all, length-append, lines_say, map-append, no_names, procedures_of, taken_says, told, with_line}
+use Rattle.tw_names.specs.declared.rejection.NameError.{NameError}
 use Rattle.tw_names.proofs.Walk.{taken_at, taken_length, taken_more, with_lines_more}
 
 abbrev pub Items : Type 0
@@ -50,11 +50,11 @@ come_more p ls before others line index names after front text parts at so_far h
         → lines_say p n names front (t ∷ others) ≡ lines_say p (n + 1) after text others
     goes p n names front t after text others e = rw e refl
 
-stops : (p : Procedures) (n : ℕ) (names : Names) (front : List ℕ) (t : Line) (refusal : Refusal) (others : List Line) → refusal.line ≡ n → taken_says p n names front t ≡ Err (record { no = refusal.no; word = refusal.word })
-    → lines_say p n names front (t ∷ others) ≡ Err refusal
-stops p n names front t refusal others at e = rw e (ap (λ (k : ℕ). Err (record { line = k; no = refusal.no; word = refusal.word })) (sym at))
+stops : (p : Procedures) (n : ℕ) (names : Names) (front : List ℕ) (t : Line) (rejection : Rejection) (others : List Line) → rejection.line ≡ n → taken_says p n names front t ≡ Err (record { no = rejection.no; word = rejection.word })
+    → lines_say p n names front (t ∷ others) ≡ Err rejection
+stops p n names front t rejection others at e = rw e (ap (λ (k : ℕ). Err (record { line = k; no = rejection.no; word = rejection.word })) (sym at))
 
-pub stopped : (p : Procedures) (ls before others : List (List ℕ)) (line : List ℕ) (index : ℕ) (names : Names) (front : List ℕ) (f : NameRefusal) → ls ≡ before ++ line ∷ others → index ≡ length before
+pub stopped : (p : Procedures) (ls before others : List (List ℕ)) (line : List ℕ) (index : ℕ) (names : Names) (front : List ℕ) (f : NameError) → ls ≡ before ++ line ∷ others → index ≡ length before
     → HasCome p ls (length before) names front
     → ((t : Line) → IsTaken t line → IsMemory f ⊎ ((f.line ≡ index + 1) × (taken_says p (index + 1) names front t ≡ Err (record { no = f.no; word = f.word.now }))))
     → (all : List Line) → AreTaken all ls → IsMemory f ⊎ (lines_say p 1 no_names [] all ≡ Err (told f))

@@ -2,7 +2,7 @@
 use Rattle.std.proofs.Common.{◌≡◌, ℕ, Bool, true, false, cond, List, Option, Some, None, Ok, refl}
 use Rattle.tw_names.proofs.TextNames.{Names, Procedures, is_name, is_some, known, may_name, meaning, or_else, refused}
 use Rattle.tw_names.specs.declared.meaning.Binding.{Binding}
-use Rattle.tw_names.specs.declared.refusal.NameNo.TheVariants as no
+use Rattle.tw_names.specs.declared.rejection.NameNo.TheVariants as no
 
 unknown : (name : List ℕ) (u : Unit {0}) (a : Bool) (k : Option Binding) → cond a (cond (is_some k) (refused {A = Unit {0}} no.Twice name) (Ok tt)) (refused no.NoName name) ≡ Ok u → k ≡ None
 unknown name u true None e = refl

@@ -4,8 +4,8 @@ use Rattle.tw_names.proofs.TextNames.{AreTaken, Bor, IsMemory, IsTaken, Line, Na
 use Rattle.std.specs.Result.{IsErr}
 use Rattle.std.proofs.lemmas.Bool.{eqb-true}
 use Rattle.std.proofs.lemmas.Bool.Decides.{nat_tests}
-use Rattle.tw_names.specs.declared.refusal.NameNo.TheVariants as no
-use Rattle.tw_names.specs.declared.refusal.NameRefusal.{NameRefusal}
+use Rattle.tw_names.specs.declared.rejection.NameNo.TheVariants as no
+use Rattle.tw_names.specs.declared.rejection.NameError.{NameError}
 use Rattle.tw_names.specs.Registers.{entry_name, first_part, is_register, last_name, names_after_line}
 use Rattle.tw_names.specs.declared.meaning.Bank.{Bank}
 use Rattle.tw_names.specs.declared.meaning.Binding.{Binding}
@@ -72,7 +72,7 @@ gone_end p last ls n names front gone e all are =
     gone all are ∙ ap (names_after_line p last (n + 1) names front) (drop_all n all short)
 
 -- a refusal that isn't want of memory
-pub says_refused : (number : ℕ) (f : NameRefusal) (says : Said) → (f.no ≡ no.NoMemory → ⊥) → IsMemory f ⊎ ((f.line ≡ number) × (says ≡ Err (record { no = f.no; word = f.word.now }))) → IsErr says
+pub says_refused : (number : ℕ) (f : NameError) (says : Said) → (f.no ≡ no.NoMemory → ⊥) → IsMemory f ⊎ ((f.line ≡ number) × (says ≡ Err (record { no = f.no; word = f.word.now }))) → IsErr says
 says_refused number f says other (inl memory) = absurd (other memory.0)
 says_refused number f says other (inr (at, e)) = subst IsErr (sym e) refl
 

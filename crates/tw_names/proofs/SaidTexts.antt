@@ -22,7 +22,7 @@ use Rattle.tw_names.specs.declared.meaning.Origin.{Origin}
 use Rattle.tw_names.specs.declared.meaning.Origin.TheVariants as origin
 use Rattle.tw_names.specs.declared.meaning.Binding.{Binding}
 use Rattle.tw_names.specs.declared.meaning.Binding.TheVariants as binding
-use Rattle.tw_names.specs.declared.refusal.NameNo.TheVariants as no
+use Rattle.tw_names.specs.declared.rejection.NameNo.TheVariants as no
 use Rattle.tw_names.proofs.KeptTexts.{AllKept, IsKept, all_kept, either, number_kept}
 
 -- what went, and what went first

@@ -9,5 +9,5 @@ pub use Rattle.tw_names.specs.Lines.{AreTaken, AreWords, Broken, IsTail, IsTaken
 pub use Rattle.tw_names.specs.Meanings.{TokenError, Names, Procedures, Table, and_then, is_name, known, may_name, meaning, name_register, no_names, or_else, refused, with_constant, with_register}
 pub use Rattle.tw_names.specs.LineExpansion.{Said, asked_by, at_head, bank_of_mode, behind, head_says, is_names_line, is_unnamed, list_says, line_says, made_say, name_says, parameters, procedure_name, value_types, words_say}
 pub use Rattle.tw_names.specs.Seen.{now, seen_entry, seen_names, seen_procedures, seen_table, texts}
-pub use Rattle.tw_names.specs.Expansion.{HasNames, Refusal, Says, at_number, ended, lines_say, procedures_of, taken_says, text_says, with_line, with_lines}
+pub use Rattle.tw_names.specs.Expansion.{HasNames, Rejection, Says, at_number, ended, lines_say, procedures_of, taken_says, text_says, with_line, with_lines}
 pub use denote.Ref.{Bor}

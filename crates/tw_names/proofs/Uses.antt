@@ -25,7 +25,7 @@ use Rattle.tw_names.specs.declared.meaning.Origin.{Origin}
 use Rattle.tw_names.specs.declared.meaning.Origin.TheVariants as origin
 use Rattle.tw_names.specs.declared.meaning.Binding.{Binding}
 use Rattle.tw_names.specs.declared.meaning.Binding.TheVariants as binding
-use Rattle.tw_names.specs.declared.refusal.NameNo.TheVariants as no
+use Rattle.tw_names.specs.declared.rejection.NameNo.TheVariants as no
 use Rattle.tw_names.proofs.NameSteps.{IsStep, by_test, list_step, taken_step}
 use Rattle.tw_names.proofs.SaidTexts.{ok_is, went_then}
 

@@ -7,7 +7,7 @@ use Rattle.tw_words.specs.Words.{IsBlank, IsBroken}
 use Rattle.tw_names.specs.Lines.{IsTaken, Line, StandsFirst, line_words, pieces_behind}
 use Rattle.tw_names.specs.LineExpansion.{Said, is_names_line}
 use Rattle.tw_names.specs.Seen.{seen_names}
-use Rattle.tw_names.specs.Expansion.{HasNames, Refusal as Told}
+use Rattle.tw_names.specs.Expansion.{HasNames, Rejection as Told}
 use Rattle.tw_names.specs.declared.operand_text.OperandText as standings
 use Rattle.tw_names.specs.declared.operand_text.OperandText.TheVariants as standing
 use Rattle.tw_names.specs.declared.line.First as firsts
@@ -15,11 +15,11 @@ use Rattle.tw_names.specs.declared.line.First.TheVariants as first
 use Rattle.tw_names.specs.declared.meaning.Bank.{Bank}
 use Rattle.tw_names.specs.declared.meaning.Binding.{Binding}
 use Rattle.tw_names.specs.declared.names.Names as names
-use Rattle.tw_names.specs.declared.refusal.NameNo.{NameNo}
-use Rattle.tw_names.specs.declared.refusal.NameNo.TheVariants as no
-use Rattle.tw_names.specs.declared.refusal.NameRefusal.{NameRefusal}
-use Rattle.tw_names.specs.declared.refusal.Refusal.{Refusal}
-use Rattle.tw_names.specs.declared.refusal.Refusal.TheVariants as refusal
+use Rattle.tw_names.specs.declared.rejection.NameNo.{NameNo}
+use Rattle.tw_names.specs.declared.rejection.NameNo.TheVariants as no
+use Rattle.tw_names.specs.declared.rejection.NameError.{NameError}
+use Rattle.tw_names.specs.declared.rejection.Rejection.{Rejection}
+use Rattle.tw_names.specs.declared.rejection.Rejection.TheVariants as rejection
 
 -- N01 to N07; a name and a register may both be taken, which is N03
 abbrev pub name_number : NameNo → ℕ
@@ -48,34 +48,34 @@ pieces_left word start index = pieces_behind (take (index - start) (drop start w
 -- ---- parts of a line
 
 -- it is refused as the function did
-abbrev pub Fails : {Y : Type 0} → Refusal → Result Y TokenError → Type 0
-Fails refusal.NoMemory says = Unit {0}
-Fails (refusal.Flawed which word) says = says ≡ Err (record { no = which; word = word.now })
+abbrev pub Fails : {Y : Type 0} → Rejection → Result Y TokenError → Type 0
+Fails rejection.NoMemory says = Unit {0}
+Fails (rejection.Flawed which word) says = says ≡ Err (record { no = which; word = word.now })
 
 -- What a function returned, seen by view, is what is said, unless memory ran out.
-abbrev pub Gives : {X Y : Type 0} → (X → Y) → Result X Refusal → Result Y TokenError → Type 0
+abbrev pub Gives : {X Y : Type 0} → (X → Y) → Result X Rejection → Result Y TokenError → Type 0
 Gives view (Ok x) says = says ≡ Ok (view x)
 Gives view (Err e) says = Fails e says
 
 -- the names, and the text in what is written now
-abbrev pub SaysBehind : Result names.Names Refusal → List ℕ → Said → Type 0
+abbrev pub SaysBehind : Result names.Names Rejection → List ℕ → Said → Type 0
 SaysBehind result text says = Gives (λ n. (seen_names n, text)) result says
 
 -- ---- a whole text
 
-abbrev pub IsMemory : NameRefusal → Type 0
+abbrev pub IsMemory : NameError → Type 0
 IsMemory f = (f.no ≡ no.NoMemory) × (f.line ≡ 0) × (f.word.now ≡ [])
 
-abbrev pub told : NameRefusal → Told
+abbrev pub told : NameError → Told
 told f = record { line = f.line; no = f.no; word = f.word.now }
 
 -- what is refused, with the number of its line
-abbrev pub IsAtLine : ℕ → Refusal → NameRefusal → Type 0
-IsAtLine number refusal.NoMemory f = IsMemory f
-IsAtLine number (refusal.Flawed which word) f = told f ≡ record { line = number; no = which; word = word.now }
+abbrev pub IsAtLine : ℕ → Rejection → NameError → Type 0
+IsAtLine number rejection.NoMemory f = IsMemory f
+IsAtLine number (rejection.Flawed which word) f = told f ≡ record { line = number; no = which; word = word.now }
 
 -- the names and the text of a line of this number, or its refusal, or want of memory
-abbrev pub SaidAt : ℕ → Result names.Names NameRefusal → List ℕ → Said → Type 0
+abbrev pub SaidAt : ℕ → Result names.Names NameError → List ℕ → Said → Type 0
 SaidAt number (Ok n) text says = says ≡ Ok (seen_names n, text)
 SaidAt number (Err f) text says = IsMemory f ⊎ ((f.line ≡ number) × (says ≡ Err (record { no = f.no; word = f.word.now })))
 

@@ -7,7 +7,7 @@ use Rattle.tw_names.specs.Lines.{AreTaken, AreWords, Line, line_rest, line_words
 use Rattle.tw_names.specs.Meanings.{Names, Procedures, Table, and_then, meaning, no_names}
 use Rattle.tw_names.specs.LineExpansion.{Said, bank_of_mode, line_says, procedure_name}
 use Rattle.tw_names.specs.declared.meaning.Binding.TheVariants as binding
-use Rattle.tw_names.specs.declared.refusal.NameNo.{NameNo}
+use Rattle.tw_names.specs.declared.rejection.NameNo.{NameNo}
 
 -- ---- the procedures of a text
 
@@ -40,7 +40,7 @@ procedures_of all = with_lines (record { table = []; heads = [] }) 1 all
 
 -- ---- line by line
 
-pub record Refusal : Type 0 where
+pub record Rejection : Type 0 where
   pub line : ℕ
   pub no : NameNo
   pub word : List ℕ
@@ -53,16 +53,16 @@ abbrev pub taken_says : Procedures → ℕ → Names → List ℕ → Line → S
 taken_says procedures number names front line = and_then (line_says procedures number names front (line_words line)) (λ said. Ok (said.0, said.1 ++ ended (line_rest line)))
 
 -- what is refused is told with the number of its line
-abbrev pub at_number : ℕ → Said → (Names × List ℕ → Result (List ℕ) Refusal) → Result (List ℕ) Refusal
+abbrev pub at_number : ℕ → Said → (Names × List ℕ → Result (List ℕ) Rejection) → Result (List ℕ) Rejection
 at_number number (Ok said) next = next said
 at_number number (Err flaw) next = Err (record { line = number; no = flaw.no; word = flaw.word })
 
 -- lines from this number on, behind a text
-abbrev pub lines_say : Procedures → ℕ → Names → List ℕ → List Line → Result (List ℕ) Refusal
+abbrev pub lines_say : Procedures → ℕ → Names → List ℕ → List Line → Result (List ℕ) Rejection
 lines_say procedures number names front [] = Ok front
 lines_say procedures number names front (line ∷ others) = at_number number (taken_says procedures number names front line) (λ said. lines_say procedures (number + 1) said.0 said.1 others)
 
-abbrev pub text_says : List Line → Result (List ℕ) Refusal
+abbrev pub text_says : List Line → Result (List ℕ) Rejection
 text_says all = lines_say (procedures_of all) 1 no_names [] all
 
 -- ---- the text
@@ -73,12 +73,12 @@ HasNames [] = ⊥
 HasNames (line ∷ others) = ((rest : List ℕ) × AreWords (codes "names" ∷ []) line rest) ⊎ (((rest : List ℕ) × AreWords [] line rest) × HasNames others)
 
 -- a text with names says this
-abbrev pub Says : List ℕ → Result (List ℕ) Refusal → Type 0
+abbrev pub Says : List ℕ → Result (List ℕ) Rejection → Type 0
 Says text says = HasNames (lines text) × ((all : List Line) × AreTaken all (lines text) × (text_says all ≡ says))
 
 -- a text, and the assembly text that it stands for
 abbrev pub StandsFor : List ℕ → List ℕ → Type 0
 StandsFor text plain = Says text (Ok plain) ⊎ ((HasNames (lines text) → ⊥) × (plain ≡ text))
 
-abbrev pub IsFirstRefusal : List ℕ → Refusal → Type 0
-IsFirstRefusal text refusal = Says text (Err refusal)
+abbrev pub IsFirstRejection : List ℕ → Rejection → Type 0
+IsFirstRejection text rejection = Says text (Err rejection)

@@ -11,7 +11,7 @@ use Rattle.tw_names.specs.Lines.{AreTaken, Line, line_words}
 use Rattle.tw_names.specs.Meanings.{Names, Procedures, Table, is_bank, is_name, known, meaning}
 use Rattle.tw_names.specs.Registers.{registers_at}
 use Rattle.tw_names.specs.LineExpansion.{begins, list_says, number_in, register_in, register_of, with_word, word_says, words_say}
-use Rattle.tw_names.specs.Expansion.{HasNames, IsFirstRefusal, Refusal, StandsFor, taken_says}
+use Rattle.tw_names.specs.Expansion.{HasNames, IsFirstRejection, Rejection, StandsFor, taken_says}
 use Rattle.tw_names.specs.declared.meaning.Expected.{Expected}
 use Rattle.tw_names.specs.declared.meaning.Expected.TheVariants as asked
 use Rattle.tw_names.specs.declared.meaning.Bank.{Bank}
@@ -25,11 +25,11 @@ use Rattle.tw_names.specs.declared.meaning.Binding.TheVariants as binding
 abbrev pub StandsForOne : Type 0
 StandsForOne = (text plain other : List ℕ) → StandsFor text plain → StandsFor text other → plain ≡ other
 
-abbrev pub OneFirstRefusal : Type 0
-OneFirstRefusal = (text : List ℕ) (refusal other : Refusal) → IsFirstRefusal text refusal → IsFirstRefusal text other → refusal ≡ other
+abbrev pub OneFirstRejection : Type 0
+OneFirstRejection = (text : List ℕ) (rejection other : Rejection) → IsFirstRejection text rejection → IsFirstRejection text other → rejection ≡ other
 
 abbrev pub NotBoth : Type 0
-NotBoth = (text plain : List ℕ) (refusal : Refusal) → StandsFor text plain → IsFirstRefusal text refusal → ⊥
+NotBoth = (text plain : List ℕ) (rejection : Rejection) → StandsFor text plain → IsFirstRejection text rejection → ⊥
 
 abbrev pub StandsForItself : Type 0
 StandsForItself = (text : List ℕ) → (HasNames (lines text) → ⊥) → StandsFor text text

@@ -24,7 +24,7 @@ use Rattle.tw_names.specs.declared.meaning.Listed.TheVariants as listed
 use Rattle.tw_names.specs.declared.meaning.Origin.TheVariants as origin
 use Rattle.tw_names.specs.declared.meaning.Binding.{Binding}
 use Rattle.tw_names.specs.declared.meaning.Binding.TheVariants as binding
-use Rattle.tw_names.specs.declared.refusal.NameNo.TheVariants as no
+use Rattle.tw_names.specs.declared.rejection.NameNo.TheVariants as no
 
 -- the names behind a line, and a text with that for which its words stand
 abbrev pub Said : Type 0

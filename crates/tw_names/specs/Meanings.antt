@@ -10,8 +10,8 @@ use Rattle.tw_names.specs.declared.meaning.Origin.{Origin}
 use Rattle.tw_names.specs.declared.meaning.Origin.TheVariants as origin
 use Rattle.tw_names.specs.declared.meaning.Binding.{Binding}
 use Rattle.tw_names.specs.declared.meaning.Binding.TheVariants as binding
-use Rattle.tw_names.specs.declared.refusal.NameNo.{NameNo}
-use Rattle.tw_names.specs.declared.refusal.NameNo.TheVariants as no
+use Rattle.tw_names.specs.declared.rejection.NameNo.{NameNo}
+use Rattle.tw_names.specs.declared.rejection.NameNo.TheVariants as no
 
 -- ---- which words are names
 

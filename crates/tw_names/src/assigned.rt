@@ -9,7 +9,7 @@ use crate::meaning::{Bank, Origin};
 use crate::names::{Names, may_name, with_constant, with_register};
 use crate::numbers::{natural, signed};
 use crate::procedures::Procedures;
-use crate::refusal::{NameNo, Refusal};
+use crate::rejection::{NameNo, Rejection};
 
 /// The number of a bank's last register.
 const LAST_REGISTER: u64 = 15;
@@ -17,46 +17,46 @@ const LAST_REGISTER: u64 = 15;
 /// Returns the word behind `=`, of the words behind a name.
 ///
 /// A missing word is told by the line's first word.
-fn assigned<'a>(first: &'a [u8], words: &[&'a [u8]]) -> Result<&'a [u8], Refusal<'a>>
+fn assigned<'a>(first: &'a [u8], words: &[&'a [u8]]) -> Result<&'a [u8], Rejection<'a>>
     ensures { Gives now result (assigned first.now (texts words.now)) }
 {
     match words {
-        [] => Err(Refusal::Flawed(NameNo::Form, first)),
-        [sign, ..] if *sign != b"=".as_slice() => Err(Refusal::Flawed(NameNo::Form, *sign)),
+        [] => Err(Rejection::Flawed(NameNo::Form, first)),
+        [sign, ..] if *sign != b"=".as_slice() => Err(Rejection::Flawed(NameNo::Form, *sign)),
         [_, word, ..] => Ok(*word),
-        [_] => Err(Refusal::Flawed(NameNo::Form, first)),
+        [_] => Err(Rejection::Flawed(NameNo::Form, first)),
     }
 }
 
 /// Returns an error if a word is left behind `=` and the value.
-fn nothing_after<'a>(words: &[&'a [u8]]) -> Result<(), Refusal<'a>>
+fn nothing_after<'a>(words: &[&'a [u8]]) -> Result<(), Rejection<'a>>
     ensures { Gives (λ u. u) result (nothing_left (drop 2 (texts words.now))) }
 {
     match words {
-        [_, _, word, ..] => Err(Refusal::Flawed(NameNo::Form, *word)),
+        [_, _, word, ..] => Err(Rejection::Flawed(NameNo::Form, *word)),
         _ => Ok(()),
     }
 }
 
 /// Returns the number behind `=`, of the words behind a constant's name.
-fn number_after<'a>(first: &'a [u8], words: &[&'a [u8]]) -> Result<i64, Refusal<'a>>
+fn number_after<'a>(first: &'a [u8], words: &[&'a [u8]]) -> Result<i64, Rejection<'a>>
     ensures { Gives (λ n. n) result (value_behind number_of first.now (texts words.now)) }
 {
     let word = assigned(first, words)?;
     let Some(number) = signed(word) else {
-        return Err(Refusal::Flawed(NameNo::Form, word));
+        return Err(Rejection::Flawed(NameNo::Form, word));
     };
     nothing_after(words)?;
     Ok(number)
 }
 
 /// Returns the register behind `=`, of the words behind its name.
-fn register_after<'a>(first: &'a [u8], words: &[&'a [u8]]) -> Result<(Bank, usize), Refusal<'a>>
+fn register_after<'a>(first: &'a [u8], words: &[&'a [u8]]) -> Result<(Bank, usize), Rejection<'a>>
     ensures { Gives (λ r. r) result (value_behind register_of first.now (texts words.now)) }
 {
     let word = assigned(first, words)?;
     let Some(register) = register_of(word) else {
-        return Err(Refusal::Flawed(NameNo::Form, word));
+        return Err(Rejection::Flawed(NameNo::Form, word));
     };
     nothing_after(words)?;
     Ok(register)
@@ -97,11 +97,11 @@ pub fn with_const<'a>(
     names: Names<'a>,
     first: &'a [u8],
     words: &[&'a [u8]],
-) -> Result<Names<'a>, Refusal<'a>>
+) -> Result<Names<'a>, Rejection<'a>>
     ensures { Gives seen_names result (constant_says (seen_procedures procedures.now) (seen_names names.entry) first.now (texts words.now)) }
 {
     let [name, others @ ..] = words else {
-        return Err(Refusal::Flawed(NameNo::Form, first));
+        return Err(Rejection::Flawed(NameNo::Form, first));
     };
     may_name(procedures, &names, name)?;
     let number = number_after(first, others)?;
@@ -114,11 +114,11 @@ pub fn with_let<'a>(
     names: Names<'a>,
     first: &'a [u8],
     words: &[&'a [u8]],
-) -> Result<Names<'a>, Refusal<'a>>
+) -> Result<Names<'a>, Rejection<'a>>
     ensures { Gives seen_names result (let_says (seen_procedures procedures.now) (seen_names names.entry) first.now (texts words.now)) }
 {
     let [name, others @ ..] = words else {
-        return Err(Refusal::Flawed(NameNo::Form, first));
+        return Err(Rejection::Flawed(NameNo::Form, first));
     };
     may_name(procedures, &names, name)?;
     let (bank, number) = register_after(first, others)?;

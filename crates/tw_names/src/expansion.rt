@@ -7,14 +7,14 @@ ghost use Rattle.tw_names.specs.Lines.{AreTaken, IsTaken, Line, line_words};
 ghost use Rattle.tw_names.specs.Meanings.{and_then, no_names};
 ghost use Rattle.tw_names.specs.LineExpansion.{line_says};
 ghost use Rattle.tw_names.specs.Seen.{seen_names, seen_procedures, texts};
-ghost use Rattle.tw_names.specs.Expansion.{HasNames, IsFirstRefusal, StandsFor, ended, lines_say, taken_says};
+ghost use Rattle.tw_names.specs.Expansion.{HasNames, IsFirstRejection, StandsFor, ended, lines_say, taken_says};
 
 use crate::line::take_line;
 use crate::line_expansion::{is_names_line, put_line};
 use crate::names::Names;
 use crate::operand_text::put_ended;
 use crate::procedures::{Procedures, procedures_of};
-use crate::refusal::{NameRefusal, Refusal};
+use crate::rejection::{NameError, Rejection};
 use std::alloc::{AllocError, Global};
 
 /// Returns whether these words are just `names`; `None` if there are none.
@@ -65,7 +65,7 @@ fn put_worded<'a>(
     out: &mut Vec<u8>,
     words: &[&'a [u8]],
     rest: &'a [u8],
-) -> Result<Names<'a>, Refusal<'a>>
+) -> Result<Names<'a>, Rejection<'a>>
     ensures { SaysBehind result out.new.items (and_then (line_says (seen_procedures procedures.now) number (seen_names names.entry) out.old.items (texts words.now)) (λ said. Ok (said.0, said.1 ++ ended rest.now))) }
 {
     match put_line(alloc, procedures, number, names, out, words) {
@@ -73,7 +73,7 @@ fn put_worded<'a>(
             put_ended(out, rest)?;
             Ok(names)
         }
-        Err(refusal) => Err(refusal),
+        Err(rejection) => Err(rejection),
     }
 }
 
@@ -85,7 +85,7 @@ fn put_taken<'a>(
     names: Names<'a>,
     out: &mut Vec<u8>,
     line: &'a str,
-) -> Result<Names<'a>, Refusal<'a>>
+) -> Result<Names<'a>, Rejection<'a>>
     ensures { (taken : Line) → IsTaken taken line.entry.now → SaysBehind result out.new.items (taken_says (seen_procedures procedures.now) number (seen_names names.entry) out.old.items taken) }
 {
     let taken = take_line(alloc, line)?;
@@ -100,12 +100,12 @@ fn put_taken<'a>(
     )
 }
 
-fn at_line(number: usize, refusal: Refusal<'_>) -> NameRefusal<'_>
-    ensures { IsAtLine number refusal.entry result }
+fn at_line(number: usize, rejection: Rejection<'_>) -> NameError<'_>
+    ensures { IsAtLine number rejection.entry result }
 {
-    match refusal {
-        Refusal::NoMemory => NameRefusal::memory(),
-        Refusal::Flawed(no, word) => NameRefusal {
+    match rejection {
+        Rejection::NoMemory => NameError::memory(),
+        Rejection::Flawed(no, word) => NameError {
             no,
             line: number,
             word,
@@ -121,12 +121,12 @@ pub fn put_numbered_line<'a>(
     names: Names<'a>,
     out: &mut Vec<u8>,
     line: &'a str,
-) -> Result<Names<'a>, NameRefusal<'a>>
+) -> Result<Names<'a>, NameError<'a>>
     ensures { (taken : Line) → IsTaken taken line.entry.now → SaidAt number result out.new.items (taken_says (seen_procedures procedures.now) number (seen_names names.entry) out.old.items taken) }
 {
     match put_taken(alloc, procedures, number, names, out, line) {
         Ok(names) => Ok(names),
-        Err(refusal) => Err(at_line(number, refusal)),
+        Err(rejection) => Err(at_line(number, rejection)),
     }
 }
 
@@ -135,7 +135,7 @@ fn expanded_lines<'a>(
     alloc: Global,
     procedures: &Procedures<'_>,
     text: &'a str,
-) -> Result<Vec<u8>, NameRefusal<'a>>
+) -> Result<Vec<u8>, NameError<'a>>
     ensures { (all : List Line) → AreTaken all (lines text.entry.now) → MatchResult result
         (λ out. lines_say (seen_procedures procedures.now) 1 no_names [] all ≡ Ok out.items)
         (λ f. IsMemory f ⊎ (lines_say (seen_procedures procedures.now) 1 no_names [] all ≡ Err (told f))) }
@@ -149,11 +149,11 @@ fn expanded_lines<'a>(
 }
 
 /// What a text stands for whose first line with a word is `names`.
-fn named_text<'a>(alloc: Global, text: &'a str) -> Result<Vec<u8>, NameRefusal<'a>>
+fn named_text<'a>(alloc: Global, text: &'a str) -> Result<Vec<u8>, NameError<'a>>
     requires { HasNames (lines text.now) }
     ensures { MatchResult result
         (λ plain. StandsFor text.entry.now plain.items)
-        (λ f. IsMemory f ⊎ IsFirstRefusal text.entry.now (told f)) }
+        (λ f. IsMemory f ⊎ IsFirstRejection text.entry.now (told f)) }
 {
     let procedures = procedures_of(alloc, text)?;
     expanded_lines(alloc, &procedures, text)
@@ -172,10 +172,10 @@ fn as_text(bytes: Vec<u8>) -> String
 
 /// The assembly text for which a text with names stands, or its first refusal; `None` for a text without names, which stands for
 /// itself.
-pub fn expanded_text<'a>(alloc: Global, text: &'a str) -> Result<Option<String>, NameRefusal<'a>>
+pub fn expanded_text<'a>(alloc: Global, text: &'a str) -> Result<Option<String>, NameError<'a>>
     ensures stands { MatchResult result
         (λ read. MatchOption read (StandsFor text.entry.now text.entry.now) (λ plain. StandsFor text.entry.now (string_bytes plain)))
-        (λ f. IsMemory f ⊎ IsFirstRefusal text.entry.now (told f)) }
+        (λ f. IsMemory f ⊎ IsFirstRejection text.entry.now (told f)) }
     ensures named { IfOk result (λ read. MatchOption read (HasNames (lines text.entry.now) → ⊥) (λ _. HasNames (lines text.entry.now))) }
 {
     if !is_named(alloc, text)? {

@@ -15,7 +15,7 @@ use crate::names::{Names, is_name, known, with_register};
 use crate::numbers::natural;
 use crate::operand_text::{count, expected_after, first_words, put_word, put_words, words_after};
 use crate::procedures::Procedures;
-use crate::refusal::Refusal;
+use crate::rejection::Rejection;
 use std::alloc::{AllocError, Global};
 use tw_code::{Form, Opcode};
 
@@ -126,7 +126,7 @@ fn made_one<'a>(
     procedures: &Procedures<'_>,
     names: Names<'a>,
     word: &'a [u8],
-) -> Result<Names<'a>, Refusal<'a>>
+) -> Result<Names<'a>, Rejection<'a>>
     ensures { Gives seen_names result (made_one (seen_procedures procedures.now) (seen_names names.entry) word.now) }
 {
     if is_name(word) && known(procedures, &names, word).is_none() {
@@ -144,7 +144,7 @@ fn put_made<'a>(
     names: Names<'a>,
     out: &mut Vec<u8>,
     word: &'a [u8],
-) -> Result<Names<'a>, Refusal<'a>>
+) -> Result<Names<'a>, Rejection<'a>>
     ensures { SaysBehind result out.new.items (made_word (seen_procedures procedures.now) (seen_names names.entry) out.old.items word.now) }
 {
     let names = made_one(procedures, names, word)?;
@@ -159,7 +159,7 @@ fn put_all_made<'a>(
     mut names: Names<'a>,
     out: &mut Vec<u8>,
     words: &[&'a [u8]],
-) -> Result<Names<'a>, Refusal<'a>>
+) -> Result<Names<'a>, Rejection<'a>>
     ensures { SaysBehind result out.new.items (made_say (seen_procedures procedures.now) (seen_names names.entry) out.old.items (texts words.now)) }
 {
     for word in words {
@@ -176,7 +176,7 @@ fn put_others<'a>(
     out: &mut Vec<u8>,
     opcode: Opcode,
     words: &[&'a [u8]],
-) -> Result<(), Refusal<'a>>
+) -> Result<(), Rejection<'a>>
     ensures { Gives (λ _. out.new.items) result (words_say (seen_procedures procedures.now) (seen_names names.now)
         (drop (makes opcode) (flat_map (asked_by (banks_of (seen_procedures procedures.now) (seen_names names.now) (texts words.now))) (forms_of opcode)))
         out.old.items (drop (makes opcode) (texts words.now))) }
@@ -201,7 +201,7 @@ pub fn put_instruction<'a>(
     out: &mut Vec<u8>,
     opcode: Opcode,
     words: &[&'a [u8]],
-) -> Result<Names<'a>, Refusal<'a>>
+) -> Result<Names<'a>, Rejection<'a>>
     ensures { SaysBehind result out.new.items (instruction_says (seen_procedures procedures.now) (seen_names names.entry) opcode out.old.items (texts words.now)) }
 {
     let names = put_all_made(

@@ -1,6 +1,6 @@
 //! What holds of all texts.
 
-ghost use Rattle.tw_names.specs.Laws.{AsManyLines, InUtf8, ListedByPlace, NamesDiffer, NamesStay, NotBoth, OneFirstRefusal, RenamedAlike, StandsForItself, StandsForOne, UsesAreRegisters};
+ghost use Rattle.tw_names.specs.Laws.{AsManyLines, InUtf8, ListedByPlace, NamesDiffer, NamesStay, NotBoth, OneFirstRejection, RenamedAlike, StandsForItself, StandsForOne, UsesAreRegisters};
 
 /// A text stands for at most one text.
 pub fn stands_for_one()
@@ -8,8 +8,8 @@ pub fn stands_for_one()
 {}
 
 /// A text has at most one first refusal.
-pub fn one_first_refusal()
-    ensures { OneFirstRefusal }
+pub fn one_first_rejection()
+    ensures { OneFirstRejection }
 {}
 
 /// A text that stands for one isn't refused.

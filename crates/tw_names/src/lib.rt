@@ -18,16 +18,16 @@ mod numbers;
 mod operand_text;
 mod pieces;
 mod procedures;
-mod refusal;
 mod registers;
+mod rejection;
 mod symbols;
 
 pub use expansion::expanded_text;
 pub use laws::{
-    as_many_lines, in_utf8, listed_by_place, names_differ, names_stay, not_both, one_first_refusal,
-    renamed_alike, stands_for_itself, stands_for_one, uses_are_registers,
+    as_many_lines, in_utf8, listed_by_place, names_differ, names_stay, not_both,
+    one_first_rejection, renamed_alike, stands_for_itself, stands_for_one, uses_are_registers,
 };
 pub use meaning::{Bank, Binding, Expected, Origin};
-pub use refusal::{NameNo, NameRefusal};
 pub use registers::put_with_name;
+pub use rejection::{NameError, NameNo};
 pub use symbols::Symbols;

@@ -16,7 +16,7 @@ use crate::names::Names;
 use crate::operand_text::put_all;
 use crate::pieces::pieces_of;
 use crate::procedures::Procedures;
-use crate::refusal::Refusal;
+use crate::rejection::Rejection;
 use std::alloc::{AllocError, Global};
 use tw_code::{Version, opcode_in};
 
@@ -35,7 +35,7 @@ fn put_body<'a>(
     out: &mut Vec<u8>,
     first: &'a [u8],
     words: &[&'a [u8]],
-) -> Result<Names<'a>, Refusal<'a>>
+) -> Result<Names<'a>, Rejection<'a>>
     ensures { SaysBehind result out.new.items (body_says (seen_procedures procedures.now) (seen_names names.entry) (opcode_in Two first.now) (out.old.items ++ first.now) (texts words.now)) }
 {
     out.extend_from_slice(first)?;
@@ -60,7 +60,7 @@ fn put_proc<'a>(
     out: &mut Vec<u8>,
     first: &'a [u8],
     words: &[&'a [u8]],
-) -> Result<Names<'a>, Refusal<'a>>
+) -> Result<Names<'a>, Rejection<'a>>
     ensures { SaysBehind result out.new.items (head_says (seen_procedures procedures.now) number (seen_names names.entry) (out.old.items ++ first.now) (flat_map pieces (texts words.now))) }
 {
     out.extend_from_slice(first)?;
@@ -76,7 +76,7 @@ fn put_regs<'a>(
     out: &mut Vec<u8>,
     first: &'a [u8],
     words: &[&'a [u8]],
-) -> Result<Names<'a>, Refusal<'a>>
+) -> Result<Names<'a>, Rejection<'a>>
     ensures { SaysBehind result out.new.items (registers_say (seen_procedures procedures.now) (seen_names names.entry) (out.old.items ++ first.now) (flat_map pieces (texts words.now))) }
 {
     out.extend_from_slice(first)?;
@@ -93,7 +93,7 @@ pub fn put_line<'a>(
     names: Names<'a>,
     out: &mut Vec<u8>,
     words: &[&'a [u8]],
-) -> Result<Names<'a>, Refusal<'a>>
+) -> Result<Names<'a>, Rejection<'a>>
     ensures { SaysBehind result out.new.items (line_says (seen_procedures procedures.now) number (seen_names names.entry) out.old.items (texts words.now)) }
 {
     let [first, others @ ..] = words else {

@@ -13,7 +13,7 @@ use crate::names::{Names, is_name, meaning, with_listed};
 use crate::operand_text::{count, first_words, put_all, put_plain};
 use crate::pieces::begins_quoted;
 use crate::procedures::Procedures;
-use crate::refusal::{NameNo, Refusal};
+use crate::rejection::{NameNo, Rejection};
 use indexmap::IndexMap;
 use std::alloc::{AllocError, Global};
 use tw_words::before_colon;
@@ -71,13 +71,13 @@ fn has_colon(word: &[u8]) -> bool
 }
 
 /// The names behind a word that isn't a name and `:`.
-fn unnamed<'a>(names: Names<'a>, word: &'a [u8]) -> Result<Names<'a>, Refusal<'a>>
+fn unnamed<'a>(names: Names<'a>, word: &'a [u8]) -> Result<Names<'a>, Rejection<'a>>
     ensures { Gives seen_names result (unnamed_says (seen_names names.entry) word.now) }
 {
     if is_name(word) && !is_listed_word(word) {
-        Err(Refusal::Flawed(NameNo::Unknown, word))
+        Err(Rejection::Flawed(NameNo::Unknown, word))
     } else if has_colon(word) {
-        Err(Refusal::Flawed(NameNo::Form, word))
+        Err(Rejection::Flawed(NameNo::Form, word))
     } else {
         Ok(names)
     }
@@ -91,7 +91,7 @@ fn name_begun<'a>(
     word: &'a [u8],
     name: &'a [u8],
     bank: Option<Bank>,
-) -> Result<Names<'a>, Refusal<'a>>
+) -> Result<Names<'a>, Rejection<'a>>
     ensures { Gives seen_names result (list_name (seen_procedures procedures.now) (seen_names names.entry) begun.0 begun.1 word.now name.now bank) }
 {
     match bank {
@@ -99,7 +99,7 @@ fn name_begun<'a>(
             let number = number_in(bank, begun.0, begun.1);
             with_listed(procedures, names, name, bank, number)
         }
-        _ => Err(Refusal::Flawed(NameNo::Form, word)),
+        _ => Err(Rejection::Flawed(NameNo::Form, word)),
     }
 }
 
@@ -111,7 +111,7 @@ fn name_listed<'a>(
     begun: (usize, usize),
     word: &'a [u8],
     others: &[&'a [u8]],
-) -> Result<Names<'a>, Refusal<'a>>
+) -> Result<Names<'a>, Rejection<'a>>
     ensures { Gives seen_names result (name_before (seen_procedures procedures.now) listed (seen_names names.entry) begun.0 begun.1 word.now (texts others.now) (before_colon word.now)) }
 {
     match before_colon(word) {
@@ -134,7 +134,7 @@ fn list<'a>(
     mut names: Names<'a>,
     first: usize,
     words: &[&'a [u8]],
-) -> Result<Names<'a>, Refusal<'a>>
+) -> Result<Names<'a>, Rejection<'a>>
     requires { first ≤ 2 ^ 63 }
     ensures { Gives seen_names result (list_says (seen_procedures procedures.now) listed (seen_names names.entry) first 0 (texts words.now)) }
 {
@@ -182,18 +182,18 @@ fn check_name<'a>(
     procedures: &Procedures<'_>,
     number: usize,
     name: Option<&'a [u8]>,
-) -> Result<(), Refusal<'a>>
+) -> Result<(), Rejection<'a>>
     ensures { Gives (λ u. u) result (name_says (seen_procedures procedures.now) number (option_map now name.entry)) }
 {
     let Some(name) = name else {
         return Ok(());
     };
     if !is_name(name) {
-        Err(Refusal::Flawed(NameNo::NoName, name))
+        Err(Rejection::Flawed(NameNo::NoName, name))
     } else if begins_at(procedures, number, meaning(&procedures.table, name)) {
         Ok(())
     } else {
-        Err(Refusal::Flawed(NameNo::Twice, name))
+        Err(Rejection::Flawed(NameNo::Twice, name))
     }
 }
 
@@ -228,7 +228,7 @@ pub fn put_head<'a>(
     names: Names<'a>,
     out: &mut Vec<u8>,
     words: &[&'a [u8]],
-) -> Result<Names<'a>, Refusal<'a>>
+) -> Result<Names<'a>, Rejection<'a>>
     ensures { SaysBehind result out.new.items (head_says (seen_procedures procedures.now) number (seen_names names.entry) out.old.items (texts words.now)) }
 {
     check_name(procedures, number, procedure_name(words))?;
@@ -246,7 +246,7 @@ pub fn put_registers<'a>(
     names: Names<'a>,
     out: &mut Vec<u8>,
     words: &[&'a [u8]],
-) -> Result<Names<'a>, Refusal<'a>>
+) -> Result<Names<'a>, Rejection<'a>>
     ensures { SaysBehind result out.new.items (registers_say (seen_procedures procedures.now) (seen_names names.entry) out.old.items (texts words.now)) }
 {
     let first = count(&names.types);

@@ -10,7 +10,7 @@ ghost use Rattle.tw_names.specs.Seen.{seen_names, seen_procedures, seen_table};
 
 use crate::meaning::{Bank, Binding, Origin, is_bank, is_origin};
 use crate::procedures::Procedures;
-use crate::refusal::{NameNo, Refusal};
+use crate::rejection::{NameNo, Rejection};
 use indexmap::IndexMap;
 use std::alloc::{AllocError, Global};
 use tw_words::TextHash;
@@ -138,13 +138,13 @@ pub fn may_name<'a>(
     procedures: &Procedures<'_>,
     names: &Names<'_>,
     name: &'a [u8],
-) -> Result<(), Refusal<'a>>
+) -> Result<(), Rejection<'a>>
     ensures { Gives (λ u. u) result (may_name (seen_procedures procedures.now) (seen_names names.now) name.now) }
 {
     if !is_name(name) {
-        Err(Refusal::Flawed(NameNo::NoName, name))
+        Err(Rejection::Flawed(NameNo::NoName, name))
     } else if known(procedures, names, name).is_some() {
-        Err(Refusal::Flawed(NameNo::Twice, name))
+        Err(Rejection::Flawed(NameNo::Twice, name))
     } else {
         Ok(())
     }
@@ -169,7 +169,7 @@ pub fn with_constant<'a>(
     mut names: Names<'a>,
     name: &'a [u8],
     number: i64,
-) -> Result<Names<'a>, Refusal<'a>>
+) -> Result<Names<'a>, Rejection<'a>>
     ensures { Gives seen_names result (with_constant (seen_procedures procedures.now) (seen_names names.entry) name.now (Constant number)) }
 {
     may_name(procedures, &names, name)?;
@@ -196,12 +196,12 @@ pub fn with_register<'a>(
     bank: Bank,
     number: usize,
     origin: Origin,
-) -> Result<Names<'a>, Refusal<'a>>
+) -> Result<Names<'a>, Rejection<'a>>
     ensures { Gives seen_names result (with_register (seen_procedures procedures.now) (seen_names names.entry) name.now bank number origin) }
 {
     may_name(procedures, &names, name)?;
     if number >= REGISTERS {
-        return Err(Refusal::Flawed(NameNo::Limit, name));
+        return Err(Rejection::Flawed(NameNo::Limit, name));
     }
     put_name(
         &mut names.registers,
@@ -253,11 +253,11 @@ pub fn with_listed<'a>(
     name: &'a [u8],
     bank: Bank,
     number: usize,
-) -> Result<Names<'a>, Refusal<'a>>
+) -> Result<Names<'a>, Rejection<'a>>
     ensures { Gives seen_names result (with_listed (seen_procedures procedures.now) (seen_names names.entry) name.now bank number) }
 {
     if is_listed(&names.registers, bank, number) {
-        return Err(Refusal::Flawed(NameNo::Listed, name));
+        return Err(Rejection::Flawed(NameNo::Listed, name));
     }
     with_register(procedures, names, name, bank, number, Origin::Listed)
 }

@@ -11,7 +11,7 @@ ghost use Rattle.tw_names.specs.Seen.{seen_names, seen_procedures, texts};
 use crate::meaning::{Bank, Binding, Expected};
 use crate::names::{Names, is_name, known};
 use crate::procedures::Procedures;
-use crate::refusal::{NameNo, Refusal};
+use crate::rejection::{NameNo, Rejection};
 use std::alloc::{AllocError, Global};
 use tw_words::{put_numbered, put_signed};
 
@@ -139,14 +139,14 @@ fn put_named<'a>(
     asked: Expected,
     word: &'a [u8],
     binding: Option<Binding>,
-) -> Result<(), Refusal<'a>>
+) -> Result<(), Rejection<'a>>
     ensures { Gives (λ _. out.new.items) result (named out.old.items word.now binding asked) }
 {
     let Some(binding) = binding else {
-        return Err(Refusal::Flawed(NameNo::Unknown, word));
+        return Err(Rejection::Flawed(NameNo::Unknown, word));
     };
     let Some(standing) = operand_text_of(asked, binding) else {
-        return Err(Refusal::Flawed(NameNo::Kind(binding, asked), word));
+        return Err(Rejection::Flawed(NameNo::Kind(binding, asked), word));
     };
     out.extend_from_slice(b" ")?;
     put_operand_text(alloc, out, standing)?;
@@ -161,7 +161,7 @@ pub fn put_word<'a>(
     out: &mut Vec<u8>,
     asked: Expected,
     word: &'a [u8],
-) -> Result<(), Refusal<'a>>
+) -> Result<(), Rejection<'a>>
     ensures { Gives (λ _. out.new.items) result (word_says (seen_procedures procedures.now) (seen_names names.now) asked out.old.items word.now) }
 {
     if matches!(asked, Expected::Nothing) || !is_name(word) {
@@ -199,7 +199,7 @@ pub fn put_words<'a>(
     out: &mut Vec<u8>,
     asked: &[Expected],
     words: &[&'a [u8]],
-) -> Result<(), Refusal<'a>>
+) -> Result<(), Rejection<'a>>
     ensures { Gives (λ _. out.new.items) result (words_say (seen_procedures procedures.now) (seen_names names.now) asked.now out.old.items (texts words.now)) }
 {
     let mut left = asked;

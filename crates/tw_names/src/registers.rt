@@ -15,7 +15,7 @@ use crate::expansion::put_numbered_line;
 use crate::meaning::{Bank, Binding, is_bank};
 use crate::names::{Names, Table};
 use crate::procedures::{Procedures, procedures_of};
-use crate::refusal::NameNo;
+use crate::rejection::NameNo;
 use std::alloc::{AllocError, Global};
 
 /// The names behind a line, unless it is refused.
@@ -33,7 +33,7 @@ fn names_after<'a>(
 {
     match put_numbered_line(alloc, procedures, number, names, out, line) {
         Ok(after) => Ok(Some(after)),
-        Err(refusal) => match refusal.no {
+        Err(rejection) => match rejection.no {
             NameNo::NoMemory => Err(AllocError),
             _ => Ok(None),
         },

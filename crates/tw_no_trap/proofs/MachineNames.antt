@@ -49,7 +49,7 @@ pub use Rattle.tw_code.specs.declared.instr.DataInstr.{DataInstr}
 pub use Rattle.tw_code.specs.declared.instr.Instr.{Instr}
 pub use Rattle.tw_code.specs.declared.procedure.Procedure.{Procedure}
 pub use Rattle.tw_code.specs.accepting.Flow.{data_flow, flow_of, flows, local_flow, onward}
-pub use Rattle.tw_code.specs.accepting.Question.{Question, passes, refusal_in}
+pub use Rattle.tw_code.specs.accepting.Question.{Question, passes, rejection_in}
 pub use Rattle.tw_code.specs.accepting.Typing.{a_member_read, a_read, a_write, after, after_data, asks, asks_action, asks_alike, asks_args, asks_at, asks_callee, asks_data, asks_local, asks_params, asks_priority, asks_value, asks_values, is_free, may_stand_for, reads, reads_closed_container, reads_closed_container_by, reads_closed_scalar, reads_member_of, rights_given, start_typing, suits_mode, value_types, values_fit, without_args, writes, writes_container_by, writes_scalar}
 pub use Rattle.tw_code.specs.accepting.Walk.{IsBudget, greatest_budget, moved}
 pub use Rattle.tw_code.specs.format.Program.{IsDataInstr, IsInstr, IsParam, IsProcedure, IsProgram, IsTypeUnder}

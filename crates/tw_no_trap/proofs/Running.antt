@@ -4,7 +4,7 @@ use Rattle.tw_no_trap.proofs.MachineNames.{Accepts, Actor, AreRight, Completed, 
 use Rattle.tw_code.specs.declared.flow.Flow.{Flow}
 use Rattle.tw_code.specs.declared.flow.Flow.TheVariants.{Straight, Branch, Jump, Begin, Close, Stop}
 use Rattle.tw_code.specs.declared.flow.Way.{Way}
-use Rattle.tw_budget.proofs.Places.{no_refusals, not_last, stays}
+use Rattle.tw_budget.proofs.Places.{no_rejections, not_last, stays}
 use Rattle.tw_budget.specs.Sound.{IsSound}
 use Rattle.tw_no_trap.proofs.Accepted as acceptance
 use Rattle.tw_no_trap.proofs.Live.{typed_where_held}
@@ -20,8 +20,8 @@ onward_inside : (code : List Flow) → IsSound code → (place next : ℕ) (flow
 onward_inside code s place next Straight Completed at e = omega (arith, same_Some (place + 1) next e, not_last code s place Straight at refl)
 onward_inside code s place next Straight Skipped at e = cc
 onward_inside code s place next (Branch skip) Completed at e = omega (arith, same_Some (place + 1) next e, not_last code s place (Branch skip) at refl)
-onward_inside code s place next (Branch skip) Skipped at e = subst (λ (n : ℕ). n < length code) (same_Some (goal_of place skip) next e) (stays code s place (goal_of place skip) (no_refusals code s place (Branch skip) at).0).0
-onward_inside code s place next (Jump skip) Completed at e = subst (λ (n : ℕ). n < length code) (same_Some (goal_of place skip) next e) (stays code s place (goal_of place skip) (no_refusals code s place (Jump skip) at).0).0
+onward_inside code s place next (Branch skip) Skipped at e = subst (λ (n : ℕ). n < length code) (same_Some (goal_of place skip) next e) (stays code s place (goal_of place skip) (no_rejections code s place (Branch skip) at).0).0
+onward_inside code s place next (Jump skip) Completed at e = subst (λ (n : ℕ). n < length code) (same_Some (goal_of place skip) next e) (stays code s place (goal_of place skip) (no_rejections code s place (Jump skip) at).0).0
 onward_inside code s place next (Jump skip) Skipped at e = cc
 onward_inside code s place next (Begin iterations) Completed at e = omega (arith, same_Some (place + 1) next e, not_last code s place (Begin iterations) at refl)
 onward_inside code s place next (Begin iterations) Skipped at e = cc

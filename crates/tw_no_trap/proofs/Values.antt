@@ -1,6 +1,6 @@
 -- The local instructions succeed if their checks hold, and keep the types of the values.
 use Rattle.std.proofs.Common.{◌≡◌, ℕ, zero, suc, Bool, true, false, List, [], ◌∷◌, ◌++◌, length, ℤ, pos, slice_get, slice_set, Option, Some, None, refl, sym, ap, ◌∙◌, if◌then◌else◌, bytes_eq}
-use Rattle.tw_no_trap.proofs.MachineNames.{Completed, Cursor, NoLoop, Ok, Position, Question, Scalar, Skipped, Value, ValuesFit, WrongRegister, after_end, asks_alike, asks_local, asks_value, asks_values, at_goal, at_next_place, int_at, int_in, int_lt, local_flow, moved, must_have_type, of_type_at, ok_or, option_map, passes, refusal_in, same_scalar, same_scalars, scalar_itself, scalar_of, text_at, text_in, value_at, with_result, with_value}
+use Rattle.tw_no_trap.proofs.MachineNames.{Completed, Cursor, NoLoop, Ok, Position, Question, Scalar, Skipped, Value, ValuesFit, WrongRegister, after_end, asks_alike, asks_local, asks_value, asks_values, at_goal, at_next_place, int_at, int_in, int_lt, local_flow, moved, must_have_type, of_type_at, ok_or, option_map, passes, rejection_in, same_scalar, same_scalars, scalar_itself, scalar_of, text_at, text_in, value_at, with_result, with_value}
 use Rattle.std.specs.Fmt.{signed_decimal}
 use Rattle.std.specs.Ordering.{int_eq}
 use Rattle.tw_types.specs.declared.data_type.Scalar.TheVariants as scalar
@@ -21,7 +21,7 @@ AllYes [] = Unit {0}
 AllYes (q ∷ questions) = (q.1 ≡ true) × AllYes questions
 
 -- if there is no error, each check holds
-pub all_yes : (questions : List Question) → refusal_in questions ≡ None → AllYes questions
+pub all_yes : (questions : List Question) → rejection_in questions ≡ None → AllYes questions
 all_yes [] e = tt
 all_yes ((n, true) ∷ questions) e = (refl, all_yes questions e)
 all_yes ((n, false) ∷ questions) e = cc

@@ -7,8 +7,8 @@ use Rattle.tw_code.specs.declared.procedure.Procedure.{Procedure}
 use Rattle.tw_code.specs.machine.Inputs.{AreInputsOf, has_fitting_inputs, has_input_count}
 use Rattle.tw_verify.specs.Typed.{TypedProgram}
 use Rattle.tw_pool.specs.PoolView.{PoolView}
-use Rattle.tw_pool.specs.declared.open.OpenRefusal.{OpenRefusal}
-use Rattle.tw_pool.specs.declared.open.OpenRefusal.TheVariants.{InputCount, InputType, MissingTarget, LimitRange, NoMemory}
+use Rattle.tw_pool.specs.declared.open.OpenError.{OpenError}
+use Rattle.tw_pool.specs.declared.open.OpenError.TheVariants.{InputCount, InputType, MissingTarget, LimitRange, NoMemory}
 
 -- the limit is from 1 to 1,000,000
 pub record IsLimit (limit : ℕ) : Type 0 where
@@ -22,20 +22,20 @@ pub record MayOpen (program : List Procedure) (inputs : List Input) (layout : Ac
   pub within : IsLimit limit
 
 -- holds for the first error whose condition holds; a failed allocation is reported only without any other error
-abbrev pub IsRefusal : List Procedure → List Input → ActorCounts → ℕ → OpenRefusal → Type 0
-IsRefusal program inputs layout limit InputCount = has_input_count program inputs ≡ false
-IsRefusal program inputs layout limit InputType = (has_input_count program inputs ≡ true) × (has_fitting_inputs program inputs ≡ false)
-IsRefusal program inputs layout limit MissingTarget = AreInputsOf program inputs × (HasTargets program layout → ⊥)
-IsRefusal program inputs layout limit LimitRange = AreInputsOf program inputs × HasTargets program layout × (IsLimit limit → ⊥)
-IsRefusal program inputs layout limit NoMemory = MayOpen program inputs layout limit
+abbrev pub IsRejection : List Procedure → List Input → ActorCounts → ℕ → OpenError → Type 0
+IsRejection program inputs layout limit InputCount = has_input_count program inputs ≡ false
+IsRejection program inputs layout limit InputType = (has_input_count program inputs ≡ true) × (has_fitting_inputs program inputs ≡ false)
+IsRejection program inputs layout limit MissingTarget = AreInputsOf program inputs × (HasTargets program layout → ⊥)
+IsRejection program inputs layout limit LimitRange = AreInputsOf program inputs × HasTargets program layout × (IsLimit limit → ⊥)
+IsRejection program inputs layout limit NoMemory = MayOpen program inputs layout limit
 
 -- returns the code without the letter O
-abbrev pub open_refusal_number : OpenRefusal → ℕ
-open_refusal_number InputCount = 1
-open_refusal_number InputType = 2
-open_refusal_number MissingTarget = 3
-open_refusal_number LimitRange = 4
-open_refusal_number NoMemory = 5
+abbrev pub open_error_code : OpenError → ℕ
+open_error_code InputCount = 1
+open_error_code InputType = 2
+open_error_code MissingTarget = 3
+open_error_code LimitRange = 4
+open_error_code NoMemory = 5
 
 -- returns the pool before the first event
 abbrev pub opened : TypedProgram → List Input → ActorCounts → ℕ → PoolView

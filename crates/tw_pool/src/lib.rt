@@ -18,5 +18,5 @@ pub use answer::{Closing, Turn};
 pub use ends::Final;
 pub use events::Events;
 pub use history::History;
-pub use open::OpenRefusal;
+pub use open::OpenError;
 pub use pool::Pool;

@@ -1,7 +1,7 @@
 //! Opens runs.
 
 ghost use Rattle.std.specs.Prelude.{◌≡◌, IfErr, IfOk, MatchOption};
-ghost use Rattle.tw_pool.specs.Openings.{IsRefusal, MayOpen, open_refusal_number, opened};
+ghost use Rattle.tw_pool.specs.Openings.{IsRejection, MayOpen, open_error_code, opened};
 
 use crate::history::History;
 use crate::pool::Pool;
@@ -13,7 +13,7 @@ use tw_verify::Verified;
 
 /// The error of a run that isn't opened.
 #[derive(Clone, Copy, PartialEq, Eq)]
-pub enum OpenRefusal {
+pub enum OpenError {
     /// O01: the number of inputs isn't the number that main takes.
     InputCount,
     /// O02: an input is of another type than its parameter, has a text that is too long, or has members that are too many or
@@ -27,53 +27,53 @@ pub enum OpenRefusal {
     NoMemory,
 }
 
-impl OpenRefusal {
+impl OpenError {
     /// Returns its code without the letter O.
     pub fn number(self) -> u8
-        ensures { result ≡ open_refusal_number self }
+        ensures { result ≡ open_error_code self }
     {
         match self {
-            OpenRefusal::InputCount => 1,
-            OpenRefusal::InputType => 2,
-            OpenRefusal::MissingTarget => 3,
-            OpenRefusal::LimitRange => 4,
-            OpenRefusal::NoMemory => 5,
+            OpenError::InputCount => 1,
+            OpenError::InputType => 2,
+            OpenError::MissingTarget => 3,
+            OpenError::LimitRange => 4,
+            OpenError::NoMemory => 5,
         }
     }
 }
 
-impl From<AllocError> for OpenRefusal {
-    ghost use Rattle.tw_pool.specs.declared.open.OpenRefusal.TheVariants.{NoMemory};
+impl From<AllocError> for OpenError {
+    ghost use Rattle.tw_pool.specs.declared.open.OpenError.TheVariants.{NoMemory};
 
     ghost from_gives = { λ _ e. e ≡ NoMemory };
 
-    fn from(_error: AllocError) -> OpenRefusal {
-        OpenRefusal::NoMemory
+    fn from(_error: AllocError) -> OpenError {
+        OpenError::NoMemory
     }
 }
 
 /// Returns the error of an opening, apart from a failed allocation.
-fn refusal_of(
+fn rejection_of(
     verified: &Verified,
     inputs: &[Input],
     layout: Layout,
     limit: usize,
-) -> Option<OpenRefusal>
-    ensures { MatchOption result (MayOpen verified.now.program inputs.now layout limit) (IsRefusal verified.now.program inputs.now layout limit) }
+) -> Option<OpenError>
+    ensures { MatchOption result (MayOpen verified.now.program inputs.now layout limit) (IsRejection verified.now.program inputs.now layout limit) }
 {
     let program = verified.program().procedures();
     if !has_input_count(program, inputs) {
-        return Some(OpenRefusal::InputCount);
+        return Some(OpenError::InputCount);
     }
     if !has_fitting_inputs(program, inputs) {
-        return Some(OpenRefusal::InputType);
+        return Some(OpenError::InputType);
     }
     let (engines, workers) = verified.needs();
     if layout.engines() < engines || layout.workers() < workers {
-        return Some(OpenRefusal::MissingTarget);
+        return Some(OpenError::MissingTarget);
     }
     if limit == 0 || limit > History::MOST_EVENTS {
-        return Some(OpenRefusal::LimitRange);
+        return Some(OpenError::LimitRange);
     }
     None
 }
@@ -86,12 +86,12 @@ impl<'a> Pool<'a> {
         inputs: &'a [Input],
         layout: Layout,
         limit: usize,
-    ) -> Result<Pool<'a>, OpenRefusal>
+    ) -> Result<Pool<'a>, OpenError>
         ensures opened { IfOk result (λ p. p ≡ opened verified.now inputs.now layout limit) }
         ensures allowed { IfOk result (λ p. MayOpen verified.now.program inputs.now layout limit) }
-        ensures refused { IfErr result (IsRefusal verified.now.program inputs.now layout limit) }
+        ensures refused { IfErr result (IsRejection verified.now.program inputs.now layout limit) }
     {
-        if let Some(why) = refusal_of(verified, inputs, layout, limit) {
+        if let Some(why) = rejection_of(verified, inputs, layout, limit) {
             return Err(why);
         }
         let history = History::with_capacity(alloc, limit)?;

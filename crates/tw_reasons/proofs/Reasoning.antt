@@ -5,16 +5,16 @@ use Rattle.tw_reasons.proofs.ReasonNames.{OnOk, Typing, append-nil, slice_get}
 use Rattle.tw_code.specs.declared.instr.Instr.{Instr}
 use Rattle.tw_code.specs.declared.procedure.Procedure.{Procedure}
 use Rattle.tw_verify.specs.Known.{AreFound}
-use Rattle.tw_verify.specs.Refusal.{verify_refusal_number}
-use Rattle.tw_verify.specs.declared.refusal.VerifyRefusal.{VerifyRefusal}
+use Rattle.tw_verify.specs.Rejection.{verify_error_code}
+use Rattle.tw_verify.specs.declared.rejection.VerifyError.{VerifyError}
 use Rattle.tw_reasons.specs.Reasons.{AddsReason, AddsTold, IsReason, TellsReason}
 
 pub on_ok : {T E : Type 0} (P Q : Type 0) (r : Result T E) → OnOk r P → (P → Q) → OnOk r Q
 on_ok P Q (Ok x) h f = f h
 on_ok P Q (Err e) h f = h
 
-module _ (which : VerifyRefusal) (lines : List (List ℕ)) (program : List Procedure) (procedure place : ℕ) where
-  pub tells : (old new : List ℕ) (p : Procedure) (i : Instr) (typings : List Typing) → slice_get p.code place ≡ Some i → AreFound program (verify_refusal_number which) procedure procedure typings
+module _ (which : VerifyError) (lines : List (List ℕ)) (program : List Procedure) (procedure place : ℕ) where
+  pub tells : (old new : List ℕ) (p : Procedure) (i : Instr) (typings : List Typing) → slice_get p.code place ≡ Some i → AreFound program (verify_error_code which) procedure procedure typings
       → AddsReason which lines program p procedure place i typings old new → slice_get program procedure ≡ Some p → AddsTold which lines program procedure place old new
   tells old new p i typings there found adds here = (adds.0, told, adds.2)
     where

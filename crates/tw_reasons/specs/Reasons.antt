@@ -15,9 +15,9 @@ use Rattle.tw_code.specs.accepting.MainShape.{is_main_param}
 use Rattle.tw_code.specs.machine.Arguments.{params_of}
 use Rattle.tw_code.specs.machine.Rights.{RightType, Typing}
 use Rattle.tw_verify.specs.Known.{AreFound}
-use Rattle.tw_verify.specs.Refusal.{verify_refusal_number}
-use Rattle.tw_verify.specs.declared.refusal.VerifyRefusal.{VerifyRefusal}
-use Rattle.tw_verify.specs.declared.refusal.VerifyRefusal.TheVariants as refusal
+use Rattle.tw_verify.specs.Rejection.{verify_error_code}
+use Rattle.tw_verify.specs.declared.rejection.VerifyError.{VerifyError}
+use Rattle.tw_verify.specs.declared.rejection.VerifyError.TheVariants as rejection
 use Rattle.tw_reasons.specs.RegisterCheck.{checks_at, first_unmet}
 use Rattle.tw_reasons.specs.Meetings.{IsChange, IsMeeting}
 use Rattle.tw_reasons.specs.Words.{asked_line, held_text, param_text, right_text}
@@ -124,37 +124,37 @@ misplaced_line flow = codes "the last instruction must be RET\n"
 -- ---- a number a line
 
 -- what may be told of a refusal at the place of an instruction, whose procedure has these typings as far as they are known
-abbrev pub IsReason : VerifyRefusal → List (List ℕ) → List Procedure → Procedure → ℕ → ℕ → Instr → List Typing → List ℕ → Type 0
-IsReason refusal.UndeclaredValue lines program p procedure place i typings text = text ≡ vain_line 1 program p place i (slice_get typings place)
-IsReason refusal.WrongValueType lines program p procedure place i typings text = text ≡ vain_line 2 program p place i (slice_get typings place)
-IsReason refusal.RightNotEmpty lines program p procedure place i typings text = text ≡ vain_line 3 program p place i (slice_get typings place)
-IsReason refusal.WrongRight lines program p procedure place i typings text = text ≡ vain_line 4 program p place i (slice_get typings place)
-IsReason refusal.SkipLeavesBlock lines program p procedure place i typings text = text ≡ goal_line (place + 1 + skip_of (flow_of i)) (length p.code)
-IsReason refusal.Unmatched lines program p procedure place i typings text = text ≡ unmatched_line (flow_of i)
-IsReason refusal.TypingsDiffer lines program p procedure place i typings text = TellsMeeting lines program p procedure typings place text ⊎ ((text ≡ []) × HasNoMeeting program p typings place)
-IsReason refusal.TypingChanged lines program p procedure place i typings text = TellsChange p typings place text ⊎ ((text ≡ []) × HasNoChange p typings place)
-IsReason refusal.Unreached lines program p procedure place i typings text = text ≡ codes "no way leads here\n"
-IsReason refusal.RightLeft lines program p procedure place i typings text = text ≡ vain_line 10 program p place i (slice_get typings place)
-IsReason refusal.MisplacedRet lines program p procedure place i typings text = text ≡ misplaced_line (flow_of i)
-IsReason refusal.UnknownProcedure lines program p procedure place i typings text = text ≡ unknown_line (named_by i).0 (length program - 1)
-IsReason refusal.ArgumentCount lines program p procedure place i typings text = text ≡ count_line (named_by i).1 (length (params_of program (named_by i).0))
-IsReason refusal.ActionInLeaf lines program p procedure place i typings text = text ≡ codes "the procedure is a leaf, asked: control\n"
-IsReason refusal.ScalarWrite lines program p procedure place i typings text = text ≡ vain_line 15 program p place i (slice_get typings place)
-IsReason refusal.MainShape lines program p procedure place i typings text = text ≡ []
-IsReason refusal.BudgetTooLarge lines program p procedure place i typings text = text ≡ codes "some walk is longer than 1000000000 instructions\n"
-IsReason refusal.NoMemory lines program p procedure place i typings text = text ≡ []
+abbrev pub IsReason : VerifyError → List (List ℕ) → List Procedure → Procedure → ℕ → ℕ → Instr → List Typing → List ℕ → Type 0
+IsReason rejection.UndeclaredValue lines program p procedure place i typings text = text ≡ vain_line 1 program p place i (slice_get typings place)
+IsReason rejection.WrongValueType lines program p procedure place i typings text = text ≡ vain_line 2 program p place i (slice_get typings place)
+IsReason rejection.RightNotEmpty lines program p procedure place i typings text = text ≡ vain_line 3 program p place i (slice_get typings place)
+IsReason rejection.WrongRight lines program p procedure place i typings text = text ≡ vain_line 4 program p place i (slice_get typings place)
+IsReason rejection.SkipLeavesBlock lines program p procedure place i typings text = text ≡ goal_line (place + 1 + skip_of (flow_of i)) (length p.code)
+IsReason rejection.Unmatched lines program p procedure place i typings text = text ≡ unmatched_line (flow_of i)
+IsReason rejection.TypingsDiffer lines program p procedure place i typings text = TellsMeeting lines program p procedure typings place text ⊎ ((text ≡ []) × HasNoMeeting program p typings place)
+IsReason rejection.TypingChanged lines program p procedure place i typings text = TellsChange p typings place text ⊎ ((text ≡ []) × HasNoChange p typings place)
+IsReason rejection.Unreached lines program p procedure place i typings text = text ≡ codes "no way leads here\n"
+IsReason rejection.RightLeft lines program p procedure place i typings text = text ≡ vain_line 10 program p place i (slice_get typings place)
+IsReason rejection.MisplacedRet lines program p procedure place i typings text = text ≡ misplaced_line (flow_of i)
+IsReason rejection.UnknownProcedure lines program p procedure place i typings text = text ≡ unknown_line (named_by i).0 (length program - 1)
+IsReason rejection.ArgumentCount lines program p procedure place i typings text = text ≡ count_line (named_by i).1 (length (params_of program (named_by i).0))
+IsReason rejection.ActionInLeaf lines program p procedure place i typings text = text ≡ codes "the procedure is a leaf, asked: control\n"
+IsReason rejection.ScalarWrite lines program p procedure place i typings text = text ≡ vain_line 15 program p place i (slice_get typings place)
+IsReason rejection.MainShape lines program p procedure place i typings text = text ≡ []
+IsReason rejection.BudgetTooLarge lines program p procedure place i typings text = text ≡ codes "some walk is longer than 1000000000 instructions\n"
+IsReason rejection.NoMemory lines program p procedure place i typings text = text ≡ []
 
 -- some reason is added to what stands there
-abbrev pub AddsReason : VerifyRefusal → List (List ℕ) → List Procedure → Procedure → ℕ → ℕ → Instr → List Typing → List ℕ → List ℕ → Type 0
+abbrev pub AddsReason : VerifyError → List (List ℕ) → List Procedure → Procedure → ℕ → ℕ → Instr → List Typing → List ℕ → List ℕ → Type 0
 AddsReason which lines program p procedure place i typings old new = (text : List ℕ) × IsReason which lines program p procedure place i typings text × (new ≡ old ++ text)
 
 -- this is told at the refused place, by the typings that are known of its procedure
-abbrev pub TellsReason : VerifyRefusal → List (List ℕ) → List Procedure → ℕ → ℕ → List ℕ → Type 0
+abbrev pub TellsReason : VerifyError → List (List ℕ) → List Procedure → ℕ → ℕ → List ℕ → Type 0
 TellsReason which lines program procedure place text = (p : Procedure) (i : Instr) → slice_get program procedure ≡ Some p → slice_get p.code place ≡ Some i
-    → (typings : List Typing) × AreFound program (verify_refusal_number which) procedure procedure typings × IsReason which lines program p procedure place i typings text
+    → (typings : List Typing) × AreFound program (verify_error_code which) procedure procedure typings × IsReason which lines program p procedure place i typings text
 
 -- it is added to what stands there
-abbrev pub AddsTold : VerifyRefusal → List (List ℕ) → List Procedure → ℕ → ℕ → List ℕ → List ℕ → Type 0
+abbrev pub AddsTold : VerifyError → List (List ℕ) → List Procedure → ℕ → ℕ → List ℕ → List ℕ → Type 0
 AddsTold which lines program procedure place old new = (text : List ℕ) × TellsReason which lines program procedure place text × (new ≡ old ++ text)
 
 -- ---- V16

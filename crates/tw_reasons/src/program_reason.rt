@@ -3,7 +3,7 @@
 ghost use Rattle.std.specs.Prelude.{◌≡◌, ◌<◌, ◌+◌, ◌-◌, ◌++◌, Some, length, nat_lt, OnOk, slice_get};
 ghost use Rattle.tw_code.specs.format.Program.{IsInstr, IsProcedure};
 ghost use Rattle.tw_code.specs.machine.Arguments.{params_of};
-ghost use Rattle.tw_verify.specs.declared.refusal.VerifyRefusal.TheVariants as refusal;
+ghost use Rattle.tw_verify.specs.declared.rejection.VerifyError.TheVariants as rejection;
 ghost use Rattle.tw_reasons.specs.Reasons.{AddsReason, AddsTold, arguments_text, count_line, goal_line, misplaced_line, named_by, outside_text, skip_of, told_line, unknown_line, unmatched_line, vain_line};
 
 use crate::find::unmet_at;
@@ -14,7 +14,7 @@ use crate::told_meeting::{put_changed, put_meeting};
 use std::alloc::{AllocError, Global};
 use tw_asm::LineNumbers;
 use tw_code::{Flow, Instr, Procedure};
-use tw_verify::{Refused, Typing, VerifyRefusal};
+use tw_verify::{Refused, Typing, VerifyError};
 use tw_words::{put, put_decimal, put_numbered};
 
 // ---- a register that is asked in vain
@@ -166,7 +166,7 @@ fn put_count(alloc: Global, out: &mut Vec<u8>, args: usize, params: usize) -> Re
 #[rattlefmt::skip]
 fn put_differing(alloc: Global, out: &mut Vec<u8>, lines: &LineNumbers, procedures: &[Procedure], number: usize, procedure: &Procedure, place: usize, instr: &Instr, typings: &[Typing]) -> Result<(), AllocError>
     requires { IsProcedure procedure.now }
-    ensures { OnOk result (AddsReason refusal.TypingsDiffer lines.now.procedures procedures.now procedure.now number place instr.now typings.now out.old.items out.new.items) }
+    ensures { OnOk result (AddsReason rejection.TypingsDiffer lines.now.procedures procedures.now procedure.now number place instr.now typings.now out.old.items out.new.items) }
 {
     match meeting_at(procedures, procedure, typings, place) {
         Some(found) => put_meeting(alloc, out, lines, number, &found),
@@ -178,7 +178,7 @@ fn put_differing(alloc: Global, out: &mut Vec<u8>, lines: &LineNumbers, procedur
 #[rattlefmt::skip]
 fn put_loop(alloc: Global, out: &mut Vec<u8>, lines: &LineNumbers, procedures: &[Procedure], number: usize, procedure: &Procedure, place: usize, instr: &Instr, typings: &[Typing]) -> Result<(), AllocError>
     requires { IsProcedure procedure.now }
-    ensures { OnOk result (AddsReason refusal.TypingChanged lines.now.procedures procedures.now procedure.now number place instr.now typings.now out.old.items out.new.items) }
+    ensures { OnOk result (AddsReason rejection.TypingChanged lines.now.procedures procedures.now procedure.now number place instr.now typings.now out.old.items out.new.items) }
 {
     match changed_at(procedure.code.as_slice(), typings, place) {
         Some(found) => put_changed(alloc, out, &found),
@@ -197,23 +197,23 @@ fn put_at(alloc: Global, out: &mut Vec<u8>, lines: &LineNumbers, refused: &Refus
     let procedures = refused.program.procedures();
     let place = refused.place;
     match refused.no {
-        VerifyRefusal::UndeclaredValue => put_unmet_at(alloc, out, 1, procedures, procedure, place, instr, typings),
-        VerifyRefusal::WrongValueType => put_unmet_at(alloc, out, 2, procedures, procedure, place, instr, typings),
-        VerifyRefusal::RightNotEmpty => put_unmet_at(alloc, out, 3, procedures, procedure, place, instr, typings),
-        VerifyRefusal::WrongRight => put_unmet_at(alloc, out, 4, procedures, procedure, place, instr, typings),
-        VerifyRefusal::SkipLeavesBlock => put_goal(alloc, out, place + 1 + skip_of(instr.flow()), procedure.code.as_slice().len()),
-        VerifyRefusal::Unmatched => put_unmatched(out, instr.flow()),
-        VerifyRefusal::TypingsDiffer => put_differing(alloc, out, lines, procedures, refused.procedure, procedure, place, instr, typings),
-        VerifyRefusal::TypingChanged => put_loop(alloc, out, lines, procedures, refused.procedure, procedure, place, instr, typings),
-        VerifyRefusal::Unreached => put(out, "no way leads here\n"),
-        VerifyRefusal::RightLeft => put_unmet_at(alloc, out, 10, procedures, procedure, place, instr, typings),
-        VerifyRefusal::MisplacedRet => put_misplaced(out, instr.flow()),
-        VerifyRefusal::UnknownProcedure => put_unknown(alloc, out, named_by(instr).0, last_of(procedures)),
-        VerifyRefusal::ArgumentCount => put_count(alloc, out, named_by(instr).1, param_count(procedures, named_by(instr).0)),
-        VerifyRefusal::ActionInLeaf => put(out, "the procedure is a leaf, asked: control\n"),
-        VerifyRefusal::ScalarWrite => put_unmet_at(alloc, out, 15, procedures, procedure, place, instr, typings),
-        VerifyRefusal::BudgetTooLarge => put(out, "some walk is longer than 1000000000 instructions\n"),
-        VerifyRefusal::MainShape | VerifyRefusal::NoMemory => Ok(()),
+        VerifyError::UndeclaredValue => put_unmet_at(alloc, out, 1, procedures, procedure, place, instr, typings),
+        VerifyError::WrongValueType => put_unmet_at(alloc, out, 2, procedures, procedure, place, instr, typings),
+        VerifyError::RightNotEmpty => put_unmet_at(alloc, out, 3, procedures, procedure, place, instr, typings),
+        VerifyError::WrongRight => put_unmet_at(alloc, out, 4, procedures, procedure, place, instr, typings),
+        VerifyError::SkipLeavesBlock => put_goal(alloc, out, place + 1 + skip_of(instr.flow()), procedure.code.as_slice().len()),
+        VerifyError::Unmatched => put_unmatched(out, instr.flow()),
+        VerifyError::TypingsDiffer => put_differing(alloc, out, lines, procedures, refused.procedure, procedure, place, instr, typings),
+        VerifyError::TypingChanged => put_loop(alloc, out, lines, procedures, refused.procedure, procedure, place, instr, typings),
+        VerifyError::Unreached => put(out, "no way leads here\n"),
+        VerifyError::RightLeft => put_unmet_at(alloc, out, 10, procedures, procedure, place, instr, typings),
+        VerifyError::MisplacedRet => put_misplaced(out, instr.flow()),
+        VerifyError::UnknownProcedure => put_unknown(alloc, out, named_by(instr).0, last_of(procedures)),
+        VerifyError::ArgumentCount => put_count(alloc, out, named_by(instr).1, param_count(procedures, named_by(instr).0)),
+        VerifyError::ActionInLeaf => put(out, "the procedure is a leaf, asked: control\n"),
+        VerifyError::ScalarWrite => put_unmet_at(alloc, out, 15, procedures, procedure, place, instr, typings),
+        VerifyError::BudgetTooLarge => put(out, "some walk is longer than 1000000000 instructions\n"),
+        VerifyError::MainShape | VerifyError::NoMemory => Ok(()),
     }
 }
 

@@ -1,6 +1,6 @@
 -- What stands behind replies about programs that were read from a text.
 use Rattle.std.proofs.Common.{◌≡◌, ◌≢◌, ◌≤◌, ◌++◌, ◌∙◌, ℕ, suc, List, [], ◌∷◌, length, Option, Some, None, refl, sym, ap, subst}
-use Rattle.tw_replay.proofs.ReplayNames.{◌>>=◌, AreShort, ClosesBy, Event, Input, IsEndingBehind, IsUndrawn, MayBeSource, MayTell, NotEnabled, Outcome, PlainView, Procedure, Spoken as Reply, Start, State, TellsCircle, Trap, Went, append-nil, open_refusal_number, opening_line, refusal_of, reply}
+use Rattle.tw_replay.proofs.ReplayNames.{◌>>=◌, AreShort, ClosesBy, Event, Input, IsEndingBehind, IsUndrawn, MayBeSource, MayTell, NotEnabled, Outcome, PlainView, Procedure, Spoken as Reply, Start, State, TellsCircle, Trap, Went, append-nil, open_error_code, opening_line, rejection_of, reply}
 use Rattle.tw_types.specs.declared.ending.Ending.{Ending}
 use Rattle.tw_types.specs.declared.ending.Ending.TheVariants.{Quiet, Stuck}
 use Rattle.tw_types.specs.Layout.{ActorCounts}
@@ -10,10 +10,10 @@ use Rattle.tw_code.specs.machine.Pending.{circle}
 use Rattle.tw_command.specs.declared.command.Answer.{Answer}
 use Rattle.tw_command.specs.declared.command.Answer.TheVariants.{Numbers, Picture, Report}
 use Rattle.tw_command.specs.declared.shown.EventRange.{EventRange}
-use Rattle.tw_machine.specs.declared.refusal.OpenRefusal.{OpenRefusal}
-use Rattle.tw_machine.specs.declared.refusal.OpenRefusal.TheVariants as opening
+use Rattle.tw_machine.specs.declared.rejection.OpenError.{OpenError}
+use Rattle.tw_machine.specs.declared.rejection.OpenError.TheVariants as opening
 use Rattle.tw_replay.specs.Opening.{IsOpeningBehind}
-use Rattle.tw_replay.specs.Replay.{ByOutcome, IsAnswer, IsNumbered, IsRefusalBehind, IsReportBehind, after_event, close_of, played, played_from}
+use Rattle.tw_replay.specs.Replay.{ByOutcome, IsAnswer, IsNumbered, IsRejectionBehind, IsReportBehind, after_event, close_of, played, played_from}
 use Rattle.tw_replies.specs.declared.source.SourceText.{SourceText}
 use Rattle.tw_replies.specs.declared.close.Close.{Close}
 use Rattle.tw_replies.specs.declared.close.Close.TheVariants as close
@@ -21,18 +21,18 @@ use Rattle.tw_replies.specs.declared.close.Close.TheVariants as close
 -- ---- a program that isn't opened
 
 -- behind this refusal
-abbrev pub IsUnopened : Option (List ℕ) → List Procedure → List Input → OpenRefusal → Reply → Type 0
-IsUnopened text program inputs why r = (more : List ℕ) × IsRefusalBehind text program inputs why more × (r ≡ reply (opening_line (open_refusal_number why) ++ more) close.Refused)
+abbrev pub IsUnopened : Option (List ℕ) → List Procedure → List Input → OpenError → Reply → Type 0
+IsUnopened text program inputs why r = (more : List ℕ) × IsRejectionBehind text program inputs why more × (r ≡ reply (opening_line (open_error_code why) ++ more) close.Refused)
 
-pub main_refused : (text : Option (List ℕ)) (program : List Procedure) (inputs : List Input) (why : OpenRefusal) (number : ℕ) (r : Reply) → why ≡ opening.MainShape → number ≡ open_refusal_number why
+pub main_refused : (text : Option (List ℕ)) (program : List Procedure) (inputs : List Input) (why : OpenError) (number : ℕ) (r : Reply) → why ≡ opening.MainShape → number ≡ open_error_code why
     → r ≡ reply (opening_line number) close.Refused → (why ≢ opening.NoMemory) × IsUnopened text program inputs why r
 main_refused text program inputs opening.MainShape number r is at h =
-    ((λ e. absurd cc), ([], refl, h ∙ ap (λ (n : ℕ). reply (opening_line n) close.Refused) at ∙ ap (λ (t : List ℕ). reply t close.Refused) (sym (append-nil (opening_line (open_refusal_number opening.MainShape))))))
+    ((λ e. absurd cc), ([], refl, h ∙ ap (λ (n : ℕ). reply (opening_line n) close.Refused) at ∙ ap (λ (t : List ℕ). reply t close.Refused) (sym (append-nil (opening_line (open_error_code opening.MainShape))))))
 main_refused text program inputs opening.InputCount number r is at h = absurd cc
 main_refused text program inputs opening.InputType number r is at h = absurd cc
 main_refused text program inputs opening.NoMemory number r is at h = absurd cc
 
-pub inputs_refused : (text : Option (List ℕ)) (program : List Procedure) (inputs : List Input) (why : OpenRefusal) (number : ℕ) (r : Reply) → (why ≡ opening.MainShape → ⊥) → (why ≡ opening.NoMemory → ⊥) → number ≡ open_refusal_number why
+pub inputs_refused : (text : Option (List ℕ)) (program : List Procedure) (inputs : List Input) (why : OpenError) (number : ℕ) (r : Reply) → (why ≡ opening.MainShape → ⊥) → (why ≡ opening.NoMemory → ⊥) → number ≡ open_error_code why
     → ((more : List ℕ) × IsOpeningBehind text program inputs more × (r ≡ reply (opening_line number ++ more) close.Refused)) → (why ≢ opening.NoMemory) × IsUnopened text program inputs why r
 inputs_refused text program inputs opening.MainShape number r main memory at h = absurd (main refl)
 inputs_refused text program inputs opening.NoMemory number r main memory at h = absurd (memory refl)
@@ -121,6 +121,6 @@ report_behind Report text start events o old new other h = h
 report_behind Numbers text start events o old new other h = h
 report_behind (Picture shown) text start events o old new other h = absurd other
 
-pub may_tell : (source : Option SourceText) (start : Start) (events : List Event) → MayBeSource source start.program → refusal_of start.program start.inputs ≡ None → length events ≤ 16777217 → AreShort events → MayTell source start events
+pub may_tell : (source : Option SourceText) (start : Start) (events : List Event) → MayBeSource source start.program → rejection_of start.program start.inputs ≡ None → length events ≤ 16777217 → AreShort events → MayTell source start events
 may_tell None start events is opens few short = tt
 may_tell (Some source) start events is opens few short = record { source_is = is; opens = opens; few = few; short = short }

@@ -1,7 +1,7 @@
 -- Which events made rules, and the numbers of these.
 use Rattle.std.proofs.Common.{◌≡◌, ◌↔◌, ◌+◌, ◌<◌, ◌≤◌, ◌⊎◌, inl, inr, Bool, true, false, ℕ, zero, suc, List, [], ◌∷◌, ◌++◌, length, get_or, take, Option, Some, None, refl, sym, ap, subst, ◌∙◌, append_assoc, arith}
 use Rattle.std.proofs.lemmas.Option.{same_Some}
-use Rattle.tw_replay.proofs.ReplayNames.{AreMade, ComesFrom, DoesRule, Event, Frame, Input, IsLineOf, IsMade, IsMadeSo, IsOpened, IsSpelled, IsStartOf, IsTrue, IsUnmade, Outcome, PlainView, Procedure, StandsFor, Start, State, TellRules, TellsRule, Versioned, Went, append-nil, instr_at, length-append, option_map, option_to_list, reached_from, refusal_of, rule_by, rule_done, rule_in, rule_line, rules_in, slice_get, take_more}
+use Rattle.tw_replay.proofs.ReplayNames.{AreMade, ComesFrom, DoesRule, Event, Frame, Input, IsLineOf, IsMade, IsMadeSo, IsOpened, IsSpelled, IsStartOf, IsTrue, IsUnmade, Outcome, PlainView, Procedure, StandsFor, Start, State, TellRules, TellsRule, Versioned, Went, append-nil, instr_at, length-append, option_map, option_to_list, reached_from, rejection_of, rule_by, rule_done, rule_in, rule_line, rules_in, slice_get, take_more}
 use Rattle.std.specs.FinMap.{get}
 use Rattle.tw_types.specs.declared.actor.Actor.{Actor}
 use Rattle.tw_types.specs.declared.event.Event.TheVariants.{Take, Local, Call, End, Ask, Deliver, Release}
@@ -272,8 +272,8 @@ pub same_program : (text : List ℕ) (program : Versioned) (sections : List Proc
 same_program text program sections spells (version, spelled) = ap (λ (p : Versioned). p.procedures) (spells_once text (record { version = version; procedures = sections }) program spelled spells)
 
 -- it is opened, if the same is known of what it was started with
-pub opens_so : (start : Start) (program : Versioned) (inputs : List Input) (layout : ActorCounts) → IsStartOf start inputs layout → start.program ≡ program.procedures → refusal_of start.program start.inputs ≡ None → refusal_of program.procedures inputs ≡ None
-opens_so start program inputs layout (given, at) same none = sym (ap (λ (ps : List Procedure). refusal_of ps inputs) same) ∙ sym (ap (refusal_of start.program) given) ∙ none
+pub opens_so : (start : Start) (program : Versioned) (inputs : List Input) (layout : ActorCounts) → IsStartOf start inputs layout → start.program ≡ program.procedures → rejection_of start.program start.inputs ≡ None → rejection_of program.procedures inputs ≡ None
+opens_so start program inputs layout (given, at) same none = sym (ap (λ (ps : List Procedure). rejection_of ps inputs) same) ∙ sym (ap (rejection_of start.program) given) ∙ none
 
 pub one_taken : {X : Type 0} (xs : List X) (i : ℕ) (x : X) → i < length xs → x ≡ get_or xs i x → take (i + 1) xs ≡ take i xs ++ x ∷ []
 one_taken xs i x inside is = take_more xs i x inside ∙ ap (λ y. take i xs ++ y ∷ []) (sym is)

@@ -1,6 +1,6 @@
 -- Events, one after the other, in a replay and in a picture.
 use Rattle.std.proofs.Common.{◌≡◌, ◌+◌, ◌<◌, ◌≤◌, ℕ, zero, suc, List, [], ◌∷◌, ◌++◌, length, length-take, get_or, drop, take, Option, Some, None, refl, sym, ap, subst, ◌∙◌, add-one, drop-cons, arith}
-use Rattle.tw_replay.proofs.ReplayNames.{◌>>=◌, AllByRecursion, AreShort, Event, Input, IsShort, IsTold, NotEnabled, Outcome, PlainView, Procedure, Refused, Spoken as Reply, State, Trap, Trapped, Versioned, Went, drop_all, not_enabled_line, refusal_of, reply, size_of, take_all, take_more, trap_line}
+use Rattle.tw_replay.proofs.ReplayNames.{◌>>=◌, AllByRecursion, AreShort, Event, Input, IsShort, IsTold, NotEnabled, Outcome, PlainView, Procedure, Refused, Spoken as Reply, State, Trap, Trapped, Versioned, Went, drop_all, not_enabled_line, rejection_of, reply, size_of, take_all, take_more, trap_line}
 use Rattle.tw_types.specs.declared.cause.Cause.{Cause}
 use Rattle.tw_types.specs.declared.event.Event.TheVariants.{Take, Local, Call, End, Ask, Deliver, Release}
 use Rattle.tw_types.specs.Cause.{cause_number}
@@ -12,8 +12,8 @@ use Rattle.tw_command.specs.declared.command.ReplayOrder.{ReplayOrder}
 use Rattle.tw_command.specs.declared.shown.EventRange.{EventRange}
 use Rattle.tw_instr.specs.Attempts.{IsStopped}
 use Rattle.tw_instr.specs.declared.stopped.Stopped.{Stopped}
-use Rattle.tw_machine.specs.declared.refusal.OpenRefusal.{OpenRefusal}
-use Rattle.tw_machine.specs.declared.refusal.OpenRefusal.TheVariants.{NoMemory}
+use Rattle.tw_machine.specs.declared.rejection.OpenError.{OpenError}
+use Rattle.tw_machine.specs.declared.rejection.OpenError.TheVariants.{NoMemory}
 use Rattle.tw_picture.specs.declared.timeline_builder.TimelineBuilder.{TimelineBuilder}
 use Rattle.tw_picture.specs.History.{HasFew, IsTrail}
 use Rattle.tw_picture.proofs.History.{trail_length}
@@ -168,11 +168,11 @@ pub opened_is : (order : ReplayOrder) (program : Versioned) (inputs : List Input
     → plain ≡ record { version = program.version; program = program.procedures; layout = order.layout; state = opening program.procedures inputs } → plain ≡ opened order program
 opened_is order program inputs plain same is = is ∙ ap (λ (given : List Input). record (opened order program) { state = opening program.procedures given }) same
 
-pub opened_answer : (text : Option (List ℕ)) (order : ReplayOrder) (program : Versioned) (events : List Event) (r : Reply) → refusal_of program.procedures order.inputs ≡ None → IsAnswered text order program events r
+pub opened_answer : (text : Option (List ℕ)) (order : ReplayOrder) (program : Versioned) (events : List Event) (r : Reply) → rejection_of program.procedures order.inputs ≡ None → IsAnswered text order program events r
     → IsReplayed text order program events r
-opened_answer text order program events r none h = subst (λ (o : Option OpenRefusal). OpensOr text program.procedures order.inputs o (IsAnswered text order program events r) r) (sym none) h
+opened_answer text order program events r none h = subst (λ (o : Option OpenError). OpensOr text program.procedures order.inputs o (IsAnswered text order program events r) r) (sym none) h
 
-pub refused_answer : (text : Option (List ℕ)) (program : List Procedure) (inputs : List Input) (o : Option OpenRefusal) (why : OpenRefusal) (Answers : Type 0) (r : Reply) → IsTold o why → (why ≡ NoMemory → ⊥)
+pub refused_answer : (text : Option (List ℕ)) (program : List Procedure) (inputs : List Input) (o : Option OpenError) (why : OpenError) (Answers : Type 0) (r : Reply) → IsTold o why → (why ≡ NoMemory → ⊥)
     → IsUnopened text program inputs why r → OpensOr text program inputs o Answers r
-refused_answer text program inputs (Some given) why Answers r told other h = subst (λ (w : OpenRefusal). IsUnopened text program inputs w r) told h
+refused_answer text program inputs (Some given) why Answers r told other h = subst (λ (w : OpenError). IsUnopened text program inputs w r) told h
 refused_answer text program inputs None why Answers r told other h = absurd (other told)

@@ -16,7 +16,7 @@ pub use Rattle.tw_code.specs.machine.State.{Frame, State}
 pub use Rattle.tw_replies.specs.declared.close.Close.TheVariants.{Refused, Trapped}
 pub use Rattle.tw_replies.specs.declared.reply.Reply.{Reply}
 pub use Rattle.tw_asm.specs.Origins.{ComesFrom, instr_at}
-pub use Rattle.tw_machine.specs.Opening.{IsTold, open_refusal_number, refusal_of}
+pub use Rattle.tw_machine.specs.Opening.{IsTold, open_error_code, rejection_of}
 pub use Rattle.tw_machine.specs.PlainView.{PlainView}
 pub use Rattle.tw_names.specs.Expansion.{StandsFor}
 pub use Rattle.tw_replay.specs.Circle.{DoesRule, IsEndingBehind, IsMade, Start, TellRules, TellsCircle, TellsRule, reached_from, rule_line, rule_text}

@@ -21,9 +21,9 @@ use Rattle.tw_command.specs.declared.command.Answer.TheVariants.{Numbers, Pictur
 use Rattle.tw_command.specs.declared.command.ReplayOrder.{ReplayOrder}
 use Rattle.tw_command.specs.declared.shown.EventRange.{EventRange}
 use Rattle.tw_machine.specs.PlainView.{PlainView}
-use Rattle.tw_machine.specs.declared.refusal.OpenRefusal.{OpenRefusal}
-use Rattle.tw_machine.specs.declared.refusal.OpenRefusal.TheVariants.{MainShape}
-use Rattle.tw_machine.specs.Opening.{open_refusal_number, refusal_of}
+use Rattle.tw_machine.specs.declared.rejection.OpenError.{OpenError}
+use Rattle.tw_machine.specs.declared.rejection.OpenError.TheVariants.{MainShape}
+use Rattle.tw_machine.specs.Opening.{open_error_code, rejection_of}
 use Rattle.tw_picture.specs.declared.drawing.Drawing.{Drawing}
 use Rattle.tw_machine.specs.Moments.{history}
 use Rattle.tw_picture.specs.History.{IsDrawing}
@@ -132,14 +132,14 @@ IsAnswerBehind (Some text) answer start events more = IsReportBehind answer text
 -- ---- the program and its inputs
 
 -- a refusal of the inputs tells of them; where main has not its shape nothing is said of them
-abbrev pub IsRefusalBehind : Option (List ℕ) → List Procedure → List Input → OpenRefusal → List ℕ → Type 0
-IsRefusalBehind text program inputs MainShape more = more ≡ []
-IsRefusalBehind text program inputs why more = IsOpeningBehind text program inputs more
+abbrev pub IsRejectionBehind : Option (List ℕ) → List Procedure → List Input → OpenError → List ℕ → Type 0
+IsRejectionBehind text program inputs MainShape more = more ≡ []
+IsRejectionBehind text program inputs why more = IsOpeningBehind text program inputs more
 
 -- the program isn't opened
-abbrev pub OpensOr : Option (List ℕ) → List Procedure → List Input → Option OpenRefusal → Type 0 → Reply → Type 0
+abbrev pub OpensOr : Option (List ℕ) → List Procedure → List Input → Option OpenError → Type 0 → Reply → Type 0
 OpensOr text program inputs None Answers r = Answers
-OpensOr text program inputs (Some why) Answers r = (more : List ℕ) × IsRefusalBehind text program inputs why more × (r ≡ reply (opening_line (open_refusal_number why) ++ more) Refused)
+OpensOr text program inputs (Some why) Answers r = (more : List ℕ) × IsRejectionBehind text program inputs why more × (r ≡ reply (opening_line (open_error_code why) ++ more) Refused)
 
 abbrev pub start_of : ReplayOrder → Versioned → Start
 start_of order program = record { program = program.procedures; inputs = order.inputs; layout = order.layout }
@@ -156,7 +156,7 @@ IsAnswered text order program events r =
 
 abbrev pub IsReplayed : Option (List ℕ) → ReplayOrder → Versioned → List Event → Reply → Type 0
 IsReplayed text order program events r =
-    OpensOr text program.procedures order.inputs (refusal_of program.procedures order.inputs) (IsAnswered text order program events r) r
+    OpensOr text program.procedures order.inputs (rejection_of program.procedures order.inputs) (IsAnswered text order program events r) r
 
 -- ---- what is read
 

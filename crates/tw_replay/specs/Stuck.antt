@@ -17,7 +17,7 @@ use Rattle.tw_code.specs.machine.Opening.{opening}
 use Rattle.tw_code.specs.machine.State.{Frame, State}
 use Rattle.tw_command.specs.declared.command.Answer.{Answer}
 use Rattle.tw_command.specs.declared.command.Answer.TheVariants.{Numbers, Picture, Report}
-use Rattle.tw_machine.specs.Opening.{refusal_of}
+use Rattle.tw_machine.specs.Opening.{rejection_of}
 use Rattle.tw_machine.specs.PlainView.{PlainView}
 use Rattle.tw_replay.specs.Circle.{IsMade, Start}
 use Rattle.tw_replay.specs.Counted.{AreShort}
@@ -86,7 +86,7 @@ pub record IsOpened (start : Start) (first : PlainView) : Type 0 where
 -- the text is that of the program, which is opened with these inputs, and the events aren't too many or too long
 pub record CanTell (source : SourceText) (start : Start) (events : List Event) : Type 0 where
   pub source_is : IsSource source start.program
-  pub opens : refusal_of start.program start.inputs ≡ None
+  pub opens : rejection_of start.program start.inputs ≡ None
   pub few : length events ≤ 16777217
   pub short : AreShort events
 

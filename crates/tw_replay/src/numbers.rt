@@ -22,7 +22,7 @@ use tw_replies::Reply;
 use tw_report::report_state;
 use tw_stats::StatsBuilder;
 use tw_types::Event;
-use tw_verify::{Verified, VerifyRefusal, verify};
+use tw_verify::{Verified, VerifyError, verify};
 
 /// A program, and the budgets of its procedures where it is accepted.
 #[derive(Drop)]
@@ -70,7 +70,7 @@ pub fn with_budgets(alloc: Global, program: Program) -> Result<Budgeted, AllocEr
             })
         }
         Err(refused) => match refused.no {
-            VerifyRefusal::NoMemory => Err(AllocError),
+            VerifyError::NoMemory => Err(AllocError),
             _ => Ok(Budgeted {
                 program: refused.program,
                 budgets: Vec::new(alloc),

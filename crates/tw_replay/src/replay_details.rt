@@ -5,10 +5,10 @@ ghost use Rattle.tw_types.specs.Outcome.{Outcome};
 ghost use Rattle.tw_code.specs.format.Program.{Versioned};
 ghost use Rattle.tw_code.specs.machine.Ending.{ending};
 ghost use Rattle.tw_code.specs.machine.State.{State};
-ghost use Rattle.tw_machine.specs.Opening.{open_refusal_number, refusal_of};
+ghost use Rattle.tw_machine.specs.Opening.{open_error_code, rejection_of};
 ghost use Rattle.tw_replies.specs.Lines.{opening_line};
 ghost use Rattle.tw_replay.specs.Circle.{IsEndingBehind, Start, reached_from};
-ghost use Rattle.tw_replay.specs.Replay.{ByOutcome, IsAnswer, IsAnswerBehind, IsAnswered, IsRefusalBehind, IsReportBehind, opened, start_of};
+ghost use Rattle.tw_replay.specs.Replay.{ByOutcome, IsAnswer, IsAnswerBehind, IsAnswered, IsRejectionBehind, IsReportBehind, opened, start_of};
 ghost use Rattle.tw_replies.specs.Reply.{reply};
 ghost use Rattle.tw_replies.specs.Source.{MayBeSource, text_of};
 ghost use Rattle.tw_replay.specs.Stuck.{CanTell, ClosesBy, IsStartOf, IsUndrawn, MayTell};
@@ -19,7 +19,7 @@ use crate::opening::{inputs_refused_reply, opening_reply};
 use crate::stuck::put_stuck;
 use std::alloc::{AllocError, Global};
 use tw_command::{Answer, ReplayOrder};
-use tw_machine::{OpenRefusal, OpenRefused};
+use tw_machine::{OpenError, OpenRefused};
 use tw_replies::{Close, Reply, SourceText};
 use tw_types::Event;
 
@@ -30,13 +30,13 @@ pub fn unopened_reply(
     order: &ReplayOrder,
     refused: &OpenRefused,
 ) -> Result<Reply, AllocError>
-    ensures { IfOk result (λ r. (refused.now.no ≢ OpenRefusal.NoMemory) × ((more : List ℕ)
-        × IsRefusalBehind (text_of source.now) refused.now.program.procedures order.now.inputs refused.now.no more
-        × (reply r.text.items r.close ≡ reply (opening_line (open_refusal_number refused.now.no) ++ more) Close.Refused))) }
+    ensures { IfOk result (λ r. (refused.now.no ≢ OpenError.NoMemory) × ((more : List ℕ)
+        × IsRejectionBehind (text_of source.now) refused.now.program.procedures order.now.inputs refused.now.no more
+        × (reply r.text.items r.close ≡ reply (opening_line (open_error_code refused.now.no) ++ more) Close.Refused))) }
 {
     match refused.no {
-        OpenRefusal::NoMemory => Err(AllocError),
-        OpenRefusal::MainShape => opening_reply(alloc, refused.no.number()),
+        OpenError::NoMemory => Err(AllocError),
+        OpenError::MainShape => opening_reply(alloc, refused.no.number()),
         _ => inputs_refused_reply(
             alloc,
             source,
@@ -119,7 +119,7 @@ pub fn details_reply(
     events: &[Event],
     told: Reply,
 ) -> Result<Reply, AllocError>
-    ensures { IfOk result (λ r. (program : Versioned) → MayBeSource source.now program.procedures → refusal_of program.procedures order.now.inputs ≡ None
+    ensures { IfOk result (λ r. (program : Versioned) → MayBeSource source.now program.procedures → rejection_of program.procedures order.now.inputs ≡ None
         → length events.now ≤ 16777217 → AreShort events.now
         → (names : List (List ℕ)) → AreSymbols (text_of source.now) names → IsAnswer names order.now.answer (opened order.now program) events.now (reply told.text.items told.close)
         → IsAnswered (text_of source.now) order.now program events.now (reply r.text.items r.close)) }

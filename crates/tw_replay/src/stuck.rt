@@ -17,7 +17,7 @@ ghost use Rattle.tw_replay.specs.Stuck.{AreMade, CanTell, IsLookup, IsMadeSo, Is
 use std::alloc::{AllocError, Global};
 use tw_asm::{FaultNo, assemble};
 use tw_code::{Instr, Program};
-use tw_machine::{Frame, OpenRefusal, Plain, Stopped};
+use tw_machine::{Frame, OpenError, Plain, Stopped};
 use tw_names::Symbols;
 use tw_replies::{SourceText, TextLines, line_in, put_text_line};
 use tw_report::{circle_state, put, put_numbered};
@@ -289,7 +289,7 @@ fn put_opened(
     match Plain::open(alloc, program, inputs, layout) {
         Ok(first) => put_played(alloc, out, source, first, events),
         Err(refused) => match refused.no {
-            OpenRefusal::NoMemory => Err(AllocError),
+            OpenError::NoMemory => Err(AllocError),
             _ => Ok(()),
         },
     }

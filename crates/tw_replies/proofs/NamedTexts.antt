@@ -1,10 +1,10 @@
 -- A text with names that is refused.
 use Rattle.std.proofs.Common.{◌≡◌, ◌⊎◌, inl, inr}
 use Rattle.tw_names.specs.Answers.{IsMemory}
-use Rattle.tw_names.specs.declared.refusal.NameNo.TheVariants as no
-use Rattle.tw_names.specs.declared.refusal.NameRefusal.{NameRefusal}
+use Rattle.tw_names.specs.declared.rejection.NameNo.TheVariants as no
+use Rattle.tw_names.specs.declared.rejection.NameError.{NameError}
 
 -- what isn't want of memory is its first refusal
-pub is_refused : (f : NameRefusal) (First : Type 0) → (f.no ≡ no.NoMemory → ⊥) → IsMemory f ⊎ First → First
+pub is_refused : (f : NameError) (First : Type 0) → (f.no ≡ no.NoMemory → ⊥) → IsMemory f ⊎ First → First
 is_refused f First other (inl memory) = absurd (other memory.0)
 is_refused f First other (inr first) = first

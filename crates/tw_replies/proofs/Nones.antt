@@ -3,7 +3,7 @@ use Rattle.std.proofs.Common.{◌≡◌, ◌≢◌, ◌++◌, ℕ, List, [], IsU
 use Rattle.tw_replies.proofs.ReplyNames.{Assembly, Hex, IsFaultBehind, IsNoneBehind, NoProgram, Refused, RepliesBySource, SpellsNone, Spoken as Reply, StandsFor, Versioned, append-nil, name_behind, no_program_line, reply}
 use Rattle.tw_asm.specs.declared.fault.AsmFault.{AsmFault}
 use Rattle.tw_command.specs.declared.command.Source.{Source}
-use Rattle.tw_names.specs.declared.refusal.NameRefusal.{NameRefusal}
+use Rattle.tw_names.specs.declared.rejection.NameError.{NameError}
 use Rattle.tw_replies.specs.declared.program.NoProgram.TheVariants.{NotHex, NotUtf8, Bytes, Text, Named, NoMemory}
 
 abbrev pub Adds : List ℕ → NoProgram → List ℕ → List ℕ → Type 0
@@ -14,11 +14,11 @@ pub reason_added : (input old new : List ℕ) (f : AsmFault)
 reason_added input old new f told Hex none = absurd none
 reason_added input old new f told Assembly none = told none.0 none.1.0 none.1.1
 
-pub refusal_added : (input old new : List ℕ) (f : NameRefusal) → (IsUtf8 input → new ≡ old ++ name_behind input f.no f.line f.word.now) → Adds input (Named f) old new
-refusal_added input old new f told Hex none = absurd none
-refusal_added input old new f told Assembly none = (name_behind input f.no f.line f.word.now, refl, told none.0)
+pub rejection_added : (input old new : List ℕ) (f : NameError) → (IsUtf8 input → new ≡ old ++ name_behind input f.no f.line f.word.now) → Adds input (Named f) old new
+rejection_added input old new f told Hex none = absurd none
+rejection_added input old new f told Assembly none = (name_behind input f.no f.line f.word.now, refl, told none.0)
 
-pub nothing_added : (input old : List ℕ) (why : NoProgram) → ((f : AsmFault) → why ≡ Text f → ⊥) → ((f : NameRefusal) → why ≡ Named f → ⊥) → Adds input why old old
+pub nothing_added : (input old : List ℕ) (why : NoProgram) → ((f : AsmFault) → why ≡ Text f → ⊥) → ((f : NameError) → why ≡ Named f → ⊥) → Adds input why old old
 nothing_added input old NotHex other unnamed source none = ([], refl, sym (append-nil old))
 nothing_added input old NotUtf8 other unnamed source none = ([], refl, sym (append-nil old))
 nothing_added input old (Bytes f) other unnamed source none = ([], refl, sym (append-nil old))

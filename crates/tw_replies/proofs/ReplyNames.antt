@@ -15,7 +15,7 @@ pub use Rattle.tw_replies.specs.declared.program.NoProgram.{NoProgram}
 pub use Rattle.tw_replies.specs.declared.reply.Reply.{Reply}
 pub use Rattle.tw_asm.specs.Fault.{LineSays, LinesSay, ParserState, after_line, at_start, situation, situation_from}
 pub use Rattle.tw_asm.specs.Origins.{AreOrigins, ComesFrom, at_place, instr_at}
-pub use Rattle.tw_names.specs.Expansion.{HasNames, IsFirstRefusal, StandsFor}
+pub use Rattle.tw_names.specs.Expansion.{HasNames, IsFirstRejection, StandsFor}
 pub use Rattle.tw_replies.specs.Listed.{counts_of, typings_in}
 pub use Rattle.tw_replies.specs.Listing.{IsListing, IsRefusedListing, listing_from, no_typings, procedure_listing, right_column, rights_below, said_line, said_lines}
 pub use Rattle.tw_replies.specs.Names.{IsFaultBehind, RepliesByPlain, name_behind, name_line, written_text}
@@ -24,5 +24,5 @@ pub use Rattle.tw_replies.specs.Program.{IsNoneBehind, RepliesBySource, Spells, 
 pub use Rattle.tw_replies.specs.Reply.{Reply as Spoken, reply}
 pub use Rattle.tw_replies.specs.Source.{IsSource, MayBeSource, MayBeSourceAt, plain_of, text_of}
 pub use Rattle.tw_replies.specs.Text.{IsPlaceBehind, IsTextBehind, text_line}
-pub use Rattle.tw_verify.specs.Refusal.{verify_refusal_number}
+pub use Rattle.tw_verify.specs.Rejection.{verify_error_code}
 pub use Rattle.tw_verify.specs.Typed.{typings_of}

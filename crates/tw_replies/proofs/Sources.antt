@@ -6,8 +6,8 @@ use Rattle.tw_asm.specs.Statement.{Statement, Code, Head}
 use Rattle.tw_reasons.proofs.Heads.{front_no_procedure}
 use Rattle.tw_reasons.specs.LineRole.{HasNoHead, IsFirstHead}
 use Rattle.tw_names.proofs.LineByLine.{as_many}
-use Rattle.tw_verify.specs.declared.refusal.VerifyRefusal.{VerifyRefusal}
-use Rattle.tw_verify.specs.declared.refusal.VerifyRefusal.TheVariants as refusal
+use Rattle.tw_verify.specs.declared.rejection.VerifyError.{VerifyError}
+use Rattle.tw_verify.specs.declared.rejection.VerifyError.TheVariants as rejection
 
 -- lines that say so many things are so many
 pub said_length : (number : ℕ) (s : ParserState) (ls : List (List ℕ)) (said : List (Option Statement)) → LinesSay number s ls said → length said ≡ length ls
@@ -61,7 +61,7 @@ some_head text procedure place number c none =
     let zero' = front_no_procedure c.before (Some (Code c.i) ∷ c.after) (subst HasNoHead c.parts none) in
     absurd (omega (arith, zero', c.procedure_is))
 
-pub other_behind : (text : List ℕ) (which : VerifyRefusal) (program : List Procedure) (procedure place : ℕ) (more : List ℕ) → (which ≡ refusal.MainShape → ⊥) → IsPlaceBehind text which program procedure place more
+pub other_behind : (text : List ℕ) (which : VerifyError) (program : List Procedure) (procedure place : ℕ) (more : List ℕ) → (which ≡ rejection.MainShape → ⊥) → IsPlaceBehind text which program procedure place more
     → IsTextBehind text which program procedure place more
-other_behind text refusal.MainShape program procedure place more other h = absurd (other refl)
+other_behind text rejection.MainShape program procedure place more other h = absurd (other refl)
 other_behind text which program procedure place more other h = h

@@ -4,14 +4,14 @@ use Rattle.std.specs.Str.{bytes_eq}
 use Rattle.std.specs.Str.Lines.{lines}
 use Rattle.tw_asm.specs.declared.fault.FaultNo.{FaultNo}
 use Rattle.tw_names.specs.Answers.{name_number}
-use Rattle.tw_names.specs.Expansion.{HasNames, IsFirstRefusal, Refusal, StandsFor}
+use Rattle.tw_names.specs.Expansion.{HasNames, IsFirstRejection, Rejection, StandsFor}
 use Rattle.tw_names.specs.declared.meaning.Expected.{Expected}
 use Rattle.tw_names.specs.declared.meaning.Expected.TheVariants as asked
 use Rattle.tw_names.specs.declared.meaning.Bank.TheVariants as bank
 use Rattle.tw_names.specs.declared.meaning.Binding.{Binding}
 use Rattle.tw_names.specs.declared.meaning.Binding.TheVariants as binding
-use Rattle.tw_names.specs.declared.refusal.NameNo.{NameNo}
-use Rattle.tw_names.specs.declared.refusal.NameNo.TheVariants as no
+use Rattle.tw_names.specs.declared.rejection.NameNo.{NameNo}
+use Rattle.tw_names.specs.declared.rejection.NameNo.TheVariants as no
 use Rattle.tw_reasons.specs.Diagnostics.{IsTextReason}
 use Rattle.tw_words.specs.Shown.{shortened}
 use Rattle.tw_replies.specs.Reply.{Reply, reply}
@@ -93,4 +93,4 @@ IsFaultBehind text which line more =
 abbrev pub RepliesByPlain : List ℕ → Reply → Type 0
 RepliesByPlain text r =
     RepliesByUtf8 text (((plain : List ℕ) × StandsFor text plain × (r ≡ reply plain Success))
-    ⊎ ((refusal : Refusal) × IsFirstRefusal text refusal × (r ≡ reply (name_line refusal.no refusal.line ++ name_behind text refusal.no refusal.line refusal.word) Refused))) r
+    ⊎ ((rejection : Rejection) × IsFirstRejection text rejection × (r ≡ reply (name_line rejection.no rejection.line ++ name_behind text rejection.no rejection.line rejection.word) Refused))) r

@@ -15,7 +15,7 @@ use Rattle.tw_command.specs.declared.command.Source.{Source}
 use Rattle.tw_command.specs.declared.command.Source.TheVariants.{Hex, Assembly}
 use Rattle.tw_asm.specs.declared.fault.FaultNo.{FaultNo}
 use Rattle.tw_names.specs.Answers.{told}
-use Rattle.tw_names.specs.Expansion.{IsFirstRefusal, StandsFor}
+use Rattle.tw_names.specs.Expansion.{IsFirstRejection, StandsFor}
 use Rattle.tw_replies.specs.Lines.{asm_line, fault_line}
 use Rattle.tw_replies.specs.Input.{digits_in}
 use Rattle.tw_replies.specs.Names.{IsFaultBehind, RepliesByPlain, name_behind, name_line}
@@ -49,7 +49,7 @@ SpellsNone Assembly input NotHex = ⊥
 SpellsNone Assembly input (Bytes f) = ⊥
 SpellsNone Assembly input NotUtf8 = IsUtf8 input → ⊥
 SpellsNone Assembly input (Text f) = IsUtf8 input × TextHasFault input f.no f.line
-SpellsNone Assembly input (Named f) = IsUtf8 input × IsFirstRefusal input (told f)
+SpellsNone Assembly input (Named f) = IsUtf8 input × IsFirstRejection input (told f)
 SpellsNone Assembly input NoMemory = ⊥
 
 abbrev pub no_program_line : NoProgram → List ℕ

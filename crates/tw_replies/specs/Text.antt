@@ -10,8 +10,8 @@ use Rattle.tw_names.specs.Expansion.{StandsFor}
 use Rattle.tw_reasons.specs.Reasons.{TellsReason, shape_line}
 use Rattle.tw_reasons.specs.LineRole.{IsFirstHead}
 use Rattle.tw_words.specs.Shown.{shortened}
-use Rattle.tw_verify.specs.declared.refusal.VerifyRefusal.{VerifyRefusal}
-use Rattle.tw_verify.specs.declared.refusal.VerifyRefusal.TheVariants as refusal
+use Rattle.tw_verify.specs.declared.rejection.VerifyError.{VerifyError}
+use Rattle.tw_verify.specs.declared.rejection.VerifyError.TheVariants as rejection
 use Rattle.tw_replies.specs.Reply.{Reply, reply}
 use Rattle.tw_replies.specs.declared.close.Close.TheVariants.{Refused}
 
@@ -46,7 +46,7 @@ IsLineOf text number trimmed = IsLineAt (lines text) number trimmed
 
 -- The line from which the instruction at the refused place comes, as it is written, with its procedure's name; and why it is refused, where the
 -- register that is told has its name beside it.
-abbrev pub IsPlaceBehind : List ℕ → VerifyRefusal → List Procedure → ℕ → ℕ → List ℕ → Type 0
+abbrev pub IsPlaceBehind : List ℕ → VerifyError → List Procedure → ℕ → ℕ → List ℕ → Type 0
 IsPlaceBehind text which program procedure place more =
     (plain : List ℕ) × (number : ℕ) × (line : List ℕ) × (numbers : List (List ℕ)) × (reason : List ℕ) × (told : List ℕ) × (names : List (List ℕ))
     × StandsFor text plain × ComesFrom plain procedure place number × IsLineOf text number line
@@ -59,11 +59,11 @@ IsMainBehind text program more =
     (plain : List ℕ) × (number : ℕ) × (line : List ℕ) × (main : Procedure) × StandsFor text plain × IsFirstHead plain number × IsLineOf text number line
     × (slice_get program 0 ≡ Some main) × (more ≡ text_line number line ++ shape_line main.kind main.params)
 
-abbrev pub IsTextBehind : List ℕ → VerifyRefusal → List Procedure → ℕ → ℕ → List ℕ → Type 0
-IsTextBehind text refusal.MainShape program procedure place more = IsMainBehind text program more
+abbrev pub IsTextBehind : List ℕ → VerifyError → List Procedure → ℕ → ℕ → List ℕ → Type 0
+IsTextBehind text rejection.MainShape program procedure place more = IsMainBehind text program more
 IsTextBehind text which program procedure place more = IsPlaceBehind text which program procedure place more
 
 -- where the program was read from a text
-abbrev pub IsBehind : Option (List ℕ) → VerifyRefusal → List Procedure → ℕ → ℕ → List ℕ → Type 0
+abbrev pub IsBehind : Option (List ℕ) → VerifyError → List Procedure → ℕ → ℕ → List ℕ → Type 0
 IsBehind None which program procedure place more = more ≡ []
 IsBehind (Some text) which program procedure place more = IsTextBehind text which program procedure place more

@@ -1,14 +1,14 @@
 //! What `check` says of a program.
 
 ghost use Rattle.std.specs.Prelude.{◌≡◌, ◌++◌, ℕ, List, IfOk, OnOk, decimal};
-ghost use Rattle.tw_code.specs.accepting.WellTyped.{IsFirstRefusal};
+ghost use Rattle.tw_code.specs.accepting.WellTyped.{IsFirstRejection};
 ghost use Rattle.tw_replies.specs.Check.{AreProcedureLines, IsCheckText, IsChecked, IsRefused, IsToldByCheck, StandsBefore, kind_text, needs_line, procedure_line};
 ghost use Rattle.tw_command.specs.declared.command.Places.TheVariants.{Shown};
 ghost use Rattle.tw_names.specs.Symbols.{name_at};
 ghost use Rattle.tw_replies.specs.Listing.{IsListing, IsRefusedListing};
 ghost use Rattle.tw_replies.specs.Reply.{reply};
 ghost use Rattle.tw_replies.specs.Source.{MayBeSource, text_of};
-ghost use Rattle.tw_verify.specs.Refusal.{verify_refusal_number};
+ghost use Rattle.tw_verify.specs.Rejection.{verify_error_code};
 
 use crate::bounds::put_requested_bounds;
 use crate::lines::put_verify_line;
@@ -109,7 +109,7 @@ fn refused_listing(
     refused: &Refused,
 ) -> Result<Vec<u8>, AllocError>
     requires { MayBeSource source.now refused.now.program.procedures }
-    ensures { IfOk result (λ text. IsRefusedListing (text_of source.now) refused.now.program.procedures (verify_refusal_number refused.now.no) refused.now.procedure text.items) }
+    ensures { IfOk result (λ text. IsRefusedListing (text_of source.now) refused.now.program.procedures (verify_error_code refused.now.no) refused.now.procedure text.items) }
 {
     match source {
         Some(source) => refused_lines(alloc, source, refused),
@@ -172,7 +172,7 @@ fn text_before(
     refused: &Refused,
 ) -> Result<Vec<u8>, AllocError>
     requires { MayBeSource source.now refused.now.program.procedures }
-    ensures { IfOk result (λ text. StandsBefore places (text_of source.now) refused.now.program.procedures (verify_refusal_number refused.now.no) refused.now.procedure text.items) }
+    ensures { IfOk result (λ text. StandsBefore places (text_of source.now) refused.now.program.procedures (verify_error_code refused.now.no) refused.now.procedure text.items) }
 {
     match places {
         Places::Hidden => Ok(Vec::new(alloc)),
@@ -181,14 +181,14 @@ fn text_before(
 }
 
 /// The reply where a program isn't accepted.
-pub fn refusal_reply(
+pub fn rejection_reply(
     alloc: Global,
     source: &Option<SourceText<'_>>,
     places: Places,
     refused: &Refused,
 ) -> Result<Reply, AllocError>
     requires source { MayBeSource source.now refused.now.program.procedures }
-    requires first { IsFirstRefusal refused.now.program.procedures (verify_refusal_number refused.now.no) refused.now.procedure refused.now.place }
+    requires first { IsFirstRejection refused.now.program.procedures (verify_error_code refused.now.no) refused.now.procedure refused.now.place }
     ensures { IfOk result (λ r. IsRefused places (text_of source.now) refused.now.program.procedures (reply r.text.items r.close)) }
 {
     let mut text = text_before(alloc, source, places, refused)?;

@@ -17,7 +17,7 @@ mod text_lines;
 mod text_listing;
 
 pub use assembled::assembled_reply;
-pub use check::{checked_text, refusal_reply};
+pub use check::{checked_text, rejection_reply};
 pub use close::Close;
 pub use inputs::{input_parts, input_word_reply, refused_words_reply};
 pub use lines::put_opening_line;

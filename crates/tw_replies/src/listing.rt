@@ -5,7 +5,7 @@ ghost use Rattle.std.specs.List.{AllByRecursion};
 ghost use Rattle.tw_code.specs.format.Program.{IsInstr, IsProcedure};
 ghost use Rattle.tw_code.specs.machine.Rights.{right_at};
 ghost use Rattle.tw_replies.specs.Listing.{IsListing, IsRefusedListing, beside, disassembled, listing_from, no_typings, place_column, place_line, place_lines, procedure_listing, right_column, rights_below, rights_text};
-ghost use Rattle.tw_verify.specs.Refusal.{verify_refusal_number};
+ghost use Rattle.tw_verify.specs.Rejection.{verify_error_code};
 
 use std::alloc::{AllocError, Global};
 use tw_asm::{LabelPlaces, disassemble, put_head_lines, put_right};
@@ -187,7 +187,7 @@ pub fn typed_text(alloc: Global, verified: &Verified) -> Result<Vec<u8>, AllocEr
 
 /// The listing of a refused program.
 pub fn refused_text(alloc: Global, refused: &Refused) -> Result<Vec<u8>, AllocError>
-    ensures { IfOk result (λ text. IsRefusedListing None refused.now.program.procedures (verify_refusal_number refused.now.no) refused.now.procedure text.items) }
+    ensures { IfOk result (λ text. IsRefusedListing None refused.now.program.procedures (verify_error_code refused.now.no) refused.now.procedure text.items) }
 {
     let mut text = Vec::new(alloc);
     for (number, procedure) in refused.program.procedures().iter().enumerate() {

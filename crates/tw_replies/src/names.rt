@@ -4,7 +4,7 @@ ghost use Rattle.std.specs.Prelude.{◌≡◌, ◌++◌, ◌-◌, ℕ, List, IfO
 ghost use Rattle.std.specs.Str.Lines.{lines};
 ghost use Rattle.tw_reasons.specs.Diagnostics.{IsTextReason};
 ghost use Rattle.tw_names.specs.Answers.{told};
-ghost use Rattle.tw_names.specs.Expansion.{IsFirstRefusal, StandsFor};
+ghost use Rattle.tw_names.specs.Expansion.{IsFirstRejection, StandsFor};
 ghost use Rattle.tw_replies.specs.Names.{IsFaultBehind, RepliesByPlain, expected_words, fixed_reason, is_same_line, kind_reason, line_text, name_behind, name_line, name_reason, binding_words, written_text};
 ghost use Rattle.tw_words.specs.Shown.{shortened};
 ghost use Rattle.tw_replies.specs.Reply.{reply};
@@ -13,7 +13,7 @@ use crate::close::Close;
 use crate::reply::{Reply, fixed_reply, not_utf8_reply, refused_by};
 use std::alloc::{AllocError, Global};
 use tw_asm::AsmFault;
-use tw_names::{Bank, Binding, Expected, NameNo, NameRefusal, expanded_text};
+use tw_names::{Bank, Binding, Expected, NameError, NameNo, expanded_text};
 use tw_reasons::put_text_reason;
 use tw_words::{line_numbered, put, put_both, put_numbered, put_shortened};
 
@@ -34,13 +34,13 @@ fn put_line(out: &mut Vec<u8>, text: &str, number: usize) -> Result<(), AllocErr
 pub fn put_name_line(
     alloc: Global,
     out: &mut Vec<u8>,
-    refusal: NameRefusal<'_>,
+    rejection: NameError<'_>,
 ) -> Result<(), AllocError>
-    ensures { OnOk result (out.new.items ≡ out.old.items ++ name_line refusal.entry.no refusal.entry.line) }
+    ensures { OnOk result (out.new.items ≡ out.old.items ++ name_line rejection.entry.no rejection.entry.line) }
 {
-    let number = usize::from(refusal.no.number());
+    let number = usize::from(rejection.no.number());
     put_numbered(alloc, out, "refused N0", number)?;
-    put_numbered(alloc, out, " at line ", refusal.line)?;
+    put_numbered(alloc, out, " at line ", rejection.line)?;
     put(out, "\n")
 }
 
@@ -114,12 +114,12 @@ fn put_word_reason(out: &mut Vec<u8>, word: &[u8], no: NameNo) -> Result<(), All
 pub fn put_name_details(
     out: &mut Vec<u8>,
     text: &str,
-    refusal: NameRefusal<'_>,
+    rejection: NameError<'_>,
 ) -> Result<(), AllocError>
-    ensures { OnOk result (out.new.items ≡ out.old.items ++ name_behind text.now refusal.entry.no refusal.entry.line refusal.entry.word.now) }
+    ensures { OnOk result (out.new.items ≡ out.old.items ++ name_behind text.now rejection.entry.no rejection.entry.line rejection.entry.word.now) }
 {
-    put_line(out, text, refusal.line)?;
-    put_word_reason(out, refusal.word, refusal.no)
+    put_line(out, text, rejection.line)?;
+    put_word_reason(out, rejection.word, rejection.no)
 }
 
 fn is_same_line(line: Option<&str>, other: Option<&str>) -> bool
@@ -172,7 +172,7 @@ pub fn put_fault_details(
     match expanded_text(alloc, text) {
         Ok(None) => put_text_reason(alloc, out, text, fault),
         Ok(Some(plain)) => put_written_fault(alloc, out, text, &plain, fault),
-        Err(refusal) => match refusal.no {
+        Err(rejection) => match rejection.no {
             NameNo::NoMemory => Err(AllocError),
             _ => Ok(()),
         },
@@ -180,12 +180,12 @@ pub fn put_fault_details(
 }
 
 /// The reply where a text with names is refused.
-fn named_reply(alloc: Global, text: &str, refusal: NameRefusal<'_>) -> Result<Reply, AllocError>
-    ensures { IfOk result (λ r. IsFirstRefusal text.now (told refusal.entry) → RepliesByPlain text.now (reply r.text.items r.close)) }
+fn named_reply(alloc: Global, text: &str, rejection: NameError<'_>) -> Result<Reply, AllocError>
+    ensures { IfOk result (λ r. IsFirstRejection text.now (told rejection.entry) → RepliesByPlain text.now (reply r.text.items r.close)) }
 {
     let mut out = Vec::new(alloc);
-    put_name_line(alloc, &mut out, refusal)?;
-    put_name_details(&mut out, text, refusal)?;
+    put_name_line(alloc, &mut out, rejection)?;
+    put_name_details(&mut out, text, rejection)?;
     Ok(refused_by(out))
 }
 
@@ -199,9 +199,9 @@ fn text_plain_reply(alloc: Global, text: &str) -> Result<Reply, AllocError>
             close: Close::Success,
         }),
         Ok(None) => fixed_reply(alloc, text, Close::Success),
-        Err(refusal) => match refusal.no {
+        Err(rejection) => match rejection.no {
             NameNo::NoMemory => Err(AllocError),
-            _ => named_reply(alloc, text, refusal),
+            _ => named_reply(alloc, text, rejection),
         },
     }
 }

@@ -8,7 +8,7 @@ ghost use Rattle.tw_command.specs.declared.command.Source.TheVariants.{Assembly,
 ghost use Rattle.tw_command.specs.declared.command.Source.{Source as ReadAs};
 ghost use Rattle.tw_asm.specs.Origins.{AreOrigins};
 ghost use Rattle.tw_names.specs.Expansion.{StandsFor};
-ghost use Rattle.tw_names.specs.declared.refusal.NameNo.TheVariants as no;
+ghost use Rattle.tw_names.specs.declared.rejection.NameNo.TheVariants as no;
 ghost use Rattle.tw_replies.specs.Names.{IsFaultBehind, name_behind};
 ghost use Rattle.tw_replies.specs.Program.{IsNoneBehind, Spells, SpellsNone, SpellsText, no_program_line, text_told};
 ghost use Rattle.tw_replies.specs.Reply.{reply};
@@ -29,7 +29,7 @@ use tw_asm::{AsmFault, LinedProgram, assemble_lined};
 use tw_bytes::{Fault, FaultNo, decode};
 use tw_code::Program;
 use tw_command::Source;
-use tw_names::{NameNo, NameRefusal, expanded_text};
+use tw_names::{NameError, NameNo, expanded_text};
 use tw_words::put;
 
 /// A program, and the text from which it was read, if from one.
@@ -48,7 +48,7 @@ pub enum NoProgram<'a> {
     /// The assembly text that is read, or for which what is read stands, has a fault.
     Text(AsmFault),
     /// What is read stands for none.
-    Named(NameRefusal<'a>),
+    Named(NameError<'a>),
     NoMemory,
 }
 
@@ -147,12 +147,12 @@ fn program_of_plain<'a>(
     }
 }
 
-fn name_refused<'a>(refusal: NameRefusal<'a>) -> NoProgram<'a>
-    ensures { (result ≢ NoMemory → (result ≡ Named refusal.entry) × (refusal.entry.no ≢ no.NoMemory)) }
+fn name_refused<'a>(rejection: NameError<'a>) -> NoProgram<'a>
+    ensures { (result ≢ NoMemory → (result ≡ Named rejection.entry) × (rejection.entry.no ≢ no.NoMemory)) }
 {
-    match refusal.no {
+    match rejection.no {
         NameNo::NoMemory => NoProgram::NoMemory,
-        _ => NoProgram::Named(refusal),
+        _ => NoProgram::Named(rejection),
     }
 }
 
@@ -166,7 +166,7 @@ fn program_of_text<'a>(alloc: Global, text: &'a str) -> Result<ReadProgram<'a>, 
     match expanded_text(alloc, text) {
         Ok(None) => program_of_itself(alloc, text),
         Ok(Some(plain)) => program_of_plain(alloc, text, plain),
-        Err(refusal) => Err(name_refused(refusal)),
+        Err(rejection) => Err(name_refused(rejection)),
     }
 }
 
@@ -214,7 +214,7 @@ fn put_no_program(alloc: Global, out: &mut Vec<u8>, why: NoProgram<'_>) -> Resul
         NoProgram::NotUtf8 => put(out, "refused H03\n"),
         NoProgram::Bytes(fault) => put_fault_line(alloc, out, fault.no.number(), fault.offset),
         NoProgram::Text(fault) => put_asm_line(alloc, out, fault.no.number(), fault.line),
-        NoProgram::Named(refusal) => put_name_line(alloc, out, refusal),
+        NoProgram::Named(rejection) => put_name_line(alloc, out, rejection),
         NoProgram::NoMemory => Err(AllocError),
     }
 }
@@ -235,15 +235,15 @@ fn put_fault_reason(
 }
 
 /// Adds the line of what is to be a text with names that is refused, and why it is.
-fn put_refusal_reason(
+fn put_rejection_reason(
     out: &mut Vec<u8>,
     input: &[u8],
-    refusal: NameRefusal<'_>,
+    rejection: NameError<'_>,
 ) -> Result<(), AllocError>
-    ensures { OnOk result (IsUtf8 input.now → out.new.items ≡ out.old.items ++ name_behind input.now refusal.entry.no refusal.entry.line refusal.entry.word.now) }
+    ensures { OnOk result (IsUtf8 input.now → out.new.items ≡ out.old.items ++ name_behind input.now rejection.entry.no rejection.entry.line rejection.entry.word.now) }
 {
     match str::from_utf8(input) {
-        Ok(text) => put_name_details(out, text, refusal),
+        Ok(text) => put_name_details(out, text, rejection),
         Err(_) => Ok(()),
     }
 }
@@ -259,7 +259,7 @@ fn put_parse_error_details(
 {
     match why {
         NoProgram::Text(fault) => put_fault_reason(alloc, out, input, fault),
-        NoProgram::Named(refusal) => put_refusal_reason(out, input, refusal),
+        NoProgram::Named(rejection) => put_rejection_reason(out, input, rejection),
         _ => Ok(()),
     }
 }

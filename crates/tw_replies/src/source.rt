@@ -18,7 +18,7 @@ use tw_asm::LineNumbers;
 use tw_code::Procedure;
 use tw_names::{Symbols, put_with_name};
 use tw_reasons::{head_line, put_main_reason, put_program_reason};
-use tw_verify::{Refused, VerifyRefusal};
+use tw_verify::{Refused, VerifyError};
 use tw_words::{line_numbered, put, put_numbered, put_shortened};
 
 /// A text, and the line of each instruction of its program.
@@ -220,7 +220,7 @@ fn put_text_details(
         → (more : List ℕ) × IsTextBehind source.now.text.now refused.now.no refused.now.program.procedures refused.now.procedure refused.now.place more × (out.new.items ≡ out.old.items ++ more)) }
 {
     match refused.no {
-        VerifyRefusal::MainShape => put_main_details(alloc, out, source, refused),
+        VerifyError::MainShape => put_main_details(alloc, out, source, refused),
         _ => put_place_details(alloc, out, source, refused),
     }
 }

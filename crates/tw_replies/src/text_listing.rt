@@ -9,7 +9,7 @@ ghost use Rattle.tw_replies.specs.Listed.{counts_of, typings_in};
 ghost use Rattle.tw_replies.specs.Listing.{IsListing, IsRefusedListing, beside, place_column, rights_text, said_line, said_lines};
 ghost use Rattle.tw_replies.specs.Source.{IsSource};
 ghost use Rattle.tw_verify.specs.Known.{AreFound};
-ghost use Rattle.tw_verify.specs.Refusal.{verify_refusal_number};
+ghost use Rattle.tw_verify.specs.Rejection.{verify_error_code};
 ghost use Rattle.tw_verify.specs.Typed.{typings_of};
 
 use crate::listing::{put_beside, put_place, rights_at};
@@ -158,7 +158,7 @@ fn accepted_typings(alloc: Global, verified: &Verified) -> Result<Vec<Items<Typi
 /// What is known of each procedure of a refused program.
 fn refused_typings(alloc: Global, refused: &Refused) -> Result<Vec<Items<Typing>>, AllocError>
     ensures { IfOk result (λ all. (k : ℕ) → k < length refused.now.program.procedures
-        → AreFound refused.now.program.procedures (verify_refusal_number refused.now.no) refused.now.procedure k (get_or all.items k [])) }
+        → AreFound refused.now.program.procedures (verify_error_code refused.now.no) refused.now.procedure k (get_or all.items k [])) }
 {
     let mut all = Vec::new(alloc);
     for number in 0..refused.program.procedures().len() {
@@ -188,7 +188,7 @@ pub fn refused_lines(
     refused: &Refused,
 ) -> Result<Vec<u8>, AllocError>
     requires { IsSource source.now refused.now.program.procedures }
-    ensures { IfOk result (λ listing. IsRefusedListing (Some source.now.text.now) refused.now.program.procedures (verify_refusal_number refused.now.no) refused.now.procedure listing.items) }
+    ensures { IfOk result (λ listing. IsRefusedListing (Some source.now.text.now) refused.now.program.procedures (verify_error_code refused.now.no) refused.now.procedure listing.items) }
 {
     let all = refused_typings(alloc, refused)?;
     said_text(alloc, source.text, source.plain(), &all)

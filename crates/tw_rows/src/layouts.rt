@@ -41,7 +41,7 @@ pub fn layout_text(alloc: Global, words: &str) -> Result<String, Complaint> {
     let mut text = Text::new(alloc);
     match Layout::new(engines, servers, workers) {
         Ok(layout) => put_layout(&mut text, layout),
-        Err(refusal) => text.display(&refusal),
+        Err(rejection) => text.display(&rejection),
     }
     text.into_line()
 }

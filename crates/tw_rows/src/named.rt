@@ -18,12 +18,12 @@ pub fn names_text(alloc: Global, text: &str) -> Result<String, Complaint> {
     match expanded_text(alloc, text.as_str()) {
         Ok(None) => Ok("itself".to_string(alloc)?),
         Ok(Some(plain)) => one_line(alloc, plain.as_str()),
-        Err(refusal) => {
-            let word = str::from_utf8(refusal.word).map_err(|_| Complaint::WrittenBytes)?;
+        Err(rejection) => {
+            let word = str::from_utf8(rejection.word).map_err(|_| Complaint::WrittenBytes)?;
             Ok(format!(in alloc;
                 "N{:02} at line {}: {word}",
-                refusal.no.number(),
-                refusal.line
+                rejection.no.number(),
+                rejection.line
             )?)
         }
     }

@@ -4,7 +4,7 @@ use crate::complaint::Complaint;
 use crate::given::read_verified;
 use crate::text::Text;
 use std::alloc::{AllocError, Global};
-use tw_budget::{BudgetRefusal, frame_laws};
+use tw_budget::{BudgetError, frame_laws};
 use tw_code::{NoMemory, shown_and_read};
 use tw_rights::{Arg, Bundle, Held, ReadRight, RightFile, WriteRight};
 use tw_types::{Actor, DataType, DatumId, Scalar, Value, counts_kept};
@@ -156,9 +156,9 @@ fn put_laws(text: &mut Text, verified: Verified) {
 }
 
 fn put_errors(text: &mut Text) {
-    text.display(&BudgetRefusal::TooLarge);
+    text.display(&BudgetError::TooLarge);
     text.put("; ");
-    text.display(&BudgetRefusal::NoMemory);
+    text.display(&BudgetError::NoMemory);
     text.put("; ");
     text.display(&NoMemory);
 }

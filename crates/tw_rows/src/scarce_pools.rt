@@ -12,13 +12,13 @@ use std::alloc::Global;
 use std::marker::Brand;
 use std::sync::Wait;
 use tw_host::Named;
-use tw_pool::{OpenRefusal, Pool};
+use tw_pool::{OpenError, Pool};
 use tw_types::{Actor, Layout};
 use tw_verify::Verified;
 
 /// What is done where memory is refused: the same turn is made again, once there is memory; or the run is shut at once.
 #[derive(Clone, Copy, PartialEq, Eq)]
-enum AtRefusal {
+enum AtRejection {
     Again,
     Shut,
 }
@@ -38,7 +38,7 @@ enum Came {
 #[derive(Drop)]
 struct Lack<'h> {
     hoard: &'h mut Hoard,
-    at_refusal: AtRefusal,
+    at_rejection: AtRejection,
     is_met: bool,
 }
 
@@ -62,7 +62,7 @@ fn turn_on<K: Drop, T: Table<K>, R: Wait>(
         }
         if is_refused || answer.is_short {
             lack.is_met = true;
-            if lack.at_refusal == AtRefusal::Shut {
+            if lack.at_rejection == AtRejection::Shut {
                 return Came::Refused;
             }
             lack.hoard.relieve();
@@ -130,7 +130,7 @@ fn run_with<'a, N: Named, R: Wait>(
             text.put_report(&left);
             came
         }
-        Err(OpenRefusal::NoMemory) => {
+        Err(OpenError::NoMemory) => {
             lack.is_met = true;
             lack.hoard.relieve();
             Came::Unopened
@@ -147,13 +147,13 @@ fn agree<R: Wait>(
     hoard: &mut Hoard,
     verified: &Verified,
     given: &Given,
-    at_refusal: AtRefusal,
+    at_rejection: AtRejection,
     whole: &Text,
 ) -> bool {
     for step in 0..20_000_usize {
         let mut lack = Lack {
             hoard: &mut *hoard,
-            at_refusal,
+            at_rejection,
             is_met: false,
         };
         let mut text = Text::new(alloc);
@@ -182,7 +182,7 @@ fn whole_of<R: Wait>(
 ) -> Text {
     let mut lack = Lack {
         hoard,
-        at_refusal: AtRefusal::Again,
+        at_rejection: AtRejection::Again,
         is_met: false,
     };
     let mut whole = Text::new(alloc);
@@ -209,7 +209,7 @@ pub fn scarce_pool_text<R: Wait>(
         &mut hoard,
         verified,
         given,
-        AtRefusal::Again,
+        AtRejection::Again,
         &text,
     );
     let is_read = agree(
@@ -218,7 +218,7 @@ pub fn scarce_pool_text<R: Wait>(
         &mut hoard,
         verified,
         given,
-        AtRefusal::Shut,
+        AtRejection::Shut,
         &text,
     );
     text.put(if goes && is_read {

@@ -1,6 +1,6 @@
 -- The events of a run: one after the other as they are read from its history, and that none does more than a task may.
 use Rattle.std.proofs.Common.{◌≡◌, ◌≤◌, ◌+◌, ◌++◌, ◌∙◌, ℕ, List, [], ◌∷◌, length, take, Option, Some, None, refl, sym, ap, subst}
-use Rattle.tw_run_report.proofs.RunNames.{AreShort, Event, IsProgram, PlainView, Procedure, State, Went, begins, reached, refusal_of}
+use Rattle.tw_run_report.proofs.RunNames.{AreShort, Event, IsProgram, PlainView, Procedure, State, Went, begins, reached, rejection_of}
 use Rattle.std.specs.Prelude.{slice_get}
 use Rattle.std.proofs.lemmas.List.{take_all, take_more}
 use Rattle.std.proofs.lemmas.Option.{get_or_from_slice_get, slice_get_within}
@@ -40,7 +40,7 @@ all_events history i now all has = has ∙ take_all i history all
 -- ---- where it begins
 
 -- an accepted program with the inputs that main takes is opened
-pub opens : (program : List Procedure) (inputs : List Input) → IsAccepted program → AreInputsOf program inputs → refusal_of program inputs ≡ None
+pub opens : (program : List Procedure) (inputs : List Input) → IsAccepted program → AreInputsOf program inputs → rejection_of program inputs ≡ None
 opens program inputs accepted given = rw (accepted.main, given.count, given.fit) refl
 
 -- ---- its events

@@ -6,7 +6,7 @@ pub use Rattle.tw_code.specs.machine.Machine.{run}
 pub use Rattle.tw_code.specs.machine.Opening.{reached}
 pub use Rattle.tw_code.specs.machine.Pending.{circle}
 pub use Rattle.tw_code.specs.machine.State.{State}
-pub use Rattle.tw_machine.specs.Opening.{refusal_of}
+pub use Rattle.tw_machine.specs.Opening.{rejection_of}
 pub use Rattle.tw_machine.specs.PlainView.{PlainView}
 pub use Rattle.tw_replay.specs.Counted.{AreShort}
 pub use Rattle.tw_replies.specs.Source.{text_of}

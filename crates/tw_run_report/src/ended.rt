@@ -6,7 +6,7 @@ ghost use Rattle.tw_code.specs.machine.Bounds.{AreBelow, opening_bound};
 ghost use Rattle.tw_code.specs.machine.Inputs.{AreInputsOf};
 ghost use Rattle.tw_code.specs.machine.Opening.{reached};
 ghost use Rattle.tw_code.specs.machine.State.{State as MachineState};
-ghost use Rattle.tw_machine.specs.Opening.{refusal_of};
+ghost use Rattle.tw_machine.specs.Opening.{rejection_of};
 ghost use Rattle.tw_run_report.specs.Ends.{IsEndReport};
 ghost use Rattle.tw_run_report.specs.Over.{Goes, IsRunOver};
 ghost use Rattle.tw_replies.specs.Reply.{reply};
@@ -97,7 +97,7 @@ fn put_limit(
 
 /// The reference machine where a run begins.
 fn first_machine(alloc: Global, order: &RunOrder, program: Program) -> Result<Plain, AllocError>
-    requires { refusal_of program.procedures order.now.inputs ≡ None }
+    requires { rejection_of program.procedures order.now.inputs ≡ None }
     ensures first { IfOk result (λ plain. plain ≡ begins program.version program.procedures order.now) }
     ensures below { IfOk result (λ plain. AreBelow opening_bound plain.state) }
 {

@@ -18,7 +18,7 @@ use crate::shell::unordered_reply;
 use std::alloc::{AllocError, Global};
 use tw_command::{Order, RunOrder, read_order};
 use tw_in_turn::{InTurnResult, run_in_turn};
-use tw_pool::OpenRefusal;
+use tw_pool::OpenError;
 use tw_replay::inputs_refused_reply;
 use tw_replies::{Reply, SourceText};
 use tw_run_report::ended_reply;
@@ -63,7 +63,7 @@ pub fn reply_single_threaded(
     let inputs = order.inputs.as_slice();
     match run_in_turn(alloc, &verified, inputs, order.layout, order.limit.events()) {
         Ok(left) => left_reply(alloc, source, order, verified, left),
-        Err(OpenRefusal::NoMemory) => Err(AllocError),
+        Err(OpenError::NoMemory) => Err(AllocError),
         Err(why) => inputs_refused_reply(
             alloc,
             source,

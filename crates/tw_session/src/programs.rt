@@ -11,8 +11,8 @@ ghost use Rattle.tw_code.specs.accepting.WellTyped.{IsAccepted};
 use std::alloc::{AllocError, Global};
 use tw_code::Program;
 use tw_command::{Places, ProgramOrder, RunOrder, VerifiedOrder};
-use tw_replies::{Close, Reply, SourceText, checked_text, disassembled, refusal_reply};
-use tw_verify::{Verified, VerifyRefusal, verify};
+use tw_replies::{Close, Reply, SourceText, checked_text, disassembled, rejection_reply};
+use tw_verify::{Verified, VerifyError, verify};
 
 /// An accepted program that is to be run, and how.
 #[derive(Drop)]
@@ -72,9 +72,9 @@ fn verified_reply(
     match verify(alloc, program) {
         Ok(verified) => accepted_reply(alloc, source, order, verified),
         Err(refused) => match refused.no {
-            VerifyRefusal::NoMemory => Err(AllocError),
+            VerifyError::NoMemory => Err(AllocError),
             _ => {
-                let reply = refusal_reply(alloc, source, places, &refused)?;
+                let reply = rejection_reply(alloc, source, places, &refused)?;
                 Ok(ProgramAction::Finished(reply))
             }
         },

@@ -15,7 +15,7 @@ use std::thread::Threads;
 use std::time::Clock;
 use tw_command::RunOrder;
 use tw_host::Closed;
-use tw_pool::{Closing, OpenRefusal};
+use tw_pool::{Closing, OpenError};
 use tw_replay::inputs_refused_reply;
 use tw_replies::{Close, Reply, SourceText, fixed_reply};
 use tw_run_report::ended_reply;
@@ -101,7 +101,7 @@ pub fn reply_threaded<H: Threads + Wait + Clock + Sync, G: Gate + Sync>(
             }
             closed_reply(alloc, source, order, verified, closed)
         }
-        Err(OpenRefusal::NoMemory) => Err(AllocError),
+        Err(OpenError::NoMemory) => Err(AllocError),
         Err(why) => inputs_refused_reply(
             alloc,
             source,

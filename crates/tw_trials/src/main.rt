@@ -79,7 +79,7 @@ impl<R: Print + Threads + Wait + Clock + Sync> Verdicts<'_, R> {
     }
 
     /// Runs the tests in which an allocation may fail, with `calls` calls, or a tenth as many jobs.
-    fn refusal_trials(&mut self, alloc: Global, calls: u16) {
+    fn rejection_trials(&mut self, alloc: Global, calls: u16) {
         self.add("calls of the store", stores::calls_go(alloc));
         self.add("puts and takes", puts::calls_are_the_searchs(alloc, calls));
         self.add(
@@ -190,7 +190,7 @@ fn of_program(number: Option<u64>) -> Difference {
 #[derive(Clone, Copy, PartialEq, Eq)]
 enum Asked {
     All,
-    Refusals,
+    Rejections,
     Runs(u64),
 }
 
@@ -206,9 +206,9 @@ fn trials<R: AllocGlobal + Print + Threads + Wait + Clock + Sync>(
     };
     match asked {
         Asked::Runs(programs) => verdicts.run_trials(alloc, programs),
-        Asked::Refusals => verdicts.refusal_trials(alloc, 300),
+        Asked::Rejections => verdicts.rejection_trials(alloc, 300),
         Asked::All => {
-            verdicts.refusal_trials(alloc, 300);
+            verdicts.rejection_trials(alloc, 300);
             verdicts.whole_trials(alloc);
             verdicts.verifier_trials(alloc);
             verdicts.run_trials(alloc, PROGRAMS);
@@ -229,7 +229,7 @@ fn main(rt: HostRuntime) -> io::Result<()> {
         Some(word) if word.as_str() == "steps" => alone::print_steps(&rt),
         Some(word) => match word.as_str().parse::<u64>() {
             Ok(programs) => trials(&rt, Asked::Runs(programs)),
-            Err(_) => trials(&rt, Asked::Refusals),
+            Err(_) => trials(&rt, Asked::Rejections),
         },
     }
 }

@@ -1,7 +1,7 @@
 pub mod Causes
 pub mod Lists
 pub mod Mistakes
-pub mod OneRefusal
+pub mod OneRejection
 pub mod Places
 pub mod Programs
 pub mod QuickCode

@@ -1,6 +1,6 @@
 -- Errors at a place, and lists of typings extended by one place without an error.
 use Rattle.std.proofs.Common.{◌≡◌, ℕ, ◌+◌, ◌<◌, ◌≤◌, ◌⊎◌, inl, inr, Bool, true, false, List, [], ◌∷◌, ◌++◌, length, length-append, get_or, Option, Some, None, refl, sym, ap, ◌∙◌, subst, arith}
-use Rattle.tw_verify.proofs.VerifierNames.{Brings, HasChanged, Instr, IsEndOf, IsReached, IsRefusalAt, IsTypingRefusal, IsWellTyped, LeadsTo, Procedure, Typing, after, asks_at, cases_lt, flow_of, lowest_at, onward, refusal_in, same_Some, slice_get, slice_get-get_or, slice_get_within, start_typing}
+use Rattle.tw_verify.proofs.VerifierNames.{Brings, HasChanged, Instr, IsEndOf, IsReached, IsRejectionAt, IsTypingRejection, IsWellTyped, LeadsTo, Procedure, Typing, after, asks_at, cases_lt, flow_of, lowest_at, onward, rejection_in, same_Some, slice_get, slice_get-get_or, slice_get_within, start_typing}
 use Rattle.tw_code.specs.declared.flow.Way.{Way}
 use Rattle.tw_code.specs.declared.flow.Way.TheVariants.{Completed, Skipped}
 use Rattle.tw_verify.specs.declared.reached.Reached.{Reached}
@@ -30,7 +30,7 @@ none_typed program p = record {
 
 -- one place more
 pub typed_more : (program : List Procedure) (p : Procedure) (typings : List Typing) (place : ℕ) (r : Reached) (i : Instr) → IsWellTyped program p typings place → HasReached program p typings (place + place) place r → slice_get p.code place ≡ Some i
-    → refusal_in (asks_at program p place i r.typing) ≡ None → r.differs ≡ false → ((first : ℕ) (begun : Typing) → IsEndOf p.code first place → slice_get typings first ≡ Some begun → r.typing ≡ begun)
+    → rejection_in (asks_at program p place i r.typing) ≡ None → r.differs ≡ false → ((first : ℕ) (begun : Typing) → IsEndOf p.code first place → slice_get typings first ≡ Some begun → r.typing ≡ begun)
     → IsWellTyped program p (typings ++ r.typing ∷ []) (place + 1)
 typed_more program p typings place r i w h here fine alike kept = record {
   long = omega (arith, length-append typings (r.typing ∷ []), w.long);
@@ -49,11 +49,11 @@ typed_more program p typings place r i w h here fine alike kept = record {
     begins u (inl (start, is)) (inr (first, same)) = same ∙ is
     begins u (inr (before, f)) (inr (first, same)) = absurd (omega (arith, f.brings.step.earlier))
 
-    asks : (k : ℕ) (j : Instr) (u : Typing) → slice_get p.code k ≡ Some j → ((k < place) × (slice_get typings k ≡ Some u)) ⊎ ((k ≡ place) × (u ≡ t)) → refusal_in (asks_at program p k j u) ≡ None
+    asks : (k : ℕ) (j : Instr) (u : Typing) → slice_get p.code k ≡ Some j → ((k < place) × (slice_get typings k ≡ Some u)) ⊎ ((k ≡ place) × (u ≡ t)) → rejection_in (asks_at program p k j u) ≡ None
     asks k j u there (inl (before, at)) = w.asks k j u there at
     asks k j u there (inr (same, is)) =
         let same_instr = same_Some j i (sym there ∙ ap (slice_get p.code) same ∙ here) in
-        ap (λ (n : ℕ). refusal_in (asks_at program p n j u)) same ∙ ap (λ (x : Instr). refusal_in (asks_at program p place x u)) same_instr ∙ ap (λ (x : Typing). refusal_in (asks_at program p place i x)) is ∙ fine
+        ap (λ (n : ℕ). rejection_in (asks_at program p n j u)) same ∙ ap (λ (x : Instr). rejection_in (asks_at program p place x u)) same_instr ∙ ap (λ (x : Typing). rejection_in (asks_at program p place i x)) is ∙ fine
 
     later : (k next : ℕ) (j : Instr) (way : Way) (u v : Typing) → slice_get p.code k ≡ Some j → onward way k (flow_of j) ≡ Some next
         → ((k < place) × (slice_get typings k ≡ Some u)) ⊎ ((k ≡ place) × (u ≡ t)) → ((next < place) × (slice_get typings next ≡ Some v)) ⊎ ((next ≡ place) × (v ≡ t)) → v ≡ after program way j u
@@ -80,13 +80,13 @@ typed_more program p typings place r i w h here fine alike kept = record {
 -- ---- V09
 
 -- a place that nothing leads to
-pub unreached : (program : List Procedure) (p : Procedure) (typings : List Typing) (place : ℕ) → IsWellTyped program p typings place → IsRow program p typings (place + place) place None → place < length p.code → IsTypingRefusal program p 9 place
+pub unreached : (program : List Procedure) (p : Procedure) (typings : List Typing) (place : ℕ) → IsWellTyped program p typings place → IsRow program p typings (place + place) place None → place < length p.code → IsTypingRejection program p 9 place
 unreached program p typings place w (some, none) inside = record {
   inside = inside;
   typings = typings;
   before = w;
   none = λ others v. let entry = v.entered place some (omega arith) in never entry.0 entry.1;
-  lowest = record { refusal = inl (record { is = refl; later = some; never = never }); lowest = lowest };
+  lowest = record { rejection = inl (record { is = refl; later = some; never = never }); lowest = lowest };
 }
   where
     never : (before : ℕ) → LeadsTo p.code before place → ⊥
@@ -96,7 +96,7 @@ unreached program p typings place w (some, none) inside = record {
     no_way t (inl (start, is)) = absurd (omega arith)
     no_way t (inr (before, f)) = never before f.brings.step
 
-    lowest : (other : ℕ) → IsRefusalAt program p typings other place → 9 ≤ other
+    lowest : (other : ℕ) → IsRejectionAt program p typings other place → 9 ≤ other
     lowest other (inl u) = omega (arith, u.is)
     lowest other (inr (inl a)) = absurd (no_way a.typing a.reached)
     lowest other (inr (inr (inl d))) = absurd (no_way d.typing d.reached)
@@ -110,27 +110,27 @@ not_false true h = refl
 not_false false h = absurd (h refl)
 
 -- a place that is reached and has an error
-pub refusal_at : (program : List Procedure) (p : Procedure) (typings : List Typing) (place number : ℕ) (r : Reached) (i : Instr) (changed : Bool) → IsWellTyped program p typings place → HasReached program p typings (place + place) place r → slice_get p.code place ≡ Some i
+pub rejection_at : (program : List Procedure) (p : Procedure) (typings : List Typing) (place number : ℕ) (r : Reached) (i : Instr) (changed : Bool) → IsWellTyped program p typings place → HasReached program p typings (place + place) place r → slice_get p.code place ≡ Some i
     → (changed ≡ true → HasChanged p.code typings place r.typing) → ((first : ℕ) (begun : Typing) → changed ≡ false → IsEndOf p.code first place → slice_get typings first ≡ Some begun → r.typing ≡ begun)
-    → lowest_at (refusal_in (asks_at program p place i r.typing)) r.differs changed ≡ Some number → IsTypingRefusal program p number place
-refusal_at program p typings place number r i changed w h here has kept is = record {
+    → lowest_at (rejection_in (asks_at program p place i r.typing)) r.differs changed ≡ Some number → IsTypingRejection program p number place
+rejection_at program p typings place number r i changed w h here has kept is = record {
   inside = slice_get_within p.code place i here;
   typings = typings;
   before = w;
   none = λ others v. none others v cause;
-  lowest = record { refusal = refusal cause; lowest = lowest };
+  lowest = record { rejection = rejection cause; lowest = lowest };
 }
   where
     own : Option ℕ
-    own = refusal_in (asks_at program p place i r.typing)
+    own = rejection_in (asks_at program p place i r.typing)
 
     cause : IsCause own r.differs changed number
     cause = cause_at own r.differs changed number is
 
-    refusal : IsCause own r.differs changed number → IsRefusalAt program p typings number place
-    refusal (inl e) = inr (inl (record { typing = r.typing; reached = h.first; instr = i; here = here; vain = e }))
-    refusal (inr (inl (e, seven))) = let o = h.another e in inr (inr (inl (record { is = seven; typing = r.typing; reached = h.first; before = o.0; other = o.1; brings = o.2; differs = o.3 })))
-    refusal (inr (inr (e, eight))) = let o = has e in inr (inr (inr (record { is = eight; typing = r.typing; reached = h.first; first = o.first; end = o.end; begun = o.begun; there = o.there; differs = o.differs })))
+    rejection : IsCause own r.differs changed number → IsRejectionAt program p typings number place
+    rejection (inl e) = inr (inl (record { typing = r.typing; reached = h.first; instr = i; here = here; vain = e }))
+    rejection (inr (inl (e, seven))) = let o = h.another e in inr (inr (inl (record { is = seven; typing = r.typing; reached = h.first; before = o.0; other = o.1; brings = o.2; differs = o.3 })))
+    rejection (inr (inr (e, eight))) = let o = has e in inr (inr (inr (record { is = eight; typing = r.typing; reached = h.first; first = o.first; end = o.end; begun = o.begun; there = o.there; differs = o.differs })))
 
     none : (others : List Typing) → IsWellTyped program p others (place + 1) → IsCause own r.differs changed number → ⊥
     none others v why = by why
@@ -146,7 +146,7 @@ refusal_at program p typings place number r i changed w h here has kept is = rec
 
         by : IsCause own r.differs changed number → ⊥
         by (inl e) =
-            let both : Some number ≡ None = sym e ∙ ap (λ (x : Typing). refusal_in (asks_at program p place i x)) (sym same) ∙ v.asks place i u here at in
+            let both : Some number ≡ None = sym e ∙ ap (λ (x : Typing). rejection_in (asks_at program p place i x)) (sym same) ∙ v.asks place i u here at in
             cc
         by (inr (inl (e, seven))) =
             let o = h.another e in
@@ -162,7 +162,7 @@ refusal_at program p typings place number r i changed w h here has kept is = rec
     least : ((m : ℕ) → own ≡ Some m → number ≤ m) × (r.differs ≡ true → number ≤ 7) × (changed ≡ true → number ≤ 8)
     least = least_at own r.differs changed number is
 
-    lowest : (other : ℕ) → IsRefusalAt program p typings other place → number ≤ other
+    lowest : (other : ℕ) → IsRejectionAt program p typings other place → number ≤ other
     lowest other (inl u) = absurd (reached_by h.first)
       where
         reached_by : IsReached program p typings place r.typing → ⊥
@@ -171,7 +171,7 @@ refusal_at program p typings place number r i changed w h here has kept is = rec
     lowest other (inr (inl a)) =
         let same = reached_same program p typings place a.typing r.typing a.reached h.first in
         let instr = same_Some a.instr i (sym a.here ∙ here) in
-        least.0 other (sym (ap (λ (x : Instr). refusal_in (asks_at program p place x a.typing)) instr ∙ ap (λ (x : Typing). refusal_in (asks_at program p place i x)) same) ∙ a.vain)
+        least.0 other (sym (ap (λ (x : Instr). rejection_in (asks_at program p place x a.typing)) instr ∙ ap (λ (x : Typing). rejection_in (asks_at program p place i x)) same) ∙ a.vain)
     lowest other (inr (inr (inl d))) =
         let same = reached_same program p typings place d.typing r.typing d.reached h.first in
         let differs : r.differs ≡ true = not_false r.differs (λ e. d.differs (h.same e d.before d.other d.brings (early_outcome d.before place d.brings.step.way d.brings.step.earlier) ∙ sym same)) in

@@ -1,6 +1,6 @@
 -- The lowest code of checks.
 use Rattle.std.proofs.Common.{◌≡◌, ℕ, Bool, true, false, List, [], ◌∷◌, ◌++◌, Option, Some, None, refl, sym, ap, ◌∙◌, arith}
-use Rattle.tw_verify.proofs.VerifierNames.{Question, if◌then◌else◌, lower, lowest_of, nat_lt, refusal_in}
+use Rattle.tw_verify.proofs.VerifierNames.{Question, if◌then◌else◌, lower, lowest_of, nat_lt, rejection_in}
 use Rattle.std.proofs.lemmas.Bool.Decides.{nat_tests}
 
 lower_twice : (n m k : ℕ) → (if nat_lt (if nat_lt k m then k else m) n then (if nat_lt k m then k else m) else n) ≡ (if nat_lt k (if nat_lt m n then m else n) then k else (if nat_lt m n then m else n))
@@ -19,11 +19,11 @@ pub lowest_of_three : (first second third : Option ℕ) → lowest_of (lowest_of
 lowest_of_three None second third = refl
 lowest_of_three (Some n) second third = ap Some (sym (lower-lowest n second third))
 
-pub refusal_in-append : (xs ys : List Question) → refusal_in (xs ++ ys) ≡ lowest_of (refusal_in xs) (refusal_in ys)
-refusal_in-append [] ys = refl
-refusal_in-append (q ∷ xs) ys =
-    ap (λ (r : Option ℕ). if q.1 then r else Some (lower q.0 r)) (refusal_in-append xs ys) ∙ out q.1
+pub rejection_in-append : (xs ys : List Question) → rejection_in (xs ++ ys) ≡ lowest_of (rejection_in xs) (rejection_in ys)
+rejection_in-append [] ys = refl
+rejection_in-append (q ∷ xs) ys =
+    ap (λ (r : Option ℕ). if q.1 then r else Some (lower q.0 r)) (rejection_in-append xs ys) ∙ out q.1
   where
-    out : (b : Bool) → (if b then lowest_of (refusal_in xs) (refusal_in ys) else Some (lower q.0 (lowest_of (refusal_in xs) (refusal_in ys)))) ≡ lowest_of (if b then refusal_in xs else Some (lower q.0 (refusal_in xs))) (refusal_in ys)
+    out : (b : Bool) → (if b then lowest_of (rejection_in xs) (rejection_in ys) else Some (lower q.0 (lowest_of (rejection_in xs) (rejection_in ys)))) ≡ lowest_of (if b then rejection_in xs else Some (lower q.0 (rejection_in xs))) (rejection_in ys)
     out true = refl
-    out false = ap Some (lower-lowest q.0 (refusal_in xs) (refusal_in ys))
+    out false = ap Some (lower-lowest q.0 (rejection_in xs) (rejection_in ys))

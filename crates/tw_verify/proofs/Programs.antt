@@ -1,10 +1,10 @@
 -- Accepted programs have no first error.
 use Rattle.std.proofs.Common.{◌≡◌, ◌≢◌, ℕ, ◌+◌, ◌<◌, ◌≤◌, ◌⊎◌, inl, inr, true, false, List, [], ◌∷◌, ◌++◌, length, length-append, take, get_or, Option, Some, None, refl, sym, ap, ◌∙◌, subst, arith}
-use Rattle.tw_verify.proofs.VerifierNames.{AreFindings, AreTyped, Findings, IfFault, IsAccepted, IsAcceptedProcedure, IsFirstRefusal, IsProcedureRefusal, IsRefusal, IsSomeAnd, IsTyped, Procedure, flows, is_memory, refusal_of, same_Some, slice_get, slice_get-get_or, slice_get_within, verify_refusal_number}
+use Rattle.tw_verify.proofs.VerifierNames.{AreFindings, AreTyped, Findings, IfFault, IsAccepted, IsAcceptedProcedure, IsFirstRejection, IsProcedureRejection, IsRejection, IsSomeAnd, IsTyped, Procedure, flows, is_memory, rejection_of, same_Some, slice_get, slice_get-get_or, slice_get_within, verify_error_code}
 use Rattle.tw_code.specs.accepting.MainShape.{has_main_shape}
 use Rattle.tw_code.specs.accepting.Walk.{IsBudget, greatest_budget}
-use Rattle.tw_verify.specs.declared.refusal.VerifyRefusal.{VerifyRefusal}
-use Rattle.tw_verify.specs.declared.refusal.VerifyRefusal.TheVariants as refusal
+use Rattle.tw_verify.specs.declared.rejection.VerifyError.{VerifyError}
+use Rattle.tw_verify.specs.declared.rejection.VerifyError.TheVariants as rejection
 use Rattle.tw_verify.specs.declared.fault.Fault.{Fault}
 use Rattle.tw_verify.specs.Quick.{AreQuick}
 use Rattle.tw_verify.proofs.Lists.{get_none, get_pushed}
@@ -50,7 +50,7 @@ quick_of program all k own t inside at = by (slice_get program k) refl
 
 -- ---- and aren't refused
 
-pub not_accepted : (program : List Procedure) (p : Procedure) (number place : ℕ) → IsAcceptedProcedure program p → IsProcedureRefusal program p number place → ⊥
+pub not_accepted : (program : List Procedure) (p : Procedure) (number place : ℕ) → IsAcceptedProcedure program p → IsProcedureRejection program p number place → ⊥
 not_accepted program p number place own (inl s) = let both : None ≡ Some number = sym (own.structured place) ∙ s.here in cc
 not_accepted program p number place own (inr (s, inl t)) = t.none (take (place + 1) own.typable.0) (well_typed_front program p own.typable.0 (length p.code) (place + 1) own.typable.1 (omega (arith, t.inside)))
 not_accepted program p number place own (inr (s, inr (t, b))) =
@@ -59,35 +59,35 @@ not_accepted program p number place own (inr (s, inr (t, b))) =
     let most = own.budget.1.most walk.0 walk.1 in
     absurd (omega (arith, over.1, walk.2, most, own.budget.2))
 
-pub not_both : (program : List Procedure) (number procedure place : ℕ) → IsAccepted program → IsFirstRefusal program number procedure place → ⊥
+pub not_both : (program : List Procedure) (number procedure place : ℕ) → IsAccepted program → IsFirstRejection program number procedure place → ⊥
 not_both program number procedure place a (inl r) = let both : true ≡ false = sym a.main ∙ r.shape in cc
-not_both program number procedure place a (inr r) = not_accepted program r.p number place (a.each procedure r.p r.here) r.refusal
+not_both program number procedure place a (inr r) = not_accepted program r.p number place (a.each procedure r.p r.here) r.rejection
 
-which : (cause : VerifyRefusal) → (cause ≡ refusal.NoMemory) ⊎ (cause ≢ refusal.NoMemory)
-which refusal.NoMemory = inl refl
+which : (cause : VerifyError) → (cause ≡ rejection.NoMemory) ⊎ (cause ≢ rejection.NoMemory)
+which rejection.NoMemory = inl refl
 which _ = inr (λ e. cc)
 
-pub refusal_is_memory : (program : List Procedure) (cause : VerifyRefusal) (procedure place : ℕ) → IsRefusal program cause procedure place → IsAccepted program → cause ≡ refusal.NoMemory
-refusal_is_memory program cause procedure place r a = by (which cause)
+pub rejection_is_memory : (program : List Procedure) (cause : VerifyError) (procedure place : ℕ) → IsRejection program cause procedure place → IsAccepted program → cause ≡ rejection.NoMemory
+rejection_is_memory program cause procedure place r a = by (which cause)
   where
-    by : (cause ≡ refusal.NoMemory) ⊎ (cause ≢ refusal.NoMemory) → cause ≡ refusal.NoMemory
+    by : (cause ≡ rejection.NoMemory) ⊎ (cause ≢ rejection.NoMemory) → cause ≡ rejection.NoMemory
     by (inl is) = is
-    by (inr other) = absurd (not_both program (verify_refusal_number cause) procedure place a (r.first other))
+    by (inr other) = absurd (not_both program (verify_error_code cause) procedure place a (r.first other))
 
 -- ---- a procedure that is refused refuses its program
 
-memory_by : (cause : VerifyRefusal) → (cause ≡ refusal.NoMemory) ⊎ (is_memory cause ≡ false)
-memory_by refusal.NoMemory = inl refl
+memory_by : (cause : VerifyError) → (cause ≡ rejection.NoMemory) ⊎ (is_memory cause ≡ false)
+memory_by rejection.NoMemory = inl refl
 memory_by _ = inr refl
 
-pub refusal_by : (program : List Procedure) (all : List Findings) (number : ℕ) (p : Procedure) (stop : Fault) → has_main_shape program ≡ true → AreTyped program all number → slice_get program number ≡ Some p → IfFault stop (IsProcedureRefusal program p)
-    → IsRefusal program (refusal_of number stop).no (refusal_of number stop).procedure (refusal_of number stop).place
-refusal_by program all number p stop main t at h = by (memory_by stop.no)
+pub rejection_by : (program : List Procedure) (all : List Findings) (number : ℕ) (p : Procedure) (stop : Fault) → has_main_shape program ≡ true → AreTyped program all number → slice_get program number ≡ Some p → IfFault stop (IsProcedureRejection program p)
+    → IsRejection program (rejection_of number stop).no (rejection_of number stop).procedure (rejection_of number stop).place
+rejection_by program all number p stop main t at h = by (memory_by stop.no)
   where
-    by : (stop.no ≡ refusal.NoMemory) ⊎ (is_memory stop.no ≡ false) → IsRefusal program (refusal_of number stop).no (refusal_of number stop).procedure (refusal_of number stop).place
+    by : (stop.no ≡ rejection.NoMemory) ⊎ (is_memory stop.no ≡ false) → IsRejection program (rejection_of number stop).no (rejection_of number stop).procedure (rejection_of number stop).place
     by (inl is) = rw is (record { first = λ other. absurd (other refl); memory = λ same. (refl, refl) })
     by (inr other) = rw other (record {
-      first = λ differs. inr (record { main = main; before = λ k q below here. accepted_one program all number k q t below here; p = p; here = at; refusal = h other });
+      first = λ differs. inr (record { main = main; before = λ k q below here. accepted_one program all number k q t below here; p = p; here = at; rejection = h other });
       memory = λ same. let both : true ≡ false = sym (ap is_memory same) ∙ other in cc;
     })
 

@@ -8,15 +8,15 @@ pub use Rattle.tw_types.specs.declared.data_type.Scalar.{Scalar}
 pub use Rattle.tw_code.specs.declared.instr.Instr.{Instr}
 pub use Rattle.tw_code.specs.declared.procedure.Procedure.{Procedure}
 pub use Rattle.tw_code.specs.accepting.Flow.{flow_of, flows, onward}
-pub use Rattle.tw_code.specs.accepting.Question.{Question, lower, passes, refusal_in}
-pub use Rattle.tw_code.specs.accepting.Structure.{IsStructureRefusal, depth_after, depth_of, end_from, end_of, structure_refusal, structure_refusal_at}
+pub use Rattle.tw_code.specs.accepting.Question.{Question, lower, passes, rejection_in}
+pub use Rattle.tw_code.specs.accepting.Structure.{IsStructureRejection, depth_after, depth_of, end_from, end_of, structure_rejection, structure_rejection_at}
 pub use Rattle.tw_code.specs.accepting.Typing.{after, asks, asks_args, asks_at, asks_callee, asks_params, asks_priority, asks_value, may_stand_for, rights_given, start_typing, value_types, values_fit, without_args}
-pub use Rattle.tw_code.specs.accepting.WellTyped.{Brings, IsAccepted, IsAcceptedProcedure, IsEndOf, IsFirstRefusal, IsLowestRefusal, IsProcedureRefusal, IsReached, IsRefusalAt, IsTypingRefusal, IsWellTyped, LeadsTo}
+pub use Rattle.tw_code.specs.accepting.WellTyped.{Brings, IsAccepted, IsAcceptedProcedure, IsEndOf, IsFirstRejection, IsLowestRejection, IsProcedureRejection, IsReached, IsRejectionAt, IsTypingRejection, IsWellTyped, LeadsTo}
 pub use Rattle.tw_code.specs.format.Program.{IsProgram, IsRegister}
 pub use Rattle.tw_code.specs.machine.Rights.{RightType, Typing, right_at, right_of}
 pub use Rattle.tw_verify.specs.declared.findings.Findings.{Findings}
 pub use Rattle.tw_verify.specs.Loops.{AreFirsts, DepthsTo, EndsFrom}
-pub use Rattle.tw_verify.specs.Passes.{HasChanged, IfFault, IsRefusal, first_row, is_place, lowest_at, noted, refusal_of, sent}
-pub use Rattle.tw_verify.specs.Refusal.{is_memory, lowest_of, refusal_with, verify_refusal_number}
+pub use Rattle.tw_verify.specs.Passes.{HasChanged, IfFault, IsRejection, first_row, is_place, lowest_at, noted, rejection_of, sent}
+pub use Rattle.tw_verify.specs.Rejection.{is_memory, lowest_of, rejection_with, verify_error_code}
 pub use Rattle.tw_verify.specs.Typed.{TypedProgram, typings_of}
 pub use Rattle.tw_verify.specs.Verified.{AreFindings, AreTyped, IsTyped, found_typings}

@@ -1,8 +1,8 @@
 -- The typings that are known of a program that isn't accepted.
 use Rattle.std.specs.Prelude.{◌≡◌, ◌≢◌, ◌⊎◌, ℕ, ◌<◌, ◌≤◌, List, [], ◌∷◌, ◌++◌, length, IsSomeAnd, slice_get}
 use Rattle.tw_code.specs.declared.procedure.Procedure.{Procedure}
-use Rattle.tw_code.specs.accepting.Structure.{IsStructured, IsStructureRefusal}
-use Rattle.tw_code.specs.accepting.WellTyped.{IsReached, IsTypingRefusal, IsUnreached, IsWellTyped}
+use Rattle.tw_code.specs.accepting.Structure.{IsStructured, IsStructureRejection}
+use Rattle.tw_code.specs.accepting.WellTyped.{IsReached, IsTypingRejection, IsUnreached, IsWellTyped}
 use Rattle.tw_code.specs.machine.Rights.{Typing}
 
 -- the typings of the places before this one, and the one with which the place itself is reached, unless nothing leads there
@@ -15,8 +15,8 @@ pub record AreUpTo (program : List Procedure) (p : Procedure) (place : ℕ) (typ
 -- else those of all places
 abbrev pub AreKnown : List Procedure → Procedure → List Typing → Type 0
 AreKnown program p typings =
-    ((number : ℕ) × (place : ℕ) × IsStructureRefusal p.code number place × (typings ≡ []))
-    ⊎ (IsStructured p.code × (((number : ℕ) × (place : ℕ) × IsTypingRefusal program p number place × AreUpTo program p place typings) ⊎ IsWellTyped program p typings (length p.code)))
+    ((number : ℕ) × (place : ℕ) × IsStructureRejection p.code number place × (typings ≡ []))
+    ⊎ (IsStructured p.code × (((number : ℕ) × (place : ℕ) × IsTypingRejection program p number place × AreUpTo program p place typings) ⊎ IsWellTyped program p typings (length p.code)))
 
 -- the typings found of one procedure of a program, which has the error of this code in the procedure `refused`
 pub record AreFound (program : List Procedure) (number refused procedure : ℕ) (typings : List Typing) : Type 0 where

@@ -1,15 +1,15 @@
 //! Errors of a pass over one procedure, and of a program.
 
 ghost use Rattle.std.specs.Prelude.{◌≡◌};
-ghost use Rattle.tw_verify.specs.Passes.{no_memory, refusal_of};
+ghost use Rattle.tw_verify.specs.Passes.{no_memory, rejection_of};
 
-use crate::refusal::VerifyRefusal;
+use crate::rejection::VerifyError;
 use std::alloc::AllocError;
 
 /// The error that stops a pass over one procedure, and its place; if an allocation failed, the place is 0.
 #[derive(Clone, Copy)]
 pub(crate) struct Fault {
-    pub(crate) no: VerifyRefusal,
+    pub(crate) no: VerifyError,
     pub(crate) place: usize,
 }
 
@@ -19,7 +19,7 @@ impl Fault {
         ensures { result ≡ no_memory }
     {
         Fault {
-            no: VerifyRefusal::NoMemory,
+            no: VerifyError::NoMemory,
             place: 0,
         }
     }
@@ -35,33 +35,33 @@ impl From<AllocError> for Fault {
 
 /// The error of a program that isn't accepted: its code, procedure and place.
 #[derive(Clone, Copy)]
-pub(crate) struct Refusal {
-    pub(crate) no: VerifyRefusal,
+pub(crate) struct Rejection {
+    pub(crate) no: VerifyError,
     pub(crate) procedure: usize,
     pub(crate) place: usize,
 }
 
-impl From<AllocError> for Refusal {
-    ghost from_gives = { λ _ refusal. refusal ≡ refusal_of 0 no_memory };
+impl From<AllocError> for Rejection {
+    ghost from_gives = { λ _ rejection. rejection ≡ rejection_of 0 no_memory };
 
-    fn from(_error: AllocError) -> Refusal {
-        Refusal::new(0, Fault::no_memory())
+    fn from(_error: AllocError) -> Rejection {
+        Rejection::new(0, Fault::no_memory())
     }
 }
 
-impl Refusal {
+impl Rejection {
     /// Makes the program's error from a procedure's. If an allocation failed, procedure and place are 0.
-    pub(crate) fn new(procedure: usize, fault: Fault) -> Refusal
-        ensures { result ≡ refusal_of procedure fault }
+    pub(crate) fn new(procedure: usize, fault: Fault) -> Rejection
+        ensures { result ≡ rejection_of procedure fault }
     {
         if fault.no.is_memory() {
-            Refusal {
+            Rejection {
                 no: fault.no,
                 procedure: 0,
                 place: 0,
             }
         } else {
-            Refusal {
+            Rejection {
                 no: fault.no,
                 procedure,
                 place: fault.place,

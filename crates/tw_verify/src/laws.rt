@@ -12,7 +12,7 @@ ghost use Rattle.tw_code.specs.machine.State.{State};
 ghost use Rattle.tw_no_trap.specs.EndsWell.{EndsWell};
 ghost use Rattle.tw_no_trap.specs.InOrder.{StaysInOrder};
 ghost use Rattle.tw_no_trap.specs.NoTrap.{AreRight, NoTrap};
-ghost use Rattle.tw_verify.specs.Laws.{AcceptedUnrefused, OneFirstRefusal};
+ghost use Rattle.tw_verify.specs.Laws.{AcceptedUnrefused, OneFirstRejection};
 ghost use Rattle.tw_verify.specs.Typed.{typings_of};
 
 use crate::verified::Verified;
@@ -40,7 +40,7 @@ pub fn ends_well(verified: &Verified)
 
 /// Proves that a program has at most one first error, and an accepted one has none. So the first error doesn't depend on how
 /// `verify` works.
-pub fn one_first_refusal()
-    ensures one { OneFirstRefusal }
+pub fn one_first_rejection()
+    ensures one { OneFirstRejection }
     ensures accepted { AcceptedUnrefused }
 {}

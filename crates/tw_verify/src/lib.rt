@@ -3,7 +3,7 @@
 //! An accepted program has a list of typings for each procedure, which says which right each right register has at each place. It
 //! also has a budget, the greatest number of instructions of a task. A rejected one is returned with its first error.
 //!
-//! * For one place: `place_refusal` returns the lowest error there; a `Typing` is the content of the right registers.
+//! * For one place: `place_rejection` returns the lowest error there; a `Typing` is the content of the right registers.
 //! * For a program: `verify`, and its result `Verified`.
 //! * For all runs: the theorem `no_trap`.
 #![tactic(auto)]
@@ -19,19 +19,19 @@ mod pass;
 mod questions;
 mod quick;
 mod reached;
-mod refusal;
 mod refused;
+mod rejection;
 mod structure;
 mod typing;
 mod verified;
 mod verifier;
 
-pub use instructions::place_refusal;
-pub use laws::{ends_well, no_trap, one_first_refusal};
+pub use instructions::place_rejection;
+pub use laws::{ends_well, no_trap, one_first_rejection};
 pub use quick::Quick;
 pub use reached::next_place;
-pub use refusal::VerifyRefusal;
 pub use refused::Refused;
+pub use rejection::VerifyError;
 pub use tw_no_trap::{budgets_held, counts_held, notes_held, types_held};
 pub use typing::{RightType, Typing};
 pub use verified::Verified;

@@ -4,13 +4,13 @@ ghost use Rattle.std.specs.Prelude.{◌≡◌, ℕ, false, ◌≤◌, ◌<◌, S
 ghost use Rattle.std.specs.Option.{option_map};
 ghost use Rattle.tw_code.specs.accepting.Flow.{flows};
 ghost use Rattle.tw_code.specs.format.Program.{IsInstr, IsProcedure};
-ghost use Rattle.tw_code.specs.accepting.Question.{refusal_in};
+ghost use Rattle.tw_code.specs.accepting.Question.{rejection_in};
 ghost use Rattle.tw_code.specs.accepting.Structure.{IsStructured};
 ghost use Rattle.tw_code.specs.machine.Rights.{Typing};
 ghost use Rattle.tw_code.specs.accepting.Typing.{asks_at};
 ghost use Rattle.tw_code.specs.accepting.Walk.{IsBudget, greatest_budget};
-ghost use Rattle.tw_code.specs.accepting.WellTyped.{IsEndOf, IsBudgetRefusal, IsProcedureRefusal};
-ghost use Rattle.tw_verify.specs.Refusal.{verify_refusal_number};
+ghost use Rattle.tw_code.specs.accepting.WellTyped.{IsEndOf, IsBudgetRejection, IsProcedureRejection};
+ghost use Rattle.tw_verify.specs.Rejection.{verify_error_code};
 ghost use Rattle.tw_verify.specs.Loops.{AreLoops};
 ghost use Rattle.tw_verify.specs.Known.{AreKnown};
 ghost use Rattle.tw_verify.specs.Passes.{IfFault, HasChanged, IsPass, lowest_at};
@@ -18,16 +18,16 @@ ghost use Rattle.tw_verify.specs.Verified.{AreFindings};
 
 use crate::fault::Fault;
 use crate::findings::Findings;
-use crate::instructions::place_refusal;
+use crate::instructions::place_rejection;
 use crate::loops::Loops;
 use crate::questions::lowest;
 use crate::quick::all_quick;
 use crate::reached::{Reached, first_rows, row_at, send_both};
-use crate::refusal::VerifyRefusal;
+use crate::rejection::VerifyError;
 use crate::structure::ask_structure;
 use crate::typing::Typing;
 use std::alloc::{AllocError, Global};
-use tw_budget::{BudgetRefusal, budgets};
+use tw_budget::{BudgetError, budgets};
 use tw_code::{Instr, Procedure};
 use tw_types::{Items, keep};
 
@@ -61,22 +61,22 @@ fn is_changed(
 }
 
 /// Returns the lowest error at a place that is reached.
-fn typing_refusal(
+fn typing_rejection(
     procedures: &[Procedure],
     procedure: &Procedure,
     place: usize,
     instr: &Instr,
     reached: &Reached,
     changed: bool,
-) -> Option<VerifyRefusal>
+) -> Option<VerifyError>
     requires { IsInstr instr.now }
-    ensures { option_map verify_refusal_number result ≡ lowest_at
-        (refusal_in (asks_at procedures.now procedure.now place instr.now reached.now.typing))
+    ensures { option_map verify_error_code result ≡ lowest_at
+        (rejection_in (asks_at procedures.now procedure.now place instr.now reached.now.typing))
         reached.now.differs changed }
 {
-    let own = place_refusal(procedures, procedure, place, instr, &reached.typing);
-    let differs = reached.differs.then_some(VerifyRefusal::TypingsDiffer);
-    let changed = changed.then_some(VerifyRefusal::TypingChanged);
+    let own = place_rejection(procedures, procedure, place, instr, &reached.typing);
+    let differs = reached.differs.then_some(VerifyError::TypingsDiffer);
+    let changed = changed.then_some(VerifyError::TypingChanged);
     lowest(lowest(own, differs), changed)
 }
 
@@ -109,12 +109,12 @@ fn typing_pass(
     let mut all = Vec::new(alloc);
     for (place, instr) in code.iter().enumerate() {
         let Some(reached) = row_at(&rows, place) else {
-            let no = VerifyRefusal::Unreached;
+            let no = VerifyError::Unreached;
             return Ok(Pass::Stopped(Items::from(all), Fault { no, place }));
         };
         let changed = is_changed(code, loops, &all, place, &reached.typing);
         keep(&mut all, reached.typing)?;
-        if let Some(no) = typing_refusal(procedures, procedure, place, instr, &reached, changed) {
+        if let Some(no) = typing_rejection(procedures, procedure, place, instr, &reached, changed) {
             return Ok(Pass::Stopped(Items::from(all), Fault { no, place }));
         }
         send_both(&mut rows, procedures, place, instr, reached.typing);
@@ -147,15 +147,15 @@ fn budget(alloc: Global, procedure: &Procedure) -> Result<u64, Fault>
     requires structured { IsStructured procedure.now.code }
     ensures is { IfOk result (λ budget. IsBudget (flows procedure.now.code) budget) }
     ensures within { IfOk result (λ budget. budget ≤ greatest_budget) }
-    ensures refused { IfErr result (λ fault. IfFault fault (IsBudgetRefusal procedure.now)) }
+    ensures refused { IfErr result (λ fault. IfFault fault (IsBudgetRejection procedure.now)) }
 {
     match budgets(alloc, procedure) {
         Ok(budget) => Ok(budget),
-        Err(BudgetRefusal::TooLarge) => Err(Fault {
-            no: VerifyRefusal::BudgetTooLarge,
+        Err(BudgetError::TooLarge) => Err(Fault {
+            no: VerifyError::BudgetTooLarge,
             place: 0,
         }),
-        Err(BudgetRefusal::NoMemory) => Err(Fault::no_memory()),
+        Err(BudgetError::NoMemory) => Err(Fault::no_memory()),
     }
 }
 
@@ -168,7 +168,7 @@ pub(crate) fn procedure_findings(
     requires { IsProcedure procedure.now }
     ensures accepted { IfOk result (AreFindings procedures.now procedure.now) }
     ensures refused { IfErr result
-        (λ fault. IfFault fault (IsProcedureRefusal procedures.now procedure.now)) }
+        (λ fault. IfFault fault (IsProcedureRejection procedures.now procedure.now)) }
 {
     let code = procedure.code.as_slice();
     let loops = Loops::new(alloc, code)?;

@@ -3,19 +3,19 @@
 
 ghost use Rattle.std.specs.Prelude.{◌≡◌, ◌<◌, ◌∷◌, [], ◌++◌, Bool};
 ghost use Rattle.std.specs.Option.{option_map};
-ghost use Rattle.tw_code.specs.accepting.Question.{passes, refusal_in};
+ghost use Rattle.tw_code.specs.accepting.Question.{passes, rejection_in};
 ghost use Rattle.tw_code.specs.machine.Rights.{RightType, right_at};
 ghost use Rattle.tw_code.specs.accepting.Typing.{asks_value, asks_alike, asks_values, asks_value_of, asks_empty_pair, asks_container_write, writes_container_by, reads, reads_closed_container, reads_closed_container_by, reads_member_of};
-ghost use Rattle.tw_verify.specs.Refusal.{lowest_of, refusal_with, verify_refusal_number};
+ghost use Rattle.tw_verify.specs.Rejection.{lowest_of, rejection_with, verify_error_code};
 
-use crate::refusal::VerifyRefusal;
+use crate::rejection::VerifyError;
 use crate::typing::{RightType, Typing};
 use tw_types::Scalar;
 
 /// Returns the lower of two errors, each of which may be missing.
-pub fn lowest(first: Option<VerifyRefusal>, second: Option<VerifyRefusal>) -> Option<VerifyRefusal>
-    ensures { option_map verify_refusal_number result
-        ≡ lowest_of (option_map verify_refusal_number first) (option_map verify_refusal_number second) }
+pub fn lowest(first: Option<VerifyError>, second: Option<VerifyError>) -> Option<VerifyError>
+    ensures { option_map verify_error_code result
+        ≡ lowest_of (option_map verify_error_code first) (option_map verify_error_code second) }
 {
     match (first, second) {
         (Some(a), Some(b)) => Some(if b.number() < a.number() { b } else { a }),
@@ -27,164 +27,162 @@ pub fn lowest(first: Option<VerifyRefusal>, second: Option<VerifyRefusal>) -> Op
 /// Adds one check to the error of others: returns the lower of both errors if it fails.
 pub(crate) fn beside(
     met: bool,
-    refusal: VerifyRefusal,
-    others: Option<VerifyRefusal>,
-) -> Option<VerifyRefusal>
-    ensures { option_map verify_refusal_number result
-        ≡ refusal_with (verify_refusal_number refusal, met) (option_map verify_refusal_number others) }
+    rejection: VerifyError,
+    others: Option<VerifyError>,
+) -> Option<VerifyError>
+    ensures { option_map verify_error_code result
+        ≡ rejection_with (verify_error_code rejection, met) (option_map verify_error_code others) }
 {
     if met {
         others
     } else {
-        lowest(Some(refusal), others)
+        lowest(Some(rejection), others)
     }
 }
 
 /// Checks that a value register is declared, and of this type.
-pub(crate) fn value_refusal(registers: &[Scalar], register: u8, ty: Scalar) -> Option<VerifyRefusal>
-    ensures { option_map verify_refusal_number result ≡ refusal_in (asks_value registers.now register ty) }
+pub(crate) fn value_rejection(registers: &[Scalar], register: u8, ty: Scalar) -> Option<VerifyError>
+    ensures { option_map verify_error_code result ≡ rejection_in (asks_value registers.now register ty) }
 {
     match registers.get(register as usize) {
-        None => Some(VerifyRefusal::UndeclaredValue),
-        Some(declared) => (*declared != ty).then_some(VerifyRefusal::WrongValueType),
+        None => Some(VerifyError::UndeclaredValue),
+        Some(declared) => (*declared != ty).then_some(VerifyError::WrongValueType),
     }
 }
 
 /// Checks that two value registers are declared, and of these types.
-pub(crate) fn both_refusal(
+pub(crate) fn both_rejection(
     registers: &[Scalar],
     first: u8,
     first_ty: Scalar,
     second: u8,
     second_ty: Scalar,
-) -> Option<VerifyRefusal>
-    ensures { option_map verify_refusal_number result
-        ≡ refusal_in (asks_value registers.now first first_ty ++ asks_value registers.now second second_ty) }
+) -> Option<VerifyError>
+    ensures { option_map verify_error_code result
+        ≡ rejection_in (asks_value registers.now first first_ty ++ asks_value registers.now second second_ty) }
 {
     lowest(
-        value_refusal(registers, first, first_ty),
-        value_refusal(registers, second, second_ty),
+        value_rejection(registers, first, first_ty),
+        value_rejection(registers, second, second_ty),
     )
 }
 
 /// Checks that three value registers are declared, and of one type.
-pub(crate) fn values_refusal(
+pub(crate) fn values_rejection(
     registers: &[Scalar],
     first: u8,
     second: u8,
     third: u8,
     ty: Scalar,
-) -> Option<VerifyRefusal>
-    ensures { option_map verify_refusal_number result
-        ≡ refusal_in (asks_values registers.now first second third ty) }
+) -> Option<VerifyError>
+    ensures { option_map verify_error_code result
+        ≡ rejection_in (asks_values registers.now first second third ty) }
 {
     lowest(
-        value_refusal(registers, first, ty),
-        both_refusal(registers, second, ty, third, ty),
+        value_rejection(registers, first, ty),
+        both_rejection(registers, second, ty, third, ty),
     )
 }
 
 /// Checks that two value registers are declared, and of the same type.
-pub(crate) fn alike_refusal(registers: &[Scalar], first: u8, second: u8) -> Option<VerifyRefusal>
-    ensures { option_map verify_refusal_number result ≡ refusal_in (asks_alike registers.now first second) }
+pub(crate) fn alike_rejection(registers: &[Scalar], first: u8, second: u8) -> Option<VerifyError>
+    ensures { option_map verify_error_code result ≡ rejection_in (asks_alike registers.now first second) }
 {
     match registers.get(first as usize) {
-        None => Some(VerifyRefusal::UndeclaredValue),
-        Some(ty) => value_refusal(registers, second, *ty),
+        None => Some(VerifyError::UndeclaredValue),
+        Some(ty) => value_rejection(registers, second, *ty),
     }
 }
 
 /// Checks that a right register has a right of the required kind, and that a value register is of the type of its datum. `fits` is
 /// whether the right is of that kind.
-pub(crate) fn value_of_refusal(
+pub(crate) fn value_of_rejection(
     registers: &[Scalar],
     register: u8,
     right: &Option<RightType>,
     fits: bool,
-) -> Option<VerifyRefusal>
+) -> Option<VerifyError>
     ensures { (test : RightType → Bool) → fits ≡ passes test right.now
-        → option_map verify_refusal_number result
-        ≡ refusal_in (asks_value_of registers.now register test right.now) }
+        → option_map verify_error_code result
+        ≡ rejection_in (asks_value_of registers.now register test right.now) }
 {
     let Some(declared) = registers.get(register as usize) else {
-        return Some(VerifyRefusal::UndeclaredValue);
+        return Some(VerifyError::UndeclaredValue);
     };
     match right {
         Some(right) if fits => (*declared != right.ty().scalar()).then_some(
-            VerifyRefusal::WrongValueType,
+            VerifyError::WrongValueType,
         ),
-        _ => Some(VerifyRefusal::WrongRight),
+        _ => Some(VerifyError::WrongRight),
     }
 }
 
 /// Checks that two right registers are empty, and different.
-pub(crate) fn empty_pair_refusal(typing: &Typing, first: u8, second: u8) -> Option<VerifyRefusal>
+pub(crate) fn empty_pair_rejection(typing: &Typing, first: u8, second: u8) -> Option<VerifyError>
     requires first { first < 16 }
     requires second { second < 16 }
-    ensures { option_map verify_refusal_number result ≡ refusal_in (asks_empty_pair typing.now first second) }
+    ensures { option_map verify_error_code result ≡ rejection_in (asks_empty_pair typing.now first second) }
 {
     let fits = typing.is_free(first) && typing.is_free(second) && first != second;
-    (!fits).then_some(VerifyRefusal::RightNotEmpty)
+    (!fits).then_some(VerifyError::RightNotEmpty)
 }
 
 /// Checks that a right register has a read right.
-pub(crate) fn read_refusal(typing: &Typing, register: u8) -> Option<VerifyRefusal>
+pub(crate) fn read_rejection(typing: &Typing, register: u8) -> Option<VerifyError>
     requires { register < 16 }
-    ensures { option_map verify_refusal_number result
-        ≡ refusal_in ((4, passes reads (right_at typing.now register)) ∷ []) }
+    ensures { option_map verify_error_code result
+        ≡ rejection_in ((4, passes reads (right_at typing.now register)) ∷ []) }
 {
     let fits = typing.right_at(register).is_some_and(RightType::reads);
-    (!fits).then_some(VerifyRefusal::WrongRight)
+    (!fits).then_some(VerifyError::WrongRight)
 }
 
 /// Checks that a right register has a write right, and not on a scalar.
-pub(crate) fn container_write_refusal(typing: &Typing, register: u8) -> Option<VerifyRefusal>
+pub(crate) fn container_write_rejection(typing: &Typing, register: u8) -> Option<VerifyError>
     requires { register < 16 }
-    ensures { option_map verify_refusal_number result
-        ≡ refusal_in (asks_container_write (right_at typing.now register)) }
+    ensures { option_map verify_error_code result
+        ≡ rejection_in (asks_container_write (right_at typing.now register)) }
 {
     match typing.right_at(register) {
-        Some(right) if right.writes() => right
-            .writes_scalar()
-            .then_some(VerifyRefusal::ScalarWrite),
-        _ => Some(VerifyRefusal::WrongRight),
+        Some(right) if right.writes() => right.writes_scalar().then_some(VerifyError::ScalarWrite),
+        _ => Some(VerifyError::WrongRight),
     }
 }
 
 /// Like `beside`, with the check that a right register has a `closed` right on a container.
-pub(crate) fn members_refusal(
+pub(crate) fn members_rejection(
     typing: &Typing,
     register: u8,
-    others: Option<VerifyRefusal>,
-) -> Option<VerifyRefusal>
+    others: Option<VerifyError>,
+) -> Option<VerifyError>
     requires { register < 16 }
-    ensures { option_map verify_refusal_number result
-        ≡ refusal_with (4, passes reads_closed_container (right_at typing.now register))
-        (option_map verify_refusal_number others) }
+    ensures { option_map verify_error_code result
+        ≡ rejection_with (4, passes reads_closed_container (right_at typing.now register))
+        (option_map verify_error_code others) }
 {
     let fits = typing
         .right_at(register)
         .is_some_and(RightType::reads_closed_container);
-    beside(fits, VerifyRefusal::WrongRight, others)
+    beside(fits, VerifyError::WrongRight, others)
 }
 
-/// Like `members_refusal`, for a container with such subscripts.
-pub(crate) fn members_by_refusal(
+/// Like `members_rejection`, for a container with such subscripts.
+pub(crate) fn members_by_rejection(
     typing: &Typing,
     register: u8,
     by: Scalar,
-    others: Option<VerifyRefusal>,
-) -> Option<VerifyRefusal>
+    others: Option<VerifyError>,
+) -> Option<VerifyError>
     requires { register < 16 }
-    ensures { option_map verify_refusal_number result
-        ≡ refusal_with (4, passes (reads_closed_container_by by) (right_at typing.now register))
-        (option_map verify_refusal_number others) }
+    ensures { option_map verify_error_code result
+        ≡ rejection_with (4, passes (reads_closed_container_by by) (right_at typing.now register))
+        (option_map verify_error_code others) }
 {
     let fits = match typing.right_at(register) {
         Some(right) => right.reads_closed_container_by(by),
         None => false,
     };
-    beside(fits, VerifyRefusal::WrongRight, others)
+    beside(fits, VerifyError::WrongRight, others)
 }
 
 /// Returns whether a right register has a write right on a container with such subscripts.

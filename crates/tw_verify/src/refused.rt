@@ -2,10 +2,10 @@
 
 ghost use Rattle.std.specs.Prelude.{◌<◌, length, IfOk};
 ghost use Rattle.tw_verify.specs.Known.{AreFound};
-ghost use Rattle.tw_verify.specs.Refusal.{verify_refusal_number};
+ghost use Rattle.tw_verify.specs.Rejection.{verify_error_code};
 
 use crate::pass::known_typings;
-use crate::refusal::VerifyRefusal;
+use crate::rejection::VerifyError;
 use crate::typing::Typing;
 use std::alloc::{AllocError, Global};
 use std::fmt;
@@ -18,7 +18,7 @@ use tw_types::Items;
 #[error("refused V{:02} in procedure {procedure} at place {place}", .no.number())]
 pub struct Refused {
     pub program: Program,
-    pub no: VerifyRefusal,
+    pub no: VerifyError,
     pub procedure: usize,
     pub place: usize,
 }
@@ -28,7 +28,7 @@ impl Refused {
     /// before it if nothing leads to the error's place.
     pub fn typings(&self, alloc: Global, procedure: usize) -> Result<Items<Typing>, AllocError>
         requires { procedure < length self.now.program.procedures }
-        ensures { IfOk result (AreFound self.now.program.procedures (verify_refusal_number self.now.no) self.now.procedure procedure) }
+        ensures { IfOk result (AreFound self.now.program.procedures (verify_error_code self.now.no) self.now.procedure procedure) }
     {
         if self.no.is_main_shape() || self.procedure < procedure {
             return Ok(Items::from(Vec::new(alloc)));

@@ -3,13 +3,13 @@
 ghost use Rattle.std.specs.Prelude.{◌≡◌, ◌<◌, length, OnOk, IfErr, ◌^◌};
 ghost use Rattle.std.specs.Option.{option_map};
 ghost use Rattle.tw_code.specs.accepting.Flow.{flows};
-ghost use Rattle.tw_code.specs.accepting.Structure.{same_block, is_in_block, skips_in_block, is_matched, ends_well, structure_refusal_at, IsStructured, IsStructureRefusal};
-ghost use Rattle.tw_verify.specs.Refusal.{verify_refusal_number};
+ghost use Rattle.tw_code.specs.accepting.Structure.{same_block, is_in_block, skips_in_block, is_matched, ends_well, structure_rejection_at, IsStructured, IsStructureRejection};
+ghost use Rattle.tw_verify.specs.Rejection.{verify_error_code};
 ghost use Rattle.tw_verify.specs.Loops.{AreLoops};
 
 use crate::fault::Fault;
 use crate::loops::Loops;
-use crate::refusal::VerifyRefusal;
+use crate::rejection::VerifyError;
 use tw_code::{Flow, Instr, Procedure, flow_at};
 
 fn is_same_block(left: Option<usize>, right: Option<usize>) -> bool
@@ -72,21 +72,21 @@ fn is_ending_well(code: &[Instr], loops: &Loops, place: usize, flow: Flow) -> bo
 }
 
 /// Returns the lowest error of the structure at a place.
-fn structure_refusal(code: &[Instr], loops: &Loops, place: usize) -> Option<VerifyRefusal>
+fn structure_rejection(code: &[Instr], loops: &Loops, place: usize) -> Option<VerifyError>
     requires known { AreLoops code.now loops.now }
     requires within { place < length code.now }
     requires short { length code.now < 2 ^ 32 }
-    ensures { option_map verify_refusal_number result ≡ structure_refusal_at (flows code.now) place }
+    ensures { option_map verify_error_code result ≡ structure_rejection_at (flows code.now) place }
 {
     let flow = flow_at(code, place);
     if !is_skip_in_block(code, loops, place, flow) {
-        return Some(VerifyRefusal::SkipLeavesBlock);
+        return Some(VerifyError::SkipLeavesBlock);
     }
     if !has_partner(code, loops, place, flow) {
-        return Some(VerifyRefusal::Unmatched);
+        return Some(VerifyError::Unmatched);
     }
     if !is_ending_well(code, loops, place, flow) {
-        return Some(VerifyRefusal::MisplacedRet);
+        return Some(VerifyError::MisplacedRet);
     }
     None
 }
@@ -97,10 +97,10 @@ pub(crate) fn ask_structure(code: &[Instr], loops: &Loops) -> Result<(), Fault>
     requires short { length code.now < 2 ^ 32 }
     ensures accepted { OnOk result (IsStructured code.now) }
     ensures refused { IfErr result
-        (λ fault. IsStructureRefusal code.now (verify_refusal_number fault.no) fault.place) }
+        (λ fault. IsStructureRejection code.now (verify_error_code fault.no) fault.place) }
 {
     for place in 0..code.len() {
-        if let Some(no) = structure_refusal(code, loops, place) {
+        if let Some(no) = structure_rejection(code, loops, place) {
             return Err(Fault { no, place });
         }
     }

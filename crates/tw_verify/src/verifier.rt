@@ -2,31 +2,31 @@
 
 ghost use Rattle.std.specs.Prelude.{◌≡◌, ◌≢◌, IfOk, IfErr, OnOk};
 ghost use Rattle.tw_code.specs.format.Program.{IsProgram};
-ghost use Rattle.tw_code.specs.accepting.WellTyped.{IsAccepted, IsFirstRefusal};
-ghost use Rattle.tw_verify.specs.Refusal.{verify_refusal_number};
-ghost use Rattle.tw_verify.specs.declared.refusal.VerifyRefusal.TheVariants.{NoMemory};
-ghost use Rattle.tw_verify.specs.Passes.{IsRefusal};
+ghost use Rattle.tw_code.specs.accepting.WellTyped.{IsAccepted, IsFirstRejection};
+ghost use Rattle.tw_verify.specs.Rejection.{verify_error_code};
+ghost use Rattle.tw_verify.specs.declared.rejection.VerifyError.TheVariants.{NoMemory};
+ghost use Rattle.tw_verify.specs.Passes.{IsRejection};
 ghost use Rattle.tw_verify.specs.Verified.{IsTyped};
 
-use crate::fault::Refusal;
+use crate::fault::Rejection;
 use crate::findings::Findings;
 use crate::pass::procedure_findings;
-use crate::refusal::VerifyRefusal;
 use crate::refused::Refused;
+use crate::rejection::VerifyError;
 use crate::verified::Verified;
 use std::alloc::Global;
 use tw_code::{Procedure, Program, has_main_shape};
 use tw_types::{Items, keep};
 
 /// Returns the findings of each procedure of an accepted program.
-fn all_findings(alloc: Global, procedures: &[Procedure]) -> Result<Items<Findings>, Refusal>
+fn all_findings(alloc: Global, procedures: &[Procedure]) -> Result<Items<Findings>, Rejection>
     requires { IsProgram procedures.now }
     ensures accepted { IfOk result (IsTyped procedures.now) }
-    ensures refused { IfErr result (λ r. IsRefusal procedures.now r.no r.procedure r.place) }
+    ensures refused { IfErr result (λ r. IsRejection procedures.now r.no r.procedure r.place) }
 {
     if !has_main_shape(procedures) {
-        return Err(Refusal {
-            no: VerifyRefusal::MainShape,
+        return Err(Rejection {
+            no: VerifyError::MainShape,
             procedure: 0,
             place: 0,
         });
@@ -35,7 +35,7 @@ fn all_findings(alloc: Global, procedures: &[Procedure]) -> Result<Items<Finding
     for (number, procedure) in procedures.iter().enumerate() {
         let findings = match procedure_findings(alloc, procedures, procedure) {
             Ok(findings) => findings,
-            Err(fault) => return Err(Refusal::new(number, fault)),
+            Err(fault) => return Err(Rejection::new(number, fault)),
         };
         keep(&mut all, findings)?;
     }
@@ -55,7 +55,7 @@ pub fn verify(alloc: Global, program: Program) -> Result<Verified, Refused>
 
     // The error is the program's first one, unless an allocation failed.
     ensures first { IfErr result (λ refused. refused.no ≢ NoMemory
-        → IsFirstRefusal program.procedures (verify_refusal_number refused.no) refused.procedure refused.place) }
+        → IsFirstRejection program.procedures (verify_error_code refused.no) refused.procedure refused.place) }
     // If an allocation failed, procedure and place are 0.
     ensures memory { IfErr result (λ refused. refused.no ≡ NoMemory
         → (refused.procedure ≡ 0) × (refused.place ≡ 0)) }
@@ -64,11 +64,11 @@ pub fn verify(alloc: Global, program: Program) -> Result<Verified, Refused>
 {
     match all_findings(alloc, program.procedures()) {
         Ok(findings) => Ok(Verified::new(program, findings)),
-        Err(refusal) => Err(Refused {
+        Err(rejection) => Err(Refused {
             program,
-            no: refusal.no,
-            procedure: refusal.procedure,
-            place: refusal.place,
+            no: rejection.no,
+            procedure: rejection.procedure,
+            place: rejection.place,
         }),
     }
 }

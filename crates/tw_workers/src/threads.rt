@@ -1,7 +1,7 @@
 //! Runs in threads.
 
 ghost use Rattle.std.specs.Prelude.{◌≡◌, List, [], IfErr, IfOk, length, map, vec_len};
-ghost use Rattle.tw_pool.specs.Openings.{IsRefusal, MayOpen};
+ghost use Rattle.tw_pool.specs.Openings.{IsRejection, MayOpen};
 ghost use Rattle.tw_host.specs.Ends.{Closes};
 ghost use Rattle.tw_host.specs.Seats.{Told, actor_count, actors_of, told_by};
 ghost use Rattle.tw_workers.specs.Threads.{AllDrove, Drove};
@@ -17,7 +17,7 @@ use std::thread;
 use std::thread::{Promise, PromisedHandle, Scope, SpawnError, Threads};
 use std::time::Clock;
 use tw_host::{Closed, Host, Named, Seat};
-use tw_pool::OpenRefusal;
+use tw_pool::OpenError;
 use tw_types::{Input, Layout};
 use tw_verify::Verified;
 
@@ -142,13 +142,13 @@ fn run_named<N: Named + Send + Sync, G: Gate + Sync, R: Threads + Wait + Clock +
     layout: Layout,
     limit: usize,
     gate: &G,
-) -> Result<(Closed, bool), OpenRefusal>
+) -> Result<(Closed, bool), OpenError>
     requires ledger { (blank.name ≡ N.name) × (blank.parts ≡ N.parts) × (blank.parts ≡ actor_count layout) }
     requires run { N.run ≡ record { program = verified.now; inputs = inputs.now; layout = layout; limit = limit } }
     ensures allowed { IfOk result (λ _. MayOpen verified.now.program inputs.now layout limit) }
     ensures closes { IfOk result (λ r. (seats : List Told) × (length seats ≡ actor_count layout) × Closes N.run seats r.0) }
     ensures memory { IfOk result (λ r. AllDrove N.run G.unwatched (map (λ a. told_by a []) (actors_of layout)) r.1) }
-    ensures refused { IfErr result (IsRefusal verified.now.program inputs.now layout limit) }
+    ensures refused { IfErr result (IsRejection verified.now.program inputs.now layout limit) }
 {
     let (host, seats) = Host::<N>::open(alloc, blank, verified, inputs, layout, limit)?;
     Ok(run_all(rt, alloc, host, seats, gate))
@@ -163,11 +163,11 @@ pub fn run<G: Gate + Sync, R: Threads + Wait + Clock + Sync>(
     layout: Layout,
     limit: usize,
     gate: &G,
-) -> Result<(Closed, bool), OpenRefusal>
+) -> Result<(Closed, bool), OpenError>
     ensures allowed { IfOk result (λ _. MayOpen verified.now.program inputs.now layout limit) }
     ensures closes { IfOk result (λ r. (seats : List Told) × (length seats ≡ actor_count layout) × Closes (record { program = verified.now; inputs = inputs.now; layout = layout; limit = limit }) seats r.0) }
     ensures memory { IfOk result (λ r. AllDrove (record { program = verified.now; inputs = inputs.now; layout = layout; limit = limit }) G.unwatched (map (λ a. told_by a []) (actors_of layout)) r.1) }
-    ensures refused { IfErr result (IsRefusal verified.now.program inputs.now layout limit) }
+    ensures refused { IfErr result (IsRejection verified.now.program inputs.now layout limit) }
 {
     let blank = Blank::new(layout.actor_count() as u64);
     run_named::<Brand, G, R>(rt, alloc, blank, verified, inputs, layout, limit, gate)

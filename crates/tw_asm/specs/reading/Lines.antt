@@ -15,8 +15,8 @@ use Rattle.tw_asm.specs.Statement as said
 use Rattle.tw_asm.specs.declared.statement.Unlinked.{Unlinked}
 use Rattle.tw_words.specs.declared.numbers.TokenError.{TokenError}
 use Rattle.tw_words.specs.declared.numbers.TokenError.TheVariants.{Form, Limit}
-use Rattle.tw_asm.specs.declared.refusal.Refusal.{Refusal}
-use Rattle.tw_asm.specs.declared.refusal.Refusal.TheVariants as refusal
+use Rattle.tw_asm.specs.declared.rejection.Rejection.{Rejection}
+use Rattle.tw_asm.specs.declared.rejection.Rejection.TheVariants as rejection
 use Rattle.tw_asm.specs.reading.Operands.{both, natural_in, register_in, number_in, literal_in, target_in, name_in, Goal, goal_in, scalar_in, container_in, mode_in}
 use Rattle.tw_words.specs.Digits.{as_is}
 use Rattle.tw_words.specs.Names.{before_colon}
@@ -303,11 +303,11 @@ abbrev pub drafted : Unlinked → Instr × Option (List ℕ)
 drafted draft = (draft.instr, bytes_of draft.goal)
 
 -- the reading fails as the function did
-abbrev pub Fails : {Y : Type 0} → Refusal → Result Y TokenError → Type 0
-Fails refusal.NoMemory read = Unit {0}
-Fails (refusal.Flawed flaw) read = read ≡ Err flaw
+abbrev pub Fails : {Y : Type 0} → Rejection → Result Y TokenError → Type 0
+Fails rejection.NoMemory read = Unit {0}
+Fails (rejection.Flawed flaw) read = read ≡ Err flaw
 
 -- What a function returned, seen by view, is what reading gives, unless memory ran out.
-abbrev pub Gives : {X Y : Type 0} → (X → Y) → Result X Refusal → Result Y TokenError → Type 0
+abbrev pub Gives : {X Y : Type 0} → (X → Y) → Result X Rejection → Result Y TokenError → Type 0
 Gives view (Ok x) read = read ≡ Ok (view x)
 Gives view (Err e) read = Fails e read

@@ -1,8 +1,8 @@
 use Rattle.std.proofs.Common.{◌∙◌, ℕ, List, map, Err, inr, subst, ap}
 use Rattle.tw_asm.proofs.AsmNames.{IsBrokenLine, IsLine, IsLineRead, Word, seen as seen_word, seen_reading, seen_stage, situation_of, slice_get, stage_of}
 use Rattle.tw_words.specs.declared.numbers.TokenError.TheVariants as flaw
-use Rattle.tw_asm.specs.declared.refusal.Refusal.{Refusal}
-use Rattle.tw_asm.specs.declared.refusal.Refusal.TheVariants as refusal
+use Rattle.tw_asm.specs.declared.rejection.Rejection.{Rejection}
+use Rattle.tw_asm.specs.declared.rejection.Rejection.TheVariants as rejection
 use Rattle.tw_asm.specs.Seen.{IsRead, seen}
 use Rattle.tw_asm.specs.LineAnswers.{Answers}
 use Rattle.tw_asm.proofs.Taking.{a_first, any_word_fault, broken_fault, broken_operand, form_fault, limit_fault, may_stand_there, no_first}
@@ -51,8 +51,8 @@ returns-in-Err-Flawed-Form c =
     let all = subst (λ (b : List ℕ). IsLineRead (map seen_word c.in_ok-read.read.words.items) c.in_ok-read.read.whole b) c.as_bytes.ensures.value c.in_ok-read.ensures in
     let first = a_first c.in_ok-read.read.words.items c.in-Some.word.now (c.in-Some.ensures.value ∙ ap (λ xs. slice_get xs 0) c.deref.ensures.value) in
     let words = ap (map seen_word) first.1 in
-    let flawed = subst (λ (r : Refusal). Answers c.args.reading.now.version (Err r) (map seen_word c.deref-2.result.now)) (c.in-Err-Flawed-Form.field-0-is ∙ ap refusal.Flawed c.in-Err-Flawed-Form.field-0-0-is) c.in-Err-Flawed-Form.ensures in
-    let here = subst (λ (ws : List Word). Answers c.args.reading.now.version (Err (refusal.Flawed flaw.Form)) ws) (ap (map seen_word) c.deref-2.ensures.value ∙ words) flawed in
+    let flawed = subst (λ (r : Rejection). Answers c.args.reading.now.version (Err r) (map seen_word c.deref-2.result.now)) (c.in-Err-Flawed-Form.field-0-is ∙ ap rejection.Flawed c.in-Err-Flawed-Form.field-0-0-is) c.in-Err-Flawed-Form.ensures in
+    let here = subst (λ (ws : List Word). Answers c.args.reading.now.version (Err (rejection.Flawed flaw.Form)) ws) (ap (map seen_word) c.deref-2.ensures.value ∙ words) flawed in
     inr (rw (c.new-in-Err-Flawed-Form.ensures.no, c.new-in-Err-Flawed-Form.ensures.line) (form_fault c.args.number (situation_of (seen_reading c.args.reading.now)) c.args.line.now (seen_word c.in-Some.word.now) (map seen_word first.0) c.in-Some-expected_of.expected
     (subst (λ (ws : List Word). IsLine ws c.args.line.now) words (rw c.if-not-read.false at all)) c.in-Some-expected_of.ensures.0 c.in-Some-expected_of.ensures.1 here))
 
@@ -61,7 +61,7 @@ returns c =
     let all = subst (λ (b : List ℕ). IsLineRead (map seen_word c.in_ok-read.read.words.items) c.in_ok-read.read.whole b) c.as_bytes.ensures.value c.in_ok-read.ensures in
     let first = a_first c.in_ok-read.read.words.items c.in-Some.word.now (c.in-Some.ensures.value ∙ ap (λ xs. slice_get xs 0) c.deref.ensures.value) in
     let words = ap (map seen_word) first.1 in
-    let flawed = subst (λ (r : Refusal). Answers c.args.reading.now.version (Err r) (map seen_word c.deref-2.result.now)) (c.in-Err-Flawed-Limit.field-0-is ∙ ap refusal.Flawed c.in-Err-Flawed-Limit.field-0-0-is) c.in-Err-Flawed-Limit.ensures in
-    let here = subst (λ (ws : List Word). Answers c.args.reading.now.version (Err (refusal.Flawed flaw.Limit)) ws) (ap (map seen_word) c.deref-2.ensures.value ∙ words) flawed in
+    let flawed = subst (λ (r : Rejection). Answers c.args.reading.now.version (Err r) (map seen_word c.deref-2.result.now)) (c.in-Err-Flawed-Limit.field-0-is ∙ ap rejection.Flawed c.in-Err-Flawed-Limit.field-0-0-is) c.in-Err-Flawed-Limit.ensures in
+    let here = subst (λ (ws : List Word). Answers c.args.reading.now.version (Err (rejection.Flawed flaw.Limit)) ws) (ap (map seen_word) c.deref-2.ensures.value ∙ words) flawed in
     inr (rw (c.new-in-Err-Flawed-Limit.ensures.no, c.new-in-Err-Flawed-Limit.ensures.line) (limit_fault c.args.number c.limit_line.result (seen_reading c.args.reading.now) c.args.line.now (seen_word c.in-Some.word.now) (map seen_word first.0) c.in-Some-expected_of.expected
     (subst (λ (ws : List Word). IsLine ws c.args.line.now) words (rw c.if-not-read.false at all)) c.in-Some-expected_of.ensures.0 c.in-Some-expected_of.ensures.1 here.0 here.1 c.limit_line.ensures))

@@ -1,5 +1,5 @@
 use Rattle.std.proofs.Common.{◌∙◌, ap, inl, inr}
-use Rattle.tw_verify.specs.Refusal.{verify_refusal_number}
+use Rattle.tw_verify.specs.Rejection.{verify_error_code}
 use Rattle.tw_calls.specs.Verdict.{accepted}
 use Rattle.tw_calls.proofs.verdicts.program_verdict.Goals as goal
 
@@ -9,7 +9,7 @@ returns-in-Ok c = inl (inl (c.in-Ok.ensures.sound, c.accepted.ensures ∙ ap acc
 pub returns-in-Err : goal.returns-in-Err
 returns-in-Err c =
     let refused = c.in-Err.refused in
-    elim c.refusal_verdict.ensures [
-      | inl r ↦ inl (inr (verify_refusal_number refused.no, refused.procedure, refused.place, c.in-Err.ensures.first r.0, r.1))
+    elim c.rejection_verdict.ensures [
+      | inl r ↦ inl (inr (verify_error_code refused.no, refused.procedure, refused.place, c.in-Err.ensures.first r.0, r.1))
       | inr m ↦ inr m.1
     ]

@@ -1,5 +1,5 @@
 use Rattle.std.proofs.Common.{◌≡◌, List, None, ap, subst, sym}
-use Rattle.tw_replay.proofs.ReplayNames.{AreKnownBudgets, IfOk-weaker, Input, IsAnswer, IsAnswered, IsFirst, IsTold, PlainView, Reply, Versioned, refusal_of, reply, text_of}
+use Rattle.tw_replay.proofs.ReplayNames.{AreKnownBudgets, IfOk-weaker, Input, IsAnswer, IsAnswered, IsFirst, IsTold, PlainView, Reply, Versioned, rejection_of, reply, text_of}
 use Rattle.tw_picture.specs.History.{IsOpening}
 use Rattle.tw_picture.proofs.History.{opening_is}
 use Rattle.tw_stats.proofs.Openings.{first_is}
@@ -23,7 +23,7 @@ returns-in_ok-told-in-Ok c =
     let events = c.args.events.now in
     let text = text_of c.args.source.now in
     let told = reply c.in_ok-told-in-Ok.told.text.items c.in_ok-told-in-Ok.told.close in
-    let none : refusal_of program.procedures order.inputs ≡ None = subst (λ (given : List Input). refusal_of program.procedures given ≡ None) c.as_slice.ensures c.in-Ok.ensures.asked in
+    let none : rejection_of program.procedures order.inputs ≡ None = subst (λ (given : List Input). rejection_of program.procedures given ≡ None) c.as_slice.ensures c.in-Ok.ensures.asked in
     let here = opened_is order program c.as_slice.result.now c.in-Ok.plain c.as_slice.ensures c.in-Ok.ensures.opened in
     let is = subst (λ (v : PlainView). IsAnswer c.in_ok-names.names order.answer v events told) here c.in_ok-told-in-Ok.ensures in
     IfOk-weaker _ _ _ (λ (r : Reply) h. opened_answer text order program events (reply r.text.items r.close) none (h program c.requires.source none c.requires.few c.requires.sizes c.in_ok-names.names c.in_ok-names.ensures is)) c.details_reply.ensures
@@ -34,7 +34,7 @@ returns-in-Err c =
     let program = c.args.program in
     let text = text_of c.args.source.now in
     let why = c.in-Err.refused.no in
-    let asked = subst (λ (given : List Input). IsTold (refusal_of program.procedures given) why) c.as_slice.ensures c.in-Err.ensures.asked in
+    let asked = subst (λ (given : List Input). IsTold (rejection_of program.procedures given) why) c.as_slice.ensures c.in-Err.ensures.asked in
     IfOk-weaker _ _ _
-    (λ (r : Reply) h. refused_answer text program.procedures order.inputs (refusal_of program.procedures order.inputs) why (IsAnswered text order program c.args.events.now (reply r.text.items r.close)) (reply r.text.items r.close) asked h.0
+    (λ (r : Reply) h. refused_answer text program.procedures order.inputs (rejection_of program.procedures order.inputs) why (IsAnswered text order program c.args.events.now (reply r.text.items r.close)) (reply r.text.items r.close) asked h.0
     (subst (λ (p : Versioned). IsUnopened text p.procedures order.inputs why (reply r.text.items r.close)) c.in-Err.ensures.back h.1)) c.unopened_reply.ensures

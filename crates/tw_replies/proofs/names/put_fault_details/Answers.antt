@@ -1,5 +1,5 @@
 use Rattle.std.proofs.Common.{◌≡◌, ◌++◌, ◌-◌, List, ℕ, inr, refl, slice_get, string_bytes, subst, sym}
-use Rattle.tw_replies.proofs.ReplyNames.{HasNames, IsFirstRefusal, StandsFor, lines, on_ok_weaker, written_text}
+use Rattle.tw_replies.proofs.ReplyNames.{HasNames, IsFirstRejection, StandsFor, lines, on_ok_weaker, written_text}
 use Rattle.tw_names.specs.Answers.{told}
 use Rattle.tw_names.proofs.Once.{never_both}
 use Rattle.tw_replies.proofs.NamedTexts.{is_refused}
@@ -18,6 +18,6 @@ returns-in-Ok-Some c =
 
 pub returns-in_default : goal.returns-in_default
 returns-in_default c = λ plain stands.
-    let refusal = c.in-Err.refusal in
+    let rejection = c.in-Err.rejection in
     let text = c.args.text.now in
-    absurd (never_both text plain (told refusal) stands (is_refused refusal (IsFirstRefusal text (told refusal)) c.in_default.not-NoMemory c.in-Err.ensures.stands))
+    absurd (never_both text plain (told rejection) stands (is_refused rejection (IsFirstRejection text (told rejection)) c.in_default.not-NoMemory c.in-Err.ensures.stands))

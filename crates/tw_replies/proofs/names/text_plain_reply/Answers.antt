@@ -1,5 +1,5 @@
 use Rattle.std.proofs.Common.{Global, ℕ, Vec, ap, inl, string_bytes}
-use Rattle.tw_replies.proofs.ReplyNames.{IfOk-weaker, IsFirstRefusal, RepliesByPlain, Reply, StandsFor, Success, reply}
+use Rattle.tw_replies.proofs.ReplyNames.{IfOk-weaker, IsFirstRejection, RepliesByPlain, Reply, StandsFor, Success, reply}
 use Rattle.tw_names.specs.Answers.{told}
 use Rattle.tw_replies.proofs.NamedTexts.{is_refused}
 use Rattle.tw_replies.proofs.names.text_plain_reply.Goals as goal
@@ -16,7 +16,7 @@ returns-in-Ok-None c =
 
 pub returns-in_default : goal.returns-in_default
 returns-in_default c =
-    let refusal = c.in-Err.refusal in
+    let rejection = c.in-Err.rejection in
     let text = c.args.text.now in
-    let first = is_refused refusal (IsFirstRefusal text (told refusal)) c.in_default.not-NoMemory c.in-Err.ensures.stands in
-    IfOk-weaker c.named_reply.result (λ (r : Reply). IsFirstRefusal text (told refusal) → RepliesByPlain text (reply r.text.items r.close)) (λ (r : Reply). RepliesByPlain text (reply r.text.items r.close)) (λ (r : Reply) h. h first) c.named_reply.ensures
+    let first = is_refused rejection (IsFirstRejection text (told rejection)) c.in_default.not-NoMemory c.in-Err.ensures.stands in
+    IfOk-weaker c.named_reply.result (λ (r : Reply). IsFirstRejection text (told rejection) → RepliesByPlain text (reply r.text.items r.close)) (λ (r : Reply). RepliesByPlain text (reply r.text.items r.close)) (λ (r : Reply) h. h first) c.named_reply.ensures

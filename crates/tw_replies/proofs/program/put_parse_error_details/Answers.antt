@@ -1,6 +1,6 @@
 use Rattle.std.proofs.Common.{sym, subst}
 use Rattle.tw_replies.proofs.ReplyNames.{NoProgram, on_ok_weaker}
-use Rattle.tw_replies.proofs.Nones.{Adds, nothing_added, reason_added, refusal_added}
+use Rattle.tw_replies.proofs.Nones.{Adds, nothing_added, reason_added, rejection_added}
 use Rattle.tw_replies.proofs.program.put_parse_error_details.Goals as goal
 
 pub returns-in-Text : goal.returns-in-Text
@@ -10,8 +10,8 @@ returns-in-Text c =
 
 pub returns-in-Named : goal.returns-in-Named
 returns-in-Named c =
-    on_ok_weaker c.put_refusal_reason.result
-    (λ told. subst (λ (w : NoProgram). Adds c.args.input.now w c.args.out.now.items c.put_refusal_reason.new.out.items) (sym c.in-Named.is) (refusal_added c.args.input.now c.args.out.now.items c.put_refusal_reason.new.out.items c.in-Named.refusal told)) c.put_refusal_reason.ensures
+    on_ok_weaker c.put_rejection_reason.result
+    (λ told. subst (λ (w : NoProgram). Adds c.args.input.now w c.args.out.now.items c.put_rejection_reason.new.out.items) (sym c.in-Named.is) (rejection_added c.args.input.now c.args.out.now.items c.put_rejection_reason.new.out.items c.in-Named.rejection told)) c.put_rejection_reason.ensures
 
 pub returns-in_default : goal.returns-in_default
 returns-in_default c = nothing_added c.args.input.now c.args.out.now.items c.args.why c.in_default.not-Text c.in_default.not-Named

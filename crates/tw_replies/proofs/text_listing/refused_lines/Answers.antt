@@ -1,5 +1,5 @@
 use Rattle.std.proofs.Common.{◌∙◌, Global, List, Some, Vec, ap, subst, sym, ℕ}
-use Rattle.tw_replies.proofs.ReplyNames.{IfOk-weaker, IsRefusedListing, LinesSay, StandsFor, Typing, at_start, lines, said_lines, typings_in, verify_refusal_number}
+use Rattle.tw_replies.proofs.ReplyNames.{IfOk-weaker, IsRefusedListing, LinesSay, StandsFor, Typing, at_start, lines, said_lines, typings_in, verify_error_code}
 use Rattle.tw_names.proofs.LineByLine.{as_many}
 use Rattle.tw_replies.proofs.LineListings.{some_said}
 use Rattle.tw_replies.proofs.text_listing.refused_lines.Goals as goal
@@ -13,7 +13,7 @@ returns c =
     let stands : StandsFor text plain = subst (λ (t : List ℕ). StandsFor text t) (sym c.plain.ensures) c.requires.3 in
     let said = some_said c.args.source.now refused.program.procedures c.requires in
     let say : LinesSay 1 at_start (lines plain) said.0 = subst (λ (t : List ℕ). LinesSay 1 at_start (lines t) said.0) (sym c.plain.ensures) said.1 in
-    IfOk-weaker c.said_text.result _ (λ (listing : Vec ℕ Global). IsRefusedListing (Some text) refused.program.procedures (verify_refusal_number refused.no) refused.procedure listing.items)
+    IfOk-weaker c.said_text.result _ (λ (listing : Vec ℕ Global). IsRefusedListing (Some text) refused.program.procedures (verify_error_code refused.no) refused.procedure listing.items)
     (λ listing h. (
       typings_in all,
       c.in_ok-all.ensures,

@@ -1,5 +1,5 @@
 use Rattle.tw_verify.specs.Known.{AreFound}
-use Rattle.tw_verify.specs.Refusal.{verify_refusal_number}
+use Rattle.tw_verify.specs.Rejection.{verify_error_code}
 use Rattle.tw_replies.proofs.LineListings.{one_counted, one_kept}
 use Rattle.tw_replies.proofs.text_listing.refused_typings.Goals as goal
 
@@ -13,6 +13,6 @@ loop-number-preserved c =
     record {
       count = one_counted old new own n c.loop-number.invariant.count c.in_ok-push.ensures.items;
       are =
-          one_kept (λ k ts. AreFound refused.program.procedures (verify_refusal_number refused.no) refused.procedure k ts) old new own n c.loop-number.invariant.count c.in_ok-push.ensures.items c.loop-number.invariant.are
+          one_kept (λ k ts. AreFound refused.program.procedures (verify_error_code refused.no) refused.procedure k ts) old new own n c.loop-number.invariant.count c.in_ok-push.ensures.items c.loop-number.invariant.are
           c.in_ok-typings.ensures;
     }

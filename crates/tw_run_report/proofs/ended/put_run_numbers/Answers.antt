@@ -1,5 +1,5 @@
 use Rattle.std.proofs.Common.{◌≡◌, ◌≤◌, ◌++◌, ◌∙◌, ℕ, List, None, ap, arith, length, subst, sym}
-use Rattle.tw_run_report.proofs.RunNames.{AreShort, Event, IsProgram, PlainView, Procedure, Went, begins, on_ok_weaker, reached, refusal_of, run, typings_of}
+use Rattle.tw_run_report.proofs.RunNames.{AreShort, Event, IsProgram, PlainView, Procedure, Went, begins, on_ok_weaker, reached, rejection_of, run, typings_of}
 use Rattle.tw_machine.specs.Moments.{history}
 use Rattle.tw_stats.specs.Kept.{IsFirst, IsTally}
 use Rattle.tw_stats.specs.Text.{AreNumbers}
@@ -10,7 +10,7 @@ use Rattle.tw_run_report.proofs.RunEvents.{begun, goes_by, numbers_there, opens,
 use Rattle.tw_run_report.proofs.ended.put_run_numbers.Goals as goal
 
 pub first_machine-requires : goal.first_machine-requires
-first_machine-requires c = subst (λ (ps : List Procedure). refusal_of ps c.args.order.now.inputs ≡ None) (sym c.into_program.ensures.is) (opens c.args.verified.program c.args.order.now.inputs c.program.ensures.accepted c.requires.inputs)
+first_machine-requires c = subst (λ (ps : List Procedure). rejection_of ps c.args.order.now.inputs ≡ None) (sym c.into_program.ensures.is) (opens c.args.verified.program c.args.order.now.inputs c.program.ensures.accepted c.requires.inputs)
 
 pub count-requires : goal.count-requires
 count-requires c =

@@ -1,5 +1,5 @@
 use Rattle.std.proofs.Common.{◌≡◌, ◌≤◌, ◌++◌, ◌∙◌, ℕ, List, None, ap, arith, length, subst, sym}
-use Rattle.tw_run_report.proofs.RunNames.{AreShort, Event, IsProgram, PlainView, Procedure, Went, begins, on_ok_weaker, reached, refusal_of, run, typings_of}
+use Rattle.tw_run_report.proofs.RunNames.{AreShort, Event, IsProgram, PlainView, Procedure, Went, begins, on_ok_weaker, reached, rejection_of, run, typings_of}
 use Rattle.tw_picture.specs.History.{IsDrawing, IsOpening}
 use Rattle.tw_picture.specs.declared.drawing.Drawing.{Drawing}
 use Rattle.tw_picture.proofs.History.{opening_is}
@@ -9,7 +9,7 @@ use Rattle.tw_run_report.proofs.RunEvents.{begun, goes_by, opens, other_version,
 use Rattle.tw_run_report.proofs.ended.put_run_picture.Goals as goal
 
 pub first_machine-requires : goal.first_machine-requires
-first_machine-requires c = subst (λ (ps : List Procedure). refusal_of ps c.args.order.now.inputs ≡ None) (sym c.into_program.ensures.is) (opens c.args.verified.program c.args.order.now.inputs c.program.ensures.accepted c.requires.inputs)
+first_machine-requires c = subst (λ (ps : List Procedure). rejection_of ps c.args.order.now.inputs ≡ None) (sym c.into_program.ensures.is) (opens c.args.verified.program c.args.order.now.inputs c.program.ensures.accepted c.requires.inputs)
 
 pub draw-requires : goal.draw-requires
 draw-requires c =

@@ -1,10 +1,10 @@
 use Rattle.std.proofs.Common.{◌≡◌, List, inl, inr, subst, sym}
 use Rattle.tw_session.proofs.SessionNames.{IfOk-weaker, Run, RunOrder, reply, text_of}
-use Rattle.tw_code.specs.accepting.WellTyped.{IsAccepted, IsFirstRefusal}
+use Rattle.tw_code.specs.accepting.WellTyped.{IsAccepted, IsFirstRejection}
 use Rattle.tw_code.specs.declared.procedure.Procedure.{Procedure}
 use Rattle.tw_code.specs.format.Program.{Versioned}
 use Rattle.tw_command.specs.declared.command.Places.{Places}
-use Rattle.tw_verify.specs.Refusal.{verify_refusal_number}
+use Rattle.tw_verify.specs.Rejection.{verify_error_code}
 use Rattle.tw_replies.specs.Check.{IsRefused}
 use Rattle.tw_session.specs.Session.{RepliesByAccepted, RepliesByVerified}
 use Rattle.tw_replies.specs.Source.{MayBeSource}
@@ -25,13 +25,13 @@ accepted_reply-requires c = record {
   source = subst (λ (p : List Procedure). MayBeSource c.args.source.now p) (sym c.in-Ok.ensures.kept) c.requires;
 }
 
-pub refusal_reply-requires : goal.refusal_reply-requires
-refusal_reply-requires c =
+pub rejection_reply-requires : goal.rejection_reply-requires
+rejection_reply-requires c =
     let refused = c.in-Err.refused in
     let back = sym c.in-Err.ensures.back in
     record {
       source = subst (λ (p : Versioned). MayBeSource c.args.source.now p.procedures) back c.requires;
-      first = subst (λ (p : Versioned). IsFirstRefusal p.procedures (verify_refusal_number refused.no) refused.procedure refused.place) back (c.in-Err.ensures.first c.in_default.not-NoMemory);
+      first = subst (λ (p : Versioned). IsFirstRejection p.procedures (verify_error_code refused.no) refused.procedure refused.place) back (c.in-Err.ensures.first c.in_default.not-NoMemory);
     }
 
 pub returns : goal.returns

@@ -1,9 +1,9 @@
 use Rattle.std.proofs.Common.{◌≡◌, ℕ, ◌+◌, ◌∷◌, [], ◌++◌, List, Option, Some, drop, take, refl, sym, ap, ◌∙◌, subst, arith}
-use Rattle.tw_verify.proofs.VerifierNames.{HasChanged, Instr, IsEndOf, IsWellTyped, Typing, asks_at, first_row, length, lowest_at, option_map, refusal_in, slice_get, slice_get_read, start_typing, verify_refusal_number}
+use Rattle.tw_verify.proofs.VerifierNames.{HasChanged, Instr, IsEndOf, IsWellTyped, Typing, asks_at, first_row, length, lowest_at, option_map, rejection_in, slice_get, slice_get_read, start_typing, verify_error_code}
 use Rattle.tw_verify.specs.Known.{AreUpTo}
 use Rattle.tw_verify.specs.declared.reached.Reached.{Reached}
 use Rattle.tw_verify.proofs.Causes.{nothing_at}
-use Rattle.tw_verify.proofs.Mistakes.{none_typed, typed_more, unreached, refusal_at}
+use Rattle.tw_verify.proofs.Mistakes.{none_typed, typed_more, unreached, rejection_at}
 use Rattle.tw_verify.proofs.Reaching.{IsRow, HasReached, start_row, rows_more, whole_slice}
 use Rattle.tw_verify.proofs.Stops.{up_to_reached, up_to_unreached}
 use Rattle.tw_verify.proofs.pass.typing_pass.Goals as goal
@@ -34,8 +34,8 @@ returns-in_default c =
       subst (λ (ts : List Typing). AreUpTo program p place ts) (sym c.from.ensures) (up_to_unreached program p all place typed row),
     )
 
-pub returns-in-Some-typing_refusal : goal.returns-in-Some-typing_refusal
-returns-in-Some-typing_refusal c =
+pub returns-in-Some-typing_rejection : goal.returns-in-Some-typing_rejection
+returns-in-Some-typing_rejection c =
     let program = c.args.procedures.now in
     let p = c.args.procedure.now in
     let all = c.loop-place.all.items in
@@ -48,12 +48,12 @@ returns-in-Some-typing_refusal c =
     let at = subst (λ (xs : List (Option Reached)). slice_get xs place ≡ Some c.row_at.result) c.deref.ensures.value c.row_at.ensures in
     let row : HasReached program p all (place + place) place r = subst (λ (x : Option Reached). IsRow program p all (place + place) place x) c.in-Some.is (c.loop-place.invariant.rows place c.row_at.result at) in
     let here : slice_get p.code place ≡ Some i = ap (λ (xs : List Instr). slice_get xs place) (sym c.as_slice-code.ensures) ∙ slice_get_read code (length code) place i refl c.loop-place-test.true c.index-code-place.is in
-    let is : lowest_at (refusal_in (asks_at program p place i r.typing)) r.differs changed ≡ Some (verify_refusal_number c.in-Some-typing_refusal.no) = sym c.typing_refusal.ensures ∙ ap (option_map verify_refusal_number) c.in-Some-typing_refusal.is in (
-      refusal_at program p all place (verify_refusal_number c.in-Some-typing_refusal.no) r i changed typed row here
+    let is : lowest_at (rejection_in (asks_at program p place i r.typing)) r.differs changed ≡ Some (verify_error_code c.in-Some-typing_rejection.no) = sym c.typing_rejection.ensures ∙ ap (option_map verify_error_code) c.in-Some-typing_rejection.is in (
+      rejection_at program p all place (verify_error_code c.in-Some-typing_rejection.no) r i changed typed row here
           (λ e. subst (λ (ts : List Typing). HasChanged p.code ts place r.typing) c.deref-in-loop-place.ensures.value (subst (λ (xs : List Instr). HasChanged xs c.deref-in-loop-place.result.now place r.typing) c.as_slice-code.ensures (c.is_changed-changed.ensures.found e)))
           (λ first begun e end there. c.is_changed-changed.ensures.all first begun e (subst (λ (xs : List Instr). IsEndOf xs first place) (sym c.as_slice-code.ensures) end) (subst (λ (ts : List Typing). slice_get ts first ≡ Some begun) (sym c.deref-in-loop-place.ensures.value) there))
           is,
-      up_to_reached program p all c.from-in-Some-typing_refusal.result place r.typing typed row.first (c.from-in-Some-typing_refusal.ensures ∙ c.in_ok-keep.ensures),
+      up_to_reached program p all c.from-in-Some-typing_rejection.result place r.typing typed row.first (c.from-in-Some-typing_rejection.ensures ∙ c.in_ok-keep.ensures),
     )
 
 pub loop-place-preserved : goal.loop-place-preserved
@@ -71,7 +71,7 @@ loop-place-preserved c =
     let at = subst (λ (xs : List (Option Reached)). slice_get xs place ≡ Some c.row_at.result) c.deref.ensures.value c.row_at.ensures in
     let row : HasReached program p all (place + place) place r = subst (λ (x : Option Reached). IsRow program p all (place + place) place x) c.in-Some.is (c.loop-place.invariant.rows place c.row_at.result at) in
     let here : slice_get p.code place ≡ Some i = ap (λ (xs : List Instr). slice_get xs place) (sym c.as_slice-code.ensures) ∙ slice_get_read code (length code) place i refl c.loop-place-test.true c.index-code-place.is in
-    let nothing = nothing_at (refusal_in (asks_at program p place i r.typing)) r.differs changed (sym c.typing_refusal.ensures ∙ ap (option_map verify_refusal_number) c.in_default-typing_refusal.is) in
+    let nothing = nothing_at (rejection_in (asks_at program p place i r.typing)) r.differs changed (sym c.typing_rejection.ensures ∙ ap (option_map verify_error_code) c.in_default-typing_rejection.is) in
     let kept : c.keep.new.list.items ≡ all ++ r.typing ∷ [] = c.in_ok-keep.ensures in
     let same : length new ≡ length old = c.send_both.auto.rows ∙ ap length c.deref_mut.ensures.value in
     let whole : take c.loop-place.rows.len (new ++ drop (length new) old) ≡ new = whole_slice new old c.loop-place.rows.len same c.loop-place.rows.ok.0 in

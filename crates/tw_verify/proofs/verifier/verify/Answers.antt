@@ -1,6 +1,6 @@
 use Rattle.std.proofs.Common.{List, subst}
-use Rattle.tw_verify.proofs.VerifierNames.{IsAccepted, IsRefusal, Procedure}
-use Rattle.tw_verify.proofs.Programs.{accepted, refusal_is_memory}
+use Rattle.tw_verify.proofs.VerifierNames.{IsAccepted, IsRejection, Procedure}
+use Rattle.tw_verify.proofs.Programs.{accepted, rejection_is_memory}
 use Rattle.tw_verify.proofs.verifier.verify.Goals as goal
 
 pub returns-in-Ok-clause-sound : goal.returns-in-Ok-clause-sound
@@ -8,10 +8,10 @@ returns-in-Ok-clause-sound c = subst IsAccepted c.procedures.ensures.is (accepte
 
 pub returns-in-Err-clause-complete : goal.returns-in-Err-clause-complete
 returns-in-Err-clause-complete c = λ a.
-    let r = c.in-Err.refusal in
-    refusal_is_memory c.args.program.procedures r.no r.procedure r.place (subst (λ (program : List Procedure). IsRefusal program r.no r.procedure r.place) c.procedures.ensures.is c.in-Err.ensures.refused) a
+    let r = c.in-Err.rejection in
+    rejection_is_memory c.args.program.procedures r.no r.procedure r.place (subst (λ (program : List Procedure). IsRejection program r.no r.procedure r.place) c.procedures.ensures.is c.in-Err.ensures.refused) a
 
 pub returns-in-Err-clause-first : goal.returns-in-Err-clause-first
 returns-in-Err-clause-first c =
-    let r = c.in-Err.refusal in
-    (subst (λ (program : List Procedure). IsRefusal program r.no r.procedure r.place) c.procedures.ensures.is c.in-Err.ensures.refused).first
+    let r = c.in-Err.rejection in
+    (subst (λ (program : List Procedure). IsRejection program r.no r.procedure r.place) c.procedures.ensures.is c.in-Err.ensures.refused).first

@@ -1,0 +1,38 @@
+//! Why words are no statement, and why none is read.
+
+ghost use Rattle.std.specs.Prelude.{◌≡◌};
+ghost use Rattle.tw_asm.specs.declared.rejection.Rejection.TheVariants.{NoMemory, Flawed};
+
+use std::alloc::{AllocError, AllocFailed};
+use tw_words::TokenError;
+
+/// Why no statement is read from words.
+#[derive(Clone, Copy, Debug, PartialEq, Eq)]
+pub enum Rejection {
+    Flawed(TokenError),
+    NoMemory,
+}
+
+impl From<AllocError> for Rejection {
+    ghost from_gives = { λ _ rejection. rejection ≡ NoMemory };
+
+    fn from(_refused: AllocError) -> Rejection {
+        Rejection::NoMemory
+    }
+}
+
+impl<T: Drop> From<AllocFailed<T>> for Rejection {
+    ghost from_gives = { λ _ rejection. rejection ≡ NoMemory };
+
+    fn from(_refused: AllocFailed<T>) -> Rejection {
+        Rejection::NoMemory
+    }
+}
+
+impl From<TokenError> for Rejection {
+    ghost from_gives = { λ flaw rejection. rejection ≡ Flawed flaw };
+
+    fn from(flaw: TokenError) -> Rejection {
+        Rejection::Flawed(flaw)
+    }
+}
