@@ -14,7 +14,7 @@ use Rattle.tw_pool.specs.declared.answer.Closing.{Closing}
 use Rattle.tw_pool.specs.declared.answer.Closing.TheVariants.{Stopped, Limit}
 use Rattle.tw_pool.specs.declared.answer.Turn.{Turn}
 use Rattle.tw_pool.specs.PoolView.{PoolView}
-use Rattle.tw_pool.specs.Turns.{Makes, TakesBack, Turns, TurnsUnless, closing_at, closing_of, instr_behind, is_last, lent_to, steps_of}
+use Rattle.tw_pool.specs.Turns.{Makes, TakesBack, Turns, TurnsUnless, closing_at, closing_of, instr_after, is_last, lent_to, steps_of}
 
 abbrev Fits : PoolView → List Event → Type 0
 Fits p events = length p.history + length events ≤ p.limit
@@ -62,7 +62,7 @@ module _ (p : PoolView) (answer : Turn) (events : List Event) where
   taken_back : (actor : Actor) (short last : Bool) (done : DoneView) → is_last p done ≡ last → length p.history < p.limit → TakesBack short last p actor done answer events → Fits p events
   taken_back actor true last done is room l = subst (Fits p) (sym l.4.1) (steps_few actor done room)
   taken_back actor false true done is room l = subst (Fits p) (sym l.1) (steps_few actor done room)
-  taken_back actor false false done is room l = made actor (Some done) (steps_of actor done) (event_of actor (instr_behind p.program.program done)) (room_behind actor done room is) l
+  taken_back actor false false done is room l = made actor (Some done) (steps_of actor done) (event_of actor (instr_after p.program.program done)) (room_behind actor done room is) l
 
   -- ---- all lines
 

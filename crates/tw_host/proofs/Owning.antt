@@ -15,7 +15,7 @@ use Rattle.tw_pool.specs.declared.answer.Turn.{Turn}
 use Rattle.tw_pool.specs.declared.answer.Turn.TheVariants as turn
 use Rattle.tw_pool.specs.Actors.{events_of}
 use Rattle.tw_pool.specs.PoolView.{PoolView, with_events}
-use Rattle.tw_pool.specs.Turns.{IsTurn, Lends, Makes, TakesBack, Turns, TurnsUnless, closing_at, instr_behind, is_last, lent_to, steps_of}
+use Rattle.tw_pool.specs.Turns.{IsTurn, Lends, Makes, TakesBack, Turns, TurnsUnless, closing_at, instr_after, is_last, lent_to, steps_of}
 use Rattle.tw_host.specs.Tells.{IsAnswerOf, IsDoneOf}
 
 abbrev program_in : TypedProgram → Option JobView → TypedProgram
@@ -53,7 +53,7 @@ module _ (p : PoolView) (answer : Turn) (events : List Event) where
   taken_back : (actor : Actor) (short last : Bool) (done : DoneView) → done.before.program ≡ p.program → TakesBack short last p actor done answer events → Owns
   taken_back actor true last done d l = lends actor (steps_of actor done) l
   taken_back actor false true done d l = other (turn.Over Limit) l.0 tt
-  taken_back actor false false done d l = made actor (Some done) (steps_of actor done) (event_of actor (instr_behind p.program.program done)) d l
+  taken_back actor false false done d l = made actor (Some done) (steps_of actor done) (event_of actor (instr_after p.program.program done)) d l
 
   turned : (s : State) (actor : Actor) (job : Option JobView) (given : Option DoneView) → IsDoneOf p.program given → Turns p s actor job given answer events → Owns
   turned s actor None None d (inl l) = made actor None [] l.0 tt l.2

@@ -24,7 +24,7 @@ use Rattle.tw_pool.specs.declared.answer.Turn.{Turn}
 use Rattle.tw_pool.specs.declared.answer.Turn.TheVariants.{Over, Foreign, Owed, NoMemory, Run, Ended, Went, Idle}
 use Rattle.tw_pool.specs.Actors.{events_of}
 use Rattle.tw_pool.specs.PoolView.{PoolView, HasState, with_events}
-use Rattle.tw_pool.specs.Turns.{GoesFree, IsTurn, Lends, Makes, TakesBack, Turns, TurnsUnless, closing_at, closing_of, instr_behind, is_last, lent_to, steps_of}
+use Rattle.tw_pool.specs.Turns.{GoesFree, IsTurn, Lends, Makes, TakesBack, Turns, TurnsUnless, closing_at, closing_of, instr_after, is_last, lent_to, steps_of}
 use Rattle.tw_pool.proofs.Counting.{AreBy, others_same}
 use Rattle.tw_pool.proofs.Lines.{whose_due}
 use Rattle.tw_host.specs.Tells.{IsAnswerOf, IsDoneOf}
@@ -108,7 +108,7 @@ module _ (old : PoolView) (s : State) (actor : Actor) (answer : Turn) (events : 
       let long = ap (λ x. length x) l.1 in
       let limit = eqb-true (length old.history + 1) old.limit both.1 in
       full l.0 (omega (arith, one, long, limit))
-  taken_back done false is l = behind (Some done) (steps_of actor done) (instr_behind old.program.program done) l
+  taken_back done false is l = behind (Some done) (steps_of actor done) (instr_after old.program.program done) l
 
   turned : closing_at old s ≡ None → (job : Option JobView) → lent_to old s actor ≡ job → (given : Option DoneView) → HasDone job given → Turns old s actor job given answer events → Came given
   turned runs_on None is None has l = goes_free runs_on is l

@@ -21,7 +21,7 @@ use Rattle.tw_pool.specs.declared.answer.Closing.{Closing}
 use Rattle.tw_pool.specs.declared.answer.Turn.{Turn}
 use Rattle.tw_pool.specs.declared.answer.Turn.TheVariants.{Over, Foreign, Owed, NoMemory, Run, Ended, Went, Idle}
 use Rattle.tw_pool.specs.PoolView.{PoolView, with_events}
-use Rattle.tw_pool.specs.Turns.{GoesFree, Lends, Makes, TakesBack, Turns, TurnsUnless, closing_at, instr_behind, is_last, lent_to, steps_of}
+use Rattle.tw_pool.specs.Turns.{GoesFree, Lends, Makes, TakesBack, Turns, TurnsUnless, closing_at, instr_after, is_last, lent_to, steps_of}
 use Rattle.tw_in_turn.specs.InTurn.{ComesTo, GoesOn, HasDone, IsAfter, IsMove, IsOver, IsWorkOf, actor_after}
 use Rattle.tw_in_turn.specs.Same.{AreSame, PartAtNotice, delivery}
 
@@ -163,7 +163,7 @@ module _ (p : PoolView) (a b : Turn) (xs ys : List Event) (sa : Stands a) (sb : 
   back_same : (actor : Actor) (short last : Bool) (done : DoneView) → TakesBack short last p actor done a xs → TakesBack short last p actor done b ys → BothSame a b xs ys
   back_same actor true last done l m = lends_same actor (steps_of actor done) l m
   back_same actor false true done l m = (l.0 ∙ sym m.0, l.1 ∙ sym m.1)
-  back_same actor false false done l m = makes_same actor (Some done) (steps_of actor done) (event_of actor (instr_behind p.program.program done)) l m
+  back_same actor false false done l m = makes_same actor (Some done) (steps_of actor done) (event_of actor (instr_after p.program.program done)) l m
 
   turns_same : (s : State) (actor : Actor) (job : Option JobView) (given : Option DoneView) → Turns p s actor job given a xs → Turns p s actor job given b ys → Either a b xs ys
   turns_same s actor None None l m = free_same s actor l m

@@ -1,12 +1,12 @@
 -- The pieces of a word, byte by byte.
 use Rattle.std.proofs.Common.{[], ◌≡◌, ℕ, suc, ◌+◌, ◌-◌, ◌<◌, ◌≤◌, Bool, true, false, cond, List, ◌∷◌, ◌++◌, length, get_or, take, drop, refl, sym, ap, ◌∙◌, arith}
 use Rattle.std.proofs.Math.Seq.{drop-cons, take-suc}
-use Rattle.tw_names.proofs.TextNames.{Bor, drop_all, get_or-drop, is_sign, length-drop, length-map, now, pieces_behind, some_piece, take-map, take_all, texts}
+use Rattle.tw_names.proofs.TextNames.{Bor, drop_all, get_or-drop, is_sign, length-drop, length-map, now, pieces_after, some_piece, take-map, take_all, texts}
 use Rattle.std.proofs.lemmas.List.{drop-map}
 use Rattle.tw_names.specs.Answers.{pieces_left}
 
-at_byte : (front : List ℕ) (b : ℕ) (rest : List ℕ) (t : Bool) → is_sign b ≡ t → pieces_behind front (b ∷ rest) ≡ cond t (some_piece front ++ pieces_behind [] rest) (pieces_behind (front ++ b ∷ []) rest)
-at_byte front b rest t e = ap (λ (x : Bool). cond x (some_piece front ++ pieces_behind [] rest) (pieces_behind (front ++ b ∷ []) rest)) e
+at_byte : (front : List ℕ) (b : ℕ) (rest : List ℕ) (t : Bool) → is_sign b ≡ t → pieces_after front (b ∷ rest) ≡ cond t (some_piece front ++ pieces_after [] rest) (pieces_after (front ++ b ∷ []) rest)
+at_byte front b rest t e = ap (λ (x : Bool). cond x (some_piece front ++ pieces_after [] rest) (pieces_after (front ++ b ∷ []) rest)) e
 
 -- one byte more
 piece_more : (word : List ℕ) (start index : ℕ) → start ≤ index → index < length word → take (index + 1 - start) (drop start word) ≡ take (index - start) (drop start word) ++ (get_or word index 0 ∷ [])
@@ -20,21 +20,21 @@ piece_more word start index low lt =
 next_place : (word : List ℕ) (index : ℕ) → drop (suc index) word ≡ drop (index + 1) word
 next_place word index = let e : suc index ≡ index + 1 = omega arith in ap (λ (n : ℕ). drop n word) e
 
-pub left_first : (word : List ℕ) → pieces_left word 0 0 ≡ pieces_behind [] word
+pub left_first : (word : List ℕ) → pieces_left word 0 0 ≡ pieces_after [] word
 unfolding pieces_left
 left_first word = refl
 
 pub left_last : (word : List ℕ) (start : ℕ) → pieces_left word start (length word) ≡ some_piece (take (length word - start) (drop start word))
 unfolding pieces_left
-left_last word start = ap (λ (r : List ℕ). pieces_behind (take (length word - start) (drop start word)) r) (drop_all (length word) word (omega arith))
+left_last word start = ap (λ (r : List ℕ). pieces_after (take (length word - start) (drop start word)) r) (drop_all (length word) word (omega arith))
 
 pub goes_on : (word : List ℕ) (start index : ℕ) → start ≤ index → index < length word → is_sign (get_or word index 0) ≡ false → pieces_left word start (index + 1) ≡ pieces_left word start index
 unfolding pieces_left
 goes_on word start index low lt e =
     let front = take (index - start) (drop start word) in
     let b = get_or word index 0 in
-    sym (ap (pieces_behind front) (drop-cons word index 0 lt) ∙ at_byte front b (drop (suc index) word) false e ∙ ap (λ (f : List ℕ). pieces_behind f (drop (suc index) word)) (sym (piece_more word start index low lt))
-    ∙ ap (pieces_behind (take (index + 1 - start) (drop start word))) (next_place word index))
+    sym (ap (pieces_after front) (drop-cons word index 0 lt) ∙ at_byte front b (drop (suc index) word) false e ∙ ap (λ (f : List ℕ). pieces_after f (drop (suc index) word)) (sym (piece_more word start index low lt))
+    ∙ ap (pieces_after (take (index + 1 - start) (drop start word))) (next_place word index))
 
 pub ends : (word : List ℕ) (start index : ℕ) → start ≤ index → index < length word → is_sign (get_or word index 0) ≡ true
     → some_piece (take (index - start) (drop start word)) ++ pieces_left word (index + 1) (index + 1) ≡ pieces_left word start index
@@ -43,8 +43,8 @@ ends word start index low lt e =
     let front = take (index - start) (drop start word) in
     let b = get_or word index 0 in
     let none : index + 1 - (index + 1) ≡ 0 = omega arith in
-    sym (ap (pieces_behind front) (drop-cons word index 0 lt) ∙ at_byte front b (drop (suc index) word) true e ∙ ap (λ (r : List ℕ). some_piece front ++ pieces_behind [] r) (next_place word index)
-    ∙ ap (λ (n : ℕ). some_piece front ++ pieces_behind (take n (drop (index + 1) word)) (drop (index + 1) word)) (sym none))
+    sym (ap (pieces_after front) (drop-cons word index 0 lt) ∙ at_byte front b (drop (suc index) word) true e ∙ ap (λ (r : List ℕ). some_piece front ++ pieces_after [] r) (next_place word index)
+    ∙ ap (λ (n : ℕ). some_piece front ++ pieces_after (take n (drop (index + 1) word)) (drop (index + 1) word)) (sym none))
 
 -- ---- the first words
 

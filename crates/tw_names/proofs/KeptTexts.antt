@@ -1,6 +1,6 @@
 -- What texts keep that are made of texts of a line: that no line feed is in them, and that they are in UTF-8.
 use Rattle.std.proofs.Common.{[], ◌≡◌, ◌==◌, ◌<◌, ◌≤◌, ◌+◌, ◌/◌, ◌%◌, ℕ, zero, suc, Bool, true, false, cond, List, ◌∷◌, ◌++◌, refl, sym, subst, append_assoc, arith}
-use Rattle.tw_names.proofs.TextNames.{AllByRecursion, IsTail, IsUtf8, StandsFirst, append-nil, begins_quoted, decimal, is_sign, nat_lt, pieces, pieces_behind, some_piece}
+use Rattle.tw_names.proofs.TextNames.{AllByRecursion, IsTail, IsUtf8, StandsFirst, append-nil, begins_quoted, decimal, is_sign, nat_lt, pieces, pieces_after, some_piece}
 use Rattle.std.specs.Fmt.{digit_glyph, digits, digits_onto}
 use Rattle.std.proofs.lemmas.Bool.Decides.{nat_tests}
 use Rattle.std.proofs.lemmas.Str.{IsUtf8-append, IsUtf8-nil}
@@ -60,11 +60,11 @@ some_feeds : (front : List ℕ) → HasNoLineFeed front → AllKept HasNoLineFee
 some_feeds [] h = tt
 some_feeds (b ∷ front) h = (h, tt)
 
-pieces_feeds : (front word : List ℕ) → HasNoLineFeed front → HasNoLineFeed word → AllKept HasNoLineFeed (pieces_behind front word)
+pieces_feeds : (front word : List ℕ) → HasNoLineFeed front → HasNoLineFeed word → AllKept HasNoLineFeed (pieces_after front word)
 pieces_feeds front [] h k = some_feeds front h
 pieces_feeds front (b ∷ word) h k =
-    either (AllKept HasNoLineFeed) (is_sign b) (some_piece front ++ pieces_behind [] word) (pieces_behind (front ++ b ∷ []) word)
-    (all_kept HasNoLineFeed (some_piece front) (pieces_behind [] word) (some_feeds front h) (pieces_feeds [] word tt k.1))
+    either (AllKept HasNoLineFeed) (is_sign b) (some_piece front ++ pieces_after [] word) (pieces_after (front ++ b ∷ []) word)
+    (all_kept HasNoLineFeed (some_piece front) (pieces_after [] word) (some_feeds front h) (pieces_feeds [] word tt k.1))
     (pieces_feeds (front ++ b ∷ []) word (feeds_both front (b ∷ []) h (k.0, tt)) k.1)
 
 pub feeds_front : (a b : List ℕ) → HasNoLineFeed (a ++ b) → HasNoLineFeed a
@@ -81,7 +81,7 @@ first_feeds word bytes rest (w, f, e) h =
     (subst HasNoLineFeed e (feeds_front f.text rest here), feeds_rest f.text rest here)
 
 cut_feeds : (word : List ℕ) → HasNoLineFeed word → AllKept HasNoLineFeed (pieces word)
-cut_feeds word h = either (AllKept HasNoLineFeed) (begins_quoted word) (some_piece word) (pieces_behind [] word) (some_feeds word h) (pieces_feeds [] word tt h)
+cut_feeds word h = either (AllKept HasNoLineFeed) (begins_quoted word) (some_piece word) (pieces_after [] word) (some_feeds word h) (pieces_feeds [] word tt h)
 
 tail_feeds : (tail bytes : List ℕ) → IsTail tail bytes → HasNoLineFeed bytes → HasNoLineFeed tail
 tail_feeds tail bytes is h = feeds_rest is.gap tail (subst HasNoLineFeed is.parts h)
@@ -98,14 +98,14 @@ some_utf8 (b ∷ front) h = (h, tt)
 sign_small : (b : ℕ) → is_sign b ≡ true → b < 128
 sign_small b e = grind (arith, nat_tests)
 
-pieces_utf8 : (front word : List ℕ) → IsUtf8 (front ++ word) → AllKept IsUtf8 (pieces_behind front word)
+pieces_utf8 : (front word : List ℕ) → IsUtf8 (front ++ word) → AllKept IsUtf8 (pieces_after front word)
 pieces_utf8 front [] u = some_utf8 front (subst IsUtf8 (append-nil front) u)
 pieces_utf8 front (b ∷ word) u = by (is_sign b) refl (λ (f : List ℕ) (v : IsUtf8 (f ++ word)). pieces_utf8 f word v)
   where
-    by : (t : Bool) → is_sign b ≡ t → ((f : List ℕ) → IsUtf8 (f ++ word) → AllKept IsUtf8 (pieces_behind f word)) → AllKept IsUtf8 (cond t (some_piece front ++ pieces_behind [] word) (pieces_behind (front ++ b ∷ []) word))
+    by : (t : Bool) → is_sign b ≡ t → ((f : List ℕ) → IsUtf8 (f ++ word) → AllKept IsUtf8 (pieces_after f word)) → AllKept IsUtf8 (cond t (some_piece front ++ pieces_after [] word) (pieces_after (front ++ b ∷ []) word))
     by true e rest =
         let small = sign_small b e in
-        all_kept IsUtf8 (some_piece front) (pieces_behind [] word) (some_utf8 front (cut_front front b word small u)) (rest [] (cut_rest front b word small u))
+        all_kept IsUtf8 (some_piece front) (pieces_after [] word) (some_utf8 front (cut_front front b word small u)) (rest [] (cut_rest front b word small u))
     by false e rest = rest (front ++ b ∷ []) (subst IsUtf8 (sym (append_assoc front (b ∷ []) word)) u)
 
 behind_gap : (gap rest : List ℕ) → IsGap gap → IsUtf8 (gap ++ rest) → IsUtf8 rest
@@ -121,7 +121,7 @@ first_utf8 word bytes rest (w, f, e) u =
     (subst IsUtf8 e (before_edge f.text rest f.edge (behind_gap f.gap (f.text ++ rest) f.is_gap (subst IsUtf8 f.parts u))), rest_utf8 w bytes rest f u)
 
 cut_utf8 : (word : List ℕ) → IsUtf8 word → AllKept IsUtf8 (pieces word)
-cut_utf8 word u = either (AllKept IsUtf8) (begins_quoted word) (some_piece word) (pieces_behind [] word) (some_utf8 word u) (pieces_utf8 [] word u)
+cut_utf8 word u = either (AllKept IsUtf8) (begins_quoted word) (some_piece word) (pieces_after [] word) (some_utf8 word u) (pieces_utf8 [] word u)
 
 tail_utf8 : (tail bytes : List ℕ) → IsTail tail bytes → IsUtf8 bytes → IsUtf8 tail
 tail_utf8 tail bytes is u = behind_gap is.gap tail is.is_gap (subst IsUtf8 is.parts u)

@@ -9,7 +9,7 @@ use Rattle.tw_code.specs.format.Table.{forms_of, opcode_in}
 use Rattle.tw_code.specs.declared.opcode.Opcode.{Opcode}
 use Rattle.tw_code.specs.declared.version.Version.TheVariants.{Two}
 use Rattle.tw_names.specs.Meanings.{is_listed, with_constant, with_listed, with_register}
-use Rattle.tw_names.specs.LineExpansion.{asked_by, banks_of, begins, begins_first, body_says, constant_says, counted, has_colon, head_says, instruction_says, is_listed_word, is_names_line, let_says, line_says, list_name, made_one, made_word, makes, name_before, name_says, number_in, number_of, only_names, register_of, registers_say, value_behind, words_say}
+use Rattle.tw_names.specs.LineExpansion.{asked_by, banks_of, begins, begins_first, body_says, constant_says, counted, has_colon, head_says, instruction_says, is_listed_word, is_names_line, let_says, line_says, list_name, made_one, made_word, makes, name_before, name_says, number_in, number_of, only_names, register_of, registers_say, value_after, words_say}
 use Rattle.tw_names.specs.Expansion.{ended}
 use Rattle.tw_names.specs.declared.meaning.Bank.{Bank}
 use Rattle.tw_names.specs.declared.meaning.Bank.TheVariants as bank
@@ -79,12 +79,12 @@ module _ (R : Names → Names → Type 0) (step : IsStep R) where
   const_step : (p : Procedures) (names : Names) (first : List ℕ) (words : List (List ℕ)) → StepTo names (constant_says p names first words)
   const_step p names first [] = no_step names _
   const_step p names first (name ∷ words) =
-      then_step names (may_name p names name) _ (λ _. then_step names (value_behind number_of first words) _ (λ number. constant_step p names name (binding.Constant number)))
+      then_step names (may_name p names name) _ (λ _. then_step names (value_after number_of first words) _ (λ number. constant_step p names name (binding.Constant number)))
 
   let_step : (p : Procedures) (names : Names) (first : List ℕ) (words : List (List ℕ)) → StepTo names (let_says p names first words)
   let_step p names first [] = no_step names _
   let_step p names first (name ∷ words) =
-      then_step names (may_name p names name) _ (λ _. then_step names (value_behind register_of first words) _ (λ register. chosen_step p names name register.0 register.1))
+      then_step names (may_name p names name) _ (λ _. then_step names (value_after register_of first words) _ (λ register. chosen_step p names name register.0 register.1))
 
   -- ---- lines `proc` and `regs`
 

@@ -11,7 +11,7 @@ use Rattle.tw_code.specs.format.Table.{opcode_in, forms_of}
 use Rattle.tw_words.specs.Digits.{signed_in}
 use Rattle.tw_code.specs.declared.opcode.Opcode.{Opcode}
 use Rattle.tw_code.specs.declared.version.Version.TheVariants.{Two}
-use Rattle.tw_names.specs.LineExpansion.{Said, asked_by, at_head, banks_of, begins, begins_first, behind, body_says, constant_says, counted, fitting, has_colon, head_says, instruction_says, is_listed_word, is_names_line, is_unnamed, let_says, line_says, number_of, list_name, list_says, made_one, made_say, made_word, makes, name_before, name_says, named, number_in, only_names, parameters, procedure_name, register_of, registers_say, stands, value_behind, value_types, with_word, word_says, words_say}
+use Rattle.tw_names.specs.LineExpansion.{Said, asked_by, at_head, banks_of, begins, begins_first, behind, body_says, constant_says, counted, fitting, has_colon, head_says, instruction_says, is_listed_word, is_names_line, is_unnamed, let_says, line_says, number_of, list_name, list_says, made_one, made_say, made_word, makes, name_before, name_says, named, number_in, only_names, parameters, procedure_name, register_of, registers_say, stands, value_after, value_types, with_word, word_says, words_say}
 use Rattle.tw_names.specs.declared.meaning.Expected.{Expected}
 use Rattle.tw_names.specs.declared.meaning.Expected.TheVariants as asked
 use Rattle.tw_names.specs.declared.meaning.Bank.{Bank}
@@ -67,12 +67,12 @@ constant_types p names name x = with_one names (may_name p names name) _ (λ _ a
 const_types : (p : Procedures) (names : Names) (first : List ℕ) (words : List (List ℕ)) → SameTypes names (constant_says p names first words)
 const_types p names first [] = none_named names _
 const_types p names first (name ∷ words) =
-    with_one names (may_name p names name) _ (λ _. with_one names (value_behind number_of first words) _ (λ number. constant_types p names name (binding.Constant number)))
+    with_one names (may_name p names name) _ (λ _. with_one names (value_after number_of first words) _ (λ number. constant_types p names name (binding.Constant number)))
 
 let_types : (p : Procedures) (names : Names) (first : List ℕ) (words : List (List ℕ)) → SameTypes names (let_says p names first words)
 let_types p names first [] = none_named names _
 let_types p names first (name ∷ words) =
-    with_one names (may_name p names name) _ (λ _. with_one names (value_behind register_of first words) _ (λ register. register_types p names name register.0 register.1 origin.Chosen))
+    with_one names (may_name p names name) _ (λ _. with_one names (value_after register_of first words) _ (λ register. register_types p names name register.0 register.1 origin.Chosen))
 
 list_name_types : (p : Procedures) (names : Names) (values rights : ℕ) (word name : List ℕ) (b : Option Bank) → SameTypes names (list_name p names values rights word name b)
 list_name_types p names values rights word [] b = none_named names _

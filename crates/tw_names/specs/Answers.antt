@@ -4,7 +4,7 @@ use Rattle.std.specs.Fmt.{signed_decimal}
 use Rattle.tw_names.specs.Meanings.{TokenError, lists}
 use Rattle.std.specs.Str.Lines.{lines}
 use Rattle.tw_words.specs.Words.{IsBlank, IsBroken}
-use Rattle.tw_names.specs.Lines.{IsTaken, Line, StandsFirst, line_words, pieces_behind}
+use Rattle.tw_names.specs.Lines.{IsTaken, Line, StandsFirst, line_words, pieces_after}
 use Rattle.tw_names.specs.LineExpansion.{Said, is_names_line}
 use Rattle.tw_names.specs.Seen.{seen_names}
 use Rattle.tw_names.specs.Expansion.{HasNames, Rejection as Told}
@@ -43,7 +43,7 @@ lists_entry in_bank number (Some entry) = lists in_bank number entry.1
 
 -- the pieces of a word from an index on, where the piece round it begins at a place
 unfoldable pub pieces_left : List ℕ → ℕ → ℕ → List (List ℕ)
-pieces_left word start index = pieces_behind (take (index - start) (drop start word)) (drop index word)
+pieces_left word start index = pieces_after (take (index - start) (drop start word)) (drop index word)
 
 -- ---- parts of a line
 

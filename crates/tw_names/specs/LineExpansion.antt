@@ -146,8 +146,8 @@ nothing_left [] = Ok tt
 nothing_left (word ∷ words) = refused no.Form word
 
 -- what stands behind a name, `=` and nothing else, as this reads it
-abbrev pub value_behind : {A : Type 0} → (List ℕ → Option A) → List ℕ → List (List ℕ) → Result A TokenError
-value_behind read first words = and_then (assigned first words) (λ word. and_then (read_as word (read word)) (λ a. and_then (nothing_left (drop 2 words)) (λ _. Ok a)))
+abbrev pub value_after : {A : Type 0} → (List ℕ → Option A) → List ℕ → List (List ℕ) → Result A TokenError
+value_after read first words = and_then (assigned first words) (λ word. and_then (read_as word (read word)) (λ a. and_then (nothing_left (drop 2 words)) (λ _. Ok a)))
 
 abbrev pub bank_of_letter : ℕ → Option Bank
 bank_of_letter b = if b == 118 then Some bank.Value else if b == 100 then Some bank.Right else None
@@ -169,12 +169,12 @@ number_of word = result_ok (signed_in word)
 abbrev pub constant_says : Procedures → Names → List ℕ → List (List ℕ) → Result Names TokenError
 constant_says procedures names first [] = refused no.Form first
 constant_says procedures names first (name ∷ words) =
-    and_then (may_name procedures names name) (λ _. and_then (value_behind number_of first words) (λ number. with_constant procedures names name (binding.Constant number)))
+    and_then (may_name procedures names name) (λ _. and_then (value_after number_of first words) (λ number. with_constant procedures names name (binding.Constant number)))
 
 abbrev pub let_says : Procedures → Names → List ℕ → List (List ℕ) → Result Names TokenError
 let_says procedures names first [] = refused no.Form first
 let_says procedures names first (name ∷ words) =
-    and_then (may_name procedures names name) (λ _. and_then (value_behind register_of first words) (λ register. with_register procedures names name register.0 register.1 origin.Chosen))
+    and_then (may_name procedures names name) (λ _. and_then (value_after register_of first words) (λ register. with_register procedures names name register.0 register.1 origin.Chosen))
 
 -- ---- `proc` and `regs`
 

@@ -62,9 +62,9 @@ some_piece [] = []
 some_piece (b ∷ piece) = (b ∷ piece) ∷ []
 
 -- the pieces of a word between signs, where this stands before it
-abbrev pub pieces_behind : List ℕ → List ℕ → List (List ℕ)
-pieces_behind front [] = some_piece front
-pieces_behind front (b ∷ word) = if is_sign b then some_piece front ++ pieces_behind [] word else pieces_behind (front ++ b ∷ []) word
+abbrev pub pieces_after : List ℕ → List ℕ → List (List ℕ)
+pieces_after front [] = some_piece front
+pieces_after front (b ∷ word) = if is_sign b then some_piece front ++ pieces_after [] word else pieces_after (front ++ b ∷ []) word
 
 abbrev pub begins_quoted : List ℕ → Bool
 begins_quoted [] = false
@@ -72,4 +72,4 @@ begins_quoted (b ∷ word) = b == 34
 
 -- a quoted text isn't parted
 abbrev pub pieces : List ℕ → List (List ℕ)
-pieces word = if begins_quoted word then some_piece word else pieces_behind [] word
+pieces word = if begins_quoted word then some_piece word else pieces_after [] word

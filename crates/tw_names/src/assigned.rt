@@ -2,7 +2,7 @@
 
 ghost use Rattle.std.specs.Prelude.{◌≡◌, drop};
 ghost use Rattle.tw_names.specs.Answers.{Gives};
-ghost use Rattle.tw_names.specs.LineExpansion.{assigned, bank_of_letter, constant_says, let_says, nothing_left, number_of, register_in, register_of, value_behind};
+ghost use Rattle.tw_names.specs.LineExpansion.{assigned, bank_of_letter, constant_says, let_says, nothing_left, number_of, register_in, register_of, value_after};
 ghost use Rattle.tw_names.specs.Seen.{now, seen_names, seen_procedures, texts};
 
 use crate::meaning::{Bank, Origin};
@@ -40,7 +40,7 @@ fn nothing_after<'a>(words: &[&'a [u8]]) -> Result<(), Rejection<'a>>
 
 /// Returns the number behind `=`, of the words behind a constant's name.
 fn number_after<'a>(first: &'a [u8], words: &[&'a [u8]]) -> Result<i64, Rejection<'a>>
-    ensures { Gives (λ n. n) result (value_behind number_of first.now (texts words.now)) }
+    ensures { Gives (λ n. n) result (value_after number_of first.now (texts words.now)) }
 {
     let word = assigned(first, words)?;
     let Some(number) = signed(word) else {
@@ -52,7 +52,7 @@ fn number_after<'a>(first: &'a [u8], words: &[&'a [u8]]) -> Result<i64, Rejectio
 
 /// Returns the register behind `=`, of the words behind its name.
 fn register_after<'a>(first: &'a [u8], words: &[&'a [u8]]) -> Result<(Bank, usize), Rejection<'a>>
-    ensures { Gives (λ r. r) result (value_behind register_of first.now (texts words.now)) }
+    ensures { Gives (λ r. r) result (value_after register_of first.now (texts words.now)) }
 {
     let word = assigned(first, words)?;
     let Some(register) = register_of(word) else {

@@ -3,7 +3,7 @@
 ghost use Rattle.std.specs.Prelude.{◌≡◌, [], ◌++◌, ◌+◌, ◌<◌, ◌≤◌, IfOk, OnOk, length};
 ghost use Rattle.tw_names.specs.Answers.{pieces_left};
 ghost use Rattle.std.specs.List.{flat_map};
-ghost use Rattle.tw_names.specs.Lines.{begins_quoted, is_sign, pieces, pieces_behind, some_piece};
+ghost use Rattle.tw_names.specs.Lines.{begins_quoted, is_sign, pieces, pieces_after, some_piece};
 ghost use Rattle.tw_names.specs.Seen.{texts};
 
 use std::alloc::{AllocError, Global};
@@ -48,7 +48,7 @@ fn push_ended<'a>(
 /// Adds the pieces of a word that isn't quoted.
 #[tactic(auto, using(crate::proofs::Cutting::left_first))]
 fn push_parted<'a>(out: &mut Vec<&'a [u8]>, word: &'a [u8]) -> Result<(), AllocError>
-    ensures { OnOk result (texts out.new.items ≡ texts out.old.items ++ pieces_behind [] word.entry.now) }
+    ensures { OnOk result (texts out.new.items ≡ texts out.old.items ++ pieces_after [] word.entry.now) }
 {
     let mut start = 0;
     for index in 0..word.len() {

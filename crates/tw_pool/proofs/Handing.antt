@@ -47,7 +47,7 @@ use Rattle.tw_pool.specs.Actors.{HasPlace, events_of, same_actor}
 use Rattle.tw_pool.specs.History.{HistoryView}
 use Rattle.tw_pool.specs.Kept.{AreLent, IsKept, IsOwedBy}
 use Rattle.tw_pool.specs.PoolView.{HasState, PoolView, with_events}
-use Rattle.tw_pool.specs.Turns.{Answers, IsTurnBy, Lends, Line, OrNoMemory, TakesMemory, is_last, instr_behind, lent_to, steps_of}
+use Rattle.tw_pool.specs.Turns.{Answers, IsTurnBy, Lends, Line, OrNoMemory, TakesMemory, is_last, instr_after, lent_to, steps_of}
 use Rattle.tw_pool.specs.Words.{FitsWord}
 use Rattle.tw_pool.proofs.Counting.{AreBy, has_place, itself, others_same, the_same}
 use Rattle.tw_pool.proofs.Freely.{has_state, lends, line_told, room_here, state, viewed}
@@ -204,17 +204,17 @@ module _ (verified : TypedProgram) (inputs : List Input) (layout : ActorCounts) 
     there_is : slice_get verified.program done.before.procedure ≡ Some q
     is : slice_get q.code done.after.place ≡ Some i
 
-  is_behind : (i : Instr) → instr_behind w.program.program done ≡ Some i → IsBehind i
+  is_behind : (i : Instr) → instr_after w.program.program done ≡ Some i → IsBehind i
   is_behind i e = by (slice_get verified.program done.before.procedure) refl
     where
       e_now : option_and_then (λ (p : Procedure). slice_get p.code done.after.place) (slice_get verified.program done.before.procedure) ≡ Some i
-      e_now = subst (λ (x : PoolView). instr_behind x.program.program done ≡ Some i) (sym seen) e
+      e_now = subst (λ (x : PoolView). instr_after x.program.program done ≡ Some i) (sym seen) e
 
       by : (o : Option Procedure) → slice_get verified.program done.before.procedure ≡ o → IsBehind i
       by None at = let no : None ≡ Some i = sym (ap (option_and_then (λ (p : Procedure). slice_get p.code done.after.place)) at) ∙ e_now in cc
       by (Some q) at = record { q = q; there_is = at; is = sym (ap (option_and_then (λ (p : Procedure). slice_get p.code done.after.place)) at) ∙ e_now }
 
-  pub stands : (o : Option Event) → HasCome o → (i : Instr) → instr_behind w.program.program done ≡ Some i → StandsAt old actor done i
+  pub stands : (o : Option Event) → HasCome o → (i : Instr) → instr_after w.program.program done ≡ Some i → StandsAt old actor done i
   stands o c i e =
       let it = is_behind i e in
       record {
@@ -230,12 +230,12 @@ module _ (verified : TypedProgram) (inputs : List Input) (layout : ActorCounts) 
       }
 
   -- if the instruction there may allocate
-  pub wanted : (o : Option Event) → HasCome o → (i : Instr) → instr_behind w.program.program done ≡ Some i
+  pub wanted : (o : Option Event) → HasCome o → (i : Instr) → instr_after w.program.program done ≡ Some i
       → ((f : FrameView) → IsOwed old actor f done → InstrTakes i old.store.store (bare_frame (come f done))) → TakesMemory w (steps_of actor done) (Call actor)
   wanted o c i e takes =
       let at : AreAt verified inputs layout (told.events ++ steps_of actor done) came = subst (λ es. AreAt verified inputs layout (told.events ++ es) came) c.is c.at in
       let here_is : instr_here verified.program (bare_frame (come its.0 done)) ≡ Some i =
-      ap (λ (j : JobView). option_and_then (λ (p : Procedure). slice_get p.code done.after.place) (slice_get verified.program j.procedure)) (sym its.1.own) ∙ subst (λ (x : PoolView). instr_behind x.program.program done ≡ Some i) (sym seen) e in
+      ap (λ (j : JobView). option_and_then (λ (p : Procedure). slice_get p.code done.after.place) (slice_get verified.program j.procedure)) (sym its.1.own) ∙ subst (λ (x : PoolView). instr_after x.program.program done ≡ Some i) (sym seen) e in
       let stands : StandsAtTaker verified.program (state_of came at.notices) actor = record {
         frame = bare_frame (come its.0 done);
         runs = get_mapped bare_frame came.seats actor ∙ ap (option_map bare_frame) (get_own (come its.0 done) old.seats actor);

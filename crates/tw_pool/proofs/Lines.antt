@@ -17,7 +17,7 @@ use Rattle.tw_pool.specs.declared.answer.Closing.{Closing}
 use Rattle.tw_pool.specs.declared.answer.Turn.{Turn}
 use Rattle.tw_pool.specs.Actors.{events_of, same_actor}
 use Rattle.tw_pool.specs.PoolView.{PoolView}
-use Rattle.tw_pool.specs.Turns.{AreOwn, GoesFree, HandsIn, Makes, TakesBack, Turns, TurnsUnless, instr_behind, is_last, lent_to, steps_of}
+use Rattle.tw_pool.specs.Turns.{AreOwn, GoesFree, HandsIn, Makes, TakesBack, Turns, TurnsUnless, instr_after, is_last, lent_to, steps_of}
 use Rattle.tw_pool.proofs.Counting.{itself}
 
 -- ---- events of one actor
@@ -95,11 +95,11 @@ module _ (p : PoolView) (s : State) (actor : Actor) (answer : Turn) (events : Li
   taken_back : (short last : Bool) (done : DoneView) → TakesBack short last p actor done answer events → AreOwn actor events
   taken_back true last done l = subst (AreOwn actor) (sym l.4.1) (steps_own actor done)
   taken_back false true done l = subst (AreOwn actor) (sym l.1) (steps_own actor done)
-  taken_back false false done l = by (made p actor (Some done) (steps_of actor done) (event_of actor (instr_behind p.program.program done)) answer events l)
+  taken_back false false done l = by (made p actor (Some done) (steps_of actor done) (event_of actor (instr_after p.program.program done)) answer events l)
     where
-      by : (events ≡ []) ⊎ (events ≡ steps_of actor done ++ event_of actor (instr_behind p.program.program done) ∷ []) → AreOwn actor events
+      by : (events ≡ []) ⊎ (events ≡ steps_of actor done ++ event_of actor (instr_after p.program.program done) ∷ []) → AreOwn actor events
       by (inl is) = none_then is
-      by (inr is) = subst (AreOwn actor) (sym is) (behind actor done (event_of actor (instr_behind p.program.program done)) (whose_behind actor (instr_behind p.program.program done)))
+      by (inr is) = subst (AreOwn actor) (sym is) (behind actor done (event_of actor (instr_after p.program.program done)) (whose_behind actor (instr_after p.program.program done)))
 
   free : GoesFree p s actor answer events → AreOwn actor events
   free (inl l) = by (made p actor None [] l.0 answer events l.2)

@@ -30,7 +30,7 @@ use Rattle.tw_pool.specs.Actors.{events_of}
 use Rattle.tw_pool.specs.History.{HistoryView}
 use Rattle.tw_pool.specs.Kept.{IsFree, IsKept, IsOwedBy}
 use Rattle.tw_pool.specs.PoolView.{PoolView, HasState}
-use Rattle.tw_pool.specs.Turns.{Answers, GoesFree, IsTurn, IsTurnBy, Lends, Line, Makes, OrNoMemory, TakesBack, Turns, TurnsUnless, closing_at, closing_of, instr_behind, is_last, lent_to, steps_of}
+use Rattle.tw_pool.specs.Turns.{Answers, GoesFree, IsTurn, IsTurnBy, Lends, Line, Makes, OrNoMemory, TakesBack, Turns, TurnsUnless, closing_at, closing_of, instr_after, is_last, lent_to, steps_of}
 use Rattle.tw_pool.proofs.Freely.{has_state, line_still, state, viewed}
 
 -- ---- why a run is over
@@ -85,14 +85,14 @@ pub back_last : (w v : PoolView) (actor : Actor) (done : DoneView) (a : Turn) �
 back_last w v actor done a is last l = subst (λ b. IsTurnBy (λ s. TakesBack b (is_last w done) w actor done) w a v) is (subst (λ b. IsTurnBy (λ s. TakesBack false b w actor done) w a v) last l)
 
 pub back_past : (w v : PoolView) (actor : Actor) (done : DoneView) (a : Turn) → false ≡ done.short → false ≡ is_last w done
-    → IsTurnBy (λ s. Makes w actor (Some done) (steps_of actor done) (event_of actor (instr_behind w.program.program done))) w a v → IsTurnBy (λ s. TakesBack done.short (is_last w done) w actor done) w a v
+    → IsTurnBy (λ s. Makes w actor (Some done) (steps_of actor done) (event_of actor (instr_after w.program.program done))) w a v → IsTurnBy (λ s. TakesBack done.short (is_last w done) w actor done) w a v
 back_past w v actor done a is last l = subst (λ b. IsTurnBy (λ s. TakesBack b (is_last w done) w actor done) w a v) is (subst (λ b. IsTurnBy (λ s. TakesBack false b w actor done) w a v) last l)
 
 -- the instruction that is found after the steps
 pub behind_is : (w : PoolView) (program : List Procedure) (done : DoneView) (i : Instr) (m n : ℕ) → w.program.program ≡ program → m ≡ done.before.procedure → n ≡ done.after.place
-    → option_and_then (λ (p : Procedure). slice_get p.code n) (slice_get program m) ≡ Some i → instr_behind w.program.program done ≡ Some i
+    → option_and_then (λ (p : Procedure). slice_get p.code n) (slice_get program m) ≡ Some i → instr_after w.program.program done ≡ Some i
 behind_is w program done i m n whose of at e =
-    subst (λ (ps : List Procedure). instr_behind ps done ≡ Some i) (sym whose)
+    subst (λ (ps : List Procedure). instr_after ps done ≡ Some i) (sym whose)
     (subst (λ k. option_and_then (λ (p : Procedure). slice_get p.code done.after.place) (slice_get program k) ≡ Some i) of
     (subst (λ k. option_and_then (λ (p : Procedure). slice_get p.code k) (slice_get program m) ≡ Some i) at e))
 
@@ -110,12 +110,12 @@ call_event actor (instr.Rule action) l e = refl
 call_event actor (instr.Put action) l e = refl
 call_event actor instr.Ret l e = cc
 
-pub past_ret : (w v : PoolView) (actor : Actor) (done : DoneView) (a : Turn) (i : Instr) → instr_behind w.program.program done ≡ Some i → true ≡ is_ret i → IsTurnBy (λ s. Answers Ended (steps_of actor done ++ End actor ∷ [])) w a v
-    → IsTurnBy (λ s. Makes w actor (Some done) (steps_of actor done) (event_of actor (instr_behind w.program.program done))) w a v
+pub past_ret : (w v : PoolView) (actor : Actor) (done : DoneView) (a : Turn) (i : Instr) → instr_after w.program.program done ≡ Some i → true ≡ is_ret i → IsTurnBy (λ s. Answers Ended (steps_of actor done ++ End actor ∷ [])) w a v
+    → IsTurnBy (λ s. Makes w actor (Some done) (steps_of actor done) (event_of actor (instr_after w.program.program done))) w a v
 past_ret w v actor done a i at is l = subst (λ e. IsTurnBy (λ s. Makes w actor (Some done) (steps_of actor done) e) w a v) (sym (ap (event_of actor) at ∙ last_event actor i is)) l
 
-pub past_call : (w v : PoolView) (actor : Actor) (done : DoneView) (a : Turn) (i : Instr) → instr_behind w.program.program done ≡ Some i → local_of i ≡ None → false ≡ is_ret i
-    → IsTurnBy (λ s. OrNoMemory w (Some done) (steps_of actor done) (Call actor) (Lends w actor (steps_of actor done ++ Call actor ∷ []))) w a v → IsTurnBy (λ s. Makes w actor (Some done) (steps_of actor done) (event_of actor (instr_behind w.program.program done))) w a v
+pub past_call : (w v : PoolView) (actor : Actor) (done : DoneView) (a : Turn) (i : Instr) → instr_after w.program.program done ≡ Some i → local_of i ≡ None → false ≡ is_ret i
+    → IsTurnBy (λ s. OrNoMemory w (Some done) (steps_of actor done) (Call actor) (Lends w actor (steps_of actor done ++ Call actor ∷ []))) w a v → IsTurnBy (λ s. Makes w actor (Some done) (steps_of actor done) (event_of actor (instr_after w.program.program done))) w a v
 past_call w v actor done a i at other is l = subst (λ e. IsTurnBy (λ s. Makes w actor (Some done) (steps_of actor done) e) w a v) (sym (ap (event_of actor) at ∙ call_event actor i other is)) l
 
 pub stops_there : (code : List Instr) (place : ℕ) (i : Instr) → IsStop code place → slice_get code place ≡ Some i → local_of i ≡ None
@@ -123,7 +123,7 @@ stops_there code place i stop at = subst (λ x. local_of x ≡ None) (same_Some 
 
 -- a Done that isn't short stops there
 pub not_local : (w : PoolView) (program : TypedProgram) (done : DoneView) (i : Instr) → w.program ≡ program → done.before.program ≡ program → IsDone done.before.program.program done.before.procedure done.before.position done.after done.steps done.short
-    → false ≡ done.short → instr_behind w.program.program done ≡ Some i → local_of i ≡ None
+    → false ≡ done.short → instr_after w.program.program done ≡ Some i → local_of i ≡ None
 not_local w program done i whose own law whole at =
     let code : slice_get law.p.code done.after.place ≡ Some i =
     sym (ap (option_and_then (λ (p : Procedure). slice_get p.code done.after.place)) (ap (λ (v : TypedProgram). slice_get v.program done.before.procedure) (whose ∙ sym own) ∙ law.here)) ∙ at in

@@ -80,8 +80,8 @@ abbrev pub steps_of : Actor → DoneView → List Event
 steps_of actor done = if done.steps == 0 then [] else Local actor done.steps ∷ []
 
 -- returns the instruction to which they lead
-abbrev pub instr_behind : List Procedure → DoneView → Option Instr
-instr_behind program done = option_and_then (λ (p : Procedure). slice_get p.code done.after.place) (slice_get program done.before.procedure)
+abbrev pub instr_after : List Procedure → DoneView → Option Instr
+instr_after program done = option_and_then (λ (p : Procedure). slice_get p.code done.after.place) (slice_get program done.before.procedure)
 
 -- returns whether two events are due, and only one fits the limit
 abbrev pub is_last : PoolView → DoneView → Bool
@@ -92,7 +92,7 @@ is_last p done = not (done.steps == 0) && (length p.history + 1 == p.limit)
 abbrev pub TakesBack : Bool → Bool → PoolView → Actor → DoneView → Line
 TakesBack true last p actor done = Lends p actor (steps_of actor done)
 TakesBack false true p actor done = Answers (Over Limit) (steps_of actor done)
-TakesBack false false p actor done = Makes p actor (Some done) (steps_of actor done) (event_of actor (instr_behind p.program.program done))
+TakesBack false false p actor done = Makes p actor (Some done) (steps_of actor done) (event_of actor (instr_after p.program.program done))
 
 -- ---- an actor without a job: a due event is made, or none is due
 

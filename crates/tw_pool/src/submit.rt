@@ -14,7 +14,7 @@ ghost use Rattle.tw_pool.specs.declared.answer.Closing.TheVariants.{Limit};
 ghost use Rattle.tw_pool.specs.declared.answer.Turn.TheVariants as answer;
 ghost use Rattle.tw_pool.specs.Actors.{HasPlace, events_of};
 ghost use Rattle.tw_pool.specs.Kept.{IsOwedBy};
-ghost use Rattle.tw_pool.specs.Turns.{Answers, IsTurnBy, Lends, OrNoMemory, instr_behind, is_last, steps_of, Makes, TakesBack, Turns, lent_to};
+ghost use Rattle.tw_pool.specs.Turns.{Answers, IsTurnBy, Lends, OrNoMemory, instr_after, is_last, steps_of, Makes, TakesBack, Turns, lent_to};
 ghost use Rattle.tw_pool.specs.Words.{FitsWord};
 ghost use Rattle.std.specs.Option.{option_and_then};
 ghost use Rattle.tw_code.specs.declared.instr.Instr.{Instr as AnInstr};
@@ -133,7 +133,7 @@ impl<'a> Pool<'a> {
         requires room { length self.old.history < self.old.limit }
         requires owed { IsOwedBy self.old actor done }
         requires fits { is_last self.old done ≡ false }
-        requires behind { instr_behind self.old.program.program done ≡ Some instr.now }
+        requires behind { instr_after self.old.program.program done ≡ Some instr.now }
         requires not_local { local_of instr.now ≡ None }
         requires not_last { is_ret instr.now ≡ false }
         ensures { IsTurnBy (λ s. OrNoMemory self.old (Some done.entry) (steps_of actor done.entry) (CallBy actor) (Lends self.old actor (steps_of actor done.entry ++ CallBy actor ∷ []))) self.old result self.new }
@@ -156,7 +156,7 @@ impl<'a> Pool<'a> {
         requires room { length self.old.history < self.old.limit }
         requires owed { IsOwedBy self.old actor done }
         requires fits { is_last self.old done ≡ false }
-        requires behind { instr_behind self.old.program.program done ≡ Some instr_is.Ret }
+        requires behind { instr_after self.old.program.program done ≡ Some instr_is.Ret }
         ensures { IsTurnBy (λ s. Answers answer.Ended (steps_of actor done.entry ++ EndBy actor ∷ [])) self.old result self.new }
     {
         let _steps = done.steps();
@@ -175,7 +175,7 @@ impl<'a> Pool<'a> {
         requires program { done.before.program ≡ self.old.program }
         requires whole { done.short ≡ false }
         requires fits { is_last self.old done ≡ false }
-        ensures { IsTurnBy (λ s. Makes self.old actor (Some done.entry) (steps_of actor done.entry) (event_of actor (instr_behind self.old.program.program done.entry))) self.old result self.new }
+        ensures { IsTurnBy (λ s. Makes self.old actor (Some done.entry) (steps_of actor done.entry) (event_of actor (instr_after self.old.program.program done.entry))) self.old result self.new }
     {
         let _steps = done.steps();
         let instr = instr_at(self.verified, done.before().procedure(), done.after_place());

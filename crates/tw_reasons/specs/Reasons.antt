@@ -154,8 +154,8 @@ TellsReason which lines program procedure place text = (p : Procedure) (i : Inst
     → (typings : List Typing) × AreFound program (verify_error_code which) procedure procedure typings × IsReason which lines program p procedure place i typings text
 
 -- it is added to what stands there
-abbrev pub AddsTold : VerifyError → List (List ℕ) → List Procedure → ℕ → ℕ → List ℕ → List ℕ → Type 0
-AddsTold which lines program procedure place old new = (text : List ℕ) × TellsReason which lines program procedure place text × (new ≡ old ++ text)
+abbrev pub AddsDiagnostic : VerifyError → List (List ℕ) → List Procedure → ℕ → ℕ → List ℕ → List ℕ → Type 0
+AddsDiagnostic which lines program procedure place old new = (text : List ℕ) × TellsReason which lines program procedure place text × (new ≡ old ++ text)
 
 -- ---- V16
 

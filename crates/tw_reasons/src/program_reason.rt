@@ -4,7 +4,7 @@ ghost use Rattle.std.specs.Prelude.{◌≡◌, ◌<◌, ◌+◌, ◌-◌, ◌++�
 ghost use Rattle.tw_code.specs.format.Program.{IsInstr, IsProcedure};
 ghost use Rattle.tw_code.specs.machine.Arguments.{params_of};
 ghost use Rattle.tw_verify.specs.declared.rejection.VerifyError.TheVariants as rejection;
-ghost use Rattle.tw_reasons.specs.Reasons.{AddsReason, AddsTold, arguments_text, count_line, goal_line, misplaced_line, named_by, outside_text, skip_of, told_line, unknown_line, unmatched_line, vain_line};
+ghost use Rattle.tw_reasons.specs.Reasons.{AddsReason, AddsDiagnostic, arguments_text, count_line, goal_line, misplaced_line, named_by, outside_text, skip_of, told_line, unknown_line, unmatched_line, vain_line};
 
 use crate::find::unmet_at;
 use crate::loops::changed_at;
@@ -227,7 +227,7 @@ fn put_in(
     requires within { refused.now.procedure < length refused.now.program.procedures }
     requires is { IsProcedure procedure.now }
     ensures { OnOk result (slice_get refused.now.program.procedures refused.now.procedure ≡ Some procedure.now
-        → AddsTold refused.now.no lines.now.procedures refused.now.program.procedures refused.now.procedure refused.now.place out.old.items out.new.items) }
+        → AddsDiagnostic refused.now.no lines.now.procedures refused.now.program.procedures refused.now.procedure refused.now.place out.old.items out.new.items) }
 {
     match procedure.code.as_slice().get(refused.place) {
         Some(instr) => {
@@ -253,7 +253,7 @@ pub fn put_program_reason(
     lines: &LineNumbers,
     refused: &Refused,
 ) -> Result<(), AllocError>
-    ensures { OnOk result (AddsTold refused.now.no lines.now.procedures refused.now.program.procedures refused.now.procedure refused.now.place out.old.items out.new.items) }
+    ensures { OnOk result (AddsDiagnostic refused.now.no lines.now.procedures refused.now.program.procedures refused.now.procedure refused.now.place out.old.items out.new.items) }
 {
     match refused.program.procedures().get(refused.procedure) {
         Some(procedure) => put_in(alloc, out, lines, refused, procedure),

@@ -1,6 +1,6 @@
 -- What stands behind replies about programs that were read from a text.
 use Rattle.std.proofs.Common.{◌≡◌, ◌≢◌, ◌≤◌, ◌++◌, ◌∙◌, ℕ, suc, List, [], ◌∷◌, length, Option, Some, None, refl, sym, ap, subst}
-use Rattle.tw_replay.proofs.ReplayNames.{◌>>=◌, AreShort, ClosesBy, Event, Input, IsEndingBehind, IsUndrawn, MayBeSource, MayTell, NotEnabled, Outcome, PlainView, Procedure, Spoken as Reply, Start, State, TellsCircle, Trap, Went, append-nil, open_error_code, opening_line, rejection_of, reply}
+use Rattle.tw_replay.proofs.ReplayNames.{◌>>=◌, AreShort, ClosesBy, Event, Input, AreEndingDetails, IsUndrawn, MayBeSource, MayTell, NotEnabled, Outcome, PlainView, Procedure, Spoken as Reply, Start, State, TellsCircle, Trap, Went, append-nil, open_error_code, opening_line, rejection_of, reply}
 use Rattle.tw_types.specs.declared.ending.Ending.{Ending}
 use Rattle.tw_types.specs.declared.ending.Ending.TheVariants.{Quiet, Stuck}
 use Rattle.tw_types.specs.Layout.{ActorCounts}
@@ -12,8 +12,8 @@ use Rattle.tw_command.specs.declared.command.Answer.TheVariants.{Numbers, Pictur
 use Rattle.tw_command.specs.declared.shown.EventRange.{EventRange}
 use Rattle.tw_machine.specs.declared.rejection.OpenError.{OpenError}
 use Rattle.tw_machine.specs.declared.rejection.OpenError.TheVariants as opening
-use Rattle.tw_replay.specs.Opening.{IsOpeningBehind}
-use Rattle.tw_replay.specs.Replay.{ByOutcome, IsAnswer, IsNumbered, IsRejectionBehind, IsReportBehind, after_event, close_of, played, played_from}
+use Rattle.tw_replay.specs.Opening.{AreOpeningDetails}
+use Rattle.tw_replay.specs.Replay.{ByOutcome, IsAnswer, IsNumbered, AreRejectionDetails, AreReportDetails, after_event, close_of, played, played_from}
 use Rattle.tw_replies.specs.declared.source.SourceText.{SourceText}
 use Rattle.tw_replies.specs.declared.close.Close.{Close}
 use Rattle.tw_replies.specs.declared.close.Close.TheVariants as close
@@ -22,7 +22,7 @@ use Rattle.tw_replies.specs.declared.close.Close.TheVariants as close
 
 -- behind this refusal
 abbrev pub IsUnopened : Option (List ℕ) → List Procedure → List Input → OpenError → Reply → Type 0
-IsUnopened text program inputs why r = (more : List ℕ) × IsRejectionBehind text program inputs why more × (r ≡ reply (opening_line (open_error_code why) ++ more) close.Refused)
+IsUnopened text program inputs why r = (more : List ℕ) × AreRejectionDetails text program inputs why more × (r ≡ reply (opening_line (open_error_code why) ++ more) close.Refused)
 
 pub main_refused : (text : Option (List ℕ)) (program : List Procedure) (inputs : List Input) (why : OpenError) (number : ℕ) (r : Reply) → why ≡ opening.MainShape → number ≡ open_error_code why
     → r ≡ reply (opening_line number) close.Refused → (why ≢ opening.NoMemory) × IsUnopened text program inputs why r
@@ -33,7 +33,7 @@ main_refused text program inputs opening.InputType number r is at h = absurd cc
 main_refused text program inputs opening.NoMemory number r is at h = absurd cc
 
 pub inputs_refused : (text : Option (List ℕ)) (program : List Procedure) (inputs : List Input) (why : OpenError) (number : ℕ) (r : Reply) → (why ≡ opening.MainShape → ⊥) → (why ≡ opening.NoMemory → ⊥) → number ≡ open_error_code why
-    → ((more : List ℕ) × IsOpeningBehind text program inputs more × (r ≡ reply (opening_line number ++ more) close.Refused)) → (why ≢ opening.NoMemory) × IsUnopened text program inputs why r
+    → ((more : List ℕ) × AreOpeningDetails text program inputs more × (r ≡ reply (opening_line number ++ more) close.Refused)) → (why ≢ opening.NoMemory) × IsUnopened text program inputs why r
 inputs_refused text program inputs opening.MainShape number r main memory at h = absurd (main refl)
 inputs_refused text program inputs opening.NoMemory number r main memory at h = absurd (memory refl)
 inputs_refused text program inputs opening.InputCount number r main memory at (more, told, is) = (memory, (more, told, is ∙ ap (λ (n : ℕ). reply (opening_line n ++ more) close.Refused) at))
@@ -83,18 +83,18 @@ nothing_added Tells old h = ([], h, sym (append-nil old))
 
 -- by the ending of the state
 ended_stuck : (text : List ℕ) (start : Start) (events : List Event) (s : State) (e : Option Ending) (old new : List ℕ) → close_of e ≡ close.Stuck → Adds (TellsCircle text start events (circle start.program s)) old new
-    → Adds (IsEndingBehind text start events s e) old new
+    → Adds (AreEndingDetails text start events s e) old new
 ended_stuck text start events s None old new is told = absurd (success_unstuck is)
 ended_stuck text start events s (Some Quiet) old new is told = absurd (success_unstuck is)
 ended_stuck text start events s (Some (Stuck rules)) old new is told = told
 
-ended_else : (text : List ℕ) (start : Start) (events : List Event) (s : State) (e : Option Ending) → (close_of e ≡ close.Stuck → ⊥) → IsEndingBehind text start events s e []
+ended_else : (text : List ℕ) (start : Start) (events : List Event) (s : State) (e : Option Ending) → (close_of e ≡ close.Stuck → ⊥) → AreEndingDetails text start events s e []
 ended_else text start events s None other = refl
 ended_else text start events s (Some Quiet) other = refl
 ended_else text start events s (Some (Stuck rules)) other = absurd (other refl)
 
 abbrev pub TellsEnding : List ℕ → Start → List Event → Outcome State → List ℕ → Type 0
-TellsEnding text start events o more = ByOutcome o (λ s. IsEndingBehind text start events s (ending s) more) (more ≡ [])
+TellsEnding text start events o more = ByOutcome o (λ s. AreEndingDetails text start events s (ending s) more) (more ≡ [])
 
 pub stuck_behind : (text : List ℕ) (start : Start) (events : List Event) (o : Outcome State) (c : Close) (old new : List ℕ) → c ≡ close.Stuck → ClosesBy o c
     → ((s : State) → o ≡ Went s → Adds (TellsCircle text start events (circle start.program s)) old new) → Adds (TellsEnding text start events o) old new
@@ -112,11 +112,11 @@ undrawn Report other = tt
 undrawn Numbers other = tt
 undrawn (Picture shown) other = other shown refl
 
-pub picture_behind : (answer : Answer) (shown : EventRange) (text : List ℕ) (start : Start) (events : List Event) (o : Outcome State) (old : List ℕ) → answer ≡ Picture shown → Adds (IsReportBehind answer text start events o) old old
-picture_behind answer shown text start events o old is = nothing_added (IsReportBehind answer text start events o) old (subst (λ (a : Answer). IsReportBehind a text start events o []) (sym is) refl)
+pub picture_behind : (answer : Answer) (shown : EventRange) (text : List ℕ) (start : Start) (events : List Event) (o : Outcome State) (old : List ℕ) → answer ≡ Picture shown → Adds (AreReportDetails answer text start events o) old old
+picture_behind answer shown text start events o old is = nothing_added (AreReportDetails answer text start events o) old (subst (λ (a : Answer). AreReportDetails a text start events o []) (sym is) refl)
 
 pub report_behind : (answer : Answer) (text : List ℕ) (start : Start) (events : List Event) (o : Outcome State) (old new : List ℕ) → IsUndrawn answer → Adds (TellsEnding text start events o) old new
-    → Adds (IsReportBehind answer text start events o) old new
+    → Adds (AreReportDetails answer text start events o) old new
 report_behind Report text start events o old new other h = h
 report_behind Numbers text start events o old new other h = h
 report_behind (Picture shown) text start events o old new other h = absurd other

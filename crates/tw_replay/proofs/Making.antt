@@ -221,19 +221,19 @@ there start events rule m (action, made, runs) none =
     none_some (instr.Rule action) (sym none ∙ here)
 
 -- a line is added that tells of rules
-abbrev pub AddsTold : (List ℕ → Type 0) → List ℕ → List ℕ → Type 0
-AddsTold Tells old new = (more : List ℕ) × Tells more × (new ≡ old ++ more)
+abbrev pub AddsDiagnostic : (List ℕ → Type 0) → List ℕ → List ℕ → Type 0
+AddsDiagnostic Tells old new = (more : List ℕ) × Tells more × (new ≡ old ++ more)
 
 pub rule_told : (names : List (List ℕ)) (text plain : List ℕ) (start : Start) (events : List Event) (rule : ℕ) (m : Made) (number : ℕ) (line old new : List ℕ) → StandsFor text plain → IsMadeSo start events rule m
     → ComesFrom plain m.procedure m.place number → IsLineOf text number line
-    → new ≡ old ++ rule_line rule m.runs (name_at names m.runs) number line → AddsTold (TellsRule names text start events rule) old new
+    → new ≡ old ++ rule_line rule m.runs (name_at names m.runs) number line → AddsDiagnostic (TellsRule names text start events rule) old new
 rule_told names text plain start events rule m number line old new stands (action, made, runs) comes is added = (
   rule_line rule action.procedure (name_at names action.procedure) number line,
   inl (plain, m.procedure, m.place, number, action, line, made, stands, comes, is, refl),
   added ∙ ap (λ (n : ℕ). old ++ rule_line rule n (name_at names n) number line) (sym runs),
 )
 
-pub none_told : (names : List (List ℕ)) (text : List ℕ) (start : Start) (events : List Event) (rule : ℕ) (old : List ℕ) → IsUnmade start events rule → AddsTold (TellsRule names text start events rule) old old
+pub none_told : (names : List (List ℕ)) (text : List ℕ) (start : Start) (events : List Event) (rule : ℕ) (old : List ℕ) → IsUnmade start events rule → AddsDiagnostic (TellsRule names text start events rule) old old
 none_told names text start events rule old unmade = ([], inr (unmade, refl), sym (append-nil old))
 
 rules_more : (names : List (List ℕ)) (text : List ℕ) (start : Start) (events : List Event) (links : List Link) (l : Link) (more line : List ℕ) → TellRules names text start events links more → TellsRule names text start events l.rule line
@@ -243,8 +243,8 @@ rules_more names text start events (k ∷ links) l more line (first, others, is,
     (first, others ++ line, is, rules_more names text start events links l others line rest own, ap (λ (t : List ℕ). t ++ line) whole ∙ append_assoc first others line)
 
 -- the lines of so many rules of a circle, and of one more
-pub rule_more : (names : List (List ℕ)) (text : List ℕ) (start : Start) (events : List Event) (links next : List Link) (l : Link) (old now new : List ℕ) → next ≡ links ++ l ∷ [] → AddsTold (TellRules names text start events links) old now
-    → AddsTold (TellsRule names text start events l.rule) now new → AddsTold (TellRules names text start events next) old new
+pub rule_more : (names : List (List ℕ)) (text : List ℕ) (start : Start) (events : List Event) (links next : List Link) (l : Link) (old now new : List ℕ) → next ≡ links ++ l ∷ [] → AddsDiagnostic (TellRules names text start events links) old now
+    → AddsDiagnostic (TellsRule names text start events l.rule) now new → AddsDiagnostic (TellRules names text start events next) old new
 rule_more names text start events links next l old now new is (more, told, before) (line, own, added) = (
   more ++ line,
   subst (λ (ls : List Link). TellRules names text start events ls (more ++ line)) (sym is) (rules_more names text start events links l more line told own),

@@ -19,11 +19,11 @@ pub use Rattle.tw_asm.specs.Origins.{ComesFrom, instr_at}
 pub use Rattle.tw_machine.specs.Opening.{IsTold, open_error_code, rejection_of}
 pub use Rattle.tw_machine.specs.PlainView.{PlainView}
 pub use Rattle.tw_names.specs.Expansion.{StandsFor}
-pub use Rattle.tw_replay.specs.Circle.{DoesRule, IsEndingBehind, IsMade, Start, TellRules, TellsCircle, TellsRule, reached_from, rule_line, rule_text}
+pub use Rattle.tw_replay.specs.Circle.{DoesRule, AreEndingDetails, IsMade, Start, TellRules, TellsCircle, TellsRule, reached_from, rule_line, rule_text}
 pub use Rattle.tw_replay.specs.Counted.{AreShort, IsCounting, IsShort}
 pub use Rattle.tw_replies.specs.Lines.{opening_line}
-pub use Rattle.tw_replies.specs.Program.{RepliesBySource, text_told}
-pub use Rattle.tw_replay.specs.Replay.{AreBudgets, AreKnownBudgets, IsAnswer, IsAnswerBehind, IsAnswered, IsCounted, IsNumbered, RepliesByHistory, RepliesByLines, close_of, opened, played, played_from, start_of, state_reply}
+pub use Rattle.tw_replies.specs.Program.{RepliesBySource, source_text}
+pub use Rattle.tw_replay.specs.Replay.{AreBudgets, AreKnownBudgets, IsAnswer, AreAnswerDetails, IsAnswered, IsCounted, IsNumbered, RepliesByHistory, RepliesByLines, close_of, opened, played, played_from, start_of, state_reply}
 pub use Rattle.tw_replies.specs.Reply.{Reply as Spoken, reply}
 pub use Rattle.tw_replies.specs.Source.{IsSource, IsSpelled, MayBeSource, plain_of, text_of}
 pub use Rattle.tw_replay.specs.Stuck.{AreMade, ClosesBy, IsMadeSo, IsOpened, IsStartOf, IsUndrawn, IsUnmade, MayTell, rule_by, rule_done, rule_in}

@@ -86,7 +86,7 @@ TellsCircle text start events (Some links) more = (names : List (List ℕ)) × A
 -- ---- behind a report
 
 -- in the state to which the events lead, by how the run has ended there
-abbrev pub IsEndingBehind : List ℕ → Start → List Event → State → Option Ending → List ℕ → Type 0
-IsEndingBehind text start events s None more = more ≡ []
-IsEndingBehind text start events s (Some Quiet) more = more ≡ []
-IsEndingBehind text start events s (Some (Stuck rules)) more = TellsCircle text start events (circle start.program s) more
+abbrev pub AreEndingDetails : List ℕ → Start → List Event → State → Option Ending → List ℕ → Type 0
+AreEndingDetails text start events s None more = more ≡ []
+AreEndingDetails text start events s (Some Quiet) more = more ≡ []
+AreEndingDetails text start events s (Some (Stuck rules)) more = TellsCircle text start events (circle start.program s) more

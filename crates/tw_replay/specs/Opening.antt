@@ -63,6 +63,6 @@ TellsInputs program inputs text =
     (text ≡ count_line program inputs)
 
 -- where the program was read from a text
-abbrev pub IsOpeningBehind : Option (List ℕ) → List Procedure → List Input → List ℕ → Type 0
-IsOpeningBehind None program inputs more = more ≡ []
-IsOpeningBehind (Some text) program inputs more = TellsInputs program inputs more
+abbrev pub AreOpeningDetails : Option (List ℕ) → List Procedure → List Input → List ℕ → Type 0
+AreOpeningDetails None program inputs more = more ≡ []
+AreOpeningDetails (Some text) program inputs more = TellsInputs program inputs more

@@ -36,8 +36,8 @@ use Rattle.tw_report.specs.Lines.{history_line, not_enabled_line, trap_line}
 use Rattle.tw_replies.specs.Lines.{opening_line}
 use Rattle.tw_report.specs.Report.{state_report}
 use Rattle.tw_stats.specs.Text.{AreNumbers}
-use Rattle.tw_replay.specs.Circle.{IsEndingBehind, Start, reached_from}
-use Rattle.tw_replay.specs.Opening.{IsOpeningBehind}
+use Rattle.tw_replay.specs.Circle.{AreEndingDetails, Start, reached_from}
+use Rattle.tw_replay.specs.Opening.{AreOpeningDetails}
 use Rattle.tw_replies.specs.Reply.{Reply, reply}
 use Rattle.tw_replies.specs.Text.{RepliesByUtf8}
 use Rattle.tw_replies.specs.declared.close.Close.{Close}
@@ -121,25 +121,25 @@ IsAnswer names (Picture shown) first events r = IsDrawn names shown first events
 -- ---- what stands behind it, where the program was read from a text
 
 -- behind a report and the numbers, not behind a picture
-abbrev pub IsReportBehind : Answer → List ℕ → Start → List Event → Outcome State → List ℕ → Type 0
-IsReportBehind (Picture shown) text start events o more = more ≡ []
-IsReportBehind answer text start events o more = ByOutcome o (λ s. IsEndingBehind text start events s (machine.ending s) more) (more ≡ [])
+abbrev pub AreReportDetails : Answer → List ℕ → Start → List Event → Outcome State → List ℕ → Type 0
+AreReportDetails (Picture shown) text start events o more = more ≡ []
+AreReportDetails answer text start events o more = ByOutcome o (λ s. AreEndingDetails text start events s (machine.ending s) more) (more ≡ [])
 
-abbrev pub IsAnswerBehind : Option (List ℕ) → Answer → Start → List Event → List ℕ → Type 0
-IsAnswerBehind None answer start events more = more ≡ []
-IsAnswerBehind (Some text) answer start events more = IsReportBehind answer text start events (reached_from start events) more
+abbrev pub AreAnswerDetails : Option (List ℕ) → Answer → Start → List Event → List ℕ → Type 0
+AreAnswerDetails None answer start events more = more ≡ []
+AreAnswerDetails (Some text) answer start events more = AreReportDetails answer text start events (reached_from start events) more
 
 -- ---- the program and its inputs
 
 -- a refusal of the inputs tells of them; where main has not its shape nothing is said of them
-abbrev pub IsRejectionBehind : Option (List ℕ) → List Procedure → List Input → OpenError → List ℕ → Type 0
-IsRejectionBehind text program inputs MainShape more = more ≡ []
-IsRejectionBehind text program inputs why more = IsOpeningBehind text program inputs more
+abbrev pub AreRejectionDetails : Option (List ℕ) → List Procedure → List Input → OpenError → List ℕ → Type 0
+AreRejectionDetails text program inputs MainShape more = more ≡ []
+AreRejectionDetails text program inputs why more = AreOpeningDetails text program inputs more
 
 -- the program isn't opened
 abbrev pub OpensOr : Option (List ℕ) → List Procedure → List Input → Option OpenError → Type 0 → Reply → Type 0
 OpensOr text program inputs None Answers r = Answers
-OpensOr text program inputs (Some why) Answers r = (more : List ℕ) × IsRejectionBehind text program inputs why more × (r ≡ reply (opening_line (open_error_code why) ++ more) Refused)
+OpensOr text program inputs (Some why) Answers r = (more : List ℕ) × AreRejectionDetails text program inputs why more × (r ≡ reply (opening_line (open_error_code why) ++ more) Refused)
 
 abbrev pub start_of : ReplayOrder → Versioned → Start
 start_of order program = record { program = program.procedures; inputs = order.inputs; layout = order.layout }
@@ -151,7 +151,7 @@ opened order program = record { version = program.version; program = program.pro
 -- the answer, with the names that the text gives, and what stands behind it
 abbrev pub IsAnswered : Option (List ℕ) → ReplayOrder → Versioned → List Event → Reply → Type 0
 IsAnswered text order program events r =
-    (names : List (List ℕ)) × (told : Reply) × (more : List ℕ) × AreSymbols text names × IsAnswer names order.answer (opened order program) events told × IsAnswerBehind text order.answer (start_of order program) events more
+    (names : List (List ℕ)) × (told : Reply) × (more : List ℕ) × AreSymbols text names × IsAnswer names order.answer (opened order program) events told × AreAnswerDetails text order.answer (start_of order program) events more
     × (r ≡ reply (told.text ++ more) told.close)
 
 abbrev pub IsReplayed : Option (List ℕ) → ReplayOrder → Versioned → List Event → Reply → Type 0

@@ -5,7 +5,7 @@ ghost use Rattle.tw_types.specs.Given.{given_by, members_by};
 ghost use Rattle.tw_code.specs.machine.Inputs.{has_fitting_inputs, input_params, rises};
 ghost use Rattle.tw_code.specs.machine.Opening.{main_params};
 ghost use Rattle.tw_reasons.specs.Words.{type_text};
-ghost use Rattle.tw_replay.specs.Opening.{IsOpeningBehind, TellsInputs, TellsUnfit, count_line, excess_text, members_text, type_given, unfit_text};
+ghost use Rattle.tw_replay.specs.Opening.{AreOpeningDetails, TellsInputs, TellsUnfit, count_line, excess_text, members_text, type_given, unfit_text};
 ghost use Rattle.tw_replies.specs.Lines.{opening_line};
 ghost use Rattle.tw_replies.specs.Reply.{reply};
 ghost use Rattle.tw_replies.specs.Source.{text_of};
@@ -191,7 +191,7 @@ fn put_opening_details(
     program: &[Procedure],
     inputs: &[Input],
 ) -> Result<(), AllocError>
-    ensures { OnOk result ((more : List ℕ) × IsOpeningBehind (text_of source.now) program.now inputs.now more × (out.new.items ≡ out.old.items ++ more)) }
+    ensures { OnOk result ((more : List ℕ) × AreOpeningDetails (text_of source.now) program.now inputs.now more × (out.new.items ≡ out.old.items ++ more)) }
 {
     match source {
         Some(_) => put_inputs_reason(alloc, out, program, inputs),
@@ -218,7 +218,7 @@ pub fn inputs_refused_reply(
     inputs: &[Input],
 ) -> Result<Reply, AllocError>
     requires { number < 100 }
-    ensures { IfOk result (λ r. (more : List ℕ) × IsOpeningBehind (text_of source.now) program.now inputs.now more
+    ensures { IfOk result (λ r. (more : List ℕ) × AreOpeningDetails (text_of source.now) program.now inputs.now more
         × (reply r.text.items r.close ≡ reply (opening_line number ++ more) Close.Refused)) }
 {
     let mut text = Vec::new(alloc);

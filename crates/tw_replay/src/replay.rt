@@ -12,8 +12,8 @@ ghost use Rattle.tw_types.specs.Outcome.{Outcome};
 ghost use Rattle.std.specs.Str.Lines.{lines};
 ghost use Rattle.tw_command.specs.CommandLine.{replay_with};
 ghost use Rattle.tw_replay.specs.Counted.{AreShort};
-ghost use Rattle.tw_replies.specs.Inputs.{RepliesByInputs, RepliesByWords, before_inputs, behind_inputs, words_in};
-ghost use Rattle.tw_replies.specs.Program.{RepliesBySource, text_told};
+ghost use Rattle.tw_replies.specs.Inputs.{RepliesByInputs, RepliesByWords, before_inputs, after_inputs, words_in};
+ghost use Rattle.tw_replies.specs.Program.{RepliesBySource, source_text};
 ghost use Rattle.tw_replies.specs.Source.{MayBeSource, text_of};
 ghost use Rattle.tw_stats.specs.Kept.{IsFirst};
 ghost use Rattle.tw_command.specs.declared.command.Answer.TheVariants.{Numbers};
@@ -222,7 +222,7 @@ fn source_reply(
     program: &[u8],
 ) -> Result<Reply, AllocError>
     requires { length history.now ≤ 16777216 }
-    ensures { IfOk result (λ r. RepliesBySource source program.now (RepliesByLines (text_told source program.now) order.now (lines_in history.now)) (reply r.text.items r.close)) }
+    ensures { IfOk result (λ r. RepliesBySource source program.now (RepliesByLines (source_text source program.now) order.now (lines_in history.now)) (reply r.text.items r.close)) }
 {
     match read_program(alloc, source, program) {
         Ok(read) => {
@@ -245,7 +245,7 @@ pub fn replay_reply(
 ) -> Result<Reply, AllocError>
     requires { length input.now ≤ 16777216 }
     ensures { IfOk result (λ r. RepliesByHistory input.now
-        (λ program lines. RepliesBySource source program (RepliesByLines (text_told source program) order.now lines)) (reply r.text.items r.close)) }
+        (λ program lines. RepliesBySource source program (RepliesByLines (source_text source program) order.now lines)) (reply r.text.items r.close)) }
 {
     let (program, history) = cut_history(input);
     match str::from_utf8(history) {
@@ -263,8 +263,8 @@ fn inputs_reply(
     text: &str,
 ) -> Result<Reply, AllocError>
     requires { length history.now ≤ 16777216 }
-    ensures { IfOk result (λ r. RepliesByWords (words_in (behind_inputs (lines text.now)))
-        (λ given. RepliesBySource source (before_inputs (lines text.now)) (RepliesByLines (text_told source (before_inputs (lines text.now))) (replay_with options given) (lines_in history.now)))
+    ensures { IfOk result (λ r. RepliesByWords (words_in (after_inputs (lines text.now)))
+        (λ given. RepliesBySource source (before_inputs (lines text.now)) (RepliesByLines (source_text source (before_inputs (lines text.now))) (replay_with options given) (lines_in history.now)))
         (reply r.text.items r.close)) }
 {
     let parts = input_parts(alloc, text)?;
@@ -287,7 +287,7 @@ fn before_reply(
 ) -> Result<Reply, AllocError>
     requires { length history.now ≤ 16777216 }
     ensures { IfOk result (λ r. RepliesByInputs before.now
-        (λ program given. RepliesBySource source program (RepliesByLines (text_told source program) (replay_with options given) (lines_in history.now))) (reply r.text.items r.close)) }
+        (λ program given. RepliesBySource source program (RepliesByLines (source_text source program) (replay_with options given) (lines_in history.now))) (reply r.text.items r.close)) }
 {
     match str::from_utf8(before) {
         Ok(text) => inputs_reply(alloc, source, options, history, text),
@@ -304,7 +304,7 @@ pub fn replay_inputs_reply(
 ) -> Result<Reply, AllocError>
     requires { length input.now ≤ 16777216 }
     ensures { IfOk result (λ r. RepliesByHistory input.now (λ before told. RepliesByInputs before
-        (λ program given. RepliesBySource source program (RepliesByLines (text_told source program) (replay_with options given) told))) (reply r.text.items r.close)) }
+        (λ program given. RepliesBySource source program (RepliesByLines (source_text source program) (replay_with options given) told))) (reply r.text.items r.close)) }
 {
     let (before, history) = cut_history(input);
     match str::from_utf8(history) {

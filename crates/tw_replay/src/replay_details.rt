@@ -7,8 +7,8 @@ ghost use Rattle.tw_code.specs.machine.Ending.{ending};
 ghost use Rattle.tw_code.specs.machine.State.{State};
 ghost use Rattle.tw_machine.specs.Opening.{open_error_code, rejection_of};
 ghost use Rattle.tw_replies.specs.Lines.{opening_line};
-ghost use Rattle.tw_replay.specs.Circle.{IsEndingBehind, Start, reached_from};
-ghost use Rattle.tw_replay.specs.Replay.{ByOutcome, IsAnswer, IsAnswerBehind, IsAnswered, IsRejectionBehind, IsReportBehind, opened, start_of};
+ghost use Rattle.tw_replay.specs.Circle.{AreEndingDetails, Start, reached_from};
+ghost use Rattle.tw_replay.specs.Replay.{ByOutcome, IsAnswer, AreAnswerDetails, IsAnswered, AreRejectionDetails, AreReportDetails, opened, start_of};
 ghost use Rattle.tw_replies.specs.Reply.{reply};
 ghost use Rattle.tw_replies.specs.Source.{MayBeSource, text_of};
 ghost use Rattle.tw_replay.specs.Stuck.{CanTell, ClosesBy, IsStartOf, IsUndrawn, MayTell};
@@ -31,7 +31,7 @@ pub fn unopened_reply(
     refused: &OpenRefused,
 ) -> Result<Reply, AllocError>
     ensures { IfOk result (λ r. (refused.now.no ≢ OpenError.NoMemory) × ((more : List ℕ)
-        × IsRejectionBehind (text_of source.now) refused.now.program.procedures order.now.inputs refused.now.no more
+        × AreRejectionDetails (text_of source.now) refused.now.program.procedures order.now.inputs refused.now.no more
         × (reply r.text.items r.close ≡ reply (opening_line (open_error_code refused.now.no) ++ more) Close.Refused))) }
 {
     match refused.no {
@@ -58,7 +58,7 @@ fn put_ending_details(
 ) -> Result<(), AllocError>
     ensures { OnOk result ((start : Start) (o : Outcome State) → IsStartOf start order.now.inputs order.now.layout → CanTell source.now start events.now
         → reached_from start events.now ≡ o → ClosesBy o close
-        → (more : List ℕ) × ByOutcome o (λ s. IsEndingBehind source.now.text.now start events.now s (ending s) more) (more ≡ []) × (out.new.items ≡ out.old.items ++ more)) }
+        → (more : List ℕ) × ByOutcome o (λ s. AreEndingDetails source.now.text.now start events.now s (ending s) more) (more ≡ []) × (out.new.items ≡ out.old.items ++ more)) }
 {
     match close {
         Close::Stuck => put_stuck(
@@ -84,7 +84,7 @@ fn put_report_details(
 ) -> Result<(), AllocError>
     ensures { OnOk result ((start : Start) (o : Outcome State) → IsStartOf start order.now.inputs order.now.layout → CanTell source.now start events.now
         → reached_from start events.now ≡ o → (IsUndrawn order.now.answer → ClosesBy o close)
-        → (more : List ℕ) × IsReportBehind order.now.answer source.now.text.now start events.now o more × (out.new.items ≡ out.old.items ++ more)) }
+        → (more : List ℕ) × AreReportDetails order.now.answer source.now.text.now start events.now o more × (out.new.items ≡ out.old.items ++ more)) }
 {
     match order.answer {
         Answer::Picture(_) => Ok(()),
@@ -103,7 +103,7 @@ fn put_answer_details(
 ) -> Result<(), AllocError>
     ensures { OnOk result ((start : Start) → IsStartOf start order.now.inputs order.now.layout → MayTell source.now start events.now
         → (IsUndrawn order.now.answer → ClosesBy (reached_from start events.now) close)
-        → (more : List ℕ) × IsAnswerBehind (text_of source.now) order.now.answer start events.now more × (out.new.items ≡ out.old.items ++ more)) }
+        → (more : List ℕ) × AreAnswerDetails (text_of source.now) order.now.answer start events.now more × (out.new.items ≡ out.old.items ++ more)) }
 {
     match source {
         Some(source) => put_report_details(alloc, out, source, order, events, close),

@@ -3,7 +3,7 @@ use Rattle.std.proofs.Common.{◌≡◌, ◌==◌, ◌++◌, ℕ, Bool, true, fa
 use Rattle.std.specs.Str.{bytes_eq}
 use Rattle.tw_replies.proofs.ReplyNames.{Inputs, Program, Rest, append-nil}
 use Rattle.clap.specs.Words.{Text}
-use Rattle.tw_replies.specs.Inputs.{before_inputs, behind_inputs, words_in}
+use Rattle.tw_replies.specs.Inputs.{before_inputs, after_inputs, words_in}
 use Rattle.tw_replies.specs.Parts.{Parts, after_line, after_lines, parts}
 
 pub one_more : (p : Parts) (ls : List Text) (line : Text) → after_lines p (ls ++ line ∷ []) ≡ after_line (after_lines p ls) line
@@ -32,11 +32,11 @@ inputs_read : (program : List ℕ) (words ls : List Text) → Holds (after_lines
 inputs_read program words [] = (refl, sym (append-nil words))
 inputs_read program words (line ∷ ls) = by_end program words ls line (λ (ws : List Text). inputs_read program ws ls) (bytes_eq line (codes "end"))
 
-by_inputs : (program : List ℕ) (ls : List Text) (line : Text) → ((p : List ℕ) → Holds (after_lines (parts Program p []) ls) (p ++ before_inputs ls) (words_in (behind_inputs ls))) → (b : Bool)
-    → Holds (after_lines (cond b (parts Inputs program []) (parts Program (program ++ (line ++ 10 ∷ [])) [])) ls) (program ++ cond b [] ((line ++ 10 ∷ []) ++ before_inputs ls)) (words_in (cond b ls (behind_inputs ls)))
+by_inputs : (program : List ℕ) (ls : List Text) (line : Text) → ((p : List ℕ) → Holds (after_lines (parts Program p []) ls) (p ++ before_inputs ls) (words_in (after_inputs ls))) → (b : Bool)
+    → Holds (after_lines (cond b (parts Inputs program []) (parts Program (program ++ (line ++ 10 ∷ [])) [])) ls) (program ++ cond b [] ((line ++ 10 ∷ []) ++ before_inputs ls)) (words_in (cond b ls (after_inputs ls)))
 by_inputs program ls line rest true = let later = inputs_read program [] ls in (later.0 ∙ sym (append-nil program), later.1)
 by_inputs program ls line rest false = let later = rest (program ++ (line ++ 10 ∷ [])) in (later.0 ∙ append_assoc program (line ++ 10 ∷ []) (before_inputs ls), later.1)
 
-pub program_read : (program : List ℕ) (ls : List Text) → Holds (after_lines (parts Program program []) ls) (program ++ before_inputs ls) (words_in (behind_inputs ls))
+pub program_read : (program : List ℕ) (ls : List Text) → Holds (after_lines (parts Program program []) ls) (program ++ before_inputs ls) (words_in (after_inputs ls))
 program_read program [] = (sym (append-nil program), refl)
 program_read program (line ∷ ls) = by_inputs program ls line (λ (p : List ℕ). program_read p ls) (bytes_eq line (codes "inputs"))

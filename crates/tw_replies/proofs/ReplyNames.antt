@@ -18,11 +18,11 @@ pub use Rattle.tw_asm.specs.Origins.{AreOrigins, ComesFrom, at_place, instr_at}
 pub use Rattle.tw_names.specs.Expansion.{HasNames, IsFirstRejection, StandsFor}
 pub use Rattle.tw_replies.specs.Listed.{counts_of, typings_in}
 pub use Rattle.tw_replies.specs.Listing.{IsListing, IsRefusedListing, listing_from, no_typings, procedure_listing, right_column, rights_below, said_line, said_lines}
-pub use Rattle.tw_replies.specs.Names.{IsFaultBehind, RepliesByPlain, name_behind, name_line, written_text}
+pub use Rattle.tw_replies.specs.Names.{AreFaultDetails, RepliesByPlain, name_details, name_line, written_text}
 pub use Rattle.tw_replies.specs.Parts.{after_lines, parts, seen}
-pub use Rattle.tw_replies.specs.Program.{IsNoneBehind, RepliesBySource, Spells, SpellsNone, SpellsText, no_program_line}
+pub use Rattle.tw_replies.specs.Program.{AreParseErrorDetails, RepliesBySource, Spells, SpellsNone, SpellsText, no_program_line}
 pub use Rattle.tw_replies.specs.Reply.{Reply as Spoken, reply}
 pub use Rattle.tw_replies.specs.Source.{IsSource, MayBeSource, MayBeSourceAt, plain_of, text_of}
-pub use Rattle.tw_replies.specs.Text.{IsPlaceBehind, IsTextBehind, text_line}
+pub use Rattle.tw_replies.specs.Text.{ArePlaceDetails, AreTextDetails, text_line}
 pub use Rattle.tw_verify.specs.Rejection.{verify_error_code}
 pub use Rattle.tw_verify.specs.Typed.{typings_of}

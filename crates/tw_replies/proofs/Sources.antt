@@ -1,6 +1,6 @@
 -- Which line of a text is told.
 use Rattle.std.proofs.Common.{◌≡◌, ℕ, zero, suc, ◌+◌, ◌-◌, ◌<◌, List, [], ◌∷◌, length, Option, Some, None, MatchOption, refl, subst, ap, ◌∙◌, arith}
-use Rattle.tw_replies.proofs.ReplyNames.{AreOrigins, ComesFrom, IsPlaceBehind, IsTextBehind, LinesSay, Procedure, ParserState, StandsFor, after_line, at_place, at_start, instr_at, length-append, lines}
+use Rattle.tw_replies.proofs.ReplyNames.{AreOrigins, ComesFrom, ArePlaceDetails, AreTextDetails, LinesSay, Procedure, ParserState, StandsFor, after_line, at_place, at_start, instr_at, length-append, lines}
 use Rattle.std.specs.List.{slice_get}
 use Rattle.tw_asm.specs.Statement.{Statement, Code, Head}
 use Rattle.tw_reasons.proofs.Heads.{front_no_procedure}
@@ -61,7 +61,7 @@ some_head text procedure place number c none =
     let zero' = front_no_procedure c.before (Some (Code c.i) ∷ c.after) (subst HasNoHead c.parts none) in
     absurd (omega (arith, zero', c.procedure_is))
 
-pub other_behind : (text : List ℕ) (which : VerifyError) (program : List Procedure) (procedure place : ℕ) (more : List ℕ) → (which ≡ rejection.MainShape → ⊥) → IsPlaceBehind text which program procedure place more
-    → IsTextBehind text which program procedure place more
+pub other_behind : (text : List ℕ) (which : VerifyError) (program : List Procedure) (procedure place : ℕ) (more : List ℕ) → (which ≡ rejection.MainShape → ⊥) → ArePlaceDetails text which program procedure place more
+    → AreTextDetails text which program procedure place more
 other_behind text rejection.MainShape program procedure place more other h = absurd (other refl)
 other_behind text which program procedure place more other h = h

@@ -18,9 +18,9 @@ before_inputs [] = []
 before_inputs (line ∷ others) = if bytes_eq line (codes "inputs") then [] else (line ++ 10 ∷ []) ++ before_inputs others
 
 -- those behind the line `inputs`
-abbrev pub behind_inputs : List Text → List Text
-behind_inputs [] = []
-behind_inputs (line ∷ others) = if bytes_eq line (codes "inputs") then others else behind_inputs others
+abbrev pub after_inputs : List Text → List Text
+after_inputs [] = []
+after_inputs (line ∷ others) = if bytes_eq line (codes "inputs") then others else after_inputs others
 
 -- the words: the lines up to `end`, without the empty ones
 abbrev pub words_in : List Text → List Text
@@ -41,4 +41,4 @@ RepliesByWords words Answers r =
 -- What is read is UTF-8; the program's lines and the inputs are answered so.
 abbrev pub RepliesByInputs : List ℕ → (List ℕ → List Input → Reply → Type 0) → Reply → Type 0
 RepliesByInputs text Answers r =
-    RepliesByUtf8 text (RepliesByWords (words_in (behind_inputs (lines text))) (Answers (before_inputs (lines text))) r) r
+    RepliesByUtf8 text (RepliesByWords (words_in (after_inputs (lines text))) (Answers (before_inputs (lines text))) r) r

@@ -62,8 +62,8 @@ name_reason (no.Kind x a) = kind_reason x a
 name_reason other = fixed_reason other
 
 -- the line as it was written, and the word and what is wrong with it
-abbrev pub name_behind : List ℕ → NameNo → ℕ → List ℕ → List ℕ
-name_behind text which line word = line_text (slice_get (lines text) (line - 1)) ++ (shortened word ++ (codes ": " ++ (name_reason which ++ codes "\n")))
+abbrev pub name_details : List ℕ → NameNo → ℕ → List ℕ → List ℕ
+name_details text which line word = line_text (slice_get (lines text) (line - 1)) ++ (shortened word ++ (codes ": " ++ (name_reason which ++ codes "\n")))
 
 -- ---- a fault of the assembly text for which it stands
 
@@ -83,8 +83,8 @@ IsWrittenBefore text plain line before =
     ((HasNames (lines text) → ⊥) × (before ≡ [])) ⊎ (HasNames (lines text) × (before ≡ written_text (slice_get (lines text) (line - 1)) (slice_get (lines plain) (line - 1))))
 
 -- that, and why the line is refused for which it stands
-abbrev pub IsFaultBehind : List ℕ → FaultNo → ℕ → List ℕ → Type 0
-IsFaultBehind text which line more =
+abbrev pub AreFaultDetails : List ℕ → FaultNo → ℕ → List ℕ → Type 0
+AreFaultDetails text which line more =
     (plain : List ℕ) × (before : List ℕ) × (reason : List ℕ) × StandsFor text plain × IsWrittenBefore text plain line before × IsTextReason plain which line reason × (more ≡ before ++ reason)
 
 -- ---- the assembly text itself
@@ -93,4 +93,4 @@ IsFaultBehind text which line more =
 abbrev pub RepliesByPlain : List ℕ → Reply → Type 0
 RepliesByPlain text r =
     RepliesByUtf8 text (((plain : List ℕ) × StandsFor text plain × (r ≡ reply plain Success))
-    ⊎ ((rejection : Rejection) × IsFirstRejection text rejection × (r ≡ reply (name_line rejection.no rejection.line ++ name_behind text rejection.no rejection.line rejection.word) Refused))) r
+    ⊎ ((rejection : Rejection) × IsFirstRejection text rejection × (r ≡ reply (name_line rejection.no rejection.line ++ name_details text rejection.no rejection.line rejection.word) Refused))) r

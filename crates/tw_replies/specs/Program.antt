@@ -18,7 +18,7 @@ use Rattle.tw_names.specs.Answers.{told}
 use Rattle.tw_names.specs.Expansion.{IsFirstRejection, StandsFor}
 use Rattle.tw_replies.specs.Lines.{asm_line, fault_line}
 use Rattle.tw_replies.specs.Input.{digits_in}
-use Rattle.tw_replies.specs.Names.{IsFaultBehind, RepliesByPlain, name_behind, name_line}
+use Rattle.tw_replies.specs.Names.{AreFaultDetails, RepliesByPlain, name_details, name_line}
 use Rattle.tw_replies.specs.Reply.{Reply, reply}
 use Rattle.tw_replies.specs.Text.{RepliesByUtf8}
 use Rattle.tw_replies.specs.declared.program.NoProgram.{NoProgram}
@@ -61,19 +61,19 @@ no_program_line (Named f) = name_line f.no f.line
 no_program_line NoMemory = codes "memory\n"
 
 -- what stands behind that line: the line of a text that is refused, and why it is
-abbrev pub IsNoneBehind : List ℕ → NoProgram → List ℕ → Type 0
-IsNoneBehind input NotHex more = more ≡ []
-IsNoneBehind input NotUtf8 more = more ≡ []
-IsNoneBehind input (Bytes f) more = more ≡ []
-IsNoneBehind input (Text f) more = IsFaultBehind input f.no f.line more
-IsNoneBehind input (Named f) more = more ≡ name_behind input f.no f.line f.word.now
-IsNoneBehind input NoMemory more = more ≡ []
+abbrev pub AreParseErrorDetails : List ℕ → NoProgram → List ℕ → Type 0
+AreParseErrorDetails input NotHex more = more ≡ []
+AreParseErrorDetails input NotUtf8 more = more ≡ []
+AreParseErrorDetails input (Bytes f) more = more ≡ []
+AreParseErrorDetails input (Text f) more = AreFaultDetails input f.no f.line more
+AreParseErrorDetails input (Named f) more = more ≡ name_details input f.no f.line f.word.now
+AreParseErrorDetails input NoMemory more = more ≡ []
 
 -- the program is answered so; or it is told why there is none
 abbrev pub RepliesBySource : Source → List ℕ → (Versioned → Reply → Type 0) → Reply → Type 0
 RepliesBySource source input Answers r =
     ((program : Versioned) × Spells source input program × Answers program r)
-    ⊎ ((why : NoProgram) × (more : List ℕ) × SpellsNone source input why × IsNoneBehind input why more × (r ≡ reply (no_program_line why ++ more) Refused))
+    ⊎ ((why : NoProgram) × (more : List ℕ) × SpellsNone source input why × AreParseErrorDetails input why more × (r ≡ reply (no_program_line why ++ more) Refused))
 
 -- the same of an assembly text whose bytes are asked for: it has no names, and no more is told than that line
 abbrev pub RepliesByText : List ℕ → (Versioned → Reply → Type 0) → Reply → Type 0
@@ -82,9 +82,9 @@ RepliesByText input Answers r =
     ⊎ ((which : FaultNo) × (line : ℕ) × HasFault input which line × (r ≡ reply (asm_line (asm.fault_number which) line) Refused))) r
 
 -- the text as it is written, where it was one
-abbrev pub text_told : Source → List ℕ → Option (List ℕ)
-text_told Hex input = None
-text_told Assembly input = Some input
+abbrev pub source_text : Source → List ℕ → Option (List ℕ)
+source_text Hex input = None
+source_text Assembly input = Some input
 
 -- a program's bytes, in hex digits
 abbrev pub IsWritten : Versioned → Reply → Type 0

@@ -46,24 +46,24 @@ IsLineOf text number trimmed = IsLineAt (lines text) number trimmed
 
 -- The line from which the instruction at the refused place comes, as it is written, with its procedure's name; and why it is refused, where the
 -- register that is told has its name beside it.
-abbrev pub IsPlaceBehind : List ℕ → VerifyError → List Procedure → ℕ → ℕ → List ℕ → Type 0
-IsPlaceBehind text which program procedure place more =
+abbrev pub ArePlaceDetails : List ℕ → VerifyError → List Procedure → ℕ → ℕ → List ℕ → Type 0
+ArePlaceDetails text which program procedure place more =
     (plain : List ℕ) × (number : ℕ) × (line : List ℕ) × (numbers : List (List ℕ)) × (reason : List ℕ) × (told : List ℕ) × (names : List (List ℕ))
     × StandsFor text plain × ComesFrom plain procedure place number × IsLineOf text number line
     × AreOrigins plain program numbers × TellsReason which numbers program procedure place reason × IsWithName text number reason told × AreNames text names
     × (more ≡ line_in_text (name_at names procedure) number line ++ told)
 
 -- the line that begins main, and what is wrong with its shape
-abbrev pub IsMainBehind : List ℕ → List Procedure → List ℕ → Type 0
-IsMainBehind text program more =
+abbrev pub AreMainDetails : List ℕ → List Procedure → List ℕ → Type 0
+AreMainDetails text program more =
     (plain : List ℕ) × (number : ℕ) × (line : List ℕ) × (main : Procedure) × StandsFor text plain × IsFirstHead plain number × IsLineOf text number line
     × (slice_get program 0 ≡ Some main) × (more ≡ text_line number line ++ shape_line main.kind main.params)
 
-abbrev pub IsTextBehind : List ℕ → VerifyError → List Procedure → ℕ → ℕ → List ℕ → Type 0
-IsTextBehind text rejection.MainShape program procedure place more = IsMainBehind text program more
-IsTextBehind text which program procedure place more = IsPlaceBehind text which program procedure place more
+abbrev pub AreTextDetails : List ℕ → VerifyError → List Procedure → ℕ → ℕ → List ℕ → Type 0
+AreTextDetails text rejection.MainShape program procedure place more = AreMainDetails text program more
+AreTextDetails text which program procedure place more = ArePlaceDetails text which program procedure place more
 
 -- where the program was read from a text
 abbrev pub IsBehind : Option (List ℕ) → VerifyError → List Procedure → ℕ → ℕ → List ℕ → Type 0
 IsBehind None which program procedure place more = more ≡ []
-IsBehind (Some text) which program procedure place more = IsTextBehind text which program procedure place more
+IsBehind (Some text) which program procedure place more = AreTextDetails text which program procedure place more

@@ -5,7 +5,7 @@ ghost use Rattle.std.specs.Str.Lines.{lines};
 ghost use Rattle.clap.specs.Words.{Text};
 ghost use Rattle.tw_command.specs.InputWords.{IsRefusedWord, RefusedWord, refused_word};
 ghost use Rattle.tw_command.specs.Order.{IsInputReason};
-ghost use Rattle.tw_replies.specs.Inputs.{TellsInputWord, before_inputs, behind_inputs, words_in};
+ghost use Rattle.tw_replies.specs.Inputs.{TellsInputWord, before_inputs, after_inputs, words_in};
 ghost use Rattle.tw_replies.specs.Parts.{after_in, after_line, seen};
 ghost use Rattle.tw_replies.specs.Reply.{reply};
 ghost use Rattle.tw_replies.specs.declared.inputs.Section.TheVariants as section;
@@ -87,7 +87,7 @@ fn take_line<'a>(parts: InputParts<'a>, line: &'a str) -> Result<InputParts<'a>,
 /// The lines of the program, and the input words behind them.
 pub fn input_parts<'a>(alloc: Global, text: &'a str) -> Result<InputParts<'a>, AllocError>
     ensures program { IfOk result (λ p. p.program.items ≡ before_inputs (lines text.entry.now)) }
-    ensures words { IfOk result (λ p. map (λ word. word.now) p.words.items ≡ words_in (behind_inputs (lines text.entry.now))) }
+    ensures words { IfOk result (λ p. map (λ word. word.now) p.words.items ≡ words_in (after_inputs (lines text.entry.now))) }
 {
     let mut parts = InputParts {
         section: Section::Program,

@@ -5,7 +5,7 @@ ghost use Rattle.std.specs.Str.Lines.{lines};
 ghost use Rattle.tw_reasons.specs.Diagnostics.{IsTextReason};
 ghost use Rattle.tw_names.specs.Answers.{told};
 ghost use Rattle.tw_names.specs.Expansion.{IsFirstRejection, StandsFor};
-ghost use Rattle.tw_replies.specs.Names.{IsFaultBehind, RepliesByPlain, expected_words, fixed_reason, is_same_line, kind_reason, line_text, name_behind, name_line, name_reason, binding_words, written_text};
+ghost use Rattle.tw_replies.specs.Names.{AreFaultDetails, RepliesByPlain, expected_words, fixed_reason, is_same_line, kind_reason, line_text, name_details, name_line, name_reason, binding_words, written_text};
 ghost use Rattle.tw_words.specs.Shown.{shortened};
 ghost use Rattle.tw_replies.specs.Reply.{reply};
 
@@ -116,7 +116,7 @@ pub fn put_name_details(
     text: &str,
     rejection: NameError<'_>,
 ) -> Result<(), AllocError>
-    ensures { OnOk result (out.new.items ≡ out.old.items ++ name_behind text.now rejection.entry.no rejection.entry.line rejection.entry.word.now) }
+    ensures { OnOk result (out.new.items ≡ out.old.items ++ name_details text.now rejection.entry.no rejection.entry.line rejection.entry.word.now) }
 {
     put_line(out, text, rejection.line)?;
     put_word_reason(out, rejection.word, rejection.no)
@@ -167,7 +167,7 @@ pub fn put_fault_details(
     text: &str,
     fault: AsmFault,
 ) -> Result<(), AllocError>
-    ensures { OnOk result ((plain : List ℕ) → StandsFor text.now plain → (more : List ℕ) × IsFaultBehind text.now fault.no fault.line more × (out.new.items ≡ out.old.items ++ more)) }
+    ensures { OnOk result ((plain : List ℕ) → StandsFor text.now plain → (more : List ℕ) × AreFaultDetails text.now fault.no fault.line more × (out.new.items ≡ out.old.items ++ more)) }
 {
     match expanded_text(alloc, text) {
         Ok(None) => put_text_reason(alloc, out, text, fault),

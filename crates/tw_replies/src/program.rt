@@ -9,8 +9,8 @@ ghost use Rattle.tw_command.specs.declared.command.Source.{Source as ReadAs};
 ghost use Rattle.tw_asm.specs.Origins.{AreOrigins};
 ghost use Rattle.tw_names.specs.Expansion.{StandsFor};
 ghost use Rattle.tw_names.specs.declared.rejection.NameNo.TheVariants as no;
-ghost use Rattle.tw_replies.specs.Names.{IsFaultBehind, name_behind};
-ghost use Rattle.tw_replies.specs.Program.{IsNoneBehind, Spells, SpellsNone, SpellsText, no_program_line, text_told};
+ghost use Rattle.tw_replies.specs.Names.{AreFaultDetails, name_details};
+ghost use Rattle.tw_replies.specs.Program.{AreParseErrorDetails, Spells, SpellsNone, SpellsText, no_program_line, source_text};
 ghost use Rattle.tw_replies.specs.Reply.{reply};
 ghost use Rattle.tw_replies.specs.Source.{MayBeSource, text_of};
 ghost use Rattle.tw_bytes.specs.declared.fault.Fault.{Fault as ByteFault};
@@ -191,7 +191,7 @@ pub fn read_program<'a>(
 ) -> Result<ReadProgram<'a>, NoProgram<'a>>
     ensures spells { IfOk result (λ read. Spells source input.entry.now read.program) }
     ensures source { IfOk result (λ read. MayBeSource read.source read.program.procedures) }
-    ensures text { IfOk result (λ read. text_of read.source ≡ text_told source input.entry.now) }
+    ensures text { IfOk result (λ read. text_of read.source ≡ source_text source input.entry.now) }
     ensures none { IfErr result (λ why. why ≢ NoMemory → SpellsNone source input.entry.now why) }
 {
     match source {
@@ -226,7 +226,7 @@ fn put_fault_reason(
     input: &[u8],
     fault: AsmFault,
 ) -> Result<(), AllocError>
-    ensures { OnOk result (IsUtf8 input.now → (plain : List ℕ) → StandsFor input.now plain → (more : List ℕ) × IsFaultBehind input.now fault.no fault.line more × (out.new.items ≡ out.old.items ++ more)) }
+    ensures { OnOk result (IsUtf8 input.now → (plain : List ℕ) → StandsFor input.now plain → (more : List ℕ) × AreFaultDetails input.now fault.no fault.line more × (out.new.items ≡ out.old.items ++ more)) }
 {
     match str::from_utf8(input) {
         Ok(text) => put_fault_details(alloc, out, text, fault),
@@ -240,7 +240,7 @@ fn put_rejection_reason(
     input: &[u8],
     rejection: NameError<'_>,
 ) -> Result<(), AllocError>
-    ensures { OnOk result (IsUtf8 input.now → out.new.items ≡ out.old.items ++ name_behind input.now rejection.entry.no rejection.entry.line rejection.entry.word.now) }
+    ensures { OnOk result (IsUtf8 input.now → out.new.items ≡ out.old.items ++ name_details input.now rejection.entry.no rejection.entry.line rejection.entry.word.now) }
 {
     match str::from_utf8(input) {
         Ok(text) => put_name_details(out, text, rejection),
@@ -255,7 +255,7 @@ fn put_parse_error_details(
     input: &[u8],
     why: NoProgram<'_>,
 ) -> Result<(), AllocError>
-    ensures { OnOk result ((source : ReadAs) → SpellsNone source input.now why.entry → (more : List ℕ) × IsNoneBehind input.now why.entry more × (out.new.items ≡ out.old.items ++ more)) }
+    ensures { OnOk result ((source : ReadAs) → SpellsNone source input.now why.entry → (more : List ℕ) × AreParseErrorDetails input.now why.entry more × (out.new.items ≡ out.old.items ++ more)) }
 {
     match why {
         NoProgram::Text(fault) => put_fault_reason(alloc, out, input, fault),
@@ -271,7 +271,7 @@ pub fn parse_error_reply(
     why: NoProgram<'_>,
 ) -> Result<Reply, AllocError>
     ensures { IfOk result (λ r. (why.entry ≢ NoMemory) × ((source : ReadAs) → SpellsNone source input.now why.entry
-        → (more : List ℕ) × IsNoneBehind input.now why.entry more × (reply r.text.items r.close ≡ reply (no_program_line why.entry ++ more) Refused))) }
+        → (more : List ℕ) × AreParseErrorDetails input.now why.entry more × (reply r.text.items r.close ≡ reply (no_program_line why.entry ++ more) Refused))) }
 {
     let mut text = Vec::new(alloc);
     put_no_program(alloc, &mut text, why)?;

@@ -10,7 +10,7 @@ ghost use Rattle.tw_names.specs.Expansion.{StandsFor};
 ghost use Rattle.tw_names.specs.Symbols.{AreSymbols};
 ghost use Rattle.tw_reasons.specs.Reasons.{TellsReason, shape_line};
 ghost use Rattle.tw_reasons.specs.LineRole.{IsFirstHead};
-ghost use Rattle.tw_replies.specs.Text.{IsBehind, IsLineOf, IsMainBehind, IsPlaceBehind, IsTextBehind, in_name, line_in_text, text_line};
+ghost use Rattle.tw_replies.specs.Text.{IsBehind, IsLineOf, AreMainDetails, ArePlaceDetails, AreTextDetails, in_name, line_in_text, text_line};
 
 use crate::text_lines::TextLines;
 use std::alloc::{AllocError, Global};
@@ -161,7 +161,7 @@ fn put_place_details(
     refused: &Refused,
 ) -> Result<(), AllocError>
     ensures { OnOk result (IsSourceAt source.now refused.now.program.procedures refused.now.procedure refused.now.place
-        → (more : List ℕ) × IsPlaceBehind source.now.text.now refused.now.no refused.now.program.procedures refused.now.procedure refused.now.place more × (out.new.items ≡ out.old.items ++ more)) }
+        → (more : List ℕ) × ArePlaceDetails source.now.text.now refused.now.no refused.now.program.procedures refused.now.procedure refused.now.place more × (out.new.items ≡ out.old.items ++ more)) }
 {
     let Some((number, line)) = source_line(source, refused.procedure, refused.place) else {
         return Ok(());
@@ -201,7 +201,7 @@ fn put_main_details(
     refused: &Refused,
 ) -> Result<(), AllocError>
     ensures { OnOk result (IsSourceAt source.now refused.now.program.procedures refused.now.procedure refused.now.place
-        → (more : List ℕ) × IsMainBehind source.now.text.now refused.now.program.procedures more × (out.new.items ≡ out.old.items ++ more)) }
+        → (more : List ℕ) × AreMainDetails source.now.text.now refused.now.program.procedures more × (out.new.items ≡ out.old.items ++ more)) }
 {
     match refused.program.procedures().first() {
         Some(main) => put_head_details(alloc, out, source, main),
@@ -217,7 +217,7 @@ fn put_text_details(
     refused: &Refused,
 ) -> Result<(), AllocError>
     ensures { OnOk result (IsSourceAt source.now refused.now.program.procedures refused.now.procedure refused.now.place
-        → (more : List ℕ) × IsTextBehind source.now.text.now refused.now.no refused.now.program.procedures refused.now.procedure refused.now.place more × (out.new.items ≡ out.old.items ++ more)) }
+        → (more : List ℕ) × AreTextDetails source.now.text.now refused.now.no refused.now.program.procedures refused.now.procedure refused.now.place more × (out.new.items ≡ out.old.items ++ more)) }
 {
     match refused.no {
         VerifyError::MainShape => put_main_details(alloc, out, source, refused),

@@ -79,15 +79,15 @@ abbrev pub start_of : List Procedure → RunOrder → Start
 start_of program order = record { program = program; inputs = order.inputs; layout = order.layout }
 
 -- what stands at the end, of a program that was read from this text
-abbrev pub IsClosingBehind : List ℕ → List Procedure → RunOrder → List Event → State → Closing → List ℕ → Type 0
-IsClosingBehind text program order events s (Stuck rules) more = TellsCircle text (start_of program order) events (circle program s) more
-IsClosingBehind text program order events s Quiet more = more ≡ []
-IsClosingBehind text program order events s Limit more = more ≡ []
-IsClosingBehind text program order events s Stopped more = more ≡ []
+abbrev pub AreClosingDetails : List ℕ → List Procedure → RunOrder → List Event → State → Closing → List ℕ → Type 0
+AreClosingDetails text program order events s (Stuck rules) more = TellsCircle text (start_of program order) events (circle program s) more
+AreClosingDetails text program order events s Quiet more = more ≡ []
+AreClosingDetails text program order events s Limit more = more ≡ []
+AreClosingDetails text program order events s Stopped more = more ≡ []
 
 -- if from one, and if no picture is asked for
-abbrev pub IsRunBehind : Answer → Option (List ℕ) → List Procedure → RunOrder → List Event → State → Closing → List ℕ → Type 0
-IsRunBehind answer None program order events s closing more = more ≡ []
-IsRunBehind Report (Some text) program order events s closing more = IsClosingBehind text program order events s closing more
-IsRunBehind Numbers (Some text) program order events s closing more = IsClosingBehind text program order events s closing more
-IsRunBehind (Picture shown) (Some text) program order events s closing more = more ≡ []
+abbrev pub AreRunDetails : Answer → Option (List ℕ) → List Procedure → RunOrder → List Event → State → Closing → List ℕ → Type 0
+AreRunDetails answer None program order events s closing more = more ≡ []
+AreRunDetails Report (Some text) program order events s closing more = AreClosingDetails text program order events s closing more
+AreRunDetails Numbers (Some text) program order events s closing more = AreClosingDetails text program order events s closing more
+AreRunDetails (Picture shown) (Some text) program order events s closing more = more ≡ []

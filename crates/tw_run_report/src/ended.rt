@@ -10,7 +10,7 @@ ghost use Rattle.tw_machine.specs.Opening.{rejection_of};
 ghost use Rattle.tw_run_report.specs.Ends.{IsEndReport};
 ghost use Rattle.tw_run_report.specs.Over.{Goes, IsRunOver};
 ghost use Rattle.tw_replies.specs.Reply.{reply};
-ghost use Rattle.tw_run_report.specs.Run.{AreRunNumbers, IsRunBehind, IsRunPicture, IsRunText, begins, close_of, limit_told, trace_text};
+ghost use Rattle.tw_run_report.specs.Run.{AreRunNumbers, AreRunDetails, IsRunPicture, IsRunText, begins, close_of, limit_told, trace_text};
 ghost use Rattle.tw_names.specs.Symbols.{AreSymbols};
 ghost use Rattle.tw_replies.specs.Source.{MayBeSource, text_of};
 
@@ -223,7 +223,7 @@ pub fn ended_reply(
     requires source { MayBeSource source.now verified.program }
     ensures { IfOk result (λ r. (over : IsRunOver verified.program order.now outcome.now history.now.events closing) → (told : List ℕ) × (more : List ℕ)
         × IsRunText order.now.answer (text_of source.now) verified.program order.now history.now.events over.state closing told
-        × IsRunBehind order.now.answer (text_of source.now) verified.program order.now history.now.events over.state closing more
+        × AreRunDetails order.now.answer (text_of source.now) verified.program order.now history.now.events over.state closing more
         × (reply r.text.items r.close ≡ reply (trace_text order.now.trace history.now.events ++ (told ++ more)) (close_of closing))) }
 {
     // For their clauses alone: what holds of an accepted program's procedures, and how many events a run may have.

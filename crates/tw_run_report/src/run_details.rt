@@ -6,7 +6,7 @@ ghost use Rattle.tw_code.specs.declared.procedure.Procedure.{Procedure as Sectio
 ghost use Rattle.tw_code.specs.machine.Pending.{circle};
 ghost use Rattle.tw_code.specs.machine.State.{State};
 ghost use Rattle.tw_replay.specs.Circle.{TellsCircle, reached_from};
-ghost use Rattle.tw_run_report.specs.Run.{IsClosingBehind, IsRunBehind, start_of};
+ghost use Rattle.tw_run_report.specs.Run.{AreClosingDetails, AreRunDetails, start_of};
 ghost use Rattle.tw_replies.specs.Source.{text_of};
 ghost use Rattle.tw_replay.specs.Stuck.{CanTell, MayTell};
 
@@ -51,7 +51,7 @@ fn put_closing_details(
 ) -> Result<(), AllocError>
     ensures { OnOk result ((program : List Section) (s : State) → CanTell source.now (start_of program order.now) history.now.events
         → reached_from (start_of program order.now) history.now.events ≡ Went s
-        → (more : List ℕ) × IsClosingBehind source.now.text.now program order.now history.now.events s closing more × (out.new.items ≡ out.old.items ++ more)) }
+        → (more : List ℕ) × AreClosingDetails source.now.text.now program order.now history.now.events s closing more × (out.new.items ≡ out.old.items ++ more)) }
 {
     match closing {
         Closing::Stuck(_) => put_circle_details(alloc, out, source, order, history),
@@ -70,7 +70,7 @@ pub fn put_run_details(
 ) -> Result<(), AllocError>
     ensures { OnOk result ((program : List Section) (s : State) → MayTell source.now (start_of program order.now) history.now.events
         → reached_from (start_of program order.now) history.now.events ≡ Went s
-        → (more : List ℕ) × IsRunBehind order.now.answer (text_of source.now) program order.now history.now.events s closing more × (out.new.items ≡ out.old.items ++ more)) }
+        → (more : List ℕ) × AreRunDetails order.now.answer (text_of source.now) program order.now history.now.events s closing more × (out.new.items ≡ out.old.items ++ more)) }
 {
     let Some(source) = source else {
         return Ok(());

@@ -24,7 +24,7 @@ use Rattle.tw_in_turn.specs.InTurn.{ComesTo, IsOver}
 use Rattle.tw_command.specs.declared.command.RunOrder.{RunOrder}
 use Rattle.tw_run_report.specs.Ends.{IsEndReport, end_report}
 use Rattle.tw_run_report.specs.Over.{IsRunOver}
-use Rattle.tw_run_report.specs.Run.{IsRunBehind, IsRunText, close_of, trace_text}
+use Rattle.tw_run_report.specs.Run.{AreRunDetails, IsRunText, close_of, trace_text}
 use Rattle.tw_replies.specs.Reply.{reply}
 use Rattle.tw_replies.specs.declared.reply.Reply.{Reply as MadeReply}
 use Rattle.tw_session.specs.Run.{EndsSo, IsOrdered, IsRun, RepliesByRun, run_as}
@@ -68,7 +68,7 @@ over verified order p final history closing of_run few shut turns ended other =
 pub replied : {E : Type 0} (made : Result MadeReply E) (text : Option (List ℕ)) (program : List Procedure) (order : RunOrder) (final : FinalView) (events : List Event) (closing : Closing)
     → ((o : IsRunOver program order final events closing) × IsRun program order events o.state closing)
     → IfOk made (λ r. (o : IsRunOver program order final events closing) → (told : List ℕ) × (more : List ℕ) × IsRunText order.answer text program order events o.state closing told
-    × IsRunBehind order.answer text program order events o.state closing more × (reply r.text.items r.close ≡ reply (trace_text order.trace events ++ (told ++ more)) (close_of closing)))
+    × AreRunDetails order.answer text program order events o.state closing more × (reply r.text.items r.close ≡ reply (trace_text order.trace events ++ (told ++ more)) (close_of closing)))
     → IfOk made (λ r. RepliesByRun text program order (reply r.text.items r.close))
 replied (Ok r) text program order final events closing (o, is) h = let t = h o in inl (events, o.state, closing, t.0, t.1, is, t.2, t.3, t.4)
 replied (Err e) text program order final events closing over h = tt

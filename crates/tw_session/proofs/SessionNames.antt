@@ -6,7 +6,7 @@ pub use Rattle.tw_command.specs.declared.command.Order.{Order}
 pub use Rattle.tw_command.specs.declared.command.ProgramOrder.TheVariants.{Verified}
 pub use Rattle.tw_command.specs.declared.command.RunOrder.{RunOrder}
 pub use Rattle.tw_command.specs.declared.command.VerifiedOrder.TheVariants.{Run}
-pub use Rattle.tw_replies.specs.Program.{RepliesBySource, text_told}
+pub use Rattle.tw_replies.specs.Program.{RepliesBySource, source_text}
 pub use Rattle.tw_replies.specs.Reply.{Reply, reply}
 pub use Rattle.tw_replies.specs.Source.{text_of}
 pub use Rattle.tw_session.specs.ProgramAction.{Comes, Leads}

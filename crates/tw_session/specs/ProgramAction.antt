@@ -6,7 +6,7 @@ use Rattle.tw_session.specs.declared.order.OrderAction.{OrderAction}
 use Rattle.tw_session.specs.declared.order.OrderAction.TheVariants as step
 use Rattle.tw_session.specs.declared.programs.ProgramAction.{ProgramAction}
 use Rattle.tw_session.specs.declared.programs.ProgramAction.TheVariants as answered
-use Rattle.tw_replies.specs.Program.{RepliesBySource, text_told}
+use Rattle.tw_replies.specs.Program.{RepliesBySource, source_text}
 use Rattle.tw_replies.specs.Reply.{Reply, reply}
 use Rattle.tw_session.specs.Run.{RepliesByOpening}
 use Rattle.tw_session.specs.Session.{RepliesByProgram}
@@ -24,4 +24,4 @@ abbrev pub Comes : Type 0 → (Reply → Type 0) → OrderAction → Type 0
 Comes InTurn Answers (step.Finished r) = Answers (reply r.text.items r.close)
 Comes InTurn Answers (step.Request a) =
     (InTurn → IsProgramInTurn a.order)
-    × ((r : Reply) → RepliesBySource a.source a.program.items (RepliesByProgram (text_told a.source a.program.items) a.order) r → Answers r)
+    × ((r : Reply) → RepliesBySource a.source a.program.items (RepliesByProgram (source_text a.source a.program.items) a.order) r → Answers r)

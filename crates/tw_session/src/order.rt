@@ -8,8 +8,8 @@ ghost use Rattle.tw_command.specs.declared.command.InputsOrder.TheVariants.{ToRu
 ghost use Rattle.tw_command.specs.declared.command.ProgramOrder.TheVariants as ordered;
 ghost use Rattle.tw_command.specs.declared.command.VerifiedOrder.TheVariants.{Run};
 ghost use Rattle.tw_session.specs.ProgramAction.{Comes};
-ghost use Rattle.tw_replies.specs.Inputs.{RepliesByWords, before_inputs, behind_inputs, words_in};
-ghost use Rattle.tw_replies.specs.Program.{RepliesBySource, text_told};
+ghost use Rattle.tw_replies.specs.Inputs.{RepliesByWords, before_inputs, after_inputs, words_in};
+ghost use Rattle.tw_replies.specs.Program.{RepliesBySource, source_text};
 ghost use Rattle.tw_replies.specs.Reply.{reply};
 ghost use Rattle.tw_session.specs.Run.{RepliesByOpening};
 ghost use Rattle.tw_replies.specs.Source.{MayBeSource, text_of};
@@ -53,9 +53,9 @@ fn inputs_step(
     options: RunOptions,
     text: &str,
 ) -> Result<OrderAction, AllocError>
-    ensures { IfOk result (Comes (options.in_turn ≡ true) (RepliesByWords (words_in (behind_inputs (lines text.now)))
+    ensures { IfOk result (Comes (options.in_turn ≡ true) (RepliesByWords (words_in (after_inputs (lines text.now)))
         (λ given. RepliesBySource source (before_inputs (lines text.now))
-        (RepliesByProgram (text_told source (before_inputs (lines text.now))) (ordered.Verified (Run (run_with options given))))))) }
+        (RepliesByProgram (source_text source (before_inputs (lines text.now))) (ordered.Verified (Run (run_with options given))))))) }
 {
     let parts = input_parts(alloc, text)?;
     match inputs_of(alloc, &parts.words) {
@@ -158,7 +158,7 @@ fn source_reply<H: Threads + Wait + Clock + Sync, G: Gate + Sync>(
     order: ProgramOrder,
     input: &[u8],
 ) -> Result<Reply, AllocError>
-    ensures { IfOk result (λ r. RepliesBySource source input.now (RepliesByProgram (text_told source input.now) order) (reply r.text.items r.close)) }
+    ensures { IfOk result (λ r. RepliesBySource source input.now (RepliesByProgram (source_text source input.now) order) (reply r.text.items r.close)) }
 {
     match read_program(alloc, source, input) {
         Ok(read) => {
@@ -183,7 +183,7 @@ fn source_in_turn(
     input: &[u8],
 ) -> Result<Reply, AllocError>
     requires { IsProgramInTurn order }
-    ensures { IfOk result (λ r. RepliesBySource source input.now (RepliesByProgram (text_told source input.now) order) (reply r.text.items r.close)) }
+    ensures { IfOk result (λ r. RepliesBySource source input.now (RepliesByProgram (source_text source input.now) order) (reply r.text.items r.close)) }
 {
     match read_program(alloc, source, input) {
         Ok(read) => {

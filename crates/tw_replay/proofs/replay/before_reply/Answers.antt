@@ -1,8 +1,8 @@
 use Rattle.std.proofs.Common.{List, ℕ, inl, inr, subst}
-use Rattle.tw_replay.proofs.ReplayNames.{IfOk-weaker, RepliesByLines, RepliesBySource, Reply, lines, reply, text_told}
+use Rattle.tw_replay.proofs.ReplayNames.{IfOk-weaker, RepliesByLines, RepliesBySource, Reply, lines, reply, source_text}
 use Rattle.tw_command.specs.CommandLine.{replay_with}
 use Rattle.tw_report.specs.History.{lines_in}
-use Rattle.tw_replies.specs.Inputs.{RepliesByWords, before_inputs, behind_inputs, words_in}
+use Rattle.tw_replies.specs.Inputs.{RepliesByWords, before_inputs, after_inputs, words_in}
 use Rattle.tw_replay.proofs.replay.before_reply.Goals as goal
 
 pub returns-in-Ok : goal.returns-in-Ok
@@ -12,8 +12,8 @@ returns-in-Ok c =
     IfOk-weaker _ _ _
     (λ (r : Reply) h. inl (
       text.1,
-      subst (λ (t : List ℕ). RepliesByWords (words_in (behind_inputs (lines t)))
-          (λ given. RepliesBySource source (before_inputs (lines t)) (RepliesByLines (text_told source (before_inputs (lines t))) (replay_with c.args.options given) (lines_in c.args.history.now))) (reply r.text.items r.close)) text.0 h,
+      subst (λ (t : List ℕ). RepliesByWords (words_in (after_inputs (lines t)))
+          (λ given. RepliesBySource source (before_inputs (lines t)) (RepliesByLines (source_text source (before_inputs (lines t))) (replay_with c.args.options given) (lines_in c.args.history.now))) (reply r.text.items r.close)) text.0 h,
     )) c.inputs_reply.ensures
 
 pub returns-in-Err : goal.returns-in-Err

@@ -1,5 +1,5 @@
 use Rattle.std.proofs.Common.{List, Option, inl, subst, ℕ}
-use Rattle.tw_replay.proofs.ReplayNames.{IfOk-weaker, RepliesByLines, RepliesBySource, Reply, reply, text_told}
+use Rattle.tw_replay.proofs.ReplayNames.{IfOk-weaker, RepliesByLines, RepliesBySource, Reply, reply, source_text}
 use Rattle.tw_report.specs.History.{lines_in}
 use Rattle.tw_replies.proofs.Nones.{Tells, none_told}
 use Rattle.tw_replay.proofs.replay.source_reply.Goals as goal
@@ -15,5 +15,5 @@ returns-in-Err c =
     let input = c.args.program.now in
     let told = lines_in c.args.history.now in
     IfOk-weaker c.parse_error_reply.result (λ (r : Reply). Tells input c.in-Err.why (reply r.text.items r.close))
-    (λ (r : Reply). RepliesBySource c.args.source input (RepliesByLines (text_told c.args.source input) c.args.order.now told) (reply r.text.items r.close))
-    (λ (r : Reply) h. none_told c.args.source input c.in-Err.why (RepliesByLines (text_told c.args.source input) c.args.order.now told) (reply r.text.items r.close) c.in-Err.ensures.none h) c.parse_error_reply.ensures
+    (λ (r : Reply). RepliesBySource c.args.source input (RepliesByLines (source_text c.args.source input) c.args.order.now told) (reply r.text.items r.close))
+    (λ (r : Reply) h. none_told c.args.source input c.in-Err.why (RepliesByLines (source_text c.args.source input) c.args.order.now told) (reply r.text.items r.close) c.in-Err.ensures.none h) c.parse_error_reply.ensures

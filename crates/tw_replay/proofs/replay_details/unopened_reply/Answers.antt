@@ -1,6 +1,6 @@
 use Rattle.std.proofs.Common.{◌≡◌, ◌++◌, List, subst, ℕ}
 use Rattle.tw_replay.proofs.ReplayNames.{IfOk-weaker, Input, Procedure, Refused, Reply, Spoken, opening_line, reply, text_of}
-use Rattle.tw_replay.specs.Opening.{IsOpeningBehind}
+use Rattle.tw_replay.specs.Opening.{AreOpeningDetails}
 use Rattle.tw_replay.proofs.Behinds.{inputs_refused, main_refused}
 use Rattle.tw_replay.proofs.replay_details.unopened_reply.Goals as goal
 
@@ -13,11 +13,11 @@ returns-in-MainShape c =
 pub returns-in_default : goal.returns-in_default
 returns-in_default c =
     let refused = c.args.refused.now in
-    let given : (r : Spoken) → ((more : List ℕ) × IsOpeningBehind (text_of c.args.source.now) c.procedures.result.now c.as_slice.result.now more × (r ≡ reply (opening_line c.number-in_default.result ++ more) Refused))
-    → (more : List ℕ) × IsOpeningBehind (text_of c.args.source.now) refused.program.procedures c.args.order.now.inputs more × (r ≡ reply (opening_line c.number-in_default.result ++ more) Refused) = λ r h. (
+    let given : (r : Spoken) → ((more : List ℕ) × AreOpeningDetails (text_of c.args.source.now) c.procedures.result.now c.as_slice.result.now more × (r ≡ reply (opening_line c.number-in_default.result ++ more) Refused))
+    → (more : List ℕ) × AreOpeningDetails (text_of c.args.source.now) refused.program.procedures c.args.order.now.inputs more × (r ≡ reply (opening_line c.number-in_default.result ++ more) Refused) = λ r h. (
       h.0,
-      subst (λ (ps : List Procedure). IsOpeningBehind (text_of c.args.source.now) ps c.args.order.now.inputs h.0) c.procedures.ensures.is
-          (subst (λ (xs : List Input). IsOpeningBehind (text_of c.args.source.now) c.procedures.result.now xs h.0) c.as_slice.ensures h.1),
+      subst (λ (ps : List Procedure). AreOpeningDetails (text_of c.args.source.now) ps c.args.order.now.inputs h.0) c.procedures.ensures.is
+          (subst (λ (xs : List Input). AreOpeningDetails (text_of c.args.source.now) c.procedures.result.now xs h.0) c.as_slice.ensures h.1),
       h.2,
     ) in
     IfOk-weaker _ _ _

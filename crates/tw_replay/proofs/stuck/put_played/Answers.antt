@@ -5,7 +5,7 @@ use Rattle.tw_code.proofs.Growth.{below_more}
 use Rattle.tw_code.proofs.Runs.{run_more}
 use Rattle.tw_replay.specs.Replay.{ByOutcome}
 use Rattle.tw_replay.specs.declared.stuck.Made.{Made}
-use Rattle.tw_replay.proofs.Making.{AddsTold, all_more, first_next, from_there, made_first, next_on, not_within, one_taken, run_none, same_state, steps_there}
+use Rattle.tw_replay.proofs.Making.{AddsDiagnostic, all_more, first_next, from_there, made_first, next_on, not_within, one_taken, run_none, same_state, steps_there}
 use Rattle.tw_replay.proofs.Playing.{all_run, event_small, run_on, run_stopped, stays_so, stepped}
 use Rattle.tw_replay.proofs.stuck.put_played.Goals as goal
 
@@ -90,5 +90,5 @@ returns c =
     let here = told start events can.source_is (subst (AreMade start events) (sym c.deref.ensures.value) all) in
     let program : at.program ≡ start.program = ap (λ (v : PlainView). v.program) kept.stays ∙ opened.program in
     let state = same_state whole at.state s comes (from_there start first events opened ∙ leads) in
-    subst (λ (t : State). AddsTold (TellsCircle text start events (circle start.program t)) old new) state
-    (subst (λ (ps : List Procedure). AddsTold (TellsCircle text start events (circle ps at.state)) old new) program here)) c.put_circle.ensures
+    subst (λ (t : State). AddsDiagnostic (TellsCircle text start events (circle start.program t)) old new) state
+    (subst (λ (ps : List Procedure). AddsDiagnostic (TellsCircle text start events (circle ps at.state)) old new) program here)) c.put_circle.ensures

@@ -1,7 +1,7 @@
 use Rattle.std.proofs.Common.{◌+◌, List, subst, take}
 use Rattle.tw_replay.proofs.ReplayNames.{TellRules, take_all}
 use Rattle.tw_types.specs.declared.pending.Link.{Link}
-use Rattle.tw_replay.proofs.Making.{AddsTold, one_taken, rule_more}
+use Rattle.tw_replay.proofs.Making.{AddsDiagnostic, one_taken, rule_more}
 use Rattle.tw_replay.proofs.stuck.put_rules.Goals as goal
 
 pub loop-link-preserved : goal.loop-link-preserved
@@ -14,5 +14,5 @@ loop-link-preserved c = λ start events look is are.
 
 pub returns : goal.returns
 returns c = λ start events look is are.
-    subst (λ (ls : List Link). AddsTold (TellRules c.args.lookup.now.names c.args.source.now.text.now start events ls) c.args.out.now.items c.loop-link.out.items) (take_all c.loop-link.link-index c.args.links.now c.loop-link-test.false)
+    subst (λ (ls : List Link). AddsDiagnostic (TellRules c.args.lookup.now.names c.args.source.now.text.now start events ls) c.args.out.now.items c.loop-link.out.items) (take_all c.loop-link.link-index c.args.links.now c.loop-link-test.false)
     (c.loop-link.invariant start events look is are)

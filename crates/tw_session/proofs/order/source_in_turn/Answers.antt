@@ -1,5 +1,5 @@
 use Rattle.std.proofs.Common.{◌≡◌, List, ℕ, Option, inl, subst}
-use Rattle.tw_session.proofs.SessionNames.{ProgramAction, IfOk-weaker, Leads, RepliesByProgram, RepliesBySource, Run, RunOrder, Verified, reply, text_of, text_told}
+use Rattle.tw_session.proofs.SessionNames.{ProgramAction, IfOk-weaker, Leads, RepliesByProgram, RepliesBySource, Run, RunOrder, Verified, reply, text_of, source_text}
 use Rattle.tw_command.specs.InTurn.{IsProgramInTurn}
 use Rattle.tw_replies.specs.declared.reply.Reply.{Reply}
 use Rattle.tw_replies.proofs.Nones.{Tells, none_told}
@@ -29,5 +29,5 @@ pub returns : goal.returns
 returns c =
     let input = c.args.input.now in
     IfOk-weaker c.parse_error_reply.result (λ (r : Reply). Tells input c.in-Err.why (reply r.text.items r.close))
-    (λ (r : Reply). RepliesBySource c.args.source input (RepliesByProgram (text_told c.args.source input) c.args.order) (reply r.text.items r.close))
-    (λ (r : Reply) h. none_told c.args.source input c.in-Err.why (RepliesByProgram (text_told c.args.source input) c.args.order) (reply r.text.items r.close) c.in-Err.ensures.none h) c.parse_error_reply.ensures
+    (λ (r : Reply). RepliesBySource c.args.source input (RepliesByProgram (source_text c.args.source input) c.args.order) (reply r.text.items r.close))
+    (λ (r : Reply) h. none_told c.args.source input c.in-Err.why (RepliesByProgram (source_text c.args.source input) c.args.order) (reply r.text.items r.close) c.in-Err.ensures.none h) c.parse_error_reply.ensures
