@@ -8,7 +8,7 @@ use Rattle.clap.specs.declared.error.ErrorKind.TheVariants.{ArgumentConflict}
 use Rattle.tw_types.specs.declared.input.Input.{Input}
 use Rattle.tw_types.specs.Layout.{ActorCounts}
 use Rattle.tw_command.specs.InputWords.{AreSpelled, IsRefusedWord, RefusedWord}
-use Rattle.tw_command.specs.Options.{NumberOption, actor_options, actors_told, assembling_told, first_shown, flag_rule, in_turn, inputs, bounds, check_told, checking, is_given, last_shown, limit, names, number_options, option_faults, option_rule, picture, picture_options, places, places_told, plain, quiet, source_told, stats, stretch_options, stretch_told, text, told, trace}
+use Rattle.tw_command.specs.Options.{NumberOption, actor_options, given_actors, given_assembling, first_shown, flag_rule, in_turn, inputs, bounds, given_check, checking, is_given, last_shown, limit, names, number_options, option_faults, option_rule, picture, picture_options, places, given_places, plain, quiet, given_source, stats, stretch_options, given_range, text, told, trace}
 use Rattle.tw_command.specs.Explanations.{IsTold, number_faults, number_rule, number_word}
 use Rattle.tw_command.specs.declared.command.Answer.{Answer}
 use Rattle.tw_command.specs.declared.command.Answer.TheVariants.{Numbers, Picture, Report}
@@ -115,31 +115,31 @@ pub data Asked : Type 0 where
   Explains : Text → Asked
 
 -- what `replay` writes, and what `run` does
-abbrev pub answer_told : List Row → Answer
-answer_told rows = if is_given stats rows then Numbers else Report
+abbrev pub given_answer : List Row → Answer
+given_answer rows = if is_given stats rows then Numbers else Report
 
 abbrev pub run_answer : List Row → Answer
-run_answer rows = if is_given picture rows then Picture (stretch_told rows) else answer_told rows
+run_answer rows = if is_given picture rows then Picture (given_range rows) else given_answer rows
 
 -- `run`, by what clap found behind it
 abbrev pub run_asked : List Row → Asked
 run_asked rows =
-    Runs (source_told rows) (run_answer rows) (actors_told rows) (told limit rows) (is_given trace rows) (is_given in_turn rows) (words_told rows)
+    Runs (given_source rows) (run_answer rows) (given_actors rows) (told limit rows) (is_given trace rows) (is_given in_turn rows) (words_told rows)
 
 -- `replay` or `picture`, by what clap found behind it
 abbrev pub replay_asked : Answer → List Row → Asked
-replay_asked answer rows = Replays (source_told rows) answer (actors_told rows) (words_told rows)
+replay_asked answer rows = Replays (given_source rows) answer (given_actors rows) (words_told rows)
 
 abbrev pub asked_of : Option (Text × List Row) → Asked
 asked_of None = Checks Hex (checking Hidden false)
 asked_of (Some named) =
     if bytes_eq named.0 (codes "run") then run_asked named.1 else
-    if bytes_eq named.0 (codes "replay") then replay_asked (answer_told named.1) named.1 else
-    if bytes_eq named.0 (codes "picture") then replay_asked (Picture (stretch_told named.1)) named.1 else
-    if bytes_eq named.0 (codes "asm") then Assembles (assembling_told named.1) else
-    if bytes_eq named.0 (codes "disasm") then Disassembles (source_told named.1) (places_told named.1) else
+    if bytes_eq named.0 (codes "replay") then replay_asked (given_answer named.1) named.1 else
+    if bytes_eq named.0 (codes "picture") then replay_asked (Picture (given_range named.1)) named.1 else
+    if bytes_eq named.0 (codes "asm") then Assembles (given_assembling named.1) else
+    if bytes_eq named.0 (codes "disasm") then Disassembles (given_source named.1) (given_places named.1) else
     if bytes_eq named.0 (codes "explain") then Explains (number_word named.1) else
-    Checks (source_told named.1) (check_told named.1)
+    Checks (given_source named.1) (given_check named.1)
 
 -- what the program's words ask for
 abbrev pub asked_by_words : List Text → Asked

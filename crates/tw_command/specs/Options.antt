@@ -126,23 +126,23 @@ abbrev pub is_given : Text → List Row → Bool
 is_given name rows = option_map_or (λ text. bytes_eq text (codes "true")) (one_of name rows) false
 
 -- how the program is written that is read
-abbrev pub source_told : List Row → Source
-source_told rows = if is_given text rows then Assembly else Hex
+abbrev pub given_source : List Row → Source
+given_source rows = if is_given text rows then Assembly else Hex
 
 -- what is assembled, and what is written of it: `--plain` reads names as well
-abbrev pub assembling_told : List Row → Assembling
-assembling_told rows = if is_given plain rows then Plain else if is_given names rows then Names else assembling.Text
+abbrev pub given_assembling : List Row → Assembling
+given_assembling rows = if is_given plain rows then Plain else if is_given names rows then Names else assembling.Text
 
 -- whether the places of instructions are listed
-abbrev pub places_told : List Row → Places
-places_told rows = if is_given places rows then Shown else Hidden
+abbrev pub given_places : List Row → Places
+given_places rows = if is_given places rows then Shown else Hidden
 
 -- what a check tells besides the budgets
 abbrev pub checking : Places → Bool → CheckOrder
 checking listed bounded = record { places = listed; bounds = bounded }
 
-abbrev pub check_told : List Row → CheckOrder
-check_told rows = checking (places_told rows) (is_given bounds rows)
+abbrev pub given_check : List Row → CheckOrder
+given_check rows = checking (given_places rows) (is_given bounds rows)
 
 -- the fault where one of these options has none
 abbrev pub option_faults : List NumberOption → List Row → Kinds
@@ -160,8 +160,8 @@ HasActors rows layout =
 abbrev pub actors : ℕ → ℕ → ℕ → ActorCounts
 actors engines servers workers = record { engines = engines; servers = servers; workers = workers }
 
-abbrev pub actors_told : List Row → ActorCounts
-actors_told rows = actors (told engines rows) (told servers rows) (told workers rows)
+abbrev pub given_actors : List Row → ActorCounts
+given_actors rows = actors (told engines rows) (told servers rows) (told workers rows)
 
 -- the options of a picture's events have numbers, and these are they
 abbrev pub HasStretch : List Row → EventRange → Type 0
@@ -170,5 +170,5 @@ HasStretch rows s = (number_of first_shown rows ≡ Some s.from) × (number_of l
 abbrev pub stretch : ℕ → ℕ → EventRange
 stretch from to = record { from = from; to = to }
 
-abbrev pub stretch_told : List Row → EventRange
-stretch_told rows = stretch (told first_shown rows) (told last_shown rows)
+abbrev pub given_range : List Row → EventRange
+given_range rows = stretch (told first_shown rows) (told last_shown rows)

@@ -4,11 +4,11 @@ ghost use Rattle.std.specs.Prelude.{◌≡◌, false, not, [], ◌∷◌, map, I
 ghost use Rattle.clap.specs.Walk.{is_empty};
 ghost use Rattle.clap.specs.Words.{found_of, rows_of};
 ghost use Rattle.clap.specs.declared.error.ErrorKind.TheVariants.{ValueValidation};
-ghost use Rattle.tw_command.specs.CommandLine.{answer_told, given_words, input_faults, replay_asked, run_asked, words_told};
+ghost use Rattle.tw_command.specs.CommandLine.{given_answer, given_words, input_faults, replay_asked, run_asked, words_told};
 ghost use Rattle.tw_command.specs.declared.command.Answer.{Answer as Answers};
 ghost use Rattle.tw_command.specs.InputWords.{AreSpelled};
 ghost use Rattle.tw_command.specs.reading.Inputs.{HasInputs};
-ghost use Rattle.tw_command.specs.Options.{HasActors, actor_options, assembling_told, check_told, checking, is_given, limit, number_of, option_faults, places_told, source_told};
+ghost use Rattle.tw_command.specs.Options.{HasActors, actor_options, given_assembling, given_check, checking, is_given, limit, number_of, option_faults, given_places, given_source};
 ghost use Rattle.std.specs.Int.{IsInRange};
 ghost use Rattle.tw_command.specs.Order.{HasReason, IsInputReason};
 
@@ -68,7 +68,7 @@ pub(crate) fn flag_given(matches: &ArgMatches<'_>, name: &str) -> bool
 
 /// How the program is written that is read.
 pub(crate) fn source_given(matches: &ArgMatches<'_>) -> Source
-    ensures { result ≡ source_told (rows_of (found_of matches.now)) }
+    ensures { result ≡ given_source (rows_of (found_of matches.now)) }
 {
     if flag_given(matches, "text") {
         Source::Assembly
@@ -79,7 +79,7 @@ pub(crate) fn source_given(matches: &ArgMatches<'_>) -> Source
 
 /// Whether the places of instructions are listed.
 pub(crate) fn places_given(matches: &ArgMatches<'_>) -> Places
-    ensures { result ≡ places_told (rows_of (found_of matches.now)) }
+    ensures { result ≡ given_places (rows_of (found_of matches.now)) }
 {
     if flag_given(matches, "places") {
         Places::Shown
@@ -90,7 +90,7 @@ pub(crate) fn places_given(matches: &ArgMatches<'_>) -> Places
 
 /// Returns what a check tells besides the budgets.
 pub(crate) fn check_given(matches: &ArgMatches<'_>) -> CheckOrder
-    ensures { result ≡ check_told (rows_of (found_of matches.now)) }
+    ensures { result ≡ given_check (rows_of (found_of matches.now)) }
 {
     CheckOrder {
         places: places_given(matches),
@@ -110,7 +110,7 @@ pub(crate) fn bare_check() -> CheckOrder
 
 /// What is assembled, and what is written of it.
 pub(crate) fn assembling_given(matches: &ArgMatches<'_>) -> Assembling
-    ensures { result ≡ assembling_told (rows_of (found_of matches.now)) }
+    ensures { result ≡ given_assembling (rows_of (found_of matches.now)) }
 {
     if flag_given(matches, "plain") {
         Assembling::Plain
@@ -123,7 +123,7 @@ pub(crate) fn assembling_given(matches: &ArgMatches<'_>) -> Assembling
 
 /// What `replay` writes.
 pub(crate) fn answer_given(matches: &ArgMatches<'_>) -> Answer
-    ensures { result ≡ answer_told (rows_of (found_of matches.now)) }
+    ensures { result ≡ given_answer (rows_of (found_of matches.now)) }
 {
     if flag_given(matches, "stats") {
         Answer::Numbers

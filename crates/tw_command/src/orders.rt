@@ -7,7 +7,7 @@ ghost use Rattle.tw_command.specs.declared.command.Answer.{Answer as Answers};
 ghost use Rattle.tw_command.specs.declared.command.Order.TheVariants.{Program};
 ghost use Rattle.tw_command.specs.declared.command.ProgramOrder.TheVariants.{Verified};
 ghost use Rattle.tw_command.specs.reading.Runs.{IsRunBy};
-ghost use Rattle.tw_command.specs.Options.{stretch_told};
+ghost use Rattle.tw_command.specs.Options.{given_range};
 ghost use Rattle.tw_command.specs.Explanations.{number_faults, number_word};
 ghost use Rattle.tw_command.specs.Order.{HasReason, IsReason};
 ghost use Rattle.tw_command.specs.declared.command.NoOrder.TheVariants.{Refused};
@@ -99,10 +99,10 @@ fn replay_order(alloc: Global, answer: Answer, matches: &ArgMatches<'_>) -> Resu
 /// The order to draw a history, by what was found behind `picture`.
 fn picture_order(alloc: Global, matches: &ArgMatches<'_>) -> Result<Order, NoOrder>
     ensures taken { IfOk result (λ order. (drawing_faults (rows_of (found_of matches.now)) ≡ [])
-        × IsAsked (replay_asked (Answers.Picture (stretch_told (rows_of (found_of matches.now)))) (rows_of (found_of matches.now))) order) }
+        × IsAsked (replay_asked (Answers.Picture (given_range (rows_of (found_of matches.now)))) (rows_of (found_of matches.now))) order) }
     ensures refused { IfErr result
         (HasReason (drawing_faults (rows_of (found_of matches.now)))
-        (replay_asked (Answers.Picture (stretch_told (rows_of (found_of matches.now)))) (rows_of (found_of matches.now)))) }
+        (replay_asked (Answers.Picture (given_range (rows_of (found_of matches.now)))) (rows_of (found_of matches.now)))) }
 {
     let Some(stretch) = event_range_given(matches) else {
         return Err(NoOrder::Refused);

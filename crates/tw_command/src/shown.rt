@@ -4,7 +4,7 @@ ghost use Rattle.std.specs.Prelude.{◌≡◌, [], ◌∷◌, is_some, nat_lt, I
 ghost use Rattle.clap.specs.Words.{first_of, found_of, rows_of};
 ghost use Rattle.clap.specs.declared.error.ErrorKind.TheVariants.{ArgumentConflict, ValueValidation};
 ghost use Rattle.tw_command.specs.CommandLine.{is_cut, picture_faults, run_answer, stretch_faults};
-ghost use Rattle.tw_command.specs.Options.{HasStretch, option_faults, stretch_options, stretch_told};
+ghost use Rattle.tw_command.specs.Options.{HasStretch, option_faults, stretch_options, given_range};
 
 use crate::command::Answer;
 use crate::found::{answer_given, flag_given, number_given};

@@ -15,7 +15,7 @@ use Rattle.tw_types.specs.Layout.{ActorCounts}
 use Rattle.tw_code.specs.machine.History.{actor_of}
 use Rattle.tw_pool.specs.Actors.{events_of, same_actor}
 use Rattle.tw_pool.proofs.Counting.{itself, not_same}
-use Rattle.tw_host.specs.Seats.{Told, actor_at, actor_count, actors_of, told_by}
+use Rattle.tw_host.specs.Seats.{SeatEvents, actor_at, actor_count, actors_of, told_by}
 use Rattle.tw_host.proofs.Lists.{both_less, first_of_rest, map_map, other_next, own_next, rest_more, same_both}
 use Rattle.tw_host.proofs.Ordering.{apart}
 
@@ -167,32 +167,32 @@ module _ (layout : ActorCounts) (history : List Event) (lists : List (List Event
 -- ---- seats in the order of their actors
 
 module _ {X : Type 0} (actor : X → Actor) (list : X → List Event) (seats : List X) (layout : ActorCounts) (placed : map actor seats ≡ actors_of layout) where
-  abbrev view : X → Told
+  abbrev view : X → SeatEvents
   view s = told_by (actor s) (list s)
 
   long : length (map view seats) ≡ actor_count layout
   long = length-map seats view ∙ as_many_seats actor seats layout placed
 
-  pub whose_there : (k : ℕ) (d : Told) → k < actor_count layout → (get_or (map view seats) k d).actor ≡ actor_at layout k
+  pub whose_there : (k : ℕ) (d : SeatEvents) → k < actor_count layout → (get_or (map view seats) k d).actor ≡ actor_at layout k
   whose_there k d low =
-      sym (get_or-map (λ (t : Told). t.actor) (map view seats) k d d.actor (omega (arith, low, long)))
-      ∙ (ap (λ (ws : List Actor). get_or ws k d.actor) (map_map view (λ (t : Told). t.actor) seats ∙ placed)
+      sym (get_or-map (λ (t : SeatEvents). t.actor) (map view seats) k d d.actor (omega (arith, low, long)))
+      ∙ (ap (λ (ws : List Actor). get_or ws k d.actor) (map_map view (λ (t : SeatEvents). t.actor) seats ∙ placed)
       ∙ (get_or-map (actor_at layout) (range_with_len 0 (actor_count layout)) k 0 d.actor (omega (arith, low, length-range_with_len 0 (actor_count layout)))
       ∙ ap (actor_at layout) (get_or-range_with_len 0 (actor_count layout) k 0 low ∙ from_zero)))
     where
       from_zero : 0 + k ≡ k
       from_zero = omega arith
 
-  pub list_there : (k : ℕ) (d : Told) → k < actor_count layout → (get_or (map view seats) k d).events ≡ get_or (map list seats) k []
+  pub list_there : (k : ℕ) (d : SeatEvents) → k < actor_count layout → (get_or (map view seats) k d).events ≡ get_or (map list seats) k []
   list_there k d low =
-      sym (get_or-map (λ (t : Told). t.events) (map view seats) k d [] (omega (arith, low, long)))
-      ∙ ap (λ (es : List (List Event)). get_or es k []) (map_map view (λ (t : Told). t.events) seats)
+      sym (get_or-map (λ (t : SeatEvents). t.events) (map view seats) k d [] (omega (arith, low, long)))
+      ∙ ap (λ (es : List (List Event)). get_or es k []) (map_map view (λ (t : SeatEvents). t.events) seats)
 
-  pub all_own : (h : List Event) → ((j : ℕ) → j < actor_count layout → get_or (map list seats) j [] ≡ events_of (actor_at layout j) h) → All (λ (t : Told). t.events ≡ events_of t.actor h) (map view seats)
+  pub all_own : (h : List Event) → ((j : ℕ) → j < actor_count layout → get_or (map list seats) j [] ≡ events_of (actor_at layout j) h) → All (λ (t : SeatEvents). t.events ≡ events_of t.actor h) (map view seats)
   all_own h each k d low =
       let under : k < actor_count layout = omega (arith, low, long) in
       list_there k d under ∙ (each k under ∙ ap (λ a. events_of a h) (sym (whose_there k d under)))
 
   pub other_there : (h : List Event) (k : ℕ) → k < actor_count layout → get_or (map list seats) k [] ≢ events_of (actor_at layout k) h
-      → (k < length (map view seats)) × ((d : Told) → (get_or (map view seats) k d).actor ≡ actor_at layout k) × ((d : Told) → (get_or (map view seats) k d).events ≢ events_of (actor_at layout k) h)
+      → (k < length (map view seats)) × ((d : SeatEvents) → (get_or (map view seats) k d).actor ≡ actor_at layout k) × ((d : SeatEvents) → (get_or (map view seats) k d).events ≢ events_of (actor_at layout k) h)
   other_there h k low other = (omega (arith, low, long), (λ d. whose_there k d low), (λ d e. other (sym (list_there k d low) ∙ e)))

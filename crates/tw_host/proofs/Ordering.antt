@@ -17,7 +17,7 @@ use Rattle.tw_types.specs.Layout.{ActorCounts}
 use Rattle.tw_pool.specs.Actors.{events_of}
 use Rattle.tw_host.specs.Ends.{told_of}
 use Rattle.tw_host.proofs.Lists.{map_map}
-use Rattle.tw_host.specs.Seats.{NoneOf, Told, actor_at, actors_of, actor_count, told_by}
+use Rattle.tw_host.specs.Seats.{NoneOf, SeatEvents, actor_at, actors_of, actor_count, told_by}
 
 -- ---- no two seats of a layout are one actor's
 
@@ -94,33 +94,33 @@ lent_back n xs items is same =
 -- ---- events of seats
 
 -- seats that each have the events of their actors
-pub each_of : (history : List Event) (seats : List Told) → All (λ s. s.events ≡ events_of s.actor history) seats → seats ≡ map (told_of history) (map (λ (s : Told). s.actor) seats)
+pub each_of : (history : List Event) (seats : List SeatEvents) → All (λ s. s.events ≡ events_of s.actor history) seats → seats ≡ map (told_of history) (map (λ (s : SeatEvents). s.actor) seats)
 each_of history [] all = refl
 each_of history (s ∷ seats) all =
     let first : s.events ≡ events_of s.actor history = all 0 s (omega arith) in
-    let rest = All-tail (λ (t : Told). t.events ≡ events_of t.actor history) s seats all in
-    ap (λ (es : List Event). told_by s.actor es ∷ seats) first ∙ ap (λ (ss : List Told). told_of history s.actor ∷ ss) (each_of history seats rest)
+    let rest = All-tail (λ (t : SeatEvents). t.events ≡ events_of t.actor history) s seats all in
+    ap (λ (es : List Event). told_by s.actor es ∷ seats) first ∙ ap (λ (ss : List SeatEvents). told_of history s.actor ∷ ss) (each_of history seats rest)
 
-module _ {X : Type 0} (view : X → Told) (items seats : List X) (moved : IsPermutation items seats) where
+module _ {X : Type 0} (view : X → SeatEvents) (items seats : List X) (moved : IsPermutation items seats) where
   -- they have as many events in any order
-  pub sums : (others : List X) → others ≡ seats → sum_by (λ (t : Told). length t.events) (map view others) ≡ sum_by (λ (t : Told). length t.events) (map view items)
-  sums others same = ap (λ xs. sum_by (λ (t : Told). length t.events) (map view xs)) same ∙ sum_by-IsPermutation (λ (t : Told). length t.events) (map view items) (map view seats) (IsPermutation-map view items seats moved)
+  pub sums : (others : List X) → others ≡ seats → sum_by (λ (t : SeatEvents). length t.events) (map view others) ≡ sum_by (λ (t : SeatEvents). length t.events) (map view items)
+  sums others same = ap (λ xs. sum_by (λ (t : SeatEvents). length t.events) (map view xs)) same ∙ sum_by-IsPermutation (λ (t : SeatEvents). length t.events) (map view items) (map view seats) (IsPermutation-map view items seats moved)
 
-pub all_at : {X : Type 0} (view : X → Told) (xs ys : List X) (h other : List Event) → xs ≡ ys → h ≡ other → All (λ (t : Told). t.events ≡ events_of t.actor h) (map view xs) → All (λ (t : Told). t.events ≡ events_of t.actor other) (map view ys)
+pub all_at : {X : Type 0} (view : X → SeatEvents) (xs ys : List X) (h other : List Event) → xs ≡ ys → h ≡ other → All (λ (t : SeatEvents). t.events ≡ events_of t.actor h) (map view xs) → All (λ (t : SeatEvents). t.events ≡ events_of t.actor other) (map view ys)
 all_at {X} view xs ys h other same is all =
-    let there = subst (λ (zs : List X). All (λ (t : Told). t.events ≡ events_of t.actor h) (map view zs)) same all in
-    subst (λ (es : List Event). All (λ (t : Told). t.events ≡ events_of t.actor es) (map view ys)) is there
+    let there = subst (λ (zs : List X). All (λ (t : SeatEvents). t.events ≡ events_of t.actor h) (map view zs)) same all in
+    subst (λ (es : List Event). All (λ (t : SeatEvents). t.events ≡ events_of t.actor es) (map view ys)) is there
 
 module _ {X : Type 0} (actor : X → Actor) (list : X → List Event) (layout : ActorCounts) (h : List Event) (items seats : List X) (moved : IsPermutation items seats) (placed : map actor seats ≡ actors_of layout)
-    (all : All (λ (t : Told). t.events ≡ events_of t.actor h) (map (λ s. told_by (actor s) (list s)) seats)) where
+    (all : All (λ (t : SeatEvents). t.events ≡ events_of t.actor h) (map (λ s. told_by (actor s) (list s)) seats)) where
   are : map (λ s. told_by (actor s) (list s)) seats ≡ map (told_of h) (actors_of layout)
-  are = each_of h (map (λ s. told_by (actor s) (list s)) seats) all ∙ ap (map (told_of h)) (map_map (λ s. told_by (actor s) (list s)) (λ (t : Told). t.actor) seats ∙ placed)
+  are = each_of h (map (λ s. told_by (actor s) (list s)) seats) all ∙ ap (map (told_of h)) (map_map (λ s. told_by (actor s) (list s)) (λ (t : SeatEvents). t.actor) seats ∙ placed)
 
   pub one_each : IsPermutation (map (λ s. told_by (actor s) (list s)) items) (map (told_of h) (actors_of layout))
-  one_each = subst (λ (ts : List Told). IsPermutation (map (λ s. told_by (actor s) (list s)) items) ts) are (IsPermutation-map (λ s. told_by (actor s) (list s)) items seats moved)
+  one_each = subst (λ (ts : List SeatEvents). IsPermutation (map (λ s. told_by (actor s) (list s)) items) ts) are (IsPermutation-map (λ s. told_by (actor s) (list s)) items seats moved)
 
   pub by_seat : map list seats ≡ map (λ a. events_of a h) (actors_of layout)
-  by_seat = sym (map_map (λ s. told_by (actor s) (list s)) (λ (t : Told). t.events) seats) ∙ ap (map (λ (t : Told). t.events)) are ∙ map_map (told_of h) (λ (t : Told). t.events) (actors_of layout)
+  by_seat = sym (map_map (λ s. told_by (actor s) (list s)) (λ (t : SeatEvents). t.events) seats) ∙ ap (map (λ (t : SeatEvents). t.events)) are ∙ map_map (told_of h) (λ (t : SeatEvents). t.events) (actors_of layout)
 
 -- ---- one place more
 
@@ -137,7 +137,7 @@ at_place f xs k x d low at = get_or-map f xs k x d low ∙ ap f (sym at)
 -- ---- seats that differ
 
 -- one of them with another list than its actor's events
-pub contained : (seats : List Told) (k : ℕ) (actor : Actor) (list : List Event) → k < length seats → ((d : Told) → (slice_index_or seats k d).actor ≡ actor) → ((d : Told) → (slice_index_or seats k d).events ≡ list)
+pub contained : (seats : List SeatEvents) (k : ℕ) (actor : Actor) (list : List Event) → k < length seats → ((d : SeatEvents) → (slice_index_or seats k d).actor ≡ actor) → ((d : SeatEvents) → (slice_index_or seats k d).events ≡ list)
     → Contains seats (told_by actor list)
 contained seats k actor list low whose what = let d = told_by actor list in (k, low, ap (λ (a : Actor). told_by a (slice_index_or seats k d).events) (whose d) ∙ ap (λ (es : List Event). told_by actor es) (what d))
 
@@ -146,17 +146,17 @@ module _ {X : Type 0} (actor : X → Actor) (list : X → List Event) (items sea
   back_moved = IsPermutation-sym (map (λ s. told_by (actor s) (list s)) items) (map (λ s. told_by (actor s) (list s)) seats) (IsPermutation-map (λ s. told_by (actor s) (list s)) items seats moved)
 
   -- none of them is the actor's
-  pub lacking : (a : Actor) → NoneOf a (map actor seats) → NoneOf a (map (λ (t : Told). t.actor) (map (λ s. told_by (actor s) (list s)) items))
+  pub lacking : (a : Actor) → NoneOf a (map actor seats) → NoneOf a (map (λ (t : SeatEvents). t.actor) (map (λ s. told_by (actor s) (list s)) items))
   lacking a none =
       let there = All-permutation (λ (b : Actor). b ≢ a) (map actor seats) (map actor items) (IsPermutation-sym (map actor items) (map actor seats) (IsPermutation-map actor items seats moved)) none in
-      subst (λ (bs : List Actor). NoneOf a bs) (sym (map_map (λ s. told_by (actor s) (list s)) (λ (t : Told). t.actor) items)) there
+      subst (λ (bs : List Actor). NoneOf a bs) (sym (map_map (λ s. told_by (actor s) (list s)) (λ (t : SeatEvents). t.actor) items)) there
 
   module _ (others : List X) (same : others ≡ seats) (k : ℕ) (a : Actor) (es : List Event) (low : k < length (map (λ s. told_by (actor s) (list s)) others)) (is : es ≡ slice_index_or (map list others) k []) where
-    pub list_at : (d : Told) → (slice_index_or (map (λ s. told_by (actor s) (list s)) others) k d).events ≡ es
+    pub list_at : (d : SeatEvents) → (slice_index_or (map (λ s. told_by (actor s) (list s)) others) k d).events ≡ es
     list_at d =
-        sym (get_or-map (λ (t : Told). t.events) (map (λ s. told_by (actor s) (list s)) others) k d [] low) ∙ ap (λ (ls : List (List Event)). get_or ls k []) (map_map (λ s. told_by (actor s) (list s)) (λ (t : Told). t.events) others) ∙ sym is
+        sym (get_or-map (λ (t : SeatEvents). t.events) (map (λ s. told_by (actor s) (list s)) others) k d [] low) ∙ ap (λ (ls : List (List Event)). get_or ls k []) (map_map (λ s. told_by (actor s) (list s)) (λ (t : SeatEvents). t.events) others) ∙ sym is
 
-    pub held : ((d : Told) → (slice_index_or (map (λ s. told_by (actor s) (list s)) others) k d).actor ≡ a) → Contains (map (λ s. told_by (actor s) (list s)) items) (told_by a es)
+    pub held : ((d : SeatEvents) → (slice_index_or (map (λ s. told_by (actor s) (list s)) others) k d).actor ≡ a) → Contains (map (λ s. told_by (actor s) (list s)) items) (told_by a es)
     held whose =
         let there = contained (map (λ s. told_by (actor s) (list s)) others) k a es low whose list_at in
         Contains-permutation (map (λ s. told_by (actor s) (list s)) seats) (map (λ s. told_by (actor s) (list s)) items) (told_by a es) back_moved (subst (λ (xs : List X). Contains (map (λ s. told_by (actor s) (list s)) xs) (told_by a es)) same there)

@@ -14,19 +14,19 @@ use Rattle.tw_pool.specs.PoolView.{PoolView}
 use Rattle.tw_host.specs.declared.close.Closed.{Closed}
 use Rattle.tw_host.specs.declared.close.Closed.TheVariants.{Ended, Differs}
 use Rattle.tw_host.specs.Run.{Run, run_of}
-use Rattle.tw_host.specs.Seats.{NoneOf, Told, actors_of, told_by}
+use Rattle.tw_host.specs.Seats.{NoneOf, SeatEvents, actors_of, told_by}
 
 -- returns a seat with exactly its actor's events
-abbrev pub told_of : List Event → Actor → Told
+abbrev pub told_of : List Event → Actor → SeatEvents
 told_of history actor = told_by actor (events_of actor history)
 
 -- holds if all seats together have as many events as the run
-abbrev pub Together : List Told → List Event → Type 0
-Together seats history = sum_by (λ (s : Told). length s.events) seats ≡ length history
+abbrev pub Together : List SeatEvents → List Event → Type 0
+Together seats history = sum_by (λ (s : SeatEvents). length s.events) seats ≡ length history
 
 -- A pool of the run was closed. There is one seat for each actor, with exactly its actor's events; the lists are returned in
 -- the order of the actors.
-pub record IsEnded (run : Run) (seats : List Told) (by_seat : List (List Event)) (final : FinalView) (history : HistoryView) : Type 0 where
+pub record IsEnded (run : Run) (seats : List SeatEvents) (by_seat : List (List Event)) (final : FinalView) (history : HistoryView) : Type 0 where
   pub pool : PoolView
   pub of_run : run_of pool ≡ run
   pub within : length pool.history ≤ run.limit
@@ -37,16 +37,16 @@ pub record IsEnded (run : Run) (seats : List Told) (by_seat : List (List Event))
   pub together : Together seats history.events
 
 -- holds if the seat of an actor has other events than the actor made; or none of these seats is the actor's
-abbrev pub IsOther : List Told → Actor → List Event → List Event → Type 0
+abbrev pub IsOther : List SeatEvents → Actor → List Event → List Event → Type 0
 IsOther seats actor list history =
     (Contains seats (told_by actor list) × (list ≢ events_of actor history)) ⊎ (NoneOf actor (map (λ s. s.actor) seats) × (list ≡ []))
 
-pub record IsDiffering (layout : ActorCounts) (seats : List Told) (actor : Actor) (list : List Event) (history : HistoryView) : Type 0 where
+pub record IsDiffering (layout : ActorCounts) (seats : List SeatEvents) (actor : Actor) (list : List Event) (history : HistoryView) : Type 0 where
   pub of_layout : is_in layout actor ≡ true
   pub other : IsOther seats actor list history.events
   pub together : Together seats history.events
 
 -- holds for the result of closing a run with these seats
-abbrev pub Closes : Run → List Told → Closed → Type 0
+abbrev pub Closes : Run → List SeatEvents → Closed → Type 0
 Closes run seats (Ended history final by_seat) = IsEnded run seats (map (λ v. v.items) by_seat.items) final history
 Closes run seats (Differs actor list history) = IsDiffering run.layout seats actor list.items history

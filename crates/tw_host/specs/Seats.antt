@@ -5,11 +5,11 @@ use Rattle.tw_types.specs.declared.actor.Actor.{Actor}
 use Rattle.tw_types.specs.declared.event.Event.{Event}
 pub use Rattle.tw_types.specs.Actor.{actor_at, actor_count, actors_of}
 
-pub record Told : Type 0 where
+pub record SeatEvents : Type 0 where
   pub actor : Actor
   pub events : List Event
 
-abbrev pub told_by : Actor → List Event → Told
+abbrev pub told_by : Actor → List Event → SeatEvents
 told_by actor events = record { actor = actor; events = events }
 
 -- holds if none of these seats is the actor's

@@ -7,7 +7,7 @@ ghost use Rattle.tw_types.specs.declared.actor.Actor.{Actor as AnActor};
 ghost use Rattle.tw_types.specs.Actor.{is_in};
 ghost use Rattle.tw_pool.specs.Actors.{events_of};
 ghost use Rattle.tw_host.specs.Ends.{Closes};
-ghost use Rattle.tw_host.specs.Seats.{NoneOf, Told, actor_at, actors_of, actor_count, told_by};
+ghost use Rattle.tw_host.specs.Seats.{NoneOf, SeatEvents, actor_at, actors_of, actor_count, told_by};
 
 use crate::host::Host;
 use crate::locked::Locked;
@@ -130,7 +130,7 @@ fn first_other<N: Named>(
     ensures found { let told = map (λ s. told_by s.actor s.told.items) seats.new in MatchOption result
         ((map (λ s. s.actor) seats.new ≡ actors_of layout) × All (λ s. s.events ≡ events_of s.actor history.now.events) told)
         (λ r. MatchOption r.1 (NoneOf r.0 (map (λ s. s.actor) seats.new))
-        (λ k. (k < length told) × ((d : Told) → (slice_index_or told k d).actor ≡ r.0) × ((d : Told) → (slice_index_or told k d).events ≢ events_of r.0 history.now.events))) }
+        (λ k. (k < length told) × ((d : SeatEvents) → (slice_index_or told k d).actor ≡ r.0) × ((d : SeatEvents) → (slice_index_or told k d).events ≢ events_of r.0 history.now.events))) }
     ensures layout { IfSome result (λ r. is_in layout r.0 ≡ true) }
 {
     if let Some(actor) = put_in_order(seats, layout) {

@@ -1,5 +1,5 @@
 -- The effects of an instruction, by what changed in the right registers: one was emptied, one was filled, or none changed.
-use Rattle.tw_parts.proofs.PartNames.{AllYes, Cause, Completed, Context, Datum, FrameView, Held, IsAt, IsDone, IsLeft, IsLive, IsTold, Notice, Notices, Ok, Position, Result, Scalar, Served, Typing, after_data, asks_data, at_next_place, bare_file, data_instr, get, id_of, is_closed, kinds_in, map-set, notice_to, notices_after, notices_of, queued, right_in, same_Some, sees, with_notices, writes as typed_writes}
+use Rattle.tw_parts.proofs.PartNames.{AllYes, Cause, Completed, Context, Datum, FrameView, Held, IsAt, IsDone, IsLeft, IsLive, AreNotified, Notice, Notices, Ok, Position, Result, Scalar, Served, Typing, after_data, asks_data, at_next_place, bare_file, data_instr, get, id_of, is_closed, kinds_in, map-set, notice_to, notices_after, notices_of, queued, right_in, same_Some, sees, with_notices, writes as typed_writes}
 use Rattle.tw_parts.proofs.Registers.{set_own}
 use Rattle.std.proofs.Common.{map as each, ◌≡◌, ◌⊎◌, ◌+◌, ◌∙◌, ℕ, zero, suc, Bool, true, false, if◌then◌else◌, List, [], ◌∷◌, ◌++◌, Some, None, refl, sym, ap, subst, slice_index_or, slice_set, set, option_map, inl, inr, append-nil}
 use Rattle.tw_rights.specs.Kinds.{kinds_of, writes}
@@ -12,7 +12,7 @@ same_ok a b e = cc
 
 -- ---- the three ways
 
-module _ (d : DataInstr) (old new : Served) (f : FrameView) (more : List Notice) (told : IsTold old new more)
+module _ (d : DataInstr) (old new : Served) (f : FrameView) (more : List Notice) (told : AreNotified old new more)
     (stays : (id place : ℕ) → IsLive old id → IsLive new id → get old.places id ≡ Some place → get new.places id ≡ Some place) where
   module _ (register : ℕ) (goes : (ns : Notices) (k : Context) → data_instr d (sees old ns f) ≡ Ok k
       → k ≡ record { store = new.store; notices = with_notices ns more; rights = slice_set (bare_file f.held) register None; position = at_next_place f.position })
@@ -98,10 +98,10 @@ module _ (old new : Served) (id : ℕ) (change : Datum → Datum) (left : IsLeft
   told_is : notices_after old.store id change ≡ notices_of id (change x)
   told_is = rw live refl
 
-  pub left_told : IsTold old new (notices_after old.store id change)
+  pub left_told : AreNotified old new (notices_after old.store id change)
   left_told = by (is_closed (change x)) refl
     where
-      by : (b : Bool) → is_closed (change x) ≡ b → IsTold old new (notices_after old.store id change)
+      by : (b : Bool) → is_closed (change x) ≡ b → AreNotified old new (notices_after old.store id change)
       by true e =
           let named : notices_of id (change x) ≡ each (notice_to id) x.subscribers = ap (λ b. if b then each (notice_to id) (change x).subscribers else []) e ∙ ap (each (notice_to id)) same in
           inr (id, x, live, told_is ∙ named, left.queues)

@@ -59,7 +59,7 @@ pub use Rattle.tw_no_trap.proofs.Running.{asked_at, stands_there, steps_leave, t
 pub use Rattle.tw_no_trap.proofs.Values.{AllYes, passed, yes_behind}
 pub use Rattle.tw_parts.specs.Coming.{Begins, BeginsOrNone, begun, come, gone_on, lent_as}
 pub use Rattle.tw_parts.specs.Copies.{named_values}
-pub use Rattle.tw_parts.specs.Data.{HasRoom, IsAnswer, IsDone, IsLentAnswer, IsLentBehind, IsLive, IsRefused, IsTold, MayDo, sees}
+pub use Rattle.tw_parts.specs.Data.{HasRoom, IsAnswer, IsDone, IsLentAnswer, IsLentBehind, IsLive, IsRefused, AreNotified, MayDo, sees}
 pub use Rattle.tw_parts.specs.Events.{Goes, IsLent, IsOwed, IsSmall, Makes, MakesBehind, StandsAt, Untouched, with_done}
 pub use Rattle.tw_parts.specs.Fits.{AreAt, AreParts, ArePlaced, ArgStands, ArgsStand, FrameFits, IsAt, IsPlaced, IsReached, Stand, kinds_in, right_in}
 pub use Rattle.tw_parts.specs.Memory.{AsksOpen, HasThatMany, IsAbsent, IsTextAt, TakesMemory}

@@ -56,15 +56,15 @@ pub record IsTypedFor (d : DataInstr) (f : FrameView) : Type 0 where
 -- ---- effects
 
 -- holds if there is no notice; or all subscribers of one live datum get notices, from its server
-abbrev pub IsTold : Served → Served → List Notice → Type 0
-IsTold old new more = ((more ≡ []) × (new.queues ≡ old.queues))
+abbrev pub AreNotified : Served → Served → List Notice → Type 0
+AreNotified old new more = ((more ≡ []) × (new.queues ≡ old.queues))
     ⊎ ((id : ℕ) × (x : Datum) × (get old.store.live id ≡ Some x) × (more ≡ each (notice_to id) x.subscribers) × (new.queues ≡ queued id more old.queues))
 
 -- it was executed: the new store and frame are those of the machine's definition
 pub record IsDone (d : DataInstr) (old new : Served) (f g : FrameView) : Type 0 where
   pub more : List Notice
   pub goes : (ns : Notices) (left : Context) → data_instr d (sees old ns f) ≡ Ok left → left ≡ sees new (with_notices ns more) g
-  pub told : IsTold old new more
+  pub told : AreNotified old new more
   -- data that stay live keep their places
   pub stays : (id place : ℕ) → IsLive old id → IsLive new id → get old.places id ≡ Some place → get new.places id ≡ Some place
   -- each right of the task was its own, or has its datum's place now

@@ -41,16 +41,16 @@ close_of Limit = close.Limit
 close_of Stopped = close.Refused
 
 -- what stands behind `limit`, where the program was read from a text: how many events the run has, and how many one may have
-abbrev pub limit_told : Option (List ℕ) → RunOrder → Closing → List ℕ
-limit_told (Some text) order Limit = codes "events " ++ (decimal order.limit ++ codes "; --limit takes up to 1000000\n")
-limit_told (Some text) order Quiet = []
-limit_told (Some text) order (Stuck rules) = []
-limit_told (Some text) order Stopped = []
-limit_told None order closing = []
+abbrev pub limit_details : Option (List ℕ) → RunOrder → Closing → List ℕ
+limit_details (Some text) order Limit = codes "events " ++ (decimal order.limit ++ codes "; --limit takes up to 1000000\n")
+limit_details (Some text) order Quiet = []
+limit_details (Some text) order (Stuck rules) = []
+limit_details (Some text) order Stopped = []
+limit_details None order closing = []
 
 -- the report, of a program that was read from this text, if from one
 abbrev pub run_report : Option (List ℕ) → List Procedure → RunOrder → State → Closing → List ℕ
-run_report text program order s closing = end_report program s (Some closing) ++ limit_told text order closing
+run_report text program order s closing = end_report program s (Some closing) ++ limit_details text order closing
 
 -- where the run begins, of a program in this version of the format
 abbrev pub begins : Version → List Procedure → RunOrder → PlainView

@@ -10,7 +10,7 @@ ghost use Rattle.tw_machine.specs.Opening.{rejection_of};
 ghost use Rattle.tw_run_report.specs.Ends.{IsEndReport};
 ghost use Rattle.tw_run_report.specs.Over.{Goes, IsRunOver};
 ghost use Rattle.tw_replies.specs.Reply.{reply};
-ghost use Rattle.tw_run_report.specs.Run.{AreRunNumbers, AreRunDetails, IsRunPicture, IsRunText, begins, close_of, limit_told, trace_text};
+ghost use Rattle.tw_run_report.specs.Run.{AreRunNumbers, AreRunDetails, IsRunPicture, IsRunText, begins, close_of, limit_details, trace_text};
 ghost use Rattle.tw_names.specs.Symbols.{AreSymbols};
 ghost use Rattle.tw_replies.specs.Source.{MayBeSource, text_of};
 
@@ -84,7 +84,7 @@ fn put_limit(
     order: &RunOrder,
     closing: Closing,
 ) -> Result<(), AllocError>
-    ensures { OnOk result (out.new.items ≡ out.old.items ++ limit_told (text_of source.now) order.now closing) }
+    ensures { OnOk result (out.new.items ≡ out.old.items ++ limit_details (text_of source.now) order.now closing) }
 {
     match source {
         Some(_) => match closing {
@@ -173,7 +173,7 @@ fn put_run_report(
     closing: Closing,
 ) -> Result<(), AllocError>
     ensures { OnOk result ((told : List ℕ) × IsEndReport outcome.now told
-        × (out.new.items ≡ out.old.items ++ (told ++ limit_told (text_of source.now) order.now closing))) }
+        × (out.new.items ≡ out.old.items ++ (told ++ limit_details (text_of source.now) order.now closing))) }
 {
     let told = report(alloc, outcome)?;
     put_bytes(out, &told)?;

@@ -2,7 +2,7 @@
 
 ghost use Rattle.std.specs.Prelude.{◌≡◌, ◌≢◌, IfOk, IfSome, List, None, Some, false};
 ghost use Rattle.tw_host.specs.Ends.{Closes};
-ghost use Rattle.tw_host.specs.Seats.{Told};
+ghost use Rattle.tw_host.specs.Seats.{SeatEvents};
 ghost use Rattle.tw_in_turn.specs.InTurn.{HasEnded};
 ghost use Rattle.tw_code.specs.machine.Inputs.{AreInputsOf};
 ghost use Rattle.tw_replies.specs.Reply.{reply};
@@ -51,7 +51,7 @@ fn closed_reply(
     verified: Verified,
     closed: Closed,
 ) -> Result<Reply, AllocError>
-    requires closed { (seats : List Told) × Closes (run_as verified order.now) seats closed }
+    requires closed { (seats : List SeatEvents) × Closes (run_as verified order.now) seats closed }
     requires threads { order.now.in_turn ≡ false }
     requires inputs { AreInputsOf verified.program order.now.inputs }
     requires source { MayBeSource source.now verified.program }

@@ -3,7 +3,7 @@ use Rattle.std.proofs.Common.{◌≡◌, Bool, List, [], ◌∷◌, ◌++◌, ap
 use Rattle.std.specs.List.{FoldsTo}
 use Rattle.tw_frame.specs.Jobs.{DoneView}
 use Rattle.tw_host.specs.Run.{Run}
-use Rattle.tw_host.specs.Seats.{Told}
+use Rattle.tw_host.specs.Seats.{SeatEvents}
 use Rattle.tw_workers.specs.AtHost.{AtSeat}
 use Rattle.tw_workers.specs.Driving.{Answer, Drives, Ends, GoesOn, Step, Turned, Held, Stopped, Before, Ran, After, asked, ends, goes}
 
@@ -33,14 +33,14 @@ module _ (was given : Option DoneView) (taken : given ≡ was) (past : List Step
 
 -- ---- at a host
 
-same_actor : (run : Run) (unwatched : Type 0) (old : Told) (step : Step) (new : Told) → AtSeat run unwatched old step new → new.actor ≡ old.actor
+same_actor : (run : Run) (unwatched : Type 0) (old : SeatEvents) (step : Step) (new : SeatEvents) → AtSeat run unwatched old step new → new.actor ≡ old.actor
 same_actor run unwatched old (Turned given answer) new is = is.0
 same_actor run unwatched old (Held given answer) new is = is.1
-same_actor run unwatched old Stopped new is = ap (λ (t : Told). t.actor) is
-same_actor run unwatched old (Before actor task) new is = ap (λ (t : Told). t.actor) is
-same_actor run unwatched old (Ran job done) new is = ap (λ (t : Told). t.actor) is
-same_actor run unwatched old (After actor task) new is = ap (λ (t : Told). t.actor) is
+same_actor run unwatched old Stopped new is = ap (λ (t : SeatEvents). t.actor) is
+same_actor run unwatched old (Before actor task) new is = ap (λ (t : SeatEvents). t.actor) is
+same_actor run unwatched old (Ran job done) new is = ap (λ (t : SeatEvents). t.actor) is
+same_actor run unwatched old (After actor task) new is = ap (λ (t : SeatEvents). t.actor) is
 
-pub kept_actor : (run : Run) (unwatched : Type 0) (old new : Told) (steps : List Step) → FoldsTo (AtSeat run unwatched) old steps new → new.actor ≡ old.actor
-kept_actor run unwatched old new [] is = ap (λ (t : Told). t.actor) (sym is)
+pub kept_actor : (run : Run) (unwatched : Type 0) (old new : SeatEvents) (steps : List Step) → FoldsTo (AtSeat run unwatched) old steps new → new.actor ≡ old.actor
+kept_actor run unwatched old new [] is = ap (λ (t : SeatEvents). t.actor) (sym is)
 kept_actor run unwatched old new (x ∷ xs) is = kept_actor run unwatched is.0 new xs is.2 ∙ same_actor run unwatched old x is.0 is.1

@@ -4,11 +4,11 @@ use Rattle.std.specs.List.{IsFirstAndRest}
 use Rattle.tw_types.specs.declared.actor.Actor.{Actor}
 use Rattle.tw_types.specs.declared.event.Event.{Event}
 use Rattle.tw_host.specs.Run.{Run}
-use Rattle.tw_host.specs.Seats.{Told, told_by}
+use Rattle.tw_host.specs.Seats.{SeatEvents, told_by}
 use Rattle.tw_workers.specs.Threads.{AllDrove, Drove}
 use Rattle.tw_workers.specs.Threads.AllDrove.{none, threaded, unthreaded}
 
-module _ {X : Type 0} (view : X → Told) (run : Run) (unwatched : Type 0) where
+module _ {X : Type 0} (view : X → SeatEvents) (run : Run) (unwatched : Type 0) where
   abbrev pub All : List X → Bool → Type 0
   All seats memory = AllDrove run unwatched (map view seats) memory
 
@@ -31,4 +31,4 @@ opened actor list (s ∷ seats) [] is empty = cc
 opened actor list (s ∷ seats) (a ∷ actors) is empty =
     ap (λ (b : Actor). told_by b (list s) ∷ map (λ x. told_by (actor x) (list x)) seats) (ap (λ (l : List Actor). get_or l 0 a) is)
     ∙ (ap (λ (es : List Event). told_by a es ∷ map (λ x. told_by (actor x) (list x)) seats) (ap (λ (l : List (List Event)). get_or l 0 []) empty)
-    ∙ ap (λ (ts : List Told). told_by a [] ∷ ts) (opened actor list seats actors (ap (drop 1) is) (ap (drop 1) empty)))
+    ∙ ap (λ (ts : List SeatEvents). told_by a [] ∷ ts) (opened actor list seats actors (ap (drop 1) is) (ap (drop 1) empty)))

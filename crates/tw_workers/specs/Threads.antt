@@ -2,16 +2,16 @@
 use Rattle.std.specs.Prelude.{Bool, true, false, ◌||◌, List, [], ◌∷◌, None}
 use Rattle.std.specs.List.{FoldsTo}
 use Rattle.tw_host.specs.Run.{Run}
-use Rattle.tw_host.specs.Seats.{Told}
+use Rattle.tw_host.specs.Seats.{SeatEvents}
 use Rattle.tw_workers.specs.AtHost.{AtSeat}
 use Rattle.tw_workers.specs.Driving.{Drives, Step}
 
 -- A driver started at a seat with these events, and returned whether an allocation failed.
-abbrev pub Drove : Run → Type 0 → Told → Bool → Type 0
-Drove run unwatched told memory = (steps : List Step) × (left : Told) × FoldsTo (AtSeat run unwatched) told steps left × Drives None steps memory
+abbrev pub Drove : Run → Type 0 → SeatEvents → Bool → Type 0
+Drove run unwatched told memory = (steps : List Step) × (left : SeatEvents) × FoldsTo (AtSeat run unwatched) told steps left × Drives None steps memory
 
 -- A driver for each seat. An allocation failed if and only if one of them says so, or if a seat had no thread.
-pub data AllDrove (run : Run) (unwatched : Type 0) : List Told → Bool → Type 0 where
+pub data AllDrove (run : Run) (unwatched : Type 0) : List SeatEvents → Bool → Type 0 where
   none : AllDrove run unwatched [] false
-  threaded : {told : Told} {seats : List Told} {memory others : Bool} → Drove run unwatched told memory → AllDrove run unwatched seats others → AllDrove run unwatched (told ∷ seats) (memory || others)
-  unthreaded : {told : Told} {seats : List Told} {memory others : Bool} → Drove run unwatched told memory → AllDrove run unwatched seats others → AllDrove run unwatched (told ∷ seats) true
+  threaded : {told : SeatEvents} {seats : List SeatEvents} {memory others : Bool} → Drove run unwatched told memory → AllDrove run unwatched seats others → AllDrove run unwatched (told ∷ seats) (memory || others)
+  unthreaded : {told : SeatEvents} {seats : List SeatEvents} {memory others : Bool} → Drove run unwatched told memory → AllDrove run unwatched seats others → AllDrove run unwatched (told ∷ seats) true

@@ -3,7 +3,7 @@
 ghost use Rattle.std.specs.Prelude.{◌≡◌, List, [], IfErr, IfOk, length, map, vec_len};
 ghost use Rattle.tw_pool.specs.Openings.{IsRejection, MayOpen};
 ghost use Rattle.tw_host.specs.Ends.{Closes};
-ghost use Rattle.tw_host.specs.Seats.{Told, actor_count, actors_of, told_by};
+ghost use Rattle.tw_host.specs.Seats.{SeatEvents, actor_count, actors_of, told_by};
 ghost use Rattle.tw_workers.specs.Threads.{AllDrove, Drove};
 
 use crate::driver::drive_borrowed;
@@ -124,7 +124,7 @@ pub fn run_all<'a, N: Named + Send + Sync, G: Gate + Sync, R: Threads + Wait + C
     gate: &G,
 ) -> (Closed, bool)
     requires all { vec_len seats ≡ actor_count N.run.layout }
-    ensures closes { (seats : List Told) × (length seats ≡ actor_count N.run.layout) × Closes N.run seats result.0 }
+    ensures closes { (seats : List SeatEvents) × (length seats ≡ actor_count N.run.layout) × Closes N.run seats result.0 }
     ensures memory { AllDrove N.run G.unwatched (map (λ s. told_by s.actor s.told.items) seats.items) result.1 }
 {
     let memory = drive_all(rt, alloc, &host, seats.as_mut_slice(), gate);
@@ -146,7 +146,7 @@ fn run_named<N: Named + Send + Sync, G: Gate + Sync, R: Threads + Wait + Clock +
     requires ledger { (blank.name ≡ N.name) × (blank.parts ≡ N.parts) × (blank.parts ≡ actor_count layout) }
     requires run { N.run ≡ record { program = verified.now; inputs = inputs.now; layout = layout; limit = limit } }
     ensures allowed { IfOk result (λ _. MayOpen verified.now.program inputs.now layout limit) }
-    ensures closes { IfOk result (λ r. (seats : List Told) × (length seats ≡ actor_count layout) × Closes N.run seats r.0) }
+    ensures closes { IfOk result (λ r. (seats : List SeatEvents) × (length seats ≡ actor_count layout) × Closes N.run seats r.0) }
     ensures memory { IfOk result (λ r. AllDrove N.run G.unwatched (map (λ a. told_by a []) (actors_of layout)) r.1) }
     ensures refused { IfErr result (IsRejection verified.now.program inputs.now layout limit) }
 {
@@ -165,7 +165,7 @@ pub fn run<G: Gate + Sync, R: Threads + Wait + Clock + Sync>(
     gate: &G,
 ) -> Result<(Closed, bool), OpenError>
     ensures allowed { IfOk result (λ _. MayOpen verified.now.program inputs.now layout limit) }
-    ensures closes { IfOk result (λ r. (seats : List Told) × (length seats ≡ actor_count layout) × Closes (record { program = verified.now; inputs = inputs.now; layout = layout; limit = limit }) seats r.0) }
+    ensures closes { IfOk result (λ r. (seats : List SeatEvents) × (length seats ≡ actor_count layout) × Closes (record { program = verified.now; inputs = inputs.now; layout = layout; limit = limit }) seats r.0) }
     ensures memory { IfOk result (λ r. AllDrove (record { program = verified.now; inputs = inputs.now; layout = layout; limit = limit }) G.unwatched (map (λ a. told_by a []) (actors_of layout)) r.1) }
     ensures refused { IfErr result (IsRejection verified.now.program inputs.now layout limit) }
 {

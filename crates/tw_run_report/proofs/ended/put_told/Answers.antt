@@ -1,7 +1,7 @@
 use Rattle.std.proofs.Common.{◌++◌, ◌∙◌, ℕ, List, ap, append_assoc, subst, sym}
 use Rattle.tw_run_report.proofs.RunNames.{on_ok_weaker, text_of}
 use Rattle.tw_command.specs.declared.command.Answer.{Answer}
-use Rattle.tw_run_report.specs.Run.{IsRunText, limit_told}
+use Rattle.tw_run_report.specs.Run.{IsRunText, limit_details}
 use Rattle.tw_run_report.proofs.ended.put_told.Goals as goal
 
 pub put_run_numbers-requires : goal.put_run_numbers-requires
@@ -15,7 +15,7 @@ returns-in-Report c =
     let source = text_of c.args.source.now in
     let order = c.args.order.now in
     let events = c.args.history.now.events in
-    let more = limit_told source order c.args.closing in
+    let more = limit_details source order c.args.closing in
     on_ok_weaker c.put_run_report.result
     (λ h over. (h.0 ++ more, subst (λ (a : Answer). IsRunText a source c.args.verified.program order events over.state c.args.closing (h.0 ++ more)) (sym c.in-Report.is) (ap (λ (t : List ℕ). t ++ more) (over.reports h.0 h.1)), h.2)) c.put_run_report.ensures
 
@@ -24,7 +24,7 @@ returns-in_ok-put_run_report-in-Numbers c =
     let source = text_of c.args.source.now in
     let order = c.args.order.now in
     let events = c.args.history.now.events in
-    let more = limit_told source order c.args.closing in
+    let more = limit_details source order c.args.closing in
     let h = c.in_ok-put_run_report-in-Numbers.ensures in
     on_ok_weaker c.put_run_numbers.result
     (λ n over. (
