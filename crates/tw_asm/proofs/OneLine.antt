@@ -1,7 +1,7 @@
 -- An instruction comes from one line.
 use Rattle.std.proofs.Common.{◌≡◌, ◌⊎◌, ℕ, suc, ◌+◌, ◌<◌, ◌≤◌, List, [], ◌∷◌, ◌++◌, length, Option, Some, None, inl, inr, refl, sym, subst, ap, ◌∙◌, arith}
 use Rattle.tw_asm.proofs.AsmNames.{Code, Head, Instr, Label, LineSays, LinesSay, OfVersion, Registers, ParserState, Statement, after_line, at_start, lines, situation_from}
-use Rattle.tw_asm.specs.Laws.{OneLine}
+use Rattle.tw_asm.specs.Theorems.{OneLine}
 use Rattle.tw_asm.proofs.Twice.{both_alike, others_say}
 
 -- more procedures have begun, or as many, and the last has as many instructions or more

@@ -49,7 +49,7 @@ use Rattle.tw_code.proofs.Leaving.{Stood, stood, ask_leaves, deliver_leaves, rel
 use Rattle.tw_code.proofs.Placed.{IsCalled, called_is, put_called_is}
 use Rattle.tw_budget.specs.Frames.{LoopsFit}
 use Rattle.tw_budget.specs.Sound.{IsSound}
-use Rattle.tw_budget.proofs.FrameLaws.{stands_next}
+use Rattle.tw_budget.proofs.FrameTheorems.{stands_next}
 use Rattle.tw_no_trap.specs.Invariant.{IsHeld}
 use Rattle.tw_no_trap.specs.NoTrap.{AreRight}
 use Rattle.tw_no_trap.proofs.Safe.{accepts}

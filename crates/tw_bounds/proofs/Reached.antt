@@ -11,7 +11,7 @@ use Rattle.tw_code.specs.accepting.Structure.{end_of}
 use Rattle.tw_code.specs.accepting.Walk.{IsWalk, moved, Rest}
 use Rattle.tw_budget.specs.Frames.{LoopsFit}
 use Rattle.tw_budget.specs.Sound.{IsSound}
-use Rattle.tw_budget.proofs.FrameLaws.{stands_next}
+use Rattle.tw_budget.proofs.FrameTheorems.{stands_next}
 use Rattle.tw_budget.proofs.Lengths.{step_of, next_close, branch_goal, jump_goal, there}
 use Rattle.tw_budget.proofs.Places.{straight_end, branch_end, close_end, start_outside, stop_outside, begun, not_last}
 use Rattle.tw_bounds.specs.GreatestCost.{greatest_cost}

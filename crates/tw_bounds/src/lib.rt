@@ -3,9 +3,9 @@
 
 mod bound;
 mod circles;
-mod laws;
 mod row;
 mod solving;
+mod theorems;
 mod walk;
 mod weighing;
 mod weights;
@@ -13,6 +13,6 @@ mod whole_runs;
 
 pub use bound::{Bound, RunBounds};
 pub use circles::{Circle, circle_of_calls};
-pub use laws::{budgets_are_costs, within_bound};
+pub use theorems::{budgets_are_costs, within_bound};
 pub use weights::Weights;
 pub use whole_runs::run_bounds;

@@ -6,15 +6,15 @@
 mod actions;
 mod fault;
 mod items;
-mod laws;
 mod many;
 mod parts;
 mod reading;
 mod rows;
 mod texts;
+mod theorems;
 mod writing;
 
 pub use fault::{Fault, FaultNo};
-pub use laws::keeps_version_one;
 pub use reading::decode;
+pub use theorems::keeps_version_one;
 pub use writing::encode;

@@ -1,6 +1,6 @@
 pub mod Members
 pub mod InputReading
-pub mod InputLaws
+pub mod InputTheorems
 pub mod Numbers
 pub mod Options
 pub mod Words

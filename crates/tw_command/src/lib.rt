@@ -13,11 +13,11 @@ mod help;
 mod in_turn;
 mod input_reasons;
 mod input_words;
-mod laws;
 mod limit;
 mod lists;
 mod orders;
 mod shown;
+mod theorems;
 mod wrong_words;
 
 pub use command::{
@@ -26,8 +26,8 @@ pub use command::{
 };
 pub use found::inputs_of;
 pub use input_words::input_of;
-pub use laws::{commands_are_taken, strangers_are_refused, words_spell_one_input};
 pub use limit::EventLimit;
 pub use orders::read_order;
 pub use shown::EventRange;
+pub use theorems::{commands_are_taken, strangers_are_refused, words_spell_one_input};
 pub use wrong_words::complaint;

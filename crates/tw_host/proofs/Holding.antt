@@ -15,7 +15,7 @@ use Rattle.tw_code.specs.declared.procedure.Procedure.{Procedure}
 use Rattle.tw_code.specs.machine.History.{actor_of}
 use Rattle.tw_code.specs.machine.Machine.{local_of, local_steps}
 use Rattle.tw_code.specs.machine.Position.{Position}
-use Rattle.tw_budget.proofs.FrameLaws.{below_budget}
+use Rattle.tw_budget.proofs.FrameTheorems.{below_budget}
 use Rattle.tw_code.specs.accepting.Walk.{IsBudget}
 use Rattle.tw_code.specs.format.Program.{IsProgram}
 use Rattle.tw_no_trap.specs.NoTrap.{AreRight}

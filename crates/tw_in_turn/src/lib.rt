@@ -1,9 +1,9 @@
 //! Runs in one thread: the actors of a pool make their scheduling steps one after the other.
 #![tactic(auto)]
 
-mod laws;
 mod rounds;
 mod run;
+mod theorems;
 
-pub use laws::{ends_below_limit, one_run};
 pub use run::{InTurnResult, run_in_turn};
+pub use theorems::{ends_below_limit, one_run};

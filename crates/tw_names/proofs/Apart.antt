@@ -6,7 +6,7 @@ use Rattle.std.proofs.lemmas.Bool.Decides.{nat_tests}
 use Rattle.std.proofs.lemmas.Bool.{eqb-true}
 use Rattle.tw_names.proofs.TextNames.{AreTaken, Line, Names, Procedures, Said, Table, at_head, flat_map, lines, name_register, nat_lt, no_names, pieces, procedures_of, slice_get, taken_says}
 use Rattle.tw_names.specs.Answers.{lists_entry}
-use Rattle.tw_names.specs.Laws.{IsListedAs, NamesDiffer}
+use Rattle.tw_names.specs.Theorems.{IsListedAs, NamesDiffer}
 use Rattle.tw_names.specs.Meanings.{above, is_bank, is_listed, is_origin, lists}
 use Rattle.tw_names.specs.Registers.{names_after_line, registers_at, said_then}
 use Rattle.tw_names.specs.declared.meaning.Bank.{Bank}

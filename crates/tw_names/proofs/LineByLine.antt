@@ -6,7 +6,7 @@ use Rattle.std.proofs.lemmas.List.Splits.{slice_split-cons_no}
 use Rattle.std.proofs.lemmas.Str.{IsCharBoundary-before_ascii, IsUtf8-append, IsUtf8-nil, IsUtf8-take}
 use Rattle.tw_words.proofs.Breaks.{HasNoLineFeed}
 use Rattle.tw_words.proofs.Utf8.{cut_front, cut_rest, one_ascii}
-use Rattle.tw_names.specs.Laws.{AsManyLines, InUtf8}
+use Rattle.tw_names.specs.Theorems.{AsManyLines, InUtf8}
 use Rattle.tw_names.proofs.KeptTexts.{AllKept, IsKept, all_kept, either, feeds_front, feeds_kept, utf8_kept}
 use Rattle.tw_names.proofs.SaidTexts.{line_kept, ok_is, went_then}
 use Rattle.tw_names.proofs.Walk.{taken_length}

@@ -1,7 +1,7 @@
 -- What a text says is one thing.
 use Rattle.std.proofs.Common.{◌≡◌, ℕ, List, Result, Ok, Err, inl, inr, refl, sym, ap, ◌∙◌}
 use Rattle.tw_names.proofs.TextNames.{Rejection, Says, lines, text_says}
-use Rattle.tw_names.specs.Laws.{NotBoth, OneFirstRejection, StandsForItself, StandsForOne}
+use Rattle.tw_names.specs.Theorems.{NotBoth, OneFirstRejection, StandsForItself, StandsForOne}
 use Rattle.tw_names.proofs.Taking.{all_once}
 
 says_once : (text : List ℕ) (x y : Result (List ℕ) Rejection) → Says text x → Says text y → x ≡ y

@@ -3,7 +3,7 @@ use Rattle.std.proofs.Common.{[], ◌≡◌, ℕ, Bool, true, false, cond, List,
 use Rattle.std.specs.Prelude.{slice_get, unwrap_or}
 use Rattle.std.specs.Str.{bytes_eq}
 use Rattle.tw_names.proofs.TextNames.{TokenError, Names, Procedures, Table, and_then, is_name, known, meaning, or_else, words_say}
-use Rattle.tw_names.specs.Laws.{IsRenaming, RenamedAlike, renamed_names, renamed_procedures, renamed_table, renamed_word, renamed_words}
+use Rattle.tw_names.specs.Theorems.{IsRenaming, RenamedAlike, renamed_names, renamed_procedures, renamed_table, renamed_word, renamed_words}
 use Rattle.tw_names.specs.LineExpansion.{fitting, named, stands, with_word, word_says}
 use Rattle.tw_names.specs.declared.meaning.Expected.{Expected}
 use Rattle.tw_names.specs.declared.meaning.Expected.TheVariants as asked

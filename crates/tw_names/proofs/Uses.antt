@@ -13,7 +13,7 @@ use Rattle.tw_words.specs.Names.{before_colon}
 use Rattle.tw_words.proofs.Colons.{before}
 use Rattle.tw_words.proofs.Readings.{digits_same}
 use Rattle.tw_names.proofs.TextNames.{TokenError, Names, Procedures, Table, is_name, is_some, known, list_says, may_name, meaning, name_register, nat_lt, or_else, refused}
-use Rattle.tw_names.specs.Laws.{ListedByPlace, NamesStay, UsesAreRegisters, begun, read_in}
+use Rattle.tw_names.specs.Theorems.{ListedByPlace, NamesStay, UsesAreRegisters, begun, read_in}
 use Rattle.tw_names.specs.Meanings.{is_bank, is_listed, with_listed, with_register}
 use Rattle.tw_names.specs.LineExpansion.{begins, begins_first, counted, fitting, list_name, name_before, named, number_in, register_in, stands, with_word}
 use Rattle.tw_names.specs.declared.meaning.Expected.{Expected}

@@ -8,7 +8,6 @@ mod assigned;
 mod expansion;
 mod heads;
 mod instruction;
-mod laws;
 mod line;
 mod line_expansion;
 mod listed;
@@ -21,13 +20,14 @@ mod procedures;
 mod registers;
 mod rejection;
 mod symbols;
+mod theorems;
 
 pub use expansion::expanded_text;
-pub use laws::{
-    as_many_lines, in_utf8, listed_by_place, names_differ, names_stay, not_both,
-    one_first_rejection, renamed_alike, stands_for_itself, stands_for_one, uses_are_registers,
-};
 pub use meaning::{Bank, Binding, Expected, Origin};
 pub use registers::put_with_name;
 pub use rejection::{NameError, NameNo};
 pub use symbols::Symbols;
+pub use theorems::{
+    as_many_lines, expands_to_itself, expands_to_one, in_utf8, listed_by_place, names_differ,
+    names_stay, not_both, one_first_rejection, renamed_alike, uses_are_registers,
+};

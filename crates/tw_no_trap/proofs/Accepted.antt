@@ -4,7 +4,7 @@ use Rattle.tw_no_trap.proofs.MachineNames.{Accepts, Actor, AllByRecursion, Compl
 use Rattle.tw_code.specs.declared.flow.Flow.TheVariants.{Straight}
 use Rattle.tw_code.specs.declared.instr.Action.{Action}
 use Rattle.tw_code.specs.declared.instr.Instr.TheVariants as instr
-use Rattle.tw_budget.proofs.FrameLaws.{starts_within}
+use Rattle.tw_budget.proofs.FrameTheorems.{starts_within}
 use Rattle.tw_no_trap.proofs.AllEvents.{Accepted, Known}
 use Rattle.tw_no_trap.proofs.DataLeaves.{data_leaves}
 use Rattle.tw_no_trap.proofs.Long.{typings_long}

@@ -11,7 +11,7 @@ use Rattle.tw_code.specs.machine.Local.{local_instr}
 use Rattle.tw_code.specs.accepting.Structure.{end_of}
 use Rattle.tw_code.specs.accepting.WellTyped.{IsEndOf}
 use Rattle.tw_budget.specs.Frames.{LoopsFit}
-use Rattle.tw_budget.proofs.FrameLaws.{stays_within, end_goes_on}
+use Rattle.tw_budget.proofs.FrameTheorems.{stays_within, end_goes_on}
 use Rattle.tw_budget.proofs.Places.{close_end}
 use Rattle.tw_no_trap.proofs.Steps.{Happens, Keeps, goes_happens, happens_keeps, keeps_more, waits_keeps}
 use Rattle.tw_no_trap.proofs.Values.{AllYes, HasLoop, Moves, all_yes, local_moves, yes_behind}

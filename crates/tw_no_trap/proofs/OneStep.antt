@@ -4,7 +4,7 @@ use Rattle.tw_no_trap.proofs.MachineNames.{◌>>=◌, ◌>>◌, Accepts, Actor, 
 use Rattle.tw_code.specs.declared.instr.Instr.TheVariants as instr
 use Rattle.tw_code.specs.declared.instr.LocalInstr.{LocalInstr}
 use Rattle.tw_code.specs.machine.Machine.{Standing, call_by, call_event, end_event, is_ret, local_event, local_of, local_step, local_steps, standing_of, step}
-use Rattle.tw_budget.proofs.FrameLaws.{below_budget}
+use Rattle.tw_budget.proofs.FrameTheorems.{below_budget}
 use Rattle.tw_no_trap.proofs.Accepted.{known, stands}
 use Rattle.tw_no_trap.proofs.AllEvents.{Known, all_empty}
 use Rattle.tw_no_trap.proofs.Called.{called_goes, put_goes}

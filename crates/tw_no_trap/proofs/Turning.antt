@@ -2,7 +2,7 @@
 use Rattle.std.proofs.Common.{◌≡◌, ℕ, ◌+◌, ◌<◌, List, slice_get, Some, sym, ap, ◌∙◌, arith}
 use Rattle.tw_no_trap.proofs.MachineNames.{Actor, AreRight, Context, DataInstr, Frame, IsHeld, IsProgram, Ok, Position, Procedure, State, Typings, Went, context_of, data_instr, flows, get, greatest_budget, local_steps, same_Some}
 use Rattle.tw_code.specs.declared.instr.Instr.TheVariants as instr
-use Rattle.tw_budget.proofs.FrameLaws.{below_budget}
+use Rattle.tw_budget.proofs.FrameTheorems.{below_budget}
 use Rattle.tw_no_trap.proofs.Accepted as acceptance
 use Rattle.tw_no_trap.proofs.Conditions.{goes_ok}
 use Rattle.tw_no_trap.proofs.Running.{steps_stand}

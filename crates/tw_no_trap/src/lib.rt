@@ -1,6 +1,6 @@
 //! The soundness theorem: properties of every state that an accepted program reaches.
 #![tactic(auto)]
 
-mod laws;
+mod theorems;
 
-pub use laws::{budgets_held, counts_held, ends_well, no_trap, notes_held, types_held};
+pub use theorems::{budgets_held, counts_held, ends_well, no_trap, notes_held, types_held};

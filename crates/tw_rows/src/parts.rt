@@ -4,7 +4,7 @@ use crate::complaint::Complaint;
 use crate::given::read_verified;
 use crate::text::Text;
 use std::alloc::{AllocError, Global};
-use tw_budget::{BudgetError, frame_laws};
+use tw_budget::{BudgetError, frame_theorems};
 use tw_code::{NoMemory, shown_and_read};
 use tw_rights::{Arg, Bundle, Held, ReadRight, RightFile, WriteRight};
 use tw_types::{Actor, DataType, DatumId, Scalar, Value, counts_kept};
@@ -150,7 +150,7 @@ fn put_pops(text: &mut Text, alloc: Global) {
 fn put_laws(text: &mut Text, verified: Verified) {
     no_trap(&verified);
     counts_kept();
-    frame_laws();
+    frame_theorems();
     shown_and_read();
     text.number("", verified.program().procedures().len() as u64);
 }

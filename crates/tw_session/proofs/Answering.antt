@@ -3,7 +3,7 @@ use Rattle.std.proofs.Common.{◌≡◌, ◌≢◌, ℕ, List, [], ◌∷◌, co
 use Rattle.std.specs.Io.KnownBytes.{Appends}
 use Rattle.clap.specs.Words.{Kinds, Text}
 use Rattle.tw_command.specs.CommandLine.{Asked, Assembles, Checks, Disassembles, Explains, IsExplained, IsRefusedInput, Replays, Runs}
-use Rattle.tw_command.proofs.InputLaws.{never_refused, one_refused}
+use Rattle.tw_command.proofs.InputTheorems.{never_refused, one_refused}
 use Rattle.tw_command.specs.InputWords.{RefusedWord}
 use Rattle.tw_replies.specs.Inputs.{TellsInputWord}
 use Rattle.tw_replies.specs.Reply.{Reply, reply}

@@ -1,7 +1,7 @@
 -- A program has one first error.
 use Rattle.std.proofs.Common.{◌≡◌, ℕ, ◌+◌, ◌<◌, ◌≤◌, ◌⊎◌, inl, inr, true, false, List, length, take, get_or, Some, None, sym, ap, ◌∙◌, subst, arith, ext_get_or}
 use Rattle.tw_verify.proofs.VerifierNames.{Instr, IsLowestRejection, IsProcedureRejection, IsStructureRejection, IsTypingRejection, IsWellTyped, Procedure, Typing, cases_lt, flows, same_Some, slice_get, slice_get-get_or, start_typing, structure_rejection_at}
-use Rattle.tw_verify.specs.Laws.{OneFirstRejection}
+use Rattle.tw_verify.specs.Theorems.{OneFirstRejection}
 use Rattle.tw_verify.proofs.Programs.{not_accepted}
 use Rattle.tw_verify.proofs.Typings.{agree, well_typed_front}
 

@@ -10,7 +10,7 @@ use Rattle.std.proofs.lemmas.Int.Digits.{digits_more, digits_value_more}
 use Rattle.std.proofs.lemmas.Str.Parse.{digit_at}
 use Rattle.std.specs.Int.{IsInRange}
 use Rattle.tw_words.proofs.Insides.{tail_is}
-use Rattle.tw_words.specs.Laws.{NumbersAreReadBack}
+use Rattle.tw_words.specs.Theorems.{NumbersAreReadBack}
 use Rattle.tw_words.specs.Number.{IsIn64, IsRead, SpellsDigits, SpellsNumber}
 use Rattle.tw_words.specs.declared.numbers.TokenError.{TokenError}
 use Rattle.tw_words.specs.declared.numbers.TokenError.TheVariants.{Form, Limit}

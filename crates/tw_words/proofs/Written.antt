@@ -5,7 +5,7 @@ use Rattle.std.specs.Char.{digit_value}
 use Rattle.std.specs.List.{flat_map}
 use Rattle.std.proofs.lemmas.Bool.{eqb-true}
 use Rattle.std.proofs.lemmas.Bool.Decides.{nat_tests}
-use Rattle.tw_words.specs.Laws.{QuotedTextsAreReadBack}
+use Rattle.tw_words.specs.Theorems.{QuotedTextsAreReadBack}
 use Rattle.tw_words.specs.Quoted.{BeginsQuoted, IsInside, IsPiece, SpellsQuoted, backslash, escaped, hex, hex_digit, line_feed, nothing, one_more, plain, quote, quoted}
 use Rattle.tw_words.proofs.Insides.{one_text}
 

@@ -1,4 +1,4 @@
-use Rattle.tw_command.proofs.InputLaws.{one_word_more, refused_at}
+use Rattle.tw_command.proofs.InputTheorems.{one_word_more, refused_at}
 use Rattle.tw_command.proofs.found.inputs_of.Goals as goal
 
 pub returns-in-None-clause-refused : goal.returns-in-None-clause-refused

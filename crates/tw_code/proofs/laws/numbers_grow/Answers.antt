@@ -1,5 +1,0 @@
-use Rattle.tw_code.proofs.Growth as growth
-use Rattle.tw_code.proofs.laws.numbers_grow.Goals as goal
-
-pub returns : goal.returns
-returns c = growth.step_grows

@@ -1,5 +1,0 @@
-use Rattle.tw_code.proofs.Shown as shown
-use Rattle.tw_code.proofs.laws.shown_and_read.Goals as goal
-
-pub returns : goal.returns
-returns c = shown.shown_and_read

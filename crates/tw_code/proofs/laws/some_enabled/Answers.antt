@@ -1,5 +1,0 @@
-use Rattle.tw_code.proofs.Next as next
-use Rattle.tw_code.proofs.laws.some_enabled.Goals as goal
-
-pub returns : goal.returns
-returns c = next.some_enabled

@@ -1,5 +1,0 @@
-use Rattle.tw_in_turn.proofs.Same as same
-use Rattle.tw_in_turn.proofs.laws.one_run.Goals as goal
-
-pub returns : goal.returns
-returns c = same.one_run

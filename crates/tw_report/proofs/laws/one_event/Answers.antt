@@ -1,5 +1,0 @@
-use Rattle.tw_report.proofs.Written as laws
-use Rattle.tw_report.proofs.laws.one_event.Goals as goal
-
-pub returns : goal.returns
-returns c = laws.one_event

@@ -1,5 +1,0 @@
-use Rattle.tw_report.proofs.Histories as laws
-use Rattle.tw_report.proofs.laws.one_history.Goals as goal
-
-pub returns : goal.returns
-returns c = laws.one_history
