@@ -6,7 +6,7 @@ use Rattle.tw_types.specs.declared.input.Input.{Input}
 use Rattle.tw_types.specs.declared.input.Input.TheVariants as input
 use Rattle.tw_words.specs.Quoted.{SpellsQuoted}
 use Rattle.tw_command.specs.InputWords.{AreBehind, AreJoined, AreSpelled, IsRefusedWord, OneInput, OneRefusedWord, RefusedWord, refused_word, SpellsInput, SpellsInt, SpellsMember, SpellsMembers, SpellsRest, head_of}
-use Rattle.tw_command.specs.InputReasons.{reason_line}
+use Rattle.tw_command.specs.InputReasons.{diagnostic_line}
 use Rattle.tw_command.specs.Order.{IsInputReason, IsRejection}
 use Rattle.tw_command.specs.declared.command.NoOrder.{NoOrder}
 use Rattle.tw_command.specs.declared.command.NoOrder.TheVariants.{Help, Refused, InputWord, Explanation, NoMemory}
@@ -138,7 +138,7 @@ pub one_refused_word : OneRefusedWord
 one_refused_word words refused other (before, inputs, word, later, e, h, none, is) (others, given, second, after, f, k, nothing, also) =
     let many = as_many before others word second later after inputs given (sym e ∙ f) h k none nothing in
     let same = same_word before others word second later after (sym e ∙ f) many in
-    is ∙ ap (λ (n : ℕ). refused_word (suc n) (reason_line (suc n) word)) many ∙ ap (λ (w : List ℕ). refused_word (suc (length others)) (reason_line (suc (length others)) w)) same ∙ sym also
+    is ∙ ap (λ (n : ℕ). refused_word (suc n) (diagnostic_line (suc n) word)) many ∙ ap (λ (w : List ℕ). refused_word (suc (length others)) (diagnostic_line (suc (length others)) w)) same ∙ sym also
 
 -- where each word spells an input, none is refused
 pub none_refused : (words : List (List ℕ)) (inputs : List Input) (number : RefusedWord) → AreSpelled inputs words → IsRefusedWord words number → ⊥
@@ -190,10 +190,10 @@ refused_at inputs words i d lt h none why rejection =
       parts,
       h,
       none,
-      ap (λ (n : ℕ). refused_word n reason) (is ∙ count) ∙ ap (refused_word (suc (length (take i texts)))) (line ∙ ap (λ (n : ℕ). reason_line n (get_or words i d).now) count),
+      ap (λ (n : ℕ). refused_word n reason) (is ∙ count) ∙ ap (refused_word (suc (length (take i texts)))) (line ∙ ap (λ (n : ℕ). diagnostic_line n (get_or words i d).now) count),
     )) rejection
   where
-    by : (r : NoOrder) → ((at : ℕ) (reason : List ℕ) → at ≡ i + 1 → reason ≡ reason_line (i + 1) (get_or words i d).now → IsRefusedWord (map (λ (w : Bor (List ℕ)). w.now) words) (refused_word at reason)) → IsRejection (i + 1) (get_or words i d).now r
+    by : (r : NoOrder) → ((at : ℕ) (reason : List ℕ) → at ≡ i + 1 → reason ≡ diagnostic_line (i + 1) (get_or words i d).now → IsRefusedWord (map (λ (w : Bor (List ℕ)). w.now) words) (refused_word at reason)) → IsRejection (i + 1) (get_or words i d).now r
         → IsInputReason (map (λ (w : Bor (List ℕ)). w.now) words) r
     by (Help text) all h = absurd h
     by Refused all h = absurd h

@@ -15,14 +15,14 @@ abbrev pub begins : List ℕ → List ℕ → Bool
 begins front word = starts_with nat_eq word front
 
 -- a number after `int:`
-abbrev pub int_reason : Result ℤ TokenError → List ℕ
-int_reason (Ok n) = codes "expected a number in decimal digits after int:"
-int_reason (Err Form) = codes "expected a number in decimal digits after int:"
-int_reason (Err Limit) = codes "the number isn't within 64 bits"
+abbrev pub int_diagnostic : Result ℤ TokenError → List ℕ
+int_diagnostic (Ok n) = codes "expected a number in decimal digits after int:"
+int_diagnostic (Err Form) = codes "expected a number in decimal digits after int:"
+int_diagnostic (Err Limit) = codes "the number isn't within 64 bits"
 
 -- members, of which some have texts or none has
-abbrev pub list_reason : Bool → List ℕ → List ℕ
-list_reason texts list =
+abbrev pub list_diagnostic : Bool → List ℕ → List ℕ
+list_diagnostic texts list =
     if ends_with nat_eq list (codes ",") then codes "nothing follows the last comma, and a list has no blanks outside of quotes; expected " else
     if not (has 61 list) then codes "a member has no =; expected " else
     if texts && not (has 34 list) then codes "a text is between quotes; expected " else
@@ -41,18 +41,18 @@ abbrev pub no_head : List ℕ
 no_head = codes "expected int:, ints:, text:, texts:, tints: or ttexts: before it"
 
 -- what is wrong with a word, by its head
-abbrev pub text_reason : List ℕ → List ℕ
-text_reason word =
-    if begins (codes "tints:") word then list_reason true (drop 6 word) ++ form_by_text false else
-    if begins (codes "ttexts:") word then list_reason true (drop 7 word) ++ form_by_text true else
+abbrev pub text_diagnostic : List ℕ → List ℕ
+text_diagnostic word =
+    if begins (codes "tints:") word then list_diagnostic true (drop 6 word) ++ form_by_text false else
+    if begins (codes "ttexts:") word then list_diagnostic true (drop 7 word) ++ form_by_text true else
     no_head
 
-abbrev pub word_reason : List ℕ → List ℕ
-word_reason word =
-    if begins (codes "int:") word then int_reason (signed_in (drop 4 word)) else
-    if begins (codes "ints:") word then list_reason false (drop 5 word) ++ form_by_int false else
-    if begins (codes "texts:") word then list_reason true (drop 6 word) ++ form_by_int true else
-    text_reason word
+abbrev pub word_diagnostic : List ℕ → List ℕ
+word_diagnostic word =
+    if begins (codes "int:") word then int_diagnostic (signed_in (drop 4 word)) else
+    if begins (codes "ints:") word then list_diagnostic false (drop 5 word) ++ form_by_int false else
+    if begins (codes "texts:") word then list_diagnostic true (drop 6 word) ++ form_by_int true else
+    text_diagnostic word
 
 -- ---- the line
 
@@ -60,5 +60,5 @@ word_reason word =
 abbrev pub input_text : ℕ → List ℕ → List ℕ
 input_text number word = codes "input " ++ (decimal number ++ (codes ": " ++ (shortened_quoted word ++ codes ": ")))
 
-abbrev pub reason_line : ℕ → List ℕ → List ℕ
-reason_line number word = input_text number word ++ (word_reason word ++ codes "\n")
+abbrev pub diagnostic_line : ℕ → List ℕ → List ℕ
+diagnostic_line number word = input_text number word ++ (word_diagnostic word ++ codes "\n")

@@ -4,7 +4,7 @@ use Rattle.tw_types.specs.declared.input.Input.{Input}
 use Rattle.tw_types.specs.declared.input.Input.TheVariants as input
 use Rattle.tw_words.specs.Number.{IsIn64, SpellsNumber}
 use Rattle.tw_words.specs.Quoted.{SpellsQuoted}
-use Rattle.tw_command.specs.InputReasons.{reason_line}
+use Rattle.tw_command.specs.InputReasons.{diagnostic_line}
 
 -- ---- lists
 
@@ -76,7 +76,7 @@ abbrev pub IsRefusedWord : List (List ℕ) → RefusedWord → Type 0
 IsRefusedWord words refused =
     (before : List (List ℕ)) × (inputs : List Input) × (word : List ℕ) × (later : List (List ℕ))
     × (words ≡ before ++ word ∷ later) × AreSpelled inputs before × ((given : Input) → SpellsInput given word → ⊥)
-    × (refused ≡ refused_word (suc (length before)) (reason_line (suc (length before)) word))
+    × (refused ≡ refused_word (suc (length before)) (diagnostic_line (suc (length before)) word))
 
 -- ---- the laws
 

@@ -4,7 +4,7 @@ use Rattle.clap.specs.Words.{IsAmong, Kinds, Text}
 use Rattle.clap.specs.declared.error.ErrorKind.{ErrorKind}
 use Rattle.clap.specs.declared.error.ErrorKind.TheVariants.{DisplayHelp, DisplayVersion, OutOfMemory}
 use Rattle.tw_command.specs.CommandLine.{Asked, IsExplained, IsRefusedInput}
-use Rattle.tw_command.specs.InputReasons.{reason_line}
+use Rattle.tw_command.specs.InputReasons.{diagnostic_line}
 use Rattle.tw_command.specs.InputWords.{IsRefusedWord, refused_word}
 use Rattle.tw_command.specs.declared.command.NoOrder.{NoOrder}
 use Rattle.tw_command.specs.declared.command.NoOrder.TheVariants.{Help, Refused, InputWord, Explanation, NoMemory}
@@ -34,7 +34,7 @@ abbrev pub IsRejection : ℕ → List ℕ → NoOrder → Type 0
 IsRejection number word NoMemory = ⊤
 IsRejection number word (Help text) = ⊥
 IsRejection number word Refused = ⊥
-IsRejection number word (InputWord at reason) = (at ≡ number) × (reason.items ≡ reason_line number word)
+IsRejection number word (InputWord at reason) = (at ≡ number) × (reason.items ≡ diagnostic_line number word)
 IsRejection number word (Explanation text) = ⊥
 
 -- the reason comes of one of the kinds; or the words are taken, and it comes of the input words, or is

@@ -13,7 +13,7 @@ ghost use Rattle.std.specs.Int.{IsInRange};
 ghost use Rattle.tw_command.specs.Order.{HasReason, IsInputReason};
 
 use crate::command::{Answer, Assembling, CheckOrder, NoOrder, Places, Source};
-use crate::input_reasons::refused_word;
+use crate::input_diagnostics::refused_word;
 use crate::input_words::input_of;
 use crate::limit::EventLimit;
 use clap::ArgMatches;

@@ -11,7 +11,7 @@ mod explanations;
 mod found;
 mod help;
 mod in_turn;
-mod input_reasons;
+mod input_diagnostics;
 mod input_words;
 mod limit;
 mod lists;

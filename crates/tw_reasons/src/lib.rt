@@ -1,7 +1,7 @@
 //! Why an assembly text, or the program of one, was refused: lines of text that stand behind the refusal.
 //!
-//! * Of a text: `put_text_reason` tells the line, and at which word and column it stops being a statement.
-//! * Of a program: `put_program_reason` tells the register that is wrong, what it holds and what was asked of it.
+//! * Of a text: `put_text_diagnostic` tells the line, and at which word and column it stops being a statement.
+//! * Of a program: `put_program_diagnostic` tells the register that is wrong, what it holds and what was asked of it.
 #![tactic(auto)]
 
 mod breaks;
@@ -14,22 +14,22 @@ mod hints;
 mod labels;
 mod local_checks;
 mod loops;
-mod main_reason;
+mod main_diagnostic;
 mod meeting;
+mod meeting_diagnostic;
 mod parser_state;
-mod program_reason;
+mod program_diagnostic;
 mod register_check;
 mod rights;
 mod step;
 mod suits;
-mod text_reason;
+mod text_diagnostic;
 mod theorems;
-mod told_meeting;
 mod words;
 
-pub use main_reason::put_main_reason;
+pub use main_diagnostic::put_main_diagnostic;
 pub use parser_state::{LineRole, head_line, line_role};
-pub use program_reason::put_program_reason;
+pub use program_diagnostic::put_program_diagnostic;
 pub use rights::put_type;
-pub use text_reason::put_text_reason;
+pub use text_diagnostic::put_text_diagnostic;
 pub use theorems::asks_the_same;

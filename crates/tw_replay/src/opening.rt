@@ -166,7 +166,7 @@ fn put_unfit(
 }
 
 /// Tells why these inputs aren't those that main takes, if they aren't.
-fn put_inputs_reason(
+fn put_inputs_diagnostic(
     alloc: Global,
     out: &mut Vec<u8>,
     program: &[Procedure],
@@ -194,7 +194,7 @@ fn put_opening_details(
     ensures { OnOk result ((more : List ℕ) × AreOpeningDetails (text_of source.now) program.now inputs.now more × (out.new.items ≡ out.old.items ++ more)) }
 {
     match source {
-        Some(_) => put_inputs_reason(alloc, out, program, inputs),
+        Some(_) => put_inputs_diagnostic(alloc, out, program, inputs),
         None => Ok(()),
     }
 }

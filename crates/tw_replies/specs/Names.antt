@@ -45,25 +45,25 @@ expected_words asked.Number = codes "a number"
 expected_words asked.Procedure = codes "a procedure"
 expected_words asked.Nothing = codes "no name"
 
-abbrev pub kind_reason : Binding → Expected → List ℕ
-kind_reason x a = (codes "it is " ++ binding_words x) ++ ((codes ", " ++ expected_words a) ++ codes " is required")
+abbrev pub kind_diagnostic : Binding → Expected → List ℕ
+kind_diagnostic x a = (codes "it is " ++ binding_words x) ++ ((codes ", " ++ expected_words a) ++ codes " is required")
 
-abbrev pub fixed_reason : NameNo → List ℕ
-fixed_reason no.Form = codes "expected const NAME = NUMBER, let NAME = REGISTER, or NAME: with a mode or type behind it"
-fixed_reason no.NoName = codes "this can't be a name"
-fixed_reason no.Twice = codes "the name is taken"
-fixed_reason no.Listed = codes "its register has a name already"
-fixed_reason no.Unknown = codes "the name means nothing here"
-fixed_reason no.Limit = codes "it would be a register past the last"
-fixed_reason other = []
+abbrev pub fixed_diagnostic : NameNo → List ℕ
+fixed_diagnostic no.Form = codes "expected const NAME = NUMBER, let NAME = REGISTER, or NAME: with a mode or type behind it"
+fixed_diagnostic no.NoName = codes "this can't be a name"
+fixed_diagnostic no.Twice = codes "the name is taken"
+fixed_diagnostic no.Listed = codes "its register has a name already"
+fixed_diagnostic no.Unknown = codes "the name means nothing here"
+fixed_diagnostic no.Limit = codes "it would be a register past the last"
+fixed_diagnostic other = []
 
-abbrev pub name_reason : NameNo → List ℕ
-name_reason (no.Kind x a) = kind_reason x a
-name_reason other = fixed_reason other
+abbrev pub name_diagnostic : NameNo → List ℕ
+name_diagnostic (no.Kind x a) = kind_diagnostic x a
+name_diagnostic other = fixed_diagnostic other
 
 -- the line as it was written, and the word and what is wrong with it
 abbrev pub name_details : List ℕ → NameNo → ℕ → List ℕ → List ℕ
-name_details text which line word = line_text (slice_get (lines text) (line - 1)) ++ (shortened word ++ (codes ": " ++ (name_reason which ++ codes "\n")))
+name_details text which line word = line_text (slice_get (lines text) (line - 1)) ++ (shortened word ++ (codes ": " ++ (name_diagnostic which ++ codes "\n")))
 
 -- ---- a fault of the assembly text for which it stands
 

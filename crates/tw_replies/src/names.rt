@@ -5,7 +5,7 @@ ghost use Rattle.std.specs.Str.Lines.{lines};
 ghost use Rattle.tw_reasons.specs.Diagnostics.{IsTextReason};
 ghost use Rattle.tw_names.specs.Answers.{told};
 ghost use Rattle.tw_names.specs.Expansion.{IsFirstRejection, StandsFor};
-ghost use Rattle.tw_replies.specs.Names.{AreFaultDetails, RepliesByPlain, expected_words, fixed_reason, is_same_line, kind_reason, line_text, name_details, name_line, name_reason, binding_words, written_text};
+ghost use Rattle.tw_replies.specs.Names.{AreFaultDetails, RepliesByPlain, expected_words, fixed_diagnostic, is_same_line, kind_diagnostic, line_text, name_details, name_line, name_diagnostic, binding_words, written_text};
 ghost use Rattle.tw_words.specs.Shown.{shortened};
 ghost use Rattle.tw_replies.specs.Reply.{reply};
 
@@ -14,7 +14,7 @@ use crate::reply::{Reply, fixed_reply, not_utf8_reply, refused_by};
 use std::alloc::{AllocError, Global};
 use tw_asm::AsmFault;
 use tw_names::{Bank, Binding, Expected, NameError, NameNo, expanded_text};
-use tw_reasons::put_text_reason;
+use tw_reasons::put_text_diagnostic;
 use tw_words::{line_numbered, put, put_both, put_numbered, put_shortened};
 
 /// Adds the line of this number, shortened if it is long, where the text has one.
@@ -69,15 +69,15 @@ fn expected_words(asked: Expected) -> &'static str
 
 /// Adds what a name means, and what is required in its place.
 fn put_kind(out: &mut Vec<u8>, binding: Binding, asked: Expected) -> Result<(), AllocError>
-    ensures { OnOk result (out.new.items ≡ out.old.items ++ kind_reason binding asked) }
+    ensures { OnOk result (out.new.items ≡ out.old.items ++ kind_diagnostic binding asked) }
 {
     put_both(out, "it is ", binding_words(binding))?;
     put_both(out, ", ", expected_words(asked))?;
     put(out, " is required")
 }
 
-fn fixed_reason(no: NameNo) -> &'static str
-    ensures { result.now ≡ fixed_reason no }
+fn fixed_diagnostic(no: NameNo) -> &'static str
+    ensures { result.now ≡ fixed_diagnostic no }
 {
     match no {
         NameNo::Form =>
@@ -92,21 +92,21 @@ fn fixed_reason(no: NameNo) -> &'static str
 }
 
 /// Adds what is wrong with a word.
-fn put_reason(out: &mut Vec<u8>, no: NameNo) -> Result<(), AllocError>
-    ensures { OnOk result (out.new.items ≡ out.old.items ++ name_reason no) }
+fn put_diagnostic(out: &mut Vec<u8>, no: NameNo) -> Result<(), AllocError>
+    ensures { OnOk result (out.new.items ≡ out.old.items ++ name_diagnostic no) }
 {
     match no {
         NameNo::Kind(binding, asked) => put_kind(out, binding, asked),
-        _ => put(out, fixed_reason(no)),
+        _ => put(out, fixed_diagnostic(no)),
     }
 }
 
-fn put_word_reason(out: &mut Vec<u8>, word: &[u8], no: NameNo) -> Result<(), AllocError>
-    ensures { OnOk result (out.new.items ≡ out.old.items ++ (shortened word.now ++ (codes ": " ++ (name_reason no ++ codes "\n")))) }
+fn put_word_diagnostic(out: &mut Vec<u8>, word: &[u8], no: NameNo) -> Result<(), AllocError>
+    ensures { OnOk result (out.new.items ≡ out.old.items ++ (shortened word.now ++ (codes ": " ++ (name_diagnostic no ++ codes "\n")))) }
 {
     put_shortened(out, word)?;
     put(out, ": ")?;
-    put_reason(out, no)?;
+    put_diagnostic(out, no)?;
     put(out, "\n")
 }
 
@@ -119,7 +119,7 @@ pub fn put_name_details(
     ensures { OnOk result (out.new.items ≡ out.old.items ++ name_details text.now rejection.entry.no rejection.entry.line rejection.entry.word.now) }
 {
     put_line(out, text, rejection.line)?;
-    put_word_reason(out, rejection.word, rejection.no)
+    put_word_diagnostic(out, rejection.word, rejection.no)
 }
 
 fn is_same_line(line: Option<&str>, other: Option<&str>) -> bool
@@ -157,7 +157,7 @@ fn put_written_fault(
         × (out.new.items ≡ out.old.items ++ (written_text (slice_get (lines text.now) (fault.line - 1)) (slice_get (lines plain.now) (fault.line - 1)) ++ reason))) }
 {
     put_written(out, text, plain, fault.line)?;
-    put_text_reason(alloc, out, plain, fault)
+    put_text_diagnostic(alloc, out, plain, fault)
 }
 
 /// Adds the line at which what a text stands for is refused, as it was written where there are names, and why it is.
@@ -170,7 +170,7 @@ pub fn put_fault_details(
     ensures { OnOk result ((plain : List ℕ) → StandsFor text.now plain → (more : List ℕ) × AreFaultDetails text.now fault.no fault.line more × (out.new.items ≡ out.old.items ++ more)) }
 {
     match expanded_text(alloc, text) {
-        Ok(None) => put_text_reason(alloc, out, text, fault),
+        Ok(None) => put_text_diagnostic(alloc, out, text, fault),
         Ok(Some(plain)) => put_written_fault(alloc, out, text, &plain, fault),
         Err(rejection) => match rejection.no {
             NameNo::NoMemory => Err(AllocError),

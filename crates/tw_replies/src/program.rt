@@ -220,7 +220,7 @@ fn put_no_program(alloc: Global, out: &mut Vec<u8>, why: NoProgram<'_>) -> Resul
 }
 
 /// Adds the line at which what is to be a text is refused, and why it is.
-fn put_fault_reason(
+fn put_fault_diagnostic(
     alloc: Global,
     out: &mut Vec<u8>,
     input: &[u8],
@@ -235,7 +235,7 @@ fn put_fault_reason(
 }
 
 /// Adds the line of what is to be a text with names that is refused, and why it is.
-fn put_rejection_reason(
+fn put_rejection_diagnostic(
     out: &mut Vec<u8>,
     input: &[u8],
     rejection: NameError<'_>,
@@ -258,8 +258,8 @@ fn put_parse_error_details(
     ensures { OnOk result ((source : ReadAs) → SpellsNone source input.now why.entry → (more : List ℕ) × AreParseErrorDetails input.now why.entry more × (out.new.items ≡ out.old.items ++ more)) }
 {
     match why {
-        NoProgram::Text(fault) => put_fault_reason(alloc, out, input, fault),
-        NoProgram::Named(rejection) => put_rejection_reason(out, input, rejection),
+        NoProgram::Text(fault) => put_fault_diagnostic(alloc, out, input, fault),
+        NoProgram::Named(rejection) => put_rejection_diagnostic(out, input, rejection),
         _ => Ok(()),
     }
 }

@@ -17,7 +17,7 @@ use std::alloc::{AllocError, Global};
 use tw_asm::LineNumbers;
 use tw_code::Procedure;
 use tw_names::{Symbols, put_with_name};
-use tw_reasons::{head_line, put_main_reason, put_program_reason};
+use tw_reasons::{head_line, put_main_diagnostic, put_program_diagnostic};
 use tw_verify::{Refused, VerifyError};
 use tw_words::{line_numbered, put, put_numbered, put_shortened};
 
@@ -138,7 +138,7 @@ pub fn put_text_line(
 }
 
 /// Adds why an instruction is refused, with the register's name beside its number.
-fn put_reason(
+fn put_diagnostic(
     alloc: Global,
     out: &mut Vec<u8>,
     source: &SourceText<'_>,
@@ -149,7 +149,7 @@ fn put_reason(
         × IsWithName source.now.text.now number reason told × (out.new.items ≡ out.old.items ++ told)) }
 {
     let mut reason = Vec::new(alloc);
-    put_program_reason(alloc, &mut reason, &source.lines, refused)?;
+    put_program_diagnostic(alloc, &mut reason, &source.lines, refused)?;
     put_with_name(alloc, out, source.text, number, &reason)
 }
 
@@ -168,7 +168,7 @@ fn put_place_details(
     };
     let names = Symbols::of(alloc, source.text)?;
     put_line_in(alloc, out, names.procedure(refused.procedure), number, line)?;
-    put_reason(alloc, out, source, number, refused)
+    put_diagnostic(alloc, out, source, number, refused)
 }
 
 /// Adds the line that begins main, and what is wrong with its shape.
@@ -190,7 +190,7 @@ fn put_head_details(
         return Ok(());
     };
     put_text_line(alloc, out, number, line)?;
-    put_main_reason(alloc, out, main)
+    put_main_diagnostic(alloc, out, main)
 }
 
 /// Adds what stands behind a refusal of main's shape.

@@ -21,7 +21,7 @@ returns-in_default-trimmed_line c = λ procedure place number comes stands.
 
 pub returns : goal.returns
 returns c =
-    on_ok_weaker c.put_main_reason.result
+    on_ok_weaker c.put_main_diagnostic.result
     (λ e procedure place number comes stands.
     let main = c.args.main.now in
     let first = c.in-Some.number in
@@ -33,4 +33,4 @@ returns c =
       subst (λ (t : List ℕ). IsFirstHead t first) c.plain.ensures head,
       c.in-Some-trimmed_line.ensures,
       e ∙ ap (λ (t : List ℕ). t ++ shape_line main.kind main.params) c.in_ok-put_text_line.ensures ∙ append_assoc c.args.out.now.items line (shape_line main.kind main.params),
-    )) c.put_main_reason.ensures
+    )) c.put_main_diagnostic.ensures

@@ -9,7 +9,7 @@ returns-in_default c = λ is. absurd (is.1 (c.in_default.ensures c.args.refused.
 
 pub returns : goal.returns
 returns c =
-    on_ok_weaker c.put_reason.result
+    on_ok_weaker c.put_diagnostic.result
     (λ named is.
     let source = c.args.source.now in
     let number = c.in-Some.number in
@@ -20,4 +20,4 @@ returns c =
       line ++ named.1,
       (plain_of source, number, c.in-Some.line.now, source.lines.procedures, named.0, named.1, names, is.2, found.0, found.1, is.0, named.2, named.3, c.in_ok-names.ensures, refl),
       named.4 ∙ ap (λ (t : List ℕ). t ++ named.1) put ∙ append_assoc c.args.out.now.items line named.1,
-    )) c.put_reason.ensures
+    )) c.put_diagnostic.ensures

@@ -1,8 +1,0 @@
-use Rattle.std.proofs.Common.{◌∙◌, ℤ, Result, ap}
-use Rattle.tw_words.specs.declared.numbers.TokenError.{TokenError}
-use Rattle.tw_words.proofs.Readings.{signed_same}
-use Rattle.tw_command.specs.InputReasons.{int_reason}
-use Rattle.tw_command.proofs.input_reasons.number_reason.Goals as goal
-
-pub returns : goal.returns
-returns c = c.int_reason.ensures ∙ ap (λ (r : Result ℤ TokenError). int_reason r) (signed_same c.args.text.now c.number.result c.number.ensures)
