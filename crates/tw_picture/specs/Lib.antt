@@ -1,7 +1,7 @@
--- The picture of a drawing is Picture, with its parts in Shapes, their places in Places, and how XML is written in Xml; what a
+-- The picture of a drawing is Timeline, with its parts in Shapes, their places in Places, and how XML is written in Xml; what a
 -- drawing shows of a history is History.
 pub mod Xml
 pub mod Places
 pub mod Shapes
-pub mod Picture
+pub mod Timeline
 pub mod History

@@ -1,7 +1,7 @@
 //! Columns, where there are too many events for a mark each.
 
 ghost use Rattle.std.specs.Prelude.{◌≡◌, ◌++◌, ◌-◌, ◌<◌, ◌^◌, ◌≤◌, length, IfOk, OnOk};
-ghost use Rattle.tw_picture.specs.Picture.{all_columns, lane_columns};
+ghost use Rattle.tw_picture.specs.Timeline.{all_columns, lane_columns};
 ghost use Rattle.tw_picture.specs.Shapes.{column, column_box, column_height, column_of, column_title, count_in, marks_in};
 ghost use Rattle.tw_picture.specs.Xml.{below, xml_text};
 

@@ -1,7 +1,7 @@
 //! What stands above the lanes, and how all looks.
 
 ghost use Rattle.std.specs.Prelude.{◌≡◌, ◌++◌, ◌<◌, IfOk, OnOk};
-ghost use Rattle.tw_picture.specs.Picture.{first_kinds, head_row, heading, key_of, kind, kinds, lines, looks, marker, meaning, none_text, shown_line, shown_text, some_text, tip, tip_row};
+ghost use Rattle.tw_picture.specs.Timeline.{first_kinds, head_row, heading, key_of, kind, kinds, lines, looks, marker, meaning, none_text, shown_line, shown_text, some_text, tip, tip_row};
 ghost use Rattle.tw_picture.specs.Xml.{xml_text};
 
 use crate::attributes::{Attribute, Key, Kind, Name, Word, fixed, number};

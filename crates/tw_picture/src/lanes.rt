@@ -2,7 +2,7 @@
 
 ghost use Rattle.std.specs.Prelude.{◌≡◌, ◌++◌, ◌/◌, ◌<◌, ◌^◌, IfOk, OnOk};
 ghost use Rattle.tw_types.specs.declared.actor.Actor.TheVariants.{Engine, Server, Worker};
-ghost use Rattle.tw_picture.specs.Picture.{lanes};
+ghost use Rattle.tw_picture.specs.Timeline.{lanes};
 ghost use Rattle.tw_picture.specs.Shapes.{actor_name, has_tick, lane, name_again, tick, tick_of, tick_row};
 ghost use Rattle.tw_picture.specs.Xml.{all, below, xml_text};
 

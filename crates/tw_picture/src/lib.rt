@@ -18,6 +18,6 @@ mod threads;
 mod timeline_builder;
 
 pub use drawing::{Bar, Drawing, Mark, Place, Thread, Wait};
-pub use page::picture;
+pub use page::timeline;
 pub use places::Settings;
 pub use timeline_builder::TimelineBuilder;

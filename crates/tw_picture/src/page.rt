@@ -1,7 +1,7 @@
 //! The whole picture.
 
 ghost use Rattle.std.specs.Prelude.{◌≡◌, ◌++◌, ◌<◌, ◌^◌, IfOk, OnOk};
-ghost use Rattle.tw_picture.specs.Picture.{drawn, events_of, ground, height_of, picture_of, sized, things, width_of};
+ghost use Rattle.tw_picture.specs.Timeline.{drawn, events_of, ground, height_of, picture_of, sized, things, width_of};
 ghost use Rattle.tw_picture.specs.Xml.{xml_text};
 
 use crate::attributes::{Attribute, Key, Name, Value, Word, fixed, number};
@@ -119,7 +119,7 @@ fn put_drawn(
 }
 
 /// What the settings show of a drawing, as one SVG text.
-pub fn picture(alloc: Global, drawing: &Drawing, settings: Settings) -> Result<Vec<u8>, AllocError>
+pub fn timeline(alloc: Global, drawing: &Drawing, settings: Settings) -> Result<Vec<u8>, AllocError>
     ensures { IfOk result (λ text. text.items ≡ xml_text (picture_of drawing.now settings)) }
 {
     let mut text = Vec::new(alloc);

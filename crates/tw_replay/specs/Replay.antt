@@ -27,7 +27,7 @@ use Rattle.tw_machine.specs.Opening.{open_error_code, rejection_of}
 use Rattle.tw_picture.specs.declared.drawing.Drawing.{Drawing}
 use Rattle.tw_machine.specs.Moments.{history}
 use Rattle.tw_picture.specs.History.{IsDrawing}
-use Rattle.tw_picture.specs.Picture.{picture_of}
+use Rattle.tw_picture.specs.Timeline.{picture_of}
 use Rattle.tw_picture.specs.Places.{between}
 use Rattle.tw_picture.specs.Xml.{xml_text}
 use Rattle.tw_names.specs.Symbols.{AreSymbols}

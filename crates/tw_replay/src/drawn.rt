@@ -14,7 +14,7 @@ use std::alloc::{AllocError, Global};
 use tw_command::EventRange;
 use tw_machine::Plain;
 use tw_names::Symbols;
-use tw_picture::{Settings, TimelineBuilder, picture};
+use tw_picture::{Settings, TimelineBuilder, timeline};
 use tw_replies::Reply;
 use tw_types::Event;
 
@@ -31,7 +31,7 @@ fn picture_reply(
 {
     let close = close_of(plain.ending());
     let drawing = timeline_builder.drawing(alloc, plain, names)?;
-    let text = picture(alloc, &drawing, Settings::between(shown.from, shown.to))?;
+    let text = timeline(alloc, &drawing, Settings::between(shown.from, shown.to))?;
     Ok(Reply { text, close })
 }
 

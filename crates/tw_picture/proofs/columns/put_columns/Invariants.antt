@@ -1,5 +1,5 @@
 use Rattle.std.proofs.Common.{◌≡◌, ◌++◌}
-use Rattle.tw_picture.specs.Picture.{lane_columns}
+use Rattle.tw_picture.specs.Timeline.{lane_columns}
 use Rattle.tw_picture.specs.Xml.{below, xml_text}
 use Rattle.tw_picture.proofs.columns.put_columns.Given as goal
 

@@ -3,7 +3,7 @@ use Rattle.tw_replay.specs.Replay.{close_of}
 use Rattle.tw_replies.specs.Reply.{reply}
 use Rattle.tw_replies.specs.declared.close.Close.{Close}
 use Rattle.tw_picture.specs.declared.places.Settings.{Settings}
-use Rattle.tw_picture.specs.Picture.{picture_of}
+use Rattle.tw_picture.specs.Timeline.{picture_of}
 use Rattle.tw_picture.specs.Places.{between}
 use Rattle.tw_picture.specs.Xml.{xml_text}
 use Rattle.tw_replay.proofs.drawn.picture_reply.Goals as goal
