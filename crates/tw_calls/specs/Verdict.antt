@@ -3,11 +3,11 @@ use Rattle.std.specs.Prelude.{◌≡◌, ◌⊎◌, ℕ, List, Result, Ok, Err}
 use Rattle.tw_types.specs.declared.actor.Kind.TheVariants.{Control, Leaf}
 use Rattle.tw_code.specs.accepting.Needs.{needed}
 use Rattle.tw_code.specs.accepting.WellTyped.{IsAccepted, IsFirstRejection}
-use Rattle.tw_bytes.specs.declared.fault.Fault.{Fault}
+use Rattle.tw_binary.specs.declared.fault.Fault.{Fault}
 use Rattle.tw_code.specs.declared.procedure.Procedure.{Procedure}
-use Rattle.tw_bytes.specs.Fault.{fault_number}
+use Rattle.tw_binary.specs.Fault.{fault_number}
 use Rattle.tw_code.specs.format.Program.{Versioned}
-use Rattle.tw_bytes.specs.Reading.{program_of}
+use Rattle.tw_binary.specs.Reading.{program_of}
 use Rattle.tw_calls.specs.declared.verdicts.Verdict.{Verdict}
 
 -- the engines and workers that its targets need

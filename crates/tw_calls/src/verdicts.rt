@@ -5,7 +5,7 @@ ghost use Rattle.tw_verify.specs.Rejection.{verify_error_code};
 ghost use Rattle.tw_calls.specs.Verdict.{IsProgramVerdict, IsVerdict, accepted as accepted_is, fault as fault_is, no_memory as no_memory_is, rejection as rejection_is};
 
 use std::alloc::Global;
-use tw_bytes::{Fault, FaultNo, decode};
+use tw_binary::{Fault, FaultNo, decode};
 use tw_code::Program;
 use tw_verify::{Refused, Verified, VerifyError};
 

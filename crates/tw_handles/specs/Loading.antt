@@ -1,7 +1,7 @@
 -- The contents of a handle, and loading a program.
 use Rattle.std.specs.Prelude.{◌≡◌, ◌≢◌, ◌⊎◌, ℕ, List, [], Option, Some, None, Result, Ok, Err}
 use Rattle.std.specs.Arc.{arc_value}
-use Rattle.tw_bytes.specs.Reading.{program_of}
+use Rattle.tw_binary.specs.Reading.{program_of}
 use Rattle.tw_code.specs.accepting.WellTyped.{IsAccepted}
 use Rattle.tw_code.specs.format.Program.{Versioned}
 use Rattle.tw_in_turn.specs.declared.run.InTurnResult.{InTurnResult}

@@ -9,7 +9,7 @@ use crate::held::Held;
 use crate::verdict::{Verdict, accepted, fault_verdict, no_memory, rejection_verdict};
 use std::alloc::{AllocError, Global};
 use std::sync::Arc;
-use tw_bytes::decode;
+use tw_binary::decode;
 use tw_code::Program;
 use tw_verify::{Verified, verify};
 

@@ -4,7 +4,7 @@ ghost use Rattle.std.specs.Prelude.{◌≡◌, ◌≢◌, ◌⊎◌};
 ghost use Rattle.tw_verify.specs.Rejection.{verify_error_code};
 ghost use Rattle.tw_handles.specs.Verdict.{accepted as accepted_is, fault as fault_is, no_memory as no_memory_is, rejection as rejection_is};
 
-use tw_bytes::{Fault, FaultNo};
+use tw_binary::{Fault, FaultNo};
 use tw_verify::{Refused, Verified, VerifyError};
 
 /// The verdict on a program's bytes.

@@ -5,10 +5,10 @@ use Rattle.hex.specs.Hex.{decode_of, encode_lower}
 use Rattle.tw_asm.specs.Answers.{HasFault}
 use Rattle.tw_asm.specs.Fault as asm
 use Rattle.tw_asm.specs.Spelling.{SpellsProgram}
-use Rattle.tw_bytes.specs.Fault as fault
+use Rattle.tw_binary.specs.Fault as fault
 use Rattle.tw_code.specs.format.Program.{Versioned}
-use Rattle.tw_bytes.specs.Reading.{program_of}
-use Rattle.tw_bytes.specs.Spelling.{spelling}
+use Rattle.tw_binary.specs.Reading.{program_of}
+use Rattle.tw_binary.specs.Spelling.{spelling}
 use Rattle.tw_command.specs.declared.command.Assembling.{Assembling}
 use Rattle.tw_command.specs.declared.command.Assembling.TheVariants as assembling
 use Rattle.tw_command.specs.declared.command.Source.{Source}

@@ -15,7 +15,7 @@ use crate::program::{parse_error_reply, read_program};
 use crate::reply::{Reply, not_utf8_reply, refused_by};
 use std::alloc::{AllocError, Global};
 use tw_asm::{AsmFault, assemble};
-use tw_bytes::encode;
+use tw_binary::encode;
 use tw_code::Program;
 use tw_command::{Assembling, Source};
 use tw_words::put;

@@ -4,7 +4,7 @@ use crate::book::Book;
 use crate::complaint::Complaint;
 use std::alloc::Global;
 use tw_asm::assemble;
-use tw_bytes::encode;
+use tw_binary::encode;
 
 /// The bytes of a text such as `proc control / regs / RET`, `@every with 26=10 27=01` or `545742 @code 61*4096 first 31`.
 pub fn read_bytes(alloc: Global, book: &Book, text: &str) -> Result<Vec<u8>, Complaint> {

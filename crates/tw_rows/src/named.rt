@@ -6,7 +6,7 @@ use std::alloc::Global;
 use std::fs;
 use std::rt::Files;
 use tw_asm::assemble;
-use tw_bytes::encode;
+use tw_binary::encode;
 use tw_names::expanded_text;
 
 /// The assembly text for which a text stands, with a slash for each line end; or its first refusal, or that it stands for itself.

@@ -4,7 +4,7 @@ use crate::calls::is_verdict;
 use crate::complaint::Complaint;
 use crate::text::Text;
 use std::alloc::Global;
-use tw_bytes::{decode, encode};
+use tw_binary::{decode, encode};
 use tw_code::Program;
 use tw_types::{DataType, Scalar};
 use tw_verify::verify;

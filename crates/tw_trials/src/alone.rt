@@ -4,7 +4,7 @@ use crate::jobs::stretch_of;
 use std::alloc::{AllocError, Global};
 use std::rt::Env;
 use std::{env, io};
-use tw_bytes::decode;
+use tw_binary::decode;
 use tw_verify::{Verified, verify};
 
 /// Returns the bytes that the argument after `steps` has in hex digits, and the number in the argument after that, or 1 without one.

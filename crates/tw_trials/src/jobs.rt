@@ -5,7 +5,7 @@ ghost use Rattle.tw_frame.specs.Jobs.{job_of};
 
 use crate::stretches::next_program;
 use std::alloc::{AllocError, Global};
-use tw_bytes::decode;
+use tw_binary::decode;
 use tw_code::Procedure;
 use tw_frame::{Done, Frame, FrameBuffers, Job};
 use tw_instr::{Position, count_local};

@@ -3,7 +3,7 @@
 use crate::letters::{Letter, code_of, is_structured_code, spelled};
 use crate::walks::longest_walk;
 use std::alloc::{AllocError, Global};
-use tw_bytes::decode;
+use tw_binary::decode;
 use tw_verify::{Verified, verify};
 
 /// Returns the budget of main.

@@ -1,8 +1,8 @@
 use Rattle.std.proofs.Common.{◌≡◌, ◌⊎◌, Err, ap, inl, inr, subst, sym}
 use Rattle.std.specs.declared.result.Result.{Result}
-use Rattle.tw_bytes.specs.declared.fault.Fault.{Fault}
+use Rattle.tw_binary.specs.declared.fault.Fault.{Fault}
 use Rattle.tw_code.specs.format.Program.{Versioned}
-use Rattle.tw_bytes.specs.Reading.{out_of_memory, program_of}
+use Rattle.tw_binary.specs.Reading.{out_of_memory, program_of}
 use Rattle.tw_calls.specs.Verdict.{IsReadVerdict, IsVerdict}
 use Rattle.tw_calls.proofs.verdicts.verdict_of.Goals as goal
 

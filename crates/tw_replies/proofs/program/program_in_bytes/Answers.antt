@@ -1,6 +1,6 @@
 use Rattle.std.proofs.Common.{◌≡◌, ◌⊎◌, Err, ap, inl, inr, refl}
-use Rattle.tw_bytes.specs.declared.fault.Fault.{Fault}
-use Rattle.tw_bytes.specs.Reading.{out_of_memory, program_of}
+use Rattle.tw_binary.specs.declared.fault.Fault.{Fault}
+use Rattle.tw_binary.specs.Reading.{out_of_memory, program_of}
 use Rattle.tw_replies.proofs.program.program_in_bytes.Goals as goal
 
 pub returns-in_default-clause-none : goal.returns-in_default-clause-none

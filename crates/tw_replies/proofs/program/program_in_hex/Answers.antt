@@ -1,8 +1,8 @@
 use Rattle.std.proofs.Common.{◌≡◌, ◌≢◌, Ok, Err, rules, subst, sym}
 use Rattle.tw_replies.proofs.ReplyNames.{Hex, IfErr-weaker, IfOk-weaker, NoProgram, Spells, SpellsNone, Versioned}
 use Rattle.hex.specs.Hex.{decode_of}
-use Rattle.tw_bytes.specs.declared.fault.Fault.{Fault}
-use Rattle.tw_bytes.specs.Reading.{program_of}
+use Rattle.tw_binary.specs.declared.fault.Fault.{Fault}
+use Rattle.tw_binary.specs.Reading.{program_of}
 use Rattle.tw_replies.specs.Input.{digits_in}
 use Rattle.tw_replies.specs.declared.program.NoProgram.TheVariants.{Bytes, NoMemory}
 use Rattle.tw_replies.proofs.program.program_in_hex.Goals as goal

@@ -1,0 +1,16 @@
+use Rattle.std.proofs.Common.{[], ◌∷◌, length}
+use Rattle.std.proofs.lemmas.List.Elements.{All-from_recursion}
+use Rattle.tw_code.specs.format.Program.{IsProcedure, IsProgram}
+use Rattle.tw_binary.specs.Spelling.{procedure_items}
+use Rattle.tw_binary.proofs.Joined.{wrote_item}
+use Rattle.tw_binary.proofs.writing.encode.Goals as goal
+
+pub put_procedure-requires : goal.put_procedure-requires
+put_procedure-requires c =
+    let fits : IsProgram c.procedures-procedures.result.now = rw c.procedures-procedures.ensures.is c.procedures-procedures.ensures.within in
+    rw c.procedure-item.is (All-from_recursion IsProcedure c.procedures-procedures.result.now fits.1 c.loop-procedure.procedure-index _ c.loop-procedure-test.true)
+
+pub loop-procedure-preserved : goal.loop-procedure-preserved
+loop-procedure-preserved c =
+    wrote_item procedure_items c.procedures-procedures.result.now c.loop-procedure.procedure-index c.procedure-item.result (0x54 ∷ 0x57 ∷ 0x42 ∷ c.code_of_version-version.result ∷ length c.procedures-procedures.result.now ∷ []) _ _ c.loop-procedure-test.true c.procedure-item.is c.loop-procedure.invariant
+    c.in_ok-put_procedure.ensures

@@ -1,0 +1,229 @@
+//! Decodes instructions, in one row each.
+
+ghost use Rattle.std.specs.Prelude.{[], ◌∷◌};
+ghost use Rattle.tw_code.specs.declared.form.Form.TheVariants.{Args, Callee, Number, Skip, Target, Value};
+ghost use Rattle.tw_code.specs.declared.instr.LocalInstr.TheVariants.{Compute};
+ghost use Rattle.tw_code.specs.declared.instr.Priority.TheVariants.{Computed, Constant};
+ghost use Rattle.tw_code.specs.declared.version.Version.TheVariants.{One};
+ghost use Rattle.tw_binary.specs.Reading.{Gives, args_at, as_is, byte_at, contents_at, instr_at, made_at, number_at, register_at, skip_at, target_at, text_at, type_at, wide_at};
+ghost use Rattle.tw_code.specs.format.Table.{action_of, row_of};
+
+use crate::actions::{args_of, target_of};
+use crate::fault::{FaultNo, Stop};
+use crate::items::*;
+use crate::texts::text_of;
+use std::alloc::Global;
+use tw_code::{
+    Action, Arithmetic, DataInstr, Instr, LocalInstr, Opcode, Priority, Version, opcode_at,
+};
+use tw_types::{DataType, Items, Scalar, Text};
+
+fn register<'a>(bytes: &mut &'a [u8]) -> Result<u8, Stop>
+    ensures { Gives (λ x. (x, bytes.new.now)) result (register_at bytes.old.now) }
+{
+    let (register, rest) = register_of(bytes)?;
+    *bytes = rest;
+    Ok(register)
+}
+
+fn skip<'a>(bytes: &mut &'a [u8]) -> Result<u16, Stop>
+    ensures { Gives (λ x. (x, bytes.new.now)) result (skip_at bytes.old.now) }
+{
+    let (skip, rest) = wide_of(0, u16::MAX, bytes)?;
+    *bytes = rest;
+    Ok(skip)
+}
+
+fn number<'a>(bytes: &mut &'a [u8]) -> Result<i64, Stop>
+    ensures { Gives (λ x. (x, bytes.new.now)) result (number_at bytes.old.now) }
+{
+    let (number, rest) = number_of(bytes)?;
+    *bytes = rest;
+    Ok(number)
+}
+
+fn iterations<'a>(bytes: &mut &'a [u8]) -> Result<u16, Stop>
+    ensures { Gives (λ x. (x, bytes.new.now)) result (wide_at 1 1000 bytes.old.now) }
+{
+    let (iterations, rest) = wide_of(1, LocalInstr::MAX_ITERATIONS, bytes)?;
+    *bytes = rest;
+    Ok(iterations)
+}
+
+fn text<'a>(alloc: Global, bytes: &mut &'a [u8]) -> Result<Text, Stop>
+    ensures { Gives (λ x. (x, bytes.new.now)) result (text_at bytes.old.now) }
+{
+    let (text, rest) = text_of(alloc, bytes)?;
+    *bytes = rest;
+    Ok(text)
+}
+
+fn data_type<'a>(version: Version, bytes: &mut &'a [u8]) -> Result<DataType, Stop>
+    ensures { Gives (λ x. (x, bytes.new.now)) result (type_at version 3 bytes.old.now) }
+{
+    match type_of(version, DataType::MAX_DEPTH, bytes) {
+        Ok((ty, rest)) => {
+            *bytes = rest;
+            Ok(ty)
+        }
+        Err(e) => Err(e),
+    }
+}
+
+fn callee<'a>(bytes: &mut &'a [u8]) -> Result<u8, Stop>
+    ensures { Gives (λ x. (x, bytes.new.now)) result (byte_at 0 255 bytes.old.now) }
+{
+    let (callee, rest) = byte_of(0, u8::MAX, bytes)?;
+    *bytes = rest;
+    Ok(callee)
+}
+
+fn target<'a>(bytes: &mut &'a [u8]) -> Result<Option<u8>, Stop>
+    ensures { Gives (λ x. (x, bytes.new.now)) result (target_at bytes.old.now) }
+{
+    let (target, rest) = target_of(bytes)?;
+    *bytes = rest;
+    Ok(target)
+}
+
+fn args<'a>(alloc: Global, bytes: &mut &'a [u8]) -> Result<Items<u8>, Stop>
+    ensures { Gives (λ x. (x, bytes.new.now)) result (args_at bytes.old.now) }
+{
+    match args_of(alloc, bytes) {
+        Ok((args, rest)) => {
+            *bytes = rest;
+            Ok(args)
+        }
+        Err(e) => Err(e),
+    }
+}
+
+// ---- operands of several registers
+
+/// Decodes two registers.
+fn two<'a>(bytes: &mut &'a [u8]) -> Result<(u8, u8), Stop>
+    ensures { Gives (λ x. ((x.0, (x.1, tt)), bytes.new.now)) result (contents_at One (Value ∷ Value ∷ []) bytes.old.now) }
+{
+    Ok((register(bytes)?, register(bytes)?))
+}
+
+/// Decodes two registers and a skip.
+fn two_and_skip<'a>(bytes: &mut &'a [u8]) -> Result<(u8, u8, u16), Stop>
+    ensures { Gives (λ x. ((x.0, (x.1, (x.2, tt))), bytes.new.now)) result (contents_at One (Value ∷ Value ∷ Skip ∷ []) bytes.old.now) }
+{
+    Ok((register(bytes)?, register(bytes)?, skip(bytes)?))
+}
+
+/// Decodes three registers and a skip.
+fn three_and_skip<'a>(bytes: &mut &'a [u8]) -> Result<(u8, u8, u8, u16), Stop>
+    ensures { Gives (λ x. ((x.0, (x.1, (x.2, (x.3, tt)))), bytes.new.now)) result (contents_at One (Value ∷ Value ∷ Value ∷ Skip ∷ []) bytes.old.now) }
+{
+    Ok((
+        register(bytes)?,
+        register(bytes)?,
+        register(bytes)?,
+        skip(bytes)?,
+    ))
+}
+
+/// Decodes the operands of ADD to REM.
+fn compute<'a>(operation: Arithmetic, bytes: &mut &'a [u8]) -> Result<LocalInstr, Stop>
+    ensures { Gives (λ x. (x, bytes.new.now)) result
+        (as_is (λ x. Compute operation x.0 x.1.0 x.1.1.0 x.1.1.1.0) (contents_at One (Value ∷ Value ∷ Value ∷ Skip ∷ [])) bytes.old.now) }
+{
+    let (to, left, right, skip) = three_and_skip(bytes)?;
+    Ok(LocalInstr::Compute {
+        operation,
+        to,
+        left,
+        right,
+        skip,
+    })
+}
+
+/// Decodes the operands of RULE or PUT.
+fn constant_action<'a>(alloc: Global, bytes: &mut &'a [u8]) -> Result<Action, Stop>
+    ensures { Gives (λ x. (x, bytes.new.now)) result (as_is (action_of Constant) (contents_at One (Callee ∷ Number ∷ Target ∷ Args ∷ [])) bytes.old.now) }
+{
+    Ok(Action {
+        procedure: callee(bytes)?,
+        priority: Priority::Constant(number(bytes)?),
+        target: target(bytes)?,
+        args: args(alloc, bytes)?,
+    })
+}
+
+/// Decodes the operands of RULEV or PUTV, whose priority is in a value register.
+fn computed_action<'a>(alloc: Global, bytes: &mut &'a [u8]) -> Result<Action, Stop>
+    ensures { Gives (λ x. (x, bytes.new.now)) result (as_is (action_of Computed) (contents_at One (Callee ∷ Value ∷ Target ∷ Args ∷ [])) bytes.old.now) }
+{
+    Ok(Action {
+        procedure: callee(bytes)?,
+        priority: Priority::Computed(register(bytes)?),
+        target: target(bytes)?,
+        args: args(alloc, bytes)?,
+    })
+}
+
+/// Decodes the operands of an instruction, in one row each.
+#[rattlefmt::skip]
+fn operands_of<'a>(alloc: Global, version: Version, opcode: Opcode, bytes: &mut &'a [u8]) -> Result<Instr, Stop>
+    ensures { Gives (λ x. (x, bytes.new.now)) result (made_at version (row_of opcode) bytes.old.now) }
+{
+    match opcode {
+        Opcode::Int => Ok(Instr::Local(LocalInstr::Int { to: register(bytes)?, value: number(bytes)? })),
+        Opcode::Text => Ok(Instr::Local(LocalInstr::Text { to: register(bytes)?, text: text(alloc, bytes)? })),
+        Opcode::Copy => { let (to, from) = two(bytes)?; Ok(Instr::Local(LocalInstr::Copy { to, from })) }
+        Opcode::Add => Ok(Instr::Local(compute(Arithmetic::Add, bytes)?)),
+        Opcode::Subtract => Ok(Instr::Local(compute(Arithmetic::Subtract, bytes)?)),
+        Opcode::Multiply => Ok(Instr::Local(compute(Arithmetic::Multiply, bytes)?)),
+        Opcode::Divide => Ok(Instr::Local(compute(Arithmetic::Divide, bytes)?)),
+        Opcode::Remainder => Ok(Instr::Local(compute(Arithmetic::Remainder, bytes)?)),
+        Opcode::Concatenate => { let (to, left, right, skip) = three_and_skip(bytes)?; Ok(Instr::Local(LocalInstr::Concatenate { to, left, right, skip })) }
+        Opcode::Length => { let (to, from) = two(bytes)?; Ok(Instr::Local(LocalInstr::Length { to, from })) }
+        Opcode::Show => { let (to, from) = two(bytes)?; Ok(Instr::Local(LocalInstr::Show { to, from })) }
+        Opcode::ReadInt => { let (to, from, skip) = two_and_skip(bytes)?; Ok(Instr::Local(LocalInstr::ReadInt { to, from, skip })) }
+        Opcode::Jump => Ok(Instr::Local(LocalInstr::Jump { skip: skip(bytes)? })),
+        Opcode::JumpEqual => { let (left, right, skip) = two_and_skip(bytes)?; Ok(Instr::Local(LocalInstr::JumpEqual { left, right, skip })) }
+        Opcode::JumpLess => { let (left, right, skip) = two_and_skip(bytes)?; Ok(Instr::Local(LocalInstr::JumpLess { left, right, skip })) }
+        Opcode::Repeat => Ok(Instr::Local(LocalInstr::Repeat { iterations: iterations(bytes)? })),
+        Opcode::End => Ok(Instr::Local(LocalInstr::End)),
+        Opcode::New => { let (write, read) = two(bytes)?; Ok(Instr::Data(DataInstr::New { write, read, ty: data_type(version, bytes)? })) }
+        Opcode::Store => { let (datum, from) = two(bytes)?; Ok(Instr::Data(DataInstr::Store { datum, from })) }
+        Opcode::Get => { let (to, datum) = two(bytes)?; Ok(Instr::Data(DataInstr::Get { to, datum })) }
+        Opcode::Insert => { let (container, subscript, member, skip) = three_and_skip(bytes)?; Ok(Instr::Data(DataInstr::Insert { by: Scalar::Int, container, subscript, member, skip })) }
+        Opcode::Look => { let (member, container, subscript, skip) = three_and_skip(bytes)?; Ok(Instr::Data(DataInstr::Look { by: Scalar::Int, member, container, subscript, skip })) }
+        Opcode::Size => { let (to, container) = two(bytes)?; Ok(Instr::Data(DataInstr::Size { to, container })) }
+        Opcode::SubscriptAt => { let (to, container, index, skip) = three_and_skip(bytes)?; Ok(Instr::Data(DataInstr::SubscriptAt { by: Scalar::Int, to, container, index, skip })) }
+        Opcode::CopyRead => { let (to, from) = two(bytes)?; Ok(Instr::Data(DataInstr::CopyRead { to, from })) }
+        Opcode::CopyWrite => { let (to, from) = two(bytes)?; Ok(Instr::Data(DataInstr::CopyWrite { to, from })) }
+        Opcode::DropRead => Ok(Instr::Data(DataInstr::DropRead { right: register(bytes)? })),
+        Opcode::DropWrite => Ok(Instr::Data(DataInstr::DropWrite { right: register(bytes)? })),
+        Opcode::Rule => Ok(Instr::Rule(constant_action(alloc, bytes)?)),
+        Opcode::Put => Ok(Instr::Put(constant_action(alloc, bytes)?)),
+        Opcode::Ret => Ok(Instr::Ret),
+        Opcode::InsertByText => { let (container, subscript, member, skip) = three_and_skip(bytes)?; Ok(Instr::Data(DataInstr::Insert { by: Scalar::Text, container, subscript, member, skip })) }
+        Opcode::LookByText => { let (member, container, subscript, skip) = three_and_skip(bytes)?; Ok(Instr::Data(DataInstr::Look { by: Scalar::Text, member, container, subscript, skip })) }
+        Opcode::SubscriptAtByText => { let (to, container, index, skip) = three_and_skip(bytes)?; Ok(Instr::Data(DataInstr::SubscriptAt { by: Scalar::Text, to, container, index, skip })) }
+        Opcode::RuleComputed => Ok(Instr::Rule(computed_action(alloc, bytes)?)),
+        Opcode::PutComputed => Ok(Instr::Put(computed_action(alloc, bytes)?)),
+    }
+}
+
+/// Decodes an instruction: its code, and its operands after it. Allocates only for a text and for a list of arguments.
+#[tactic(auto, unfolding(crate::specs::Reading::instr_at))]
+pub fn instr_of(alloc: Global, version: Version, bytes: &[u8]) -> Result<(Instr, &[u8]), Stop>
+    ensures { Gives (λ x. (x.0, x.1.now)) result (instr_at version bytes.now) }
+{
+    match bytes {
+        [] => Err(Stop::missing()),
+        [code, rest @ ..] => match opcode_at(version, *code) {
+            Some(opcode) => {
+                let mut left = rest;
+                let instr = operands_of(alloc, version, opcode, &mut left)?;
+                Ok((instr, left))
+            }
+            None => Err(Stop::wrong(FaultNo::Unknown, bytes)),
+        },
+    }
+}

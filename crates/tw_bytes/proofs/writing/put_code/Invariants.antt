@@ -1,7 +1,0 @@
-use Rattle.std.proofs.Common.{◌≡◌, ◌++◌, length, take}
-use Rattle.std.specs.List.{concat, flat_map}
-use Rattle.tw_bytes.specs.Spelling.{wide, instr_items}
-use Rattle.tw_bytes.proofs.writing.put_code.Given as goal
-
-abbrev pub invariant-loop-instr : goal.invariant-loop-instr
-invariant-loop-instr l = l.bytes.out.items ≡ (l.fn.bytes.out.items ++ wide (length l.code)) ++ concat (flat_map instr_items (take l.instr-index l.code))

@@ -1,8 +1,0 @@
-//! Theorems on the definitions of this crate.
-
-ghost use Rattle.tw_bytes.specs.VersionOne.{KeepsVersionOne};
-
-/// Proves that bytes of version 1 encode the same programs as before version 2 existed.
-pub fn keeps_version_one()
-    ensures { KeepsVersionOne }
-{}
