@@ -1,7 +1,7 @@
 -- Statements of the same words differ in skips alone.
 use Rattle.std.proofs.Common.{◌≡◌, ℕ, List, [], ◌∷◌, ◌++◌, codes, refl, sym, ap, subst, ◌∙◌}
 use Rattle.tw_asm.proofs.AsmNames.{Bare, Code, Goals, Head, Label, OfVersion, Registers, ParserState, SpellParts, Spells, SpellsDigits, Statement, Version, Word, after, append_cancel_right, statement_parts, version_parts}
-use Rattle.tw_words.proofs.Numerals.{one_size}
+use Rattle.tw_lexer.proofs.Numerals.{one_size}
 use Rattle.tw_asm.proofs.Once.{begins, class_of, same_class, same_word}
 use Rattle.tw_asm.proofs.Rows.{different}
 

@@ -25,14 +25,14 @@ pub use Rattle.tw_code.specs.declared.version.Version.{Version}
 pub use Rattle.tw_code.specs.declared.version.Version.TheVariants.{One, Two}
 pub use Rattle.tw_code.specs.format.Program.{IsInstr, IsInstrOf, IsList, IsOperand, IsOperandOf, IsParam, IsParamOf, IsProcedure, IsProcedureOf, IsProgramOf, IsRegister, IsSkip, IsSubscriptOf, IsTarget, IsTypeOf, IsTypeUnderOf, IsVersioned, IsWithin, Versioned}
 pub use Rattle.tw_code.specs.format.Table.{Contents, Operand, forms_of, has_opcode, holds, if_had, priority_operand, row, word_of, opcode_in}
-pub use Rattle.tw_words.proofs.Once.{blank_no_word, broken_here, broken_no_line, first_word_once, line_blank, line_once}
-pub use Rattle.tw_words.specs.Number.{IsIn64, SpellsDigits, SpellsNumber}
-pub use Rattle.tw_words.specs.Seen.{IsRead as IsLineRead, seen}
-pub use Rattle.tw_words.specs.Words.{Bare, IsBrokenLine, IsFirstWord, IsLine, IsWord, Quoted, Word, is_edge}
+pub use Rattle.tw_lexer.proofs.Once.{blank_no_word, broken_here, broken_no_line, first_word_once, line_blank, line_once}
+pub use Rattle.tw_lexer.specs.Number.{IsIn64, SpellsDigits, SpellsNumber}
+pub use Rattle.tw_lexer.specs.Seen.{IsRead as IsLineRead, seen}
+pub use Rattle.tw_lexer.specs.Words.{Bare, IsBrokenLine, IsFirstWord, IsLine, IsWord, Quoted, Word, is_edge}
 pub use Rattle.tw_asm.specs.declared.fault.AsmFault.{AsmFault}
 pub use Rattle.tw_asm.specs.declared.fault.FaultNo.{FaultNo}
-pub use Rattle.tw_words.specs.declared.numbers.TokenError.{TokenError}
-pub use Rattle.tw_words.specs.declared.numbers.TokenError.TheVariants.{Form, Limit}
+pub use Rattle.tw_lexer.specs.declared.numbers.TokenError.{TokenError}
+pub use Rattle.tw_lexer.specs.declared.numbers.TokenError.TheVariants.{Form, Limit}
 pub use Rattle.tw_asm.specs.declared.statement.First.{First}
 pub use Rattle.tw_asm.specs.Disassembly.{code_lines, disassembly, first_ones, goal_from, goals_from, label_at, label_line, label_places, procedure_lines, version_line}
 pub use Rattle.tw_asm.specs.Fault.{AfterHead, AfterVersion, Begins, GoalFault, HasWords, InBody, IsEmpty, IsEndFault, IsFirstFault, IsFirstGoalFault, IsLineFault, IsOutset, IsUnfinished, IsWhole, LineFault, LineSays, LinesSay, MayBegin, MayStand, ParserState, Stage, Start, after, after_line, at_start, empty, instructions, label_twice, labels_ahead, limit, not_forward, operand, procedures, situation, situation_from, unknown, word}
@@ -42,8 +42,8 @@ pub use Rattle.tw_asm.specs.Spelling.{AreCode, GoesTo, HaveWords, Placed, SpellP
 pub use Rattle.tw_asm.specs.Statement.{AnyName, AnyShortName, Code, Goals, HasForm, HasInstr, HasOperand, HasParam, HasType, HaveForm, Head, IsExpected, IsInLimits, IsInName, IsInstrWord, IsLabelWord, IsLetter, IsName, IsShortName, IsTypeOfMode, Label, NamesLabel, OfVersion, Registers, Say, SpellParts, Spells, SpellsPart, SpellsWith, Statement, statement_parts, version_by, version_number}
 pub use Rattle.tw_asm.specs.Written.{goal_word, line_of, part_words}
 pub use Rattle.tw_asm.specs.reading.Lines.{Line, LineContent, around, code_read, contained, draft_in, each, each_from, few, joined, label_in, line_in, params_from, put_first, type_from, type_in}
-pub use Rattle.tw_words.specs.Names.{before_colon, is_name}
+pub use Rattle.tw_lexer.specs.Names.{before_colon, is_name}
 pub use Rattle.tw_asm.specs.reading.Operands.{Goal, at_label, both, container_in, further, literal_in, mode_in, name_in, natural_in, number_in, register_in, scalar_in, target_in, text_container}
-pub use Rattle.tw_words.specs.Digits.{as_is, digits_in, signed_in}
+pub use Rattle.tw_lexer.specs.Digits.{as_is, digits_in, signed_in}
 pub use Rattle.tw_asm.specs.reading.Progress.{AreClosed, AreFinished, AreNotRead, AreTextRead, AtStart, BehindHead, BehindVersion, Drafted, HasSections, IsEmptyAt, IsGoalOf, IsLimit, IsLimitLine, IsMemory, IsNotClosed, IsNotFinished, LineRead, LinesRead, Place, Progress, Section, Stopped, TakenLine, TakenStatement, Within, WordsRead, begun, drafts_at, ended, labels_at, line_step, outset, progress_from, section_numbers, seen_draft, seen_label, seen_reading, seen_section, seen_stage, situation_of, stage_of, step}
 pub use Rattle.tw_asm.specs.words.Lines.{behind, operand_words, spaced}

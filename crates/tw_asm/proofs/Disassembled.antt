@@ -5,7 +5,7 @@ use Rattle.tw_asm.proofs.AsmNames.{AllByRecursion, AllPairs, AreCode, Bare, Code
 use Rattle.std.proofs.lemmas.List.Elements.{Contains-append_left, Contains-append_right}
 use Rattle.std.proofs.lemmas.Str.{IsUtf8-append, IsUtf8-nil}
 use Rattle.tw_code.proofs.Widening.{instr_widened, widened}
-use Rattle.tw_words.proofs.Breaks.{IsOneLine, one_lines_back, with_line_feed}
+use Rattle.tw_lexer.proofs.Breaks.{IsOneLine, one_lines_back, with_line_feed}
 use Rattle.tw_asm.proofs.Labels.{numbered_name, one_numbered}
 use Rattle.tw_asm.proofs.Once.{begins, first_word}
 use Rattle.tw_asm.proofs.Quotes.{after_ascii}

@@ -4,14 +4,14 @@ use Rattle.tw_asm.proofs.AsmNames.{AllByRecursion, AnyName, AnyShortName, Bare, 
 use Rattle.tw_asm.proofs.Answered.{Judged, first_is, none_some, proc_is_none}
 use Rattle.tw_asm.proofs.OperandWords.{Free, kind_read}
 use Rattle.tw_asm.proofs.ParamWords.{AreParams, IsShallowParam, one_params, param_words, params_read}
-use Rattle.tw_words.proofs.Readings.{Reads}
+use Rattle.tw_lexer.proofs.Readings.{Reads}
 use Rattle.tw_asm.proofs.Readings.{both_read}
 use Rattle.tw_asm.proofs.Sayings.{code_first, no_label, nonempty}
 use Rattle.tw_asm.proofs.Sequences.{IsShallow, few_read}
 use Rattle.tw_asm.proofs.Spelled.{bare_is}
 use Rattle.tw_asm.proofs.TypeWords.{other_bytes, words_of}
 use Rattle.tw_asm.proofs.Versions.{any_type, under_shallow}
-use Rattle.tw_words.specs.Names.{before_colon}
+use Rattle.tw_lexer.specs.Names.{before_colon}
 use Rattle.tw_asm.specs.reading.Lines.{ended, few, head_in, head_read, kind_in, params_from}
 
 -- ---- the words of parameters

@@ -3,7 +3,7 @@ use Rattle.std.proofs.Common.{◌≡◌, ℕ, ◌≤◌, List, [], ◌∷◌, �
 use Rattle.tw_asm.proofs.AsmNames.{AllByRecursion, Bare, Goals, HasType, IsList, IsName, IsRegister, IsSkip, IsTypeOf, Natural, NoName, OnlyName, Part, Skip, SpellParts, SpellsPart, SpellsWith, Two, TypeOf, Word, at_label, further, natural_in}
 use Rattle.tw_asm.proofs.Names.{HasGoal, MayGoal, goal_read, no_letter}
 use Rattle.tw_asm.proofs.OperandWords.{Has, IsFine, May, natural_read, operand_read, part_of}
-use Rattle.tw_words.proofs.Readings.{Reads}
+use Rattle.tw_lexer.proofs.Readings.{Reads}
 use Rattle.tw_asm.proofs.Readings.{both_read}
 use Rattle.tw_asm.proofs.Sequences.{HaveEach, IsShallow, IsTypeIn, each_long, each_read, few_read, type_read}
 use Rattle.tw_asm.proofs.Versions.{any_type}

@@ -1,7 +1,7 @@
 -- The readings of single words.
 use Rattle.std.proofs.Common.{◌≡◌, ◌==◌, ℕ, ◌≤◌, Bool, true, false, cond, List, [], ◌∷◌, length, codes, Option, Some, None, Ok, Err, refl, sym, ap, subst, ◌∙◌, arith}
 use Rattle.tw_asm.proofs.AsmNames.{Bare, Closed, FitsSigned, Form, IsIn64, IsInRange, IsRegister, IsSubscriptOf, IsTarget, IsUtf8, IsWithin, Limit, Literal, Natural, NoName, Number, One, Part, Quoted, Ref, Right, Scalar, SpellsDigits, SpellsNumber, SpellsPart, SpellsWith, Target, Two, Val, Value, Version, Word, Write, as_is, bytes_eq, bytes_eq-Decides, container_in, container_word, digits_in, eqb-true, kind_word, literal_in, ltb-true, mode_in, mode_word, nat_lt, nat_tests, natural_in, number_in, register_in, scalar_in, scalar_word, signed_in, target_in, text_container, w64}
-use Rattle.tw_words.proofs.Readings.{digits_read, signed_read, Reads, carried}
+use Rattle.tw_lexer.proofs.Readings.{digits_read, signed_read, Reads, carried}
 use Rattle.tw_asm.proofs.Readings.{likewise}
 use Rattle.tw_asm.proofs.TypeWords.{other_bytes}
 use Rattle.tw_asm.specs.reading.Lines.{Content, Operand, kind_in, literal, natural, number, operand_in, right, target, value}

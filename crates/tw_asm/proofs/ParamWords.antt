@@ -2,7 +2,7 @@
 use Rattle.std.proofs.Common.{◌≡◌, suc, ◌≤◌, Bool, true, false, cond, List, [], ◌∷◌, ◌++◌, length, Option, Some, None, Result, Ok, Err, refl, sym, ap, subst, ◌∙◌, arith}
 use Rattle.tw_asm.proofs.AsmNames.{AllByRecursion, Bare, Closed, TokenError, Form, HasParam, HasType, Limit, Mode, NestedScalar, Param, Ref, Scalar, Val, Version, Word, Write, as_is, both, container_in, container_of, container_word, depth_of, flat_map, is_scalar, ltb-true, mode_in, mode_word, nat_lt, nat_tests, scalar_in, scalar_word}
 use Rattle.tw_asm.proofs.OperandWords.{Free, IsContainerOf, container_read, mode_read, scalar_read}
-use Rattle.tw_words.proofs.Readings.{Reads, carried}
+use Rattle.tw_lexer.proofs.Readings.{Reads, carried}
 use Rattle.tw_asm.proofs.Readings.{both_read}
 use Rattle.tw_asm.proofs.Sequences.{IsShallow}
 use Rattle.tw_asm.proofs.TypeWords.{first_is, mode_no_container, mode_no_scalar, one_mode, one_type, rest_is, words_of}

@@ -3,8 +3,8 @@ use Rattle.std.proofs.Common.{◌≡◌, ◌==◌, ◌||◌, ◌<◌, ◌/◌, �
 use Rattle.tw_asm.proofs.AsmNames.{AllByRecursion, IsUtf8, flat_map, if◌then◌else◌, nat_lt, nat_tests}
 use Rattle.std.proofs.lemmas.Str.{IsUtf8-append, IsUtf8-from_ascii, IsUtf8-nil}
 use Rattle.std.proofs.lemmas.Str.Ascii.{IsAscii-cons, IsAscii-nil}
-use Rattle.tw_words.specs.Quoted.{escaped, hex_digit, quoted}
-use Rattle.tw_words.proofs.Utf8.{cut_front, cut_rest}
+use Rattle.tw_lexer.specs.Quoted.{escaped, hex_digit, quoted}
+use Rattle.tw_lexer.proofs.Utf8.{cut_front, cut_rest}
 
 pub after_ascii : (b : ℕ) (text : List ℕ) → b < 128 → IsUtf8 text → IsUtf8 (b ∷ text)
 after_ascii b text small u = IsUtf8-append (b ∷ []) text (IsUtf8-from_ascii (b ∷ []) (IsAscii-cons b [] small IsAscii-nil)) u

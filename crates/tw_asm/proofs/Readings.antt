@@ -1,7 +1,7 @@
 -- Readings that answer what spells a value and what may stand there, and how they go together.
 use Rattle.std.proofs.Common.{Result, Ok, Err}
 use Rattle.tw_asm.proofs.AsmNames.{TokenError, Form, Limit, both}
-use Rattle.tw_words.proofs.Readings.{Reads}
+use Rattle.tw_lexer.proofs.Readings.{Reads}
 
 -- the same values, otherwise said
 pub likewise : {A : Type 0} (Has May Has' May' : A → Type 0) → ((a : A) → Has a → Has' a) → ((a : A) → Has' a → Has a) → ((a : A) → Has a → May a → May' a) → ((a : A) → Has' a → May' a → May a) → (r : Result A TokenError) → Reads Has May r → Reads Has' May' r

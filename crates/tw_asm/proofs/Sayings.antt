@@ -2,16 +2,16 @@
 use Rattle.std.proofs.Common.{◌≡◌, ◌≢◌, ℕ, ◌≤◌, List, [], ◌∷◌, ◌++◌, length, map, codes, Option, Some, None, Result, Ok, Err, refl, sym, ap, subst, ◌∙◌}
 use Rattle.tw_asm.proofs.AsmNames.{AllByRecursion, AnyName, AnyShortName, Bare, Code, TokenError, Form, Goals, HasForm, Head, Instr, IsInLimits, IsList, IsName, IsRead, IsWithin, Label, Limit, Name, Natural, NoName, OfVersion, Opcode, Part, Registers, Scalar, SpellParts, Spells, SpellsWith, Statement, Version, Word, as_is, flat_map, kind_word, name_in, natural_in, operand_parts, param_parts, register_part, row, scalar_in, scalar_word, word_of}
 use Rattle.tw_asm.proofs.Answered.{Judged, first_is, none_some, regs_is_none, version_is_none}
-use Rattle.tw_words.proofs.Colons.{before, found_before}
+use Rattle.tw_lexer.proofs.Colons.{before, found_before}
 use Rattle.tw_asm.proofs.Names.{IsThisName, name_read}
 use Rattle.tw_asm.proofs.OperandWords.{Free, natural_read, scalar_read}
-use Rattle.tw_words.proofs.Readings.{Reads}
+use Rattle.tw_lexer.proofs.Readings.{Reads}
 use Rattle.tw_asm.proofs.Sequences.{HaveEach, each_long, each_read, few_read}
 use Rattle.tw_asm.proofs.Spelled.{bare_is}
 use Rattle.tw_asm.proofs.Table as tables
 use Rattle.tw_asm.proofs.TypeWords.{other_bytes}
 use Rattle.tw_asm.proofs.Versions.{by_number}
-use Rattle.tw_words.specs.Names.{before_colon}
+use Rattle.tw_lexer.specs.Names.{before_colon}
 use Rattle.tw_asm.specs.reading.Lines.{each, few, label_line, label_read, named_in, registers_in, registers_read, version_in, version_read}
 use Rattle.tw_code.specs.format.Table.{opcode_in}
 

@@ -2,7 +2,7 @@
 use Rattle.std.proofs.Common.{◌≡◌, ℕ, suc, ◌≤◌, Bool, true, false, cond, List, [], ◌∷◌, ◌++◌, length, Result, Ok, Err, refl, sym, ap, subst, ◌∙◌, arith, append_assoc, append-nil}
 use Rattle.tw_asm.proofs.AsmNames.{AllByRecursion, Bare, TokenError, Form, HasType, IsList, Limit, NestedScalar, Scalar, Version, Word, around, as_is, both, contained, container_in, container_of, container_word, depth_of, each, each_from, few, joined, ltb-true, nat_lt, nat_tests, put_first, scalar_in, scalar_type, scalar_word, type_in}
 use Rattle.tw_asm.proofs.OperandWords.{Free, IsContainerOf, container_read, scalar_read}
-use Rattle.tw_words.proofs.Readings.{Reads, carried}
+use Rattle.tw_lexer.proofs.Readings.{Reads, carried}
 use Rattle.tw_asm.proofs.Readings.{both_read, likewise}
 use Rattle.tw_asm.proofs.TypeWords.{one_container, one_type, words_of}
 

@@ -1,7 +1,7 @@
 -- Words spell one list of parts alone, but for names of skips.
 use Rattle.std.proofs.Common.{◌≡◌, ◌⊎◌, inl, inr, ℕ, true, List, [], ◌∷◌, ◌++◌, map, codes, Option, Some, None, refl, sym, ap, subst, ◌∙◌, arith}
 use Rattle.tw_asm.proofs.AsmNames.{Bare, Goals, IsInRange, IsName, Literal, Name, Natural, NestedScalar, NoName, Number, OnlyName, Part, Quoted, Right, Scalar, Skip, SpellParts, SpellsDigits, SpellsNumber, SpellsPart, SpellsWith, Target, TypeOf, Value, Word, append_cancel_left, container_word, scalar_word}
-use Rattle.tw_words.proofs.Numerals.{one_number, one_size}
+use Rattle.tw_lexer.proofs.Numerals.{one_number, one_size}
 use Rattle.tw_asm.proofs.Rows.{AreAlike, different, is_last, reskip, skips_last, sort_of}
 use Rattle.tw_asm.proofs.TypeWords.{one_type, words_of}
 

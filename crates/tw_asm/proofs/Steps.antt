@@ -2,7 +2,7 @@
 use Rattle.std.proofs.Common.{◌≡◌, ◌⊎◌, ℕ, suc, ◌+◌, List, [], ◌∷◌, ◌++◌, length, map, Option, Some, None, Result, Ok, Err, MatchResult, inl, inr, refl, sym, subst, ap, ◌∙◌, arith}
 use Rattle.tw_asm.proofs.AsmNames.{AfterHead, AnyShortName, AreNotRead, AreTextRead, AsmFault, AtStart, BehindHead, BehindVersion, Code, FaultNo, Head, InBody, IsLineFault, IsMemory, IsNotFinished, IsRead, IsShortName, IsUnfinished, Label, LineFault, LineRead, LineSays, LinesRead, LinesSay, MayStand, NoName, OfVersion, OnlyName, Place, Placed, Progress, Read, Registers, Say, Section, ParserState, Stage, Statement, Version, Within, Word, after, after_line, enumerate_from, length-append, line_step, lines, map-append, outset, progress_from, situation_from, situation_of, step}
 use denote.Ref.{Bor}
-use Rattle.tw_words.proofs.LineLoops.{StandsAtLine, all_lines}
+use Rattle.tw_lexer.proofs.LineLoops.{StandsAtLine, all_lines}
 use Rattle.tw_asm.proofs.Once.{spells_more}
 use Rattle.tw_asm.proofs.Stages.{body_head, body_start, head_body, head_start, progress, start_body, start_head, version_body, version_head, version_start}
 

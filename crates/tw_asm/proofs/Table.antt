@@ -17,7 +17,7 @@ use Rattle.tw_code.specs.declared.opcode.Opcode.TheVariants as op
 use Rattle.tw_code.specs.declared.opcode.TheConstants.{OPCODES}
 use Rattle.tw_code.specs.format.Table.{opcode_of, word_of, opcode_in}
 use Rattle.tw_asm.specs.reading.Lines.{Content, Line, LineContent, Operand, Row, args, draft_by, draft_in, goal, label_in, line_in, literal, more, natural, never, nothing, number, right, row, row_of, target, type, value}
-use Rattle.tw_words.specs.Names.{before_colon}
+use Rattle.tw_lexer.specs.Names.{before_colon}
 
 -- ---- a row's parts
 

@@ -2,9 +2,9 @@
 use Rattle.std.proofs.Common.{◌≡◌, ◌≢◌, Bool, true, false, cond, ℕ, List, [], ◌∷◌, ◌++◌, map, codes, Option, Some, None, Result, Ok, Err, refl, sym, subst, ◌∙◌}
 use Rattle.tw_asm.proofs.AsmNames.{AllByRecursion, AnyName, Bare, Code, TokenError, Goals, Head, Label, Name, Natural, OfVersion, Opcode, Part, Quoted, Registers, SpellParts, Statement, Version, Word, bytes_eq, bytes_eq-Decides, flat_map, kind_word, operand_parts, param_parts, register_part, row, statement_parts, word_of}
 use Rattle.std.proofs.lemmas.Str.{IsUtf8-string_bytes}
-use Rattle.tw_words.specs.Seen as lines
-use Rattle.tw_words.specs.declared.word.Word as words
-use Rattle.tw_words.specs.declared.word.Word.TheVariants as word
+use Rattle.tw_lexer.specs.Seen as lines
+use Rattle.tw_lexer.specs.declared.word.Word as words
+use Rattle.tw_lexer.specs.declared.word.Word.TheVariants as word
 use Rattle.tw_asm.proofs.Answered.{Judged, code_answered, first_is}
 use Rattle.tw_asm.proofs.HeadWords.{head_answered}
 use Rattle.tw_asm.proofs.OperandWords.{IsFine}

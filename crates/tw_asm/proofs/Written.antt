@@ -11,11 +11,11 @@ use Rattle.tw_code.specs.declared.form.Form.TheVariants as form
 use Rattle.tw_code.specs.declared.opcode.Opcode.TheVariants as op
 use Rattle.tw_code.specs.format.Table as table
 use Rattle.tw_types.specs.declared.actor.Kind.TheVariants.{Control, Leaf}
-use Rattle.tw_words.specs.Quoted.{quoted}
-use Rattle.tw_words.proofs.Numerals.{shown}
-use Rattle.tw_words.proofs.Written.{quoted_spells}
-use Rattle.tw_words.proofs.Breaks.{IsOneLine}
-use Rattle.tw_words.proofs.Writing.{AreWords, joined_line, joined_one_line, quoted_one_line}
+use Rattle.tw_lexer.specs.Quoted.{quoted}
+use Rattle.tw_lexer.proofs.Numerals.{shown}
+use Rattle.tw_lexer.proofs.Written.{quoted_spells}
+use Rattle.tw_lexer.proofs.Breaks.{IsOneLine}
+use Rattle.tw_lexer.proofs.Writing.{AreWords, joined_line, joined_one_line, quoted_one_line}
 use Rattle.tw_asm.proofs.Quotes.{after_ascii, quoted_utf8}
 use Rattle.tw_asm.proofs.Rows.{both_true, different, is_last, row, skips_last, sort_of}
 use Rattle.tw_asm.proofs.TypeWords.{words_of}

@@ -9,7 +9,7 @@ use Rattle.tw_code.specs.declared.version.Version.{Version}
 use Rattle.tw_code.specs.declared.version.Version.TheVariants.{One}
 use Rattle.std.specs.List.{Contains}
 use Rattle.std.specs.Str.Lines.{lines}
-use Rattle.tw_words.specs.Words.{Bare, IsFirstWord, IsLine, Word}
+use Rattle.tw_lexer.specs.Words.{Bare, IsFirstWord, IsLine, Word}
 use Rattle.tw_asm.specs.declared.statement.First.{First}
 use Rattle.tw_asm.specs.declared.statement.First.TheVariants as first
 use Rattle.tw_asm.specs.Statement.{Statement, OfVersion, Head, Registers, Label, Code, HaveForm, IsExpected, NamesLabel, Say, version_by}

@@ -8,7 +8,7 @@ use Rattle.tw_code.specs.declared.instr.Instr.TheVariants as instr
 use Rattle.tw_code.specs.declared.instr.LocalInstr.{LocalInstr}
 use Rattle.tw_code.specs.declared.instr.LocalInstr.TheVariants as local
 use Rattle.tw_code.specs.declared.version.Version.{Version}
-use Rattle.tw_words.specs.Words.{Word}
+use Rattle.tw_lexer.specs.Words.{Word}
 use Rattle.tw_asm.specs.declared.statement.Statement as statements
 use Rattle.tw_asm.specs.declared.statement.Statement.TheVariants as statement
 use Rattle.tw_asm.specs.Statement.{Statement, OfVersion, Head, Registers, Label, Code, Goals, Spells, IsInLimits, IsShortName, NamesLabel, version_number}

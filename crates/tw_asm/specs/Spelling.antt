@@ -7,7 +7,7 @@ use Rattle.tw_code.specs.declared.procedure.Procedure.{Procedure}
 use Rattle.tw_code.specs.declared.version.Version.{Version}
 use Rattle.tw_code.specs.declared.version.Version.TheVariants.{One}
 use Rattle.tw_code.specs.format.Program.{IsVersioned, Versioned}
-use Rattle.tw_words.specs.Words.{Word, IsLine}
+use Rattle.tw_lexer.specs.Words.{Word, IsLine}
 use Rattle.tw_asm.specs.Statement.{Code, Goals, Head, IsInLimits, Label, OfVersion, Registers, Spells, version_number}
 
 -- the words of each line that has any

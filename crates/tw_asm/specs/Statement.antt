@@ -15,8 +15,8 @@ use Rattle.tw_code.specs.declared.version.Version.{Version}
 use Rattle.tw_code.specs.declared.version.Version.TheVariants.{One, Two}
 use Rattle.tw_code.specs.format.Program.{IsInstr, IsList, IsParam, IsSubscriptOf, IsWithin}
 use Rattle.tw_code.specs.format.Table.{Operand, has_opcode, holds, row}
-use Rattle.tw_words.specs.Number.{SpellsDigits, SpellsNumber}
-use Rattle.tw_words.specs.Words.{Word, Bare, Quoted}
+use Rattle.tw_lexer.specs.Number.{SpellsDigits, SpellsNumber}
+use Rattle.tw_lexer.specs.Words.{Word, Bare, Quoted}
 use Rattle.tw_asm.specs.declared.statement.First.{First}
 use Rattle.tw_asm.specs.declared.statement.First.TheVariants as first
 use Rattle.tw_asm.specs.Parts.{Part, Name, Value, Right, Number, Natural, Literal, TypeOf, Skip, Target, head_parts, instr_parts, label_parts, registers_parts, type_words, version_parts}

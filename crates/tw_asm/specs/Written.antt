@@ -2,7 +2,7 @@
 use Rattle.std.specs.Prelude.{ℕ, List, [], ◌∷◌, ◌++◌, codes, Option, Some, None}
 use Rattle.std.specs.Fmt.{decimal, signed_decimal}
 use Rattle.std.specs.List.{flat_map, join_with_byte}
-use Rattle.tw_words.specs.Quoted.{quoted}
+use Rattle.tw_lexer.specs.Quoted.{quoted}
 use Rattle.tw_asm.specs.Parts.{Part, Name, Value, Right, Number, Natural, Literal, TypeOf, Skip, Target, type_words}
 use Rattle.tw_asm.specs.Statement.{Statement, statement_parts}
 

@@ -6,7 +6,7 @@ ghost use Rattle.tw_asm.specs.Statement.{IsInstrWord, IsLabelWord, IsExpected};
 
 use crate::statement::First;
 use tw_code::{Version, opcode_in};
-use tw_words::{before, is_name};
+use tw_lexer::{before, is_name};
 
 #[tactic(auto, using(crate::proofs::Firsts::no_label))]
 fn is_label(word: &[u8]) -> bool

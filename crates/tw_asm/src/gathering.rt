@@ -1,17 +1,17 @@
 //! Items one after the other, and types.
 
 ghost use Rattle.std.specs.Prelude.{◌≡◌, IfOk, Ok, map, reverse};
-ghost use Rattle.tw_words.specs.Seen.{seen as seen_word};
+ghost use Rattle.tw_lexer.specs.Seen.{seen as seen_word};
 ghost use Rattle.tw_asm.specs.reading.Lines.{around, contained, each, few, joined, put_first, type_in, typed};
-ghost use Rattle.tw_words.specs.Digits.{as_is};
+ghost use Rattle.tw_lexer.specs.Digits.{as_is};
 ghost use Rattle.tw_asm.specs.reading.Operands.{natural_in, scalar_in};
 ghost use Rattle.tw_types.specs.DataType.{scalar_type};
 
 use crate::operands::{both_of, byte_of, container_of, scalar_of};
 use std::alloc::{AllocError, Global};
 use tw_code::{Procedure, Version};
+use tw_lexer::{TokenError, Word};
 use tw_types::{DataType, Items, Scalar};
-use tw_words::{TokenError, Word};
 
 /// One item more.
 pub fn joined<A: Drop>(

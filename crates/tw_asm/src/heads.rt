@@ -1,10 +1,10 @@
 //! Parameters of a procedure.
 
 ghost use Rattle.std.specs.Prelude.{◌≡◌, IfOk, map, reverse};
-ghost use Rattle.tw_words.specs.Words.{Bare};
-ghost use Rattle.tw_words.specs.Seen.{seen as seen_word};
+ghost use Rattle.tw_lexer.specs.Words.{Bare};
+ghost use Rattle.tw_lexer.specs.Seen.{seen as seen_word};
 ghost use Rattle.tw_asm.specs.reading.Lines.{begins, broken, ended, ends, few, goes_on, kind_in, param_of, params_from, taken, under};
-ghost use Rattle.tw_words.specs.Digits.{as_is};
+ghost use Rattle.tw_lexer.specs.Digits.{as_is};
 ghost use Rattle.tw_asm.specs.reading.Operands.{container_in, mode_in, scalar_in};
 ghost use Rattle.tw_asm.specs.reading.Heads.{seen_params};
 
@@ -12,8 +12,8 @@ use crate::gathering::{contained, few, put_first};
 use crate::operands::{container_of, mode_of, scalar_of};
 use std::alloc::{AllocError, Global};
 use tw_code::{Procedure, Version};
+use tw_lexer::{TokenError, Word};
 use tw_types::{DataType, Items, Kind, Mode, Param};
-use tw_words::{TokenError, Word};
 
 /// The parameters so far, from the last one on, and the type whose mode is due.
 #[derive(Drop)]

@@ -1,7 +1,7 @@
 //! Instruction lines: the operands of each.
 
 ghost use Rattle.std.specs.Prelude.{◌≡◌, None, map};
-ghost use Rattle.tw_words.specs.Seen.{seen as seen_word};
+ghost use Rattle.tw_lexer.specs.Seen.{seen as seen_word};
 ghost use Rattle.tw_code.specs.declared.instr.Instr.TheVariants as instr;
 ghost use Rattle.tw_code.specs.declared.instr.LocalInstr.TheVariants as local;
 ghost use Rattle.tw_code.specs.declared.instr.Priority.TheVariants.{Computed, Constant};
@@ -10,7 +10,7 @@ ghost use Rattle.tw_code.specs.format.Table.{forms_of};
 ghost use Rattle.tw_asm.specs.Seen.{bytes_of};
 ghost use Rattle.tw_asm.specs.reading.Forms.{EndsInSkip, TakesNoMemory};
 ghost use Rattle.tw_asm.specs.reading.Lines.{Gives, args, draft_in, drafted, goal, line_in, literal, more, natural, nothing, number, target, value};
-ghost use Rattle.tw_words.specs.Digits.{as_is};
+ghost use Rattle.tw_lexer.specs.Digits.{as_is};
 
 use crate::gathering::args_of;
 use crate::operands::*;
@@ -19,8 +19,8 @@ use crate::shapes::*;
 use crate::statement::Unlinked;
 use std::alloc::Global;
 use tw_code::{Action, Arithmetic, DataInstr, Instr, LocalInstr, Opcode, Priority, Version};
+use tw_lexer::{TokenError, Word};
 use tw_types::{Items, Scalar, Text};
-use tw_words::{TokenError, Word};
 
 /// An instruction that names no label.
 fn straight<'a>(instr: Instr) -> Unlinked<'a>

@@ -11,8 +11,8 @@ use indexmap::IndexSet;
 use std::alloc::{AllocError, Global};
 use std::marker::Model;
 use tw_code::{Instr, Procedure};
+use tw_lexer::put_numbered;
 use tw_types::Param;
-use tw_words::put_numbered;
 
 /// Where the labels of a procedure's code stand.
 #[derive(Drop)]

@@ -1,16 +1,16 @@
 //! Operands: what one word says.
 
 ghost use Rattle.std.specs.Prelude.{◌≡◌, ◌≤◌, IfOk};
-ghost use Rattle.tw_words.specs.Words.{Bare};
-ghost use Rattle.tw_words.specs.Seen.{seen as seen_word};
-ghost use Rattle.tw_words.specs.Digits.{as_is, digits_in, signed_in};
+ghost use Rattle.tw_lexer.specs.Words.{Bare};
+ghost use Rattle.tw_lexer.specs.Seen.{seen as seen_word};
+ghost use Rattle.tw_lexer.specs.Digits.{as_is, digits_in, signed_in};
 ghost use Rattle.tw_asm.specs.reading.Operands.{both, natural_in, register_in, number_in, literal_in, name_in, target_in, goal_in, scalar_in, text_container, container_in, mode_in};
 
 use std::alloc::{AllocError, Global};
 use std::marker::Model;
 use tw_code::{LocalInstr, Procedure, Version};
+use tw_lexer::{TokenError, Word, digits, is_name, number};
 use tw_types::{Layout, Mode, Scalar, Text};
-use tw_words::{TokenError, Word, digits, is_name, number};
 
 /// The most bytes of a label's name.
 const MAX_NAME: usize = 64;

@@ -1,8 +1,8 @@
 //! Statements from words.
 
 ghost use Rattle.std.specs.Prelude.{◌≡◌, ◌∷◌, map};
-ghost use Rattle.tw_words.specs.Seen.{seen as seen_word};
-ghost use Rattle.tw_words.specs.Words.{Bare};
+ghost use Rattle.tw_lexer.specs.Seen.{seen as seen_word};
+ghost use Rattle.tw_lexer.specs.Words.{Bare};
 ghost use Rattle.tw_asm.specs.Seen.{seen};
 ghost use Rattle.tw_asm.specs.LineAnswers.{Answers};
 ghost use Rattle.tw_asm.specs.Statement.{version_by};
@@ -17,7 +17,7 @@ use crate::rejection::Rejection;
 use crate::statement::Statement;
 use std::alloc::Global;
 use tw_code::{Version, opcode_in};
-use tw_words::{TokenError, Word, before_colon};
+use tw_lexer::{TokenError, Word, before_colon};
 
 /// The version of this number, 1 or 2.
 fn version_by(number: u8) -> Version

@@ -4,7 +4,7 @@ ghost use Rattle.std.specs.Prelude.{◌≡◌, ◌↔◌, IsTrue, MatchOption, M
 ghost use Rattle.tw_asm.specs.Fault.{MayBegin};
 ghost use Rattle.tw_asm.specs.reading.Progress.{AreClosed, AreFinished, AreNotRead, BehindVersion, HasSections, IsEmptyAt, IsNotClosed, IsNotFinished, LinesAreRead, TakenLine, TakenStatement, WordsRead, IsLimitLine, seen_reading, seen_section, seen_stage, stage_of};
 ghost use Rattle.tw_asm.specs.reading.Expected.{IsExpectedBy, expectation};
-ghost use Rattle.tw_words.specs.Seen.{seen as seen_word};
+ghost use Rattle.tw_lexer.specs.Seen.{seen as seen_word};
 ghost use Rattle.tw_asm.specs.Seen.{seen as seen_statement};
 ghost use Rattle.tw_asm.specs.Statement.{Head, Registers};
 ghost use Rattle.tw_asm.specs.declared.statement.First.TheVariants as expected;
@@ -19,8 +19,8 @@ use crate::statement::{First, Statement, Unlinked};
 use indexmap::IndexMap;
 use std::alloc::Global;
 use tw_code::{Program, Version};
+use tw_lexer::{TextHash, TokenError, Word, words_of};
 use tw_types::{Items, Kind, Param, Scalar};
-use tw_words::{TextHash, TokenError, Word, words_of};
 
 /// The labels of a procedure, and their places.
 pub type Labels<'a> = IndexMap<&'a [u8], usize, TextHash>;

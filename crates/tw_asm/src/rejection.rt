@@ -4,7 +4,7 @@ ghost use Rattle.std.specs.Prelude.{◌≡◌};
 ghost use Rattle.tw_asm.specs.declared.rejection.Rejection.TheVariants.{NoMemory, Flawed};
 
 use std::alloc::{AllocError, AllocFailed};
-use tw_words::TokenError;
+use tw_lexer::TokenError;
 
 /// Why no statement is read from words.
 #[derive(Clone, Copy, Debug, PartialEq, Eq)]

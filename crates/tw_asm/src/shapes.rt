@@ -1,14 +1,14 @@
 //! Operands of several words, and of several operands.
 
 ghost use Rattle.std.specs.Prelude.{◌≡◌, map};
-ghost use Rattle.tw_words.specs.Seen.{seen as seen_word};
+ghost use Rattle.tw_lexer.specs.Seen.{seen as seen_word};
 ghost use Rattle.tw_asm.specs.reading.Lines.{goal, line_in, more, natural, nothing, number, right, type, value};
 
 use crate::gathering::type_of;
 use crate::operands::*;
 use tw_code::Version;
+use tw_lexer::{TokenError, Word};
 use tw_types::DataType;
-use tw_words::{TokenError, Word};
 
 /// No operands.
 pub fn nothing_of(words: &[Word<'_>]) -> Result<(), TokenError>

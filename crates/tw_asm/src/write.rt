@@ -13,12 +13,12 @@ ghost use Rattle.tw_code.specs.format.Table.{word_of};
 ghost use Rattle.tw_asm.specs.words.Lines.{behind, operand_words, row_line};
 ghost use Rattle.tw_code.specs.format.Program.{IsInstr};
 ghost use Rattle.tw_code.specs.format.Sink.{seen};
-ghost use Rattle.tw_words.specs.Quoted.{quoted};
+ghost use Rattle.tw_lexer.specs.Quoted.{quoted};
 
 use std::alloc::{AllocError, Global};
 use tw_code::{Instr, Opcode, Operand, Sink, Version, word_of};
+use tw_lexer::{put, put_both, put_numbered, put_quoted};
 use tw_types::{DataType, Kind, Mode, Param, Scalar};
-use tw_words::{put, put_both, put_numbered, put_quoted};
 
 fn kind_word(kind: Kind) -> &'static str
     ensures { result.now ≡ kind_word kind }

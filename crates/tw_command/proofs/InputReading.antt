@@ -6,13 +6,13 @@ use Rattle.std.specs.Char.{digit_value}
 use Rattle.std.specs.Str.Parse.{AllDigits}
 use Rattle.std.proofs.lemmas.Int.{to_z-of_z}
 use Rattle.std.proofs.lemmas.Str.Parse.{digit_from_value}
-use Rattle.tw_words.specs.declared.numbers.TokenError.{TokenError}
-use Rattle.tw_words.specs.declared.numbers.TokenError.TheVariants.{Form, Limit}
-use Rattle.tw_words.specs.Number.{IsIn64, IsRead, SpellsNumber}
-use Rattle.tw_words.specs.Quoted.{BeginsQuoted, SpellsQuoted}
-use Rattle.tw_words.proofs.Insides.{one_text}
-use Rattle.tw_words.proofs.Numerals.{one_number}
-use Rattle.tw_words.proofs.Utf8.{cut_rest}
+use Rattle.tw_lexer.specs.declared.numbers.TokenError.{TokenError}
+use Rattle.tw_lexer.specs.declared.numbers.TokenError.TheVariants.{Form, Limit}
+use Rattle.tw_lexer.specs.Number.{IsIn64, IsRead, SpellsNumber}
+use Rattle.tw_lexer.specs.Quoted.{BeginsQuoted, SpellsQuoted}
+use Rattle.tw_lexer.proofs.Insides.{one_text}
+use Rattle.tw_lexer.proofs.Numerals.{one_number}
+use Rattle.tw_lexer.proofs.Utf8.{cut_rest}
 use Rattle.tw_command.specs.InputWords.{SpellsInt, SpellsMember}
 use Rattle.tw_command.specs.reading.Members.{HasNoFirst, IsCut, IsFirst, IsMark, IsStop}
 use Rattle.tw_command.proofs.Members.{one_cut}

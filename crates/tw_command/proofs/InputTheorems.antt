@@ -4,7 +4,7 @@ use Rattle.std.proofs.lemmas.List.{append_cancel_left, length-map, length-take, 
 use Rattle.std.proofs.lemmas.Bool.{eqb-false}
 use Rattle.tw_types.specs.declared.input.Input.{Input}
 use Rattle.tw_types.specs.declared.input.Input.TheVariants as input
-use Rattle.tw_words.specs.Quoted.{SpellsQuoted}
+use Rattle.tw_lexer.specs.Quoted.{SpellsQuoted}
 use Rattle.tw_command.specs.InputWords.{AreBehind, AreJoined, AreSpelled, IsRefusedWord, OneInput, OneRefusedWord, RefusedWord, refused_word, SpellsInput, SpellsInt, SpellsMember, SpellsMembers, SpellsRest, head_of}
 use Rattle.tw_command.specs.InputReasons.{diagnostic_line}
 use Rattle.tw_command.specs.Order.{IsInputReason, IsRejection}

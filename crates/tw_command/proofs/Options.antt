@@ -19,9 +19,9 @@ use Rattle.clap.specs.Walk.{is_empty}
 use Rattle.clap.specs.declared.error.ErrorKind.{ErrorKind}
 use Rattle.clap.specs.declared.error.ErrorKind.TheVariants.{ArgumentConflict, ValueValidation}
 use Rattle.clap.proofs.WalkLemmas.{both, first_value-rows}
-use Rattle.tw_words.specs.Number.{IsRead, SpellsDigits}
-use Rattle.tw_words.specs.declared.numbers.TokenError.{TokenError}
-use Rattle.tw_words.specs.declared.numbers.TokenError.TheVariants.{Form, Limit}
+use Rattle.tw_lexer.specs.Number.{IsRead, SpellsDigits}
+use Rattle.tw_lexer.specs.declared.numbers.TokenError.{TokenError}
+use Rattle.tw_lexer.specs.declared.numbers.TokenError.TheVariants.{Form, Limit}
 use Rattle.tw_types.specs.Layout.{ActorCounts}
 use Rattle.tw_command.specs.Options.{HasActors, HasStretch, NumberOption, actor_options, engines, first_shown, inputs, is_given, last_shown, limit, number_in, number_of, number_options, option_faults, servers, stretch_options, workers}
 use Rattle.tw_command.specs.Order.{HasReason, IsRequest}

@@ -1,10 +1,10 @@
 -- Why a word spells no input, and how that is told.
 use Rattle.std.specs.Prelude.{ℕ, ℤ, ◌==◌, Bool, true, false, not, ◌&&◌, if◌then◌else◌, List, ◌++◌, codes, decimal, drop, nat_eq, Result, Ok, Err}
 use Rattle.std.specs.List.{ends_with, list_any, starts_with}
-use Rattle.tw_words.specs.Digits.{signed_in}
-use Rattle.tw_words.specs.Shown.{shortened_quoted}
-use Rattle.tw_words.specs.declared.numbers.TokenError.{TokenError}
-use Rattle.tw_words.specs.declared.numbers.TokenError.TheVariants.{Form, Limit}
+use Rattle.tw_lexer.specs.Digits.{signed_in}
+use Rattle.tw_lexer.specs.Shown.{shortened_quoted}
+use Rattle.tw_lexer.specs.declared.numbers.TokenError.{TokenError}
+use Rattle.tw_lexer.specs.declared.numbers.TokenError.TheVariants.{Form, Limit}
 
 -- ---- what is wrong
 

@@ -2,8 +2,8 @@
 use Rattle.std.specs.Prelude.{◌≡◌, ℕ, ℤ, List, [], ◌∷◌, ◌++◌, codes, length, suc}
 use Rattle.tw_types.specs.declared.input.Input.{Input}
 use Rattle.tw_types.specs.declared.input.Input.TheVariants as input
-use Rattle.tw_words.specs.Number.{IsIn64, SpellsNumber}
-use Rattle.tw_words.specs.Quoted.{SpellsQuoted}
+use Rattle.tw_lexer.specs.Number.{IsIn64, SpellsNumber}
+use Rattle.tw_lexer.specs.Quoted.{SpellsQuoted}
 use Rattle.tw_command.specs.InputReasons.{diagnostic_line}
 
 -- ---- lists

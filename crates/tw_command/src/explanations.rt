@@ -9,7 +9,7 @@ ghost use Rattle.tw_command.specs.Explanations.{IsExplanation, IsTold, assembly_
 use crate::explained_names::NAMES;
 use crate::explained_programs::{TRAPS, VERIFIER};
 use std::alloc::{AllocError, Global};
-use tw_words::put;
+use tw_lexer::put;
 
 /// What is told of a number.
 #[derive(Clone, Copy)]

@@ -18,8 +18,8 @@ use crate::input_words::input_of;
 use crate::limit::EventLimit;
 use clap::ArgMatches;
 use std::alloc::Global;
+use tw_lexer::digits;
 use tw_types::{Input, Items, Layout};
-use tw_words::digits;
 
 /// The number from 1 to `most` that an option has, or `default` where it isn't given.
 pub(crate) fn number_given(

@@ -1,13 +1,13 @@
 //! Why a word spells no input.
 
 ghost use Rattle.std.specs.Prelude.{◌≡◌, ◌++◌, IfOk, OnOk};
-ghost use Rattle.tw_words.specs.Digits.{signed_in};
+ghost use Rattle.tw_lexer.specs.Digits.{signed_in};
 ghost use Rattle.tw_command.specs.InputReasons.{form_by_int, form_by_text, has, input_text, int_diagnostic, list_diagnostic, diagnostic_line, text_diagnostic, word_diagnostic};
 ghost use Rattle.tw_command.specs.Order.{IsRejection};
 
 use crate::command::NoOrder;
 use std::alloc::{AllocError, Global};
-use tw_words::{TokenError, number, put, put_both, put_numbered, put_shortened_quoted};
+use tw_lexer::{TokenError, number, put, put_both, put_numbered, put_shortened_quoted};
 
 fn int_diagnostic(read: Result<i64, TokenError>) -> &'static str
     ensures { result.now ≡ int_diagnostic read }

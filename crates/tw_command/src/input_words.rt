@@ -6,8 +6,8 @@ ghost use Rattle.tw_command.specs.InputWords.{SpellsInput};
 
 use crate::lists::{int_of, members};
 use std::alloc::{AllocError, Global};
+use tw_lexer::after;
 use tw_types::{Input, InputText, Items};
-use tw_words::after;
 
 /// A text as it stands.
 fn text_of(alloc: Global, bytes: &[u8]) -> Result<InputText, AllocError>

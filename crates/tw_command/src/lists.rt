@@ -1,13 +1,13 @@
 //! The members of a container, with commas between them.
 
 ghost use Rattle.std.specs.Prelude.{ℕ, ℤ, List, IfOk, IsUtf8, MatchOption};
-ghost use Rattle.tw_words.specs.Quoted.{SpellsQuoted};
+ghost use Rattle.tw_lexer.specs.Quoted.{SpellsQuoted};
 ghost use Rattle.tw_command.specs.InputWords.{SpellsInt, SpellsMember, SpellsMembers};
 ghost use Rattle.tw_command.specs.reading.Members.{HasNoFirst, IsCut, IsFirst, IsMark};
 
 use std::alloc::{AllocError, Global};
+use tw_lexer::{after, number, quoted_text};
 use tw_types::InputText;
-use tw_words::{after, number, quoted_text};
 
 /// What stands before or behind the `=` of a member.
 pub trait Part: Drop {

@@ -13,7 +13,7 @@ use crate::shown::{Conflict, event_range_given, run_answer};
 use clap::error::ErrorKind;
 use clap::{ArgMatches, Error};
 use std::alloc::{AllocError, Global};
-use tw_words::{put, put_shortened_quoted};
+use tw_lexer::{put, put_shortened_quoted};
 
 /// Which option has no number in its range, if one hasn't.
 fn range_line(given: &ArgMatches<'_>) -> Option<&'static str> {

@@ -4,10 +4,10 @@ use Rattle.tw_names.proofs.TextNames.{AllByRecursion, IsTail, IsUtf8, StandsFirs
 use Rattle.std.specs.Fmt.{digit_glyph, digits, digits_onto}
 use Rattle.std.proofs.lemmas.Bool.Decides.{nat_tests}
 use Rattle.std.proofs.lemmas.Str.{IsUtf8-append, IsUtf8-nil}
-use Rattle.tw_words.proofs.Breaks.{HasNoLineFeed}
-use Rattle.tw_words.proofs.Texts.{edge_small, parting_small, rest_utf8}
-use Rattle.tw_words.proofs.Utf8.{cut_front, cut_rest, one_ascii}
-use Rattle.tw_words.specs.Words.{IsAtEdge, IsGap}
+use Rattle.tw_lexer.proofs.Breaks.{HasNoLineFeed}
+use Rattle.tw_lexer.proofs.Texts.{edge_small, parting_small, rest_utf8}
+use Rattle.tw_lexer.proofs.Utf8.{cut_front, cut_rest, one_ascii}
+use Rattle.tw_lexer.specs.Words.{IsAtEdge, IsGap}
 
 -- no text of a line loses it by what a line stands for
 pub record IsKept (Q : List ℕ → Type 0) : Type 0 where

@@ -4,8 +4,8 @@ use Rattle.tw_names.proofs.TextNames.{AllByRecursion, AreTaken, Broken, IsTaken,
 use Rattle.std.proofs.lemmas.Bool.{eqb-true}
 use Rattle.std.proofs.lemmas.List.Splits.{slice_split-cons_no}
 use Rattle.std.proofs.lemmas.Str.{IsCharBoundary-before_ascii, IsUtf8-append, IsUtf8-nil, IsUtf8-take}
-use Rattle.tw_words.proofs.Breaks.{HasNoLineFeed}
-use Rattle.tw_words.proofs.Utf8.{cut_front, cut_rest, one_ascii}
+use Rattle.tw_lexer.proofs.Breaks.{HasNoLineFeed}
+use Rattle.tw_lexer.proofs.Utf8.{cut_front, cut_rest, one_ascii}
 use Rattle.tw_names.specs.Theorems.{AsManyLines, InUtf8}
 use Rattle.tw_names.proofs.KeptTexts.{AllKept, IsKept, all_kept, either, feeds_front, feeds_kept, utf8_kept}
 use Rattle.tw_names.proofs.SaidTexts.{line_kept, ok_is, went_then}

@@ -4,7 +4,7 @@ use Rattle.tw_names.proofs.TextNames.{TokenError, Line, Names, Procedures, Said,
 use Rattle.std.proofs.lemmas.Bool.Decides.{nat_tests}
 use Rattle.std.specs.Prelude.{is_none, not, ◌&&◌}
 use Rattle.std.specs.Str.{bytes_eq}
-use Rattle.tw_words.specs.Names.{before_colon}
+use Rattle.tw_lexer.specs.Names.{before_colon}
 use Rattle.tw_code.specs.format.Table.{forms_of, opcode_in}
 use Rattle.tw_code.specs.declared.opcode.Opcode.{Opcode}
 use Rattle.tw_code.specs.declared.version.Version.TheVariants.{Two}

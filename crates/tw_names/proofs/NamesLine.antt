@@ -1,6 +1,6 @@
 -- The line `names`.
 use Rattle.std.proofs.Common.{[], ◌≡◌, ℕ, Bool, true, false, List, ◌∷◌, ◌++◌, Option, Some, None, refl, sym, ap, subst, ◌∙◌, inl, inr, append-nil, arith}
-use Rattle.tw_words.specs.Words.{Bare, IsBare}
+use Rattle.tw_lexer.specs.Words.{Bare, IsBare}
 use Rattle.tw_names.proofs.TextNames.{◌&&◌, AreWords, Broken, HasNames, IsTail, IsTaken, Line, Worded, codes, is_names_line, line_words, named_by}
 use Rattle.std.specs.Str.{bytes_eq}
 use Rattle.std.proofs.lemmas.Slice.Eq.{bytes_eq-Decides}

@@ -1,9 +1,9 @@
 -- The words of a line are one list.
 use Rattle.std.proofs.Common.{[], ◌≡◌, ℕ, ◌+◌, ◌-◌, ◌<◌, List, ◌∷◌, ◌++◌, length, take, refl, sym, ap, subst, ◌∙◌, arith}
 use Rattle.tw_names.proofs.TextNames.{AreTaken, AreWords, Broken, IsTail, IsTaken, Line, StandFirst, StandsFirst, Worded, length-append, take_at}
-use Rattle.tw_words.specs.Words.{IsBlank, IsFirstWord, IsWord, Bare, Quoted, Word}
-use Rattle.tw_words.specs.reading.Next.{IsAfterGap}
-use Rattle.tw_words.proofs.Once.{blank_no_word, first_word_once, gap_once, word_here}
+use Rattle.tw_lexer.specs.Words.{IsBlank, IsFirstWord, IsWord, Bare, Quoted, Word}
+use Rattle.tw_lexer.specs.reading.Next.{IsAfterGap}
+use Rattle.tw_lexer.proofs.Once.{blank_no_word, first_word_once, gap_once, word_here}
 
 -- what stands before a text's end
 cut_front : (text after : List ℕ) → take (length (text ++ after) - length after) (text ++ after) ≡ text

@@ -7,11 +7,11 @@ use Rattle.std.specs.Str.{bytes_eq}
 use Rattle.std.proofs.lemmas.List.Sums.{sum_by-cons}
 use Rattle.std.proofs.lemmas.Fmt.{decimal_is_IsNumeral}
 use Rattle.std.proofs.lemmas.Slice.Eq.{bytes_eq-Decides}
-use Rattle.tw_words.specs.Digits.{digits_in}
-use Rattle.tw_words.specs.declared.numbers.TokenError as numbers
-use Rattle.tw_words.specs.Names.{before_colon}
-use Rattle.tw_words.proofs.Colons.{before}
-use Rattle.tw_words.proofs.Readings.{digits_same}
+use Rattle.tw_lexer.specs.Digits.{digits_in}
+use Rattle.tw_lexer.specs.declared.numbers.TokenError as numbers
+use Rattle.tw_lexer.specs.Names.{before_colon}
+use Rattle.tw_lexer.proofs.Colons.{before}
+use Rattle.tw_lexer.proofs.Readings.{digits_same}
 use Rattle.tw_names.proofs.TextNames.{TokenError, Names, Procedures, Table, is_name, is_some, known, list_says, may_name, meaning, name_register, nat_lt, or_else, refused}
 use Rattle.tw_names.specs.Theorems.{ListedByPlace, NamesStay, UsesAreRegisters, begun, read_in}
 use Rattle.tw_names.specs.Meanings.{is_bank, is_listed, with_listed, with_register}

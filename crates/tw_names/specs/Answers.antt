@@ -3,7 +3,7 @@ use Rattle.std.specs.Prelude.{◌≡◌, ◌⊎◌, ◌<◌, ℕ, Bool, true, fa
 use Rattle.std.specs.Fmt.{signed_decimal}
 use Rattle.tw_names.specs.Meanings.{TokenError, lists}
 use Rattle.std.specs.Str.Lines.{lines}
-use Rattle.tw_words.specs.Words.{IsBlank, IsBroken}
+use Rattle.tw_lexer.specs.Words.{IsBlank, IsBroken}
 use Rattle.tw_names.specs.Lines.{IsTaken, Line, StandsFirst, line_words, pieces_after}
 use Rattle.tw_names.specs.LineExpansion.{Said, is_names_line}
 use Rattle.tw_names.specs.Seen.{seen_names}

@@ -1,6 +1,6 @@
 -- How the words of a line are taken: as they stand in it.
 use Rattle.std.specs.Prelude.{◌≡◌, ◌==◌, ◌||◌, ℕ, Bool, false, List, [], ◌∷◌, ◌++◌, if◌then◌else◌}
-use Rattle.tw_words.specs.Words.{IsAtWord, IsBlank, IsBroken, IsFirstWord, IsGap, Word}
+use Rattle.tw_lexer.specs.Words.{IsAtWord, IsBlank, IsBroken, IsFirstWord, IsGap, Word}
 
 pub data Line : Type 0 where
   -- its words, and what follows the last one: a gap, and a comment or none

@@ -2,8 +2,8 @@
 use Rattle.std.specs.Prelude.{◌==◌, ◌+◌, ◌&&◌, ◌||◌, ℕ, Bool, true, false, not, List, [], ◌∷◌, ◌++◌, length, codes, Option, Some, None, Result, Ok, Err, is_some, nat_lt, if◌then◌else◌}
 use Rattle.std.specs.Map.{lookup}
 use Rattle.std.specs.Str.{bytes_eq}
-use Rattle.tw_words.specs.Digits.{are_digits}
-use Rattle.tw_words.specs.Names as words
+use Rattle.tw_lexer.specs.Digits.{are_digits}
+use Rattle.tw_lexer.specs.Names as words
 use Rattle.tw_names.specs.declared.meaning.Bank.{Bank}
 use Rattle.tw_names.specs.declared.meaning.Bank.TheVariants as bank
 use Rattle.tw_names.specs.declared.meaning.Origin.{Origin}

@@ -6,7 +6,7 @@ use Rattle.std.specs.Option.{option_map_or}
 use Rattle.std.specs.Result.{result_ok}
 use Rattle.std.specs.Str.{bytes_eq}
 use Rattle.std.specs.Str.Lines.{lines}
-use Rattle.tw_words.specs.Digits.{digits_in}
+use Rattle.tw_lexer.specs.Digits.{digits_in}
 use Rattle.tw_names.specs.Lines.{AreTaken, Line, line_words}
 use Rattle.tw_names.specs.Meanings.{Names, Procedures, Table, is_bank, is_name, known, meaning}
 use Rattle.tw_names.specs.Registers.{registers_at}

@@ -8,7 +8,7 @@ ghost use Rattle.tw_names.specs.Seen.{now, texts};
 
 use crate::meaning::Bank;
 use std::alloc::{AllocError, Global};
-use tw_words::before_colon;
+use tw_lexer::before_colon;
 
 /// The bank of a parameter of this mode.
 pub fn bank_of_mode(word: &[u8]) -> Option<Bank>

@@ -3,7 +3,7 @@
 ghost use Rattle.std.specs.Prelude.{◌≡◌, ◌++◌, IfOk, OnOk, drop, take};
 ghost use Rattle.std.specs.List.{flat_map};
 ghost use Rattle.std.specs.Result.{result_ok};
-ghost use Rattle.tw_words.specs.Digits.{digits_in};
+ghost use Rattle.tw_lexer.specs.Digits.{digits_in};
 ghost use Rattle.tw_names.specs.Meanings.{known};
 ghost use Rattle.tw_names.specs.Answers.{Gives, SaysBehind};
 ghost use Rattle.tw_code.specs.format.Table.{forms_of};

@@ -1,15 +1,15 @@
 //! The words of a line, as they stand in it.
 
 ghost use Rattle.std.specs.Prelude.{◌≡◌, ◌++◌, ◌∷◌, [], ℕ, List, IfOk, IsUtf8};
-ghost use Rattle.tw_words.specs.Seen.{seen};
-ghost use Rattle.tw_words.specs.Words.{IsFirstWord};
-ghost use Rattle.tw_words.specs.reading.Next.{IsAfterGap};
+ghost use Rattle.tw_lexer.specs.Seen.{seen};
+ghost use Rattle.tw_lexer.specs.Words.{IsFirstWord};
+ghost use Rattle.tw_lexer.specs.reading.Next.{IsAfterGap};
 ghost use Rattle.tw_names.specs.Answers.{IsFirst};
 ghost use Rattle.tw_names.specs.Lines.{IsTaken, Line, StandsFirst, line_rest, line_words};
 ghost use Rattle.tw_names.specs.Seen.{texts};
 
 use std::alloc::{AllocError, Global};
-use tw_words::{Next, Word, next_word, without_gap};
+use tw_lexer::{Next, Word, next_word, without_gap};
 
 /// A line: its words, and what follows the last one.
 ///

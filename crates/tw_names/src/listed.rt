@@ -3,7 +3,7 @@
 ghost use Rattle.std.specs.Prelude.{◌≡◌, ◌≤◌, ◌^◌, IfOk, OnOk, filter, length};
 ghost use Rattle.std.specs.Option.{option_map};
 ghost use Rattle.tw_names.specs.Answers.{Gives, SaysBehind};
-ghost use Rattle.tw_words.specs.Names.{before_colon};
+ghost use Rattle.tw_lexer.specs.Names.{before_colon};
 ghost use Rattle.tw_names.specs.LineExpansion.{at_head, begins, behind, begins_at, begins_first, has_colon, head_says, is_listed_word, is_unnamed, list_name, list_says, name_before, name_says, number_in, registers_say, unnamed_says};
 ghost use Rattle.tw_names.specs.Seen.{now, seen_names, seen_procedures, texts};
 
@@ -16,7 +16,7 @@ use crate::procedures::Procedures;
 use crate::rejection::{NameNo, Rejection};
 use indexmap::IndexMap;
 use std::alloc::{AllocError, Global};
-use tw_words::before_colon;
+use tw_lexer::before_colon;
 
 /// Of which bank a register begins with this word.
 fn begins(listed: Listed, word: &[u8]) -> Option<Bank>

@@ -1,7 +1,7 @@
 //! The names that are known at a line.
 
 ghost use Rattle.std.specs.Prelude.{◌≡◌, ◌==◌, ◌||◌, ◌∷◌, [], ◌++◌, ◌<◌, None, OnOk, nat_lt, slice_get};
-ghost use Rattle.tw_words.specs.Digits.{all_digits, are_digits};
+ghost use Rattle.tw_lexer.specs.Digits.{all_digits, are_digits};
 ghost use Rattle.std.specs.Char.{digit_value};
 ghost use Rattle.tw_names.specs.Answers.{Gives, lists_entry};
 ghost use Rattle.tw_names.specs.Meanings.{above, is_name, is_register_word, known, may_name, meaning, no_names, with_constant, with_listed, with_register, is_listed, lists};
@@ -13,7 +13,7 @@ use crate::procedures::Procedures;
 use crate::rejection::{NameNo, Rejection};
 use indexmap::IndexMap;
 use std::alloc::{AllocError, Global};
-use tw_words::TextHash;
+use tw_lexer::TextHash;
 
 /// Names, and what they mean.
 pub type Table<'a> = IndexMap<&'a [u8], Binding, TextHash>;
@@ -99,7 +99,7 @@ fn is_register_word(word: &[u8]) -> bool
 pub fn is_name(word: &[u8]) -> bool
     ensures { result ≡ is_name word.now }
 {
-    if !tw_words::is_name(word) {
+    if !tw_lexer::is_name(word) {
         false
     } else if word.len() > MAX_NAME {
         false

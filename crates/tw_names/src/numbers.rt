@@ -2,9 +2,9 @@
 
 ghost use Rattle.std.specs.Prelude.{◌≡◌};
 ghost use Rattle.std.specs.Result.{result_ok};
-ghost use Rattle.tw_words.specs.Digits.{digits_in, signed_in};
+ghost use Rattle.tw_lexer.specs.Digits.{digits_in, signed_in};
 
-use tw_words::{digits, number};
+use tw_lexer::{digits, number};
 
 /// The number that digits spell, up to this one.
 pub fn natural(text: &[u8], most: u64) -> Option<usize>

@@ -13,7 +13,7 @@ use crate::names::{Names, is_name, known};
 use crate::procedures::Procedures;
 use crate::rejection::{NameNo, Rejection};
 use std::alloc::{AllocError, Global};
-use tw_words::{put_numbered, put_signed};
+use tw_lexer::{put_numbered, put_signed};
 
 /// What stands in the place of a name.
 #[derive(Clone, Copy)]

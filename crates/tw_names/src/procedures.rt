@@ -14,7 +14,7 @@ use crate::names::{Table, meaning, put_name};
 use crate::pieces::pieces_of;
 use indexmap::IndexMap;
 use std::alloc::{AllocError, Global};
-use tw_words::TextHash;
+use tw_lexer::TextHash;
 
 /// A procedure: the banks of its parameters, and the line at which it begins.
 #[derive(Drop)]

@@ -6,9 +6,9 @@ use Rattle.std.specs.Borrow.{Bor}
 use Rattle.tw_types.specs.DataType.{scalar_type}
 use Rattle.tw_code.specs.declared.form.Form.{Form as OperandForm}
 use Rattle.tw_code.specs.declared.form.Form.TheVariants as form
-use Rattle.tw_words.specs.Digits.{as_is, digits_in}
+use Rattle.tw_lexer.specs.Digits.{as_is, digits_in}
 use Rattle.tw_asm.specs.reading.Operands.{at_label, both, container_in, further, goal_in, literal_in, name_in, natural_in, number_in, register_in, scalar_in, target_in}
-use Rattle.tw_words.specs.Names.{is_name}
+use Rattle.tw_lexer.specs.Names.{is_name}
 use Rattle.tw_reasons.specs.declared.step.Read.{Read}
 use Rattle.tw_reasons.specs.declared.step.Read.TheVariants as read
 use Rattle.tw_reasons.proofs.Classes.{Class, class_of, container, mode, other, scalar}

@@ -3,7 +3,7 @@ use Rattle.std.proofs.Common.{◌≡◌, ◌+◌, ◌∷◌, ◌++◌, [], ℕ, 
 use Rattle.std.proofs.lemmas.Slice.Eq.{bytes_eq-Decides}
 use Rattle.std.specs.Option.{option_map_or}
 use Rattle.tw_reasons.proofs.ReasonNames.{Bare, IsFirstWord, Quoted, Word, before_colon, bytes_eq, first_word_once}
-use Rattle.tw_words.proofs.Colons.{before, found_before}
+use Rattle.tw_lexer.proofs.Colons.{before, found_before}
 use Rattle.tw_reasons.proofs.Heads.{all_more}
 use Rattle.tw_reasons.specs.Labels.{IsLabelIn, IsLabelLine}
 use Rattle.tw_reasons.specs.LabelWords.{is_label}

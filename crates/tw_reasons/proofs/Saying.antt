@@ -5,8 +5,8 @@ use Rattle.std.proofs.lemmas.Slice.Eq.{bytes_eq-Decides}
 use Rattle.tw_code.specs.declared.opcode.Opcode.{Opcode}
 use Rattle.tw_code.specs.format.Program.{IsWithin}
 use Rattle.tw_code.specs.format.Table.{row, word_of}
-use Rattle.tw_words.specs.Number.{SpellsDigits}
-use Rattle.tw_words.specs.declared.word.Word as words
+use Rattle.tw_lexer.specs.Number.{SpellsDigits}
+use Rattle.tw_lexer.specs.declared.word.Word as words
 use Rattle.tw_asm.specs.Parts.{Name, Natural, kind_word, operand_parts, param_parts, register_part}
 use Rattle.tw_asm.proofs.Answered.{first_is, none_some, proc_is_none, regs_is_none, version_is_none}
 use Rattle.tw_asm.proofs.Sayings.{code_first, no_label}

@@ -3,7 +3,7 @@ use Rattle.std.proofs.Common.{◌≡◌, ℕ, ◌+◌, ◌-◌, ◌<◌, ◌≤�
 use Rattle.std.proofs.lemmas.List.{take_at}
 use Rattle.tw_reasons.proofs.ReasonNames.{AreFirstWords, IsBlank, IsBroken, IsFirstWord, IsLine, IsWord, MatchOption, Stands, Word, broken_no_line, first_words_more, length-append, line_once, word_here}
 use Rattle.tw_reasons.specs.declared.error_position.ErrorPosition.{ErrorPosition}
-use Rattle.tw_words.specs.reading.Next.{IsAfterGap}
+use Rattle.tw_lexer.specs.reading.Next.{IsAfterGap}
 
 -- what stands before a back
 pub front_cut : (xs front back : List ℕ) → xs ≡ front ++ back → xs ≡ take (length xs - length back) xs ++ back

@@ -14,11 +14,11 @@ use Rattle.tw_code.specs.format.Table as table
 use Rattle.tw_code.specs.format.Table.{a_row, forms_in, forms_of, opcode_in}
 use Rattle.tw_asm.specs.declared.statement.First.{First}
 use Rattle.tw_asm.specs.declared.statement.First.TheVariants as first
-use Rattle.tw_words.specs.Names.{before_colon}
+use Rattle.tw_lexer.specs.Names.{before_colon}
 use Rattle.tw_asm.specs.reading.Lines.{body_in, code_read, draft_in, each, ended, few, goal, head_in, head_read, kind_in, label_in, label_line, label_read, line_in, line_of, named_in, params_from, registers_in, registers_read, row_by, statement_in, version_in, version_read}
-use Rattle.tw_words.specs.Digits.{as_is, digits_in, signed_in}
+use Rattle.tw_lexer.specs.Digits.{as_is, digits_in, signed_in}
 use Rattle.tw_asm.specs.reading.Operands.{both, literal_in, name_in, natural_in, number_in, register_in, scalar_in, target_in}
-use Rattle.tw_words.proofs.Colons.{before}
+use Rattle.tw_lexer.proofs.Colons.{before}
 use Rattle.tw_asm.proofs.Firsts.{named_word}
 use Rattle.tw_asm.proofs.Names.{name_decide}
 use Rattle.tw_asm.proofs.OperandWords.{IsFine}

@@ -2,7 +2,7 @@
 use Rattle.std.proofs.Common.{◌≡◌, ℕ, zero, suc, ◌+◌, ◌-◌, ◌≢◌, Bool, true, false, cond, List, [], ◌∷◌, ◌++◌, None, Some, refl, sym, ap, subst, ◌∙◌, arith, length, take, drop, get_or, ◌≤◌}
 use Rattle.std.proofs.lemmas.Option.{none-some}
 use Rattle.tw_reasons.proofs.ReasonNames.{Scalar, Typing, checks_args, checks_left, checks_right, checks_value, checks_values, is_left, is_unmet, slice_set, take_all, first_unmet, value_types, without_args}
-use Rattle.tw_words.proofs.Texts.{slice_tail}
+use Rattle.tw_lexer.proofs.Texts.{slice_tail}
 use Rattle.tw_types.specs.declared.param.Param.{Param}
 use Rattle.tw_types.specs.Mode.{is_val}
 use Rattle.tw_reasons.specs.declared.register_check.RegisterCheck.{RegisterCheck}

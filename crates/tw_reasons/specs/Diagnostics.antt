@@ -3,9 +3,9 @@ use Rattle.std.specs.Prelude.{◌≡◌, ◌≢◌, ◌⊎◌, ◌&&◌, ◌==�
 use Rattle.std.specs.List.{starts_with}
 use Rattle.std.specs.Str.Lines.{lines}
 use Rattle.std.specs.Str.{bytes_eq}
-use Rattle.tw_words.specs.Names.{before_colon, is_name}
-use Rattle.tw_words.specs.Shown.{shortened}
-use Rattle.tw_words.specs.Words.{IsLine, Word}
+use Rattle.tw_lexer.specs.Names.{before_colon, is_name}
+use Rattle.tw_lexer.specs.Shown.{shortened}
+use Rattle.tw_lexer.specs.Words.{IsLine, Word}
 use Rattle.tw_asm.specs.Fault.{LineFault, LinesSay, ParserState, at_start, situation}
 use Rattle.tw_asm.specs.Statement.{Statement}
 use Rattle.tw_asm.specs.declared.fault.FaultNo.{FaultNo}

@@ -9,13 +9,13 @@ use Rattle.tw_code.specs.declared.form.Form.{Form}
 use Rattle.tw_code.specs.declared.form.Form.TheVariants as form
 use Rattle.tw_code.specs.declared.version.Version.{Version}
 use Rattle.tw_code.specs.format.Table.{forms_of, opcode_in}
-use Rattle.tw_words.specs.Words.{Word, Bare, Quoted}
-use Rattle.tw_words.specs.declared.numbers.TokenError.{TokenError}
-use Rattle.tw_words.specs.declared.numbers.TokenError.TheVariants as flaw
+use Rattle.tw_lexer.specs.Words.{Word, Bare, Quoted}
+use Rattle.tw_lexer.specs.declared.numbers.TokenError.{TokenError}
+use Rattle.tw_lexer.specs.declared.numbers.TokenError.TheVariants as flaw
 use Rattle.tw_asm.specs.reading.Lines.{kind_in}
 use Rattle.tw_asm.specs.reading.Operands.{container_in, mode_in, natural_in, number_in, register_in, scalar_in}
-use Rattle.tw_words.specs.Digits.{digits_in}
-use Rattle.tw_words.specs.Names.{is_name}
+use Rattle.tw_lexer.specs.Digits.{digits_in}
+use Rattle.tw_lexer.specs.Names.{is_name}
 use Rattle.tw_reasons.specs.declared.step.Read.{Read}
 use Rattle.tw_reasons.specs.declared.step.Read.TheVariants as read
 

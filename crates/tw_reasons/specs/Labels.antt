@@ -2,7 +2,7 @@
 use Rattle.std.specs.Prelude.{◌≡◌, ℕ, ◌+◌, List, [], ◌∷◌, ◌++◌, codes, length, Option, Some, None}
 use Rattle.std.specs.List.{AllByRecursion}
 use Rattle.std.specs.Str.Lines.{lines}
-use Rattle.tw_words.specs.Words.{Bare, IsFirstWord}
+use Rattle.tw_lexer.specs.Words.{Bare, IsFirstWord}
 
 -- the line begins with the label of this name
 abbrev pub IsLabelLine : List ℕ → List ℕ → Type 0

@@ -3,9 +3,9 @@ use Rattle.std.specs.Prelude.{◌≡◌, ℕ, ◌+◌, List, ◌∷◌, ◌++◌
 use Rattle.std.specs.List.{AllByRecursion}
 use Rattle.tw_asm.specs.Statement.{HaveForm}
 use Rattle.tw_code.specs.declared.version.Version.{Version}
-use Rattle.tw_words.specs.Words.{AreFirstWords, Bare, IsBlank, IsBroken, IsFirstWord, Quoted, Word}
-use Rattle.tw_words.specs.Shown.{begins_character}
-use Rattle.tw_words.specs.reading.Next.{IsAfterGap}
+use Rattle.tw_lexer.specs.Words.{AreFirstWords, Bare, IsBlank, IsBroken, IsFirstWord, Quoted, Word}
+use Rattle.tw_lexer.specs.Shown.{begins_character}
+use Rattle.tw_lexer.specs.reading.Next.{IsAfterGap}
 use Rattle.tw_reasons.specs.declared.error_position.Token.{Token}
 use Rattle.tw_reasons.specs.declared.error_position.Token.TheVariants as found
 use Rattle.tw_reasons.specs.declared.error_position.ErrorPosition.{ErrorPosition}

@@ -3,7 +3,7 @@
 ghost use Rattle.std.specs.Prelude.{IsUtf8};
 
 use std::alloc::{AllocError, Global};
-use tw_words::quoted_text;
+use tw_lexer::quoted_text;
 
 /// Why something is no word.
 #[derive(Clone, Copy, PartialEq, Eq)]

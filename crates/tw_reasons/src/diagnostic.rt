@@ -7,7 +7,7 @@ use crate::breaks::Break;
 use crate::error_position::{ErrorPosition, Token};
 use crate::hints::{Hint, put_hint};
 use std::alloc::{AllocError, Global};
-use tw_words::{put, put_both, put_numbered, put_shortened};
+use tw_lexer::{put, put_both, put_numbered, put_shortened};
 
 // ---- words that stood there
 

@@ -1,18 +1,18 @@
 //! Where a line stops being a statement.
 
 ghost use Rattle.std.specs.Prelude.{◌≡◌, ◌+◌, ◌≤◌, [], ℕ, List, false, true, IfOk, IfSome, IsUtf8, MatchOption, length};
-ghost use Rattle.tw_words.specs.Words.{AreFirstWords, Bare, IsBlank, IsFirstWord, IsLine, Word as AWord};
+ghost use Rattle.tw_lexer.specs.Words.{AreFirstWords, Bare, IsBlank, IsFirstWord, IsLine, Word as AWord};
 ghost use Rattle.tw_asm.specs.Fault.{HasWords};
 ghost use Rattle.tw_asm.specs.Statement.{IsExpected};
 ghost use Rattle.tw_asm.specs.declared.statement.First.{First};
 ghost use Rattle.tw_code.specs.declared.version.Version.{Version as AVersion};
-ghost use Rattle.tw_words.specs.Seen.{seen};
-ghost use Rattle.tw_words.specs.reading.Next.{IsAfterGap};
+ghost use Rattle.tw_lexer.specs.Seen.{seen};
+ghost use Rattle.tw_lexer.specs.reading.Next.{IsAfterGap};
 ghost use Rattle.tw_reasons.specs.Going.{may_end};
 ghost use Rattle.tw_reasons.specs.declared.error_position.Token.TheVariants as found;
 ghost use Rattle.tw_reasons.specs.Stops.{Begin, Ends, IsFirstStop, IsFound, IsStop, column_after};
 ghost use Rattle.tw_reasons.specs.Diagnostics.{found_word, is_long_label};
-ghost use Rattle.tw_words.specs.Names.{before_colon};
+ghost use Rattle.tw_lexer.specs.Names.{before_colon};
 
 use crate::breaks::{Break, break_of};
 use crate::due::Due;
@@ -20,7 +20,7 @@ use crate::step::LineProgress;
 use crate::words::Ask;
 use std::alloc::{AllocError, Global};
 use tw_code::Version;
-use tw_words::{Next, Word, before_colon, begins_character, is_name, next_word, without_gap};
+use tw_lexer::{Next, Word, before_colon, begins_character, is_name, next_word, without_gap};
 
 /// What stands where a line stops.
 #[derive(Clone, Copy)]

@@ -8,7 +8,7 @@ use crate::due::Due;
 use crate::parser_state::{ParserState, Stage};
 use std::alloc::{AllocError, Global};
 use tw_code::{Form, OPCODES, Opcode, Version, opcode_in, word_of};
-use tw_words::put;
+use tw_lexer::put;
 
 /// What a message says of the word that was meant.
 #[derive(Clone, Copy)]

@@ -1,14 +1,14 @@
 //! Where a label is.
 
 ghost use Rattle.std.specs.Prelude.{◌≡◌, false, IfOk, IsTrue, IsUtf8, if◌then◌else◌, Some};
-ghost use Rattle.tw_words.specs.Seen.{seen};
-ghost use Rattle.tw_words.specs.Words.{Bare};
+ghost use Rattle.tw_lexer.specs.Seen.{seen};
+ghost use Rattle.tw_lexer.specs.Words.{Bare};
 ghost use Rattle.tw_reasons.specs.Labels.{IsLabelBefore, IsLabelLine, IsTwinBefore};
-ghost use Rattle.tw_words.specs.Names.{before_colon};
+ghost use Rattle.tw_lexer.specs.Names.{before_colon};
 ghost use Rattle.tw_reasons.specs.LabelWords.{is_label};
 
 use std::alloc::{AllocError, Global};
-use tw_words::{Next, Word, before_colon, next_word};
+use tw_lexer::{Next, Word, before_colon, next_word};
 
 fn is_label(word: &[u8], name: &[u8]) -> bool
     ensures { result ≡ is_label name.now (Bare word.now) }

@@ -6,8 +6,8 @@ ghost use Rattle.tw_reasons.specs.Reasons.{param_line, params_line, shape_line, 
 use crate::rights::put_param;
 use std::alloc::{AllocError, Global};
 use tw_code::Procedure;
+use tw_lexer::{put, put_numbered};
 use tw_types::{Kind, Param};
-use tw_words::{put, put_numbered};
 
 fn unwanted_text(is_val: bool) -> &'static str
     ensures { result.now ≡ unwanted_text is_val }

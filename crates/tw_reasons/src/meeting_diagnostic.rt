@@ -9,8 +9,8 @@ use crate::register_check::{RegisterState, put_held};
 use crate::rights::put_right;
 use std::alloc::{AllocError, Global};
 use tw_asm::LineNumbers;
+use tw_lexer::{put, put_numbered};
 use tw_verify::RightType;
-use tw_words::{put, put_numbered};
 
 /// Adds the line of the text from which the instruction at a place comes, or the place.
 fn put_place(

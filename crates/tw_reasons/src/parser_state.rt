@@ -3,9 +3,9 @@
 ghost use Rattle.std.specs.Prelude.{◌≡◌, ◌≢◌, ◌+◌, ◌++◌, [], ◌∷◌, ℕ, List, Option, None, Some, IfOk, MatchOption, length, map};
 ghost use Rattle.std.specs.Str.Lines.{lines};
 ghost use Rattle.tw_code.specs.format.Program.{IsWithin};
-ghost use Rattle.tw_words.specs.Number.{SpellsDigits};
-ghost use Rattle.tw_words.specs.Seen.{seen};
-ghost use Rattle.tw_words.specs.Words.{Bare};
+ghost use Rattle.tw_lexer.specs.Number.{SpellsDigits};
+ghost use Rattle.tw_lexer.specs.Seen.{seen};
+ghost use Rattle.tw_lexer.specs.Words.{Bare};
 ghost use Rattle.tw_asm.specs.Fault.{LineSays, LinesSay, ParserState as Standing, at_start, situation};
 ghost use Rattle.tw_asm.specs.Statement.{Say, Statement, version_by};
 ghost use Rattle.tw_code.specs.declared.version.Version.{Version as AVersion};
@@ -13,7 +13,7 @@ ghost use Rattle.tw_reasons.specs.LineRole.{HasNoHead, IsFirstHead, behind, is_h
 
 use std::alloc::{AllocError, Global};
 use tw_code::Version;
-use tw_words::{Word, digits, words_of};
+use tw_lexer::{Word, digits, words_of};
 
 /// What a line says that can follow the ones before it.
 #[derive(Clone, Copy)]

@@ -14,8 +14,8 @@ use crate::register_check::{RegisterCheck, put_check};
 use std::alloc::{AllocError, Global};
 use tw_asm::LineNumbers;
 use tw_code::{Flow, Instr, Procedure};
+use tw_lexer::{put, put_decimal, put_numbered};
 use tw_verify::{Refused, Typing, VerifyError};
-use tw_words::{put, put_decimal, put_numbered};
 
 // ---- a register that is asked in vain
 

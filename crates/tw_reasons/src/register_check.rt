@@ -6,9 +6,9 @@ ghost use Rattle.tw_reasons.specs.Words.{asked_line, held_text, scalar_text, sta
 
 use crate::rights::{container_word, put_right, put_type, scalar_word};
 use std::alloc::{AllocError, Global};
+use tw_lexer::{put, put_both, put_numbered};
 use tw_types::{DataType, Mode, Param, Scalar};
 use tw_verify::{RightType, Typing};
-use tw_words::{put, put_both, put_numbered};
 
 /// What a register holds.
 #[derive(Clone, Copy)]

@@ -7,9 +7,9 @@ ghost use Rattle.tw_types.specs.declared.data_type.Scalar.TheVariants.{Int, Text
 ghost use Rattle.tw_reasons.specs.Words.{param_text, right_text, type_text};
 
 use std::alloc::AllocError;
+use tw_lexer::put;
 use tw_types::{DataType, Mode, Param, Scalar};
 use tw_verify::RightType;
-use tw_words::put;
 
 pub(crate) fn scalar_word(scalar: Scalar) -> &'static str
     ensures { result.now ≡ scalar_word scalar }

@@ -1,7 +1,7 @@
 //! One word more of a line.
 
 ghost use Rattle.std.specs.Prelude.{◌≡◌, ◌<◌, IfSome, option_map};
-ghost use Rattle.tw_words.specs.Seen.{seen};
+ghost use Rattle.tw_lexer.specs.Seen.{seen};
 ghost use Rattle.tw_reasons.specs.Going.{after, after_mode, after_operand, after_type, ends_at, first_read, may_end, only_if};
 ghost use Rattle.tw_reasons.specs.declared.words.Ask.TheVariants as asked;
 ghost use Rattle.tw_reasons.specs.declared.step.Read.TheVariants as read;
@@ -9,8 +9,8 @@ ghost use Rattle.tw_reasons.specs.declared.step.Read.TheVariants as read;
 use crate::due::Due;
 use crate::words::*;
 use tw_code::{Form, Version, form_at};
+use tw_lexer::Word;
 use tw_types::Mode;
-use tw_words::Word;
 
 /// What has been read of a statement.
 #[derive(Clone, Copy)]

@@ -15,7 +15,7 @@ use crate::parser_state::situation_before;
 use crate::words::Ask;
 use std::alloc::{AllocError, Global};
 use tw_asm::{AsmFault, FaultNo};
-use tw_words::{line_numbered, put, put_shortened};
+use tw_lexer::{line_numbered, put, put_shortened};
 
 /// Adds what may begin the line (A01).
 fn put_first(

@@ -1,17 +1,17 @@
 //! What one word may stand for.
 
 ghost use Rattle.std.specs.Prelude.{◌≡◌, ◌||◌, Bool, true};
-ghost use Rattle.tw_words.specs.Words.{Bare};
-ghost use Rattle.tw_words.specs.Seen.{seen};
+ghost use Rattle.tw_lexer.specs.Words.{Bare};
+ghost use Rattle.tw_lexer.specs.Seen.{seen};
 ghost use Rattle.tw_asm.specs.reading.Lines.{kind_in};
 ghost use Rattle.tw_asm.specs.reading.Operands.{container_in, mode_in, natural_in, number_in, register_in, scalar_in, text_container};
-ghost use Rattle.tw_words.specs.Digits.{digits_in, signed_in};
-ghost use Rattle.tw_words.specs.Names.{is_name};
+ghost use Rattle.tw_lexer.specs.Digits.{digits_in, signed_in};
+ghost use Rattle.tw_lexer.specs.Names.{is_name};
 ghost use Rattle.tw_reasons.specs.Going.{found, has_form, is_any, is_goal, is_operand, is_quoted};
 
 use tw_code::{Form, Version};
+use tw_lexer::{TokenError, Word, digits, is_name, number};
 use tw_types::Mode;
-use tw_words::{TokenError, Word, digits, is_name, number};
 
 /// Whether limits are asked for too, or the form alone.
 #[derive(Clone, Copy)]

@@ -13,7 +13,7 @@ use Rattle.tw_names.specs.declared.meaning.Binding.TheVariants as binding
 use Rattle.tw_names.specs.declared.rejection.NameNo.{NameNo}
 use Rattle.tw_names.specs.declared.rejection.NameNo.TheVariants as no
 use Rattle.tw_reasons.specs.Diagnostics.{IsTextReason}
-use Rattle.tw_words.specs.Shown.{shortened}
+use Rattle.tw_lexer.specs.Shown.{shortened}
 use Rattle.tw_replies.specs.Reply.{Reply, reply}
 use Rattle.tw_replies.specs.Text.{RepliesByUtf8}
 use Rattle.tw_replies.specs.declared.close.Close.TheVariants.{Refused, Success}

@@ -9,7 +9,7 @@ use Rattle.tw_names.specs.Symbols.{AreNames, name_at}
 use Rattle.tw_names.specs.Expansion.{StandsFor}
 use Rattle.tw_reasons.specs.Reasons.{TellsReason, shape_line}
 use Rattle.tw_reasons.specs.LineRole.{IsFirstHead}
-use Rattle.tw_words.specs.Shown.{shortened}
+use Rattle.tw_lexer.specs.Shown.{shortened}
 use Rattle.tw_verify.specs.declared.rejection.VerifyError.{VerifyError}
 use Rattle.tw_verify.specs.declared.rejection.VerifyError.TheVariants as rejection
 use Rattle.tw_replies.specs.Reply.{Reply, reply}

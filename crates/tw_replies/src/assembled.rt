@@ -18,7 +18,7 @@ use tw_asm::{AsmFault, assemble};
 use tw_binary::encode;
 use tw_code::Program;
 use tw_command::{Assembling, Source};
-use tw_words::put;
+use tw_lexer::put;
 
 /// A program as hex digits, in one line.
 fn hex_reply(alloc: Global, program: &Program) -> Result<Reply, AllocError>

@@ -5,8 +5,8 @@ ghost use Rattle.tw_replies.specs.Bounds.{IsBoundsText, MayTellBounds, bound_lin
 
 use std::alloc::{AllocError, Global};
 use tw_bounds::{Bound, Circle, RunBounds, circle_of_calls, run_bounds};
+use tw_lexer::{put, put_decimal, put_numbered};
 use tw_verify::Verified;
-use tw_words::{put, put_decimal, put_numbered};
 
 /// Adds a bound, or why there is none.
 fn put_bound(alloc: Global, out: &mut Vec<u8>, bound: Option<Bound>) -> Result<(), AllocError>

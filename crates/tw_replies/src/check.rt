@@ -18,10 +18,10 @@ use crate::source::{SourceText, put_rejection_details, symbols_of};
 use crate::text_listing::{accepted_lines, refused_lines};
 use std::alloc::{AllocError, Global};
 use tw_command::{CheckOrder, Places};
+use tw_lexer::{put, put_numbered};
 use tw_names::Symbols;
 use tw_types::Kind;
 use tw_verify::{Refused, Verified};
-use tw_words::{put, put_numbered};
 
 fn put_kind(out: &mut Vec<u8>, kind: Kind) -> Result<(), AllocError>
     ensures { OnOk result (out.new.items ≡ out.old.items ++ kind_text kind) }

@@ -15,7 +15,7 @@ use crate::lines::put_input_word_line;
 use crate::reply::Reply;
 use std::alloc::{AllocError, Global};
 use tw_command::NoOrder;
-use tw_words::put;
+use tw_lexer::put;
 
 /// Where a line stands.
 #[derive(Clone, Copy)]

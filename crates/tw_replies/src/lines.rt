@@ -4,7 +4,7 @@ ghost use Rattle.std.specs.Prelude.{◌≡◌, ◌++◌, ◌<◌, OnOk, codes, d
 ghost use Rattle.tw_replies.specs.Lines.{asm_line, fault_line, input_word_line, opening_line, place_text, two_digits, verify_line};
 
 use std::alloc::{AllocError, Global};
-use tw_words::{put, put_numbered};
+use tw_lexer::{put, put_numbered};
 
 fn put_two_digits(out: &mut Vec<u8>, n: u8) -> Result<(), AllocError>
     requires { n < 100 }

@@ -11,9 +11,9 @@ use std::alloc::{AllocError, Global};
 use tw_asm::{LabelPlaces, disassemble, put_head_lines, put_right};
 use tw_code::{Instr, Procedure, Program};
 use tw_command::Places;
+use tw_lexer::{put, put_numbered};
 use tw_types::Param;
 use tw_verify::{Refused, RightType, Typing, Verified};
-use tw_words::{put, put_numbered};
 
 /// How many columns a place has.
 const PLACE_COLUMNS: usize = 5;

@@ -29,8 +29,8 @@ use tw_asm::{AsmFault, LinedProgram, assemble_lined};
 use tw_binary::{Fault, FaultNo, decode};
 use tw_code::Program;
 use tw_command::Source;
+use tw_lexer::put;
 use tw_names::{NameError, NameNo, expanded_text};
-use tw_words::put;
 
 /// A program, and the text from which it was read, if from one.
 #[derive(Drop)]

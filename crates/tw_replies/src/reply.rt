@@ -5,7 +5,7 @@ ghost use Rattle.tw_replies.specs.Reply.{reply};
 
 use crate::close::Close;
 use std::alloc::{AllocError, Global};
-use tw_words::put;
+use tw_lexer::put;
 
 /// What a session writes, and how it ends.
 #[derive(Drop)]

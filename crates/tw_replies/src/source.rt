@@ -16,10 +16,10 @@ use crate::text_lines::TextLines;
 use std::alloc::{AllocError, Global};
 use tw_asm::LineNumbers;
 use tw_code::Procedure;
+use tw_lexer::{line_numbered, put, put_numbered, put_shortened};
 use tw_names::{Symbols, put_with_name};
 use tw_reasons::{head_line, put_main_diagnostic, put_program_diagnostic};
 use tw_verify::{Refused, VerifyError};
-use tw_words::{line_numbered, put, put_numbered, put_shortened};
 
 /// A text, and the line of each instruction of its program.
 #[derive(Drop)]

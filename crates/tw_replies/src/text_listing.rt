@@ -15,10 +15,10 @@ ghost use Rattle.tw_verify.specs.Typed.{typings_of};
 use crate::listing::{put_beside, put_place, rights_at};
 use crate::source::SourceText;
 use std::alloc::{AllocError, Global};
+use tw_lexer::{put, put_numbered};
 use tw_reasons::{LineRole, line_role};
 use tw_types::Items;
 use tw_verify::{Refused, Typing, Verified};
-use tw_words::{put, put_numbered};
 
 /// How many procedures have begun, and how many instructions the last of them has.
 #[derive(Clone, Copy)]

@@ -12,7 +12,7 @@ use Rattle.tw_types.specs.declared.actor.Actor.TheVariants.{Engine, Server, Work
 use Rattle.tw_types.specs.declared.event.Event.{Event}
 use Rattle.tw_types.specs.declared.event.Event.TheVariants.{Take, Local, Call, End, Ask, Deliver, Release}
 use Rattle.tw_types.specs.Actor.{number_in_kind}
-use Rattle.tw_words.specs.Number.{SpellsDigits}
+use Rattle.tw_lexer.specs.Number.{SpellsDigits}
 use Rattle.tw_report.specs.Events.{IsByte, IsEvent, Name, Number, Parameter, Part, SpellParts, SpellsPart, SpellsEvent, actor_part, event_parts, words_in}
 use Rattle.tw_report.specs.reading.Event.{actor_in, alone, ask_in, number_after, deliver_in, event_in, first, for_actor, local_in, named, number_in, parameter_in, release_in, words_64}
 use Rattle.tw_report.specs.reading.Words.{with_word}

@@ -2,11 +2,11 @@
 use Rattle.std.proofs.Common.{◌≡◌, ℕ, Bool, true, false, cond, List, Option, Some, None, Ok, Err, refl, sym, ap, subst, ◌∙◌}
 use Rattle.std.specs.Int.{IsInRange}
 use Rattle.std.specs.Str.Parse.{digits_value}
-use Rattle.tw_words.specs.Number.{IsRead, SpellsDigits}
-use Rattle.tw_words.specs.declared.numbers.TokenError.{TokenError}
-use Rattle.tw_words.specs.declared.numbers.TokenError.TheVariants.{Form, Limit}
-use Rattle.tw_words.specs.Digits.{are_digits, is_within}
-use Rattle.tw_words.proofs.Decided.{digits_decide, within_decide}
+use Rattle.tw_lexer.specs.Number.{IsRead, SpellsDigits}
+use Rattle.tw_lexer.specs.declared.numbers.TokenError.{TokenError}
+use Rattle.tw_lexer.specs.declared.numbers.TokenError.TheVariants.{Form, Limit}
+use Rattle.tw_lexer.specs.Digits.{are_digits, is_within}
+use Rattle.tw_lexer.proofs.Decided.{digits_decide, within_decide}
 use Rattle.tw_report.specs.reading.Event.{number_in}
 
 -- the number that digits write is read, if it is within the limits

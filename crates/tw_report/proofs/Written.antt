@@ -11,9 +11,9 @@ use Rattle.tw_types.specs.declared.actor.Actor.TheVariants.{Engine, Server, Work
 use Rattle.tw_types.specs.declared.event.Event.{Event}
 use Rattle.tw_types.specs.declared.event.Event.TheVariants.{Take, Local, Call, End, Ask, Deliver, Release}
 use Rattle.tw_types.specs.Actor.{number_in_kind}
-use Rattle.tw_words.specs.Words.{is_edge, is_parting, IsBare}
-use Rattle.tw_words.proofs.Once.{no_edge}
-use Rattle.tw_words.proofs.Writing.{all_append, decimal_bare, decimal_clean}
+use Rattle.tw_lexer.specs.Words.{is_edge, is_parting, IsBare}
+use Rattle.tw_lexer.proofs.Once.{no_edge}
+use Rattle.tw_lexer.proofs.Writing.{all_append, decimal_bare, decimal_clean}
 use Rattle.tw_report.specs.Events.{EventsAreReadBack, IsByte, IsEvent, IsWord, Name, Number, OneEvent, Parameter, Part, SpellParts, SpellsPart, actor_part, event_parts, has_bytes, part_text, words_in}
 use Rattle.tw_report.proofs.EventReading.{event_read}
 

@@ -7,8 +7,8 @@ use Rattle.tw_types.specs.declared.actor.Actor.TheVariants.{Engine, Server, Work
 use Rattle.tw_types.specs.declared.event.Event.{Event}
 use Rattle.tw_types.specs.declared.event.Event.TheVariants.{Take, Local, Call, End, Ask, Deliver, Release}
 use Rattle.tw_types.specs.Actor.{number_in_kind}
-use Rattle.tw_words.specs.Number.{SpellsDigits}
-use Rattle.tw_words.specs.Words.{is_parting}
+use Rattle.tw_lexer.specs.Number.{SpellsDigits}
+use Rattle.tw_lexer.specs.Words.{is_parting}
 
 -- ---- words
 

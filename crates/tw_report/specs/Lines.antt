@@ -3,7 +3,7 @@ use Rattle.std.specs.Prelude.{ℕ, List, ◌++◌, codes, decimal}
 use Rattle.std.specs.Fmt.{signed_decimal}
 use Rattle.tw_types.specs.declared.value.Value.{Value}
 use Rattle.tw_types.specs.declared.value.Value.TheVariants as value
-use Rattle.tw_words.specs.Quoted.{quoted}
+use Rattle.tw_lexer.specs.Quoted.{quoted}
 
 -- returns a value with its type; a text is quoted
 abbrev pub value_text : Value → List ℕ

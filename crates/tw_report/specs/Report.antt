@@ -12,7 +12,7 @@ use Rattle.tw_types.specs.Store.{Content, Unset, Set, Contains, Datum, Data, is_
 use Rattle.tw_types.specs.StoreCalls.{members_in}
 use Rattle.tw_types.specs.ValueOrder.{Subscript}
 use Rattle.tw_types.specs.declared.value.Value.TheVariants as value
-use Rattle.tw_words.specs.Quoted.{quoted}
+use Rattle.tw_lexer.specs.Quoted.{quoted}
 use Rattle.tw_types.specs.declared.ending.Ending.{Ending}
 use Rattle.tw_types.specs.declared.ending.Ending.TheVariants.{Quiet, Stuck}
 use Rattle.tw_types.specs.declared.pending.Link.{Link}

@@ -4,9 +4,9 @@ ghost use Rattle.std.specs.Prelude.{◌≡◌, ◌++◌, OnOk};
 ghost use Rattle.tw_report.specs.Lines.{history_line, not_enabled_line, trap_line, value_text};
 
 use std::alloc::{AllocError, Global};
+use tw_lexer::{put_quoted, put_signed};
+pub use tw_lexer::{put, put_numbered};
 use tw_types::Value;
-use tw_words::{put_quoted, put_signed};
-pub use tw_words::{put, put_numbered};
 
 /// Appends a value with its type.
 pub fn put_value(alloc: Global, out: &mut Vec<u8>, value: &Value) -> Result<(), AllocError>

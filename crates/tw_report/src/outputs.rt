@@ -10,8 +10,8 @@ use crate::lines::{put, put_numbered, put_value};
 use crate::report_source::ReportSource;
 use std::alloc::{AllocError, Global};
 use tw_datum::{Datum, Member};
+use tw_lexer::{put_decimal, put_quoted, put_signed};
 use tw_types::{DataType, DatumId, Scalar, Value};
-use tw_words::{put_decimal, put_quoted, put_signed};
 
 fn scalar_text(scalar: Scalar) -> &'static str
     ensures { result.now ≡ scalar_text scalar }

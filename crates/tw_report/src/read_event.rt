@@ -8,8 +8,8 @@ ghost use Rattle.tw_report.specs.Events.{SpellsEvent, words_in};
 ghost use Rattle.tw_report.specs.reading.Event.{actor_in, alone, ask_in, number_after, deliver_in, event_in, first, for_actor, local_in, named, number_in, parameter_in, release_in};
 
 use crate::words::{first_word, is_blank};
+use tw_lexer::digits;
 use tw_types::{Actor, DatumId, Event, RuleNo};
-use tw_words::digits;
 
 fn number_in(word: &[u8], low: u64, high: u64) -> Option<u64>
     ensures is { result ≡ number_in low high word.now }

@@ -1,7 +1,7 @@
 //! Splits a line into words.
 
 ghost use Rattle.std.specs.Prelude.{◌≡◌, ◌↔◌, [], IsTrue};
-ghost use Rattle.tw_words.specs.Words.{is_parting};
+ghost use Rattle.tw_lexer.specs.Words.{is_parting};
 ghost use Rattle.tw_report.specs.Events.{words_in};
 ghost use Rattle.tw_report.specs.reading.Words.{IsAtWord, with_word, word_length};
 

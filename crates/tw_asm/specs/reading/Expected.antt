@@ -1,6 +1,6 @@
 -- First words, and what they let expect.
 use Rattle.tw_code.specs.declared.version.Version.{Version}
-use Rattle.tw_words.specs.Words.{Word, Bare, Quoted}
+use Rattle.tw_lexer.specs.Words.{Word, Bare, Quoted}
 use Rattle.tw_asm.specs.declared.statement.First.{First}
 use Rattle.tw_asm.specs.declared.statement.First.TheVariants as first
 use Rattle.tw_asm.specs.Statement.{Statement, OfVersion, Head, Registers, Label, Code, IsExpected}

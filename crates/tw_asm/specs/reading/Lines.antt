@@ -8,18 +8,18 @@ use Rattle.tw_code.specs.declared.opcode.Opcode.{Opcode}
 use Rattle.tw_code.specs.declared.version.Version.{Version}
 use Rattle.tw_code.specs.format.Table as table
 use Rattle.tw_code.specs.format.Table.{Contents, a_row, opcode_in}
-use Rattle.tw_words.specs.Words.{Word, Bare, Quoted}
+use Rattle.tw_lexer.specs.Words.{Word, Bare, Quoted}
 use Rattle.tw_asm.specs.Parts.{kind_word}
 use Rattle.tw_asm.specs.Seen.{Read, bytes_of}
 use Rattle.tw_asm.specs.Statement as said
 use Rattle.tw_asm.specs.declared.statement.Unlinked.{Unlinked}
-use Rattle.tw_words.specs.declared.numbers.TokenError.{TokenError}
-use Rattle.tw_words.specs.declared.numbers.TokenError.TheVariants.{Form, Limit}
+use Rattle.tw_lexer.specs.declared.numbers.TokenError.{TokenError}
+use Rattle.tw_lexer.specs.declared.numbers.TokenError.TheVariants.{Form, Limit}
 use Rattle.tw_asm.specs.declared.rejection.Rejection.{Rejection}
 use Rattle.tw_asm.specs.declared.rejection.Rejection.TheVariants as rejection
 use Rattle.tw_asm.specs.reading.Operands.{both, natural_in, register_in, number_in, literal_in, target_in, name_in, Goal, goal_in, scalar_in, container_in, mode_in}
-use Rattle.tw_words.specs.Digits.{as_is}
-use Rattle.tw_words.specs.Names.{before_colon}
+use Rattle.tw_lexer.specs.Digits.{as_is}
+use Rattle.tw_lexer.specs.Names.{before_colon}
 use Rattle.tw_types.specs.DataType.{container_of, depth_of, is_scalar, scalar_type}
 use Rattle.tw_types.specs.Nesting.{NestedScalar}
 use Rattle.tw_types.specs.declared.actor.Kind.{Kind}

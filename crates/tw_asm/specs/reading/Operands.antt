@@ -3,12 +3,12 @@ use Rattle.std.specs.Prelude.{ℕ, ℤ, List, [], ◌∷◌, length, codes, Opti
 use Rattle.std.specs.Str.{bytes_eq}
 use Rattle.tw_code.specs.declared.version.Version.{Version}
 use Rattle.tw_code.specs.declared.version.Version.TheVariants.{One, Two}
-use Rattle.tw_words.specs.Words.{Word, Bare, Quoted}
-use Rattle.tw_words.specs.Digits.{as_is, digits_in, signed_in}
-use Rattle.tw_words.specs.Names.{is_name}
+use Rattle.tw_lexer.specs.Words.{Word, Bare, Quoted}
+use Rattle.tw_lexer.specs.Digits.{as_is, digits_in, signed_in}
+use Rattle.tw_lexer.specs.Names.{is_name}
 use Rattle.tw_asm.specs.Parts.{container_word, mode_word, scalar_word}
-use Rattle.tw_words.specs.declared.numbers.TokenError.{TokenError}
-use Rattle.tw_words.specs.declared.numbers.TokenError.TheVariants.{Form, Limit}
+use Rattle.tw_lexer.specs.declared.numbers.TokenError.{TokenError}
+use Rattle.tw_lexer.specs.declared.numbers.TokenError.TheVariants.{Form, Limit}
 use Rattle.tw_types.specs.declared.data_type.Scalar.{Scalar}
 use Rattle.tw_types.specs.declared.data_type.Scalar.TheVariants as scalar
 use Rattle.tw_types.specs.declared.param.Mode.{Mode}

@@ -9,7 +9,7 @@ use Rattle.tw_types.specs.declared.param.Param.{Param}
 use Rattle.tw_code.specs.declared.instr.Instr.{Instr}
 use Rattle.tw_code.specs.declared.version.Version.{Version}
 use Rattle.tw_code.specs.declared.version.Version.TheVariants.{One}
-use Rattle.tw_words.specs.Words.{IsLine, Word}
+use Rattle.tw_lexer.specs.Words.{IsLine, Word}
 use Rattle.tw_asm.specs.declared.statement.First.{First}
 use Rattle.tw_asm.specs.declared.statement.First.TheVariants as first
 use Rattle.tw_asm.specs.declared.statement.Statement as statements

@@ -7,7 +7,7 @@ use Rattle.tw_types.specs.declared.actor.Actor.{Actor}
 use Rattle.tw_types.specs.declared.actor.Actor.TheVariants.{Engine, Server, Worker}
 use Rattle.tw_types.specs.declared.event.Event.{Event}
 use Rattle.tw_types.specs.declared.event.Event.TheVariants.{Take, Local, Call, End, Ask, Deliver, Release}
-use Rattle.tw_words.specs.Digits.{are_digits, is_within}
+use Rattle.tw_lexer.specs.Digits.{are_digits, is_within}
 
 -- ---- one word
 

@@ -1,6 +1,6 @@
 -- A line, word by word.
 use Rattle.std.specs.Prelude.{◌≡◌, ℕ, suc, false, List, [], ◌∷◌, if◌then◌else◌}
-use Rattle.tw_words.specs.Words.{is_parting}
+use Rattle.tw_lexer.specs.Words.{is_parting}
 
 -- prepends this word, unless it is empty
 abbrev pub with_word : List ℕ → List (List ℕ) → List (List ℕ)

@@ -1,4 +1,4 @@
-use Rattle.tw_words.proofs.Readings.{digits_same}
+use Rattle.tw_lexer.proofs.Readings.{digits_same}
 use Rattle.tw_asm.proofs.operands.digits_of.Goals as goal
 
 pub returns-clause-is : goal.returns-clause-is

@@ -1,4 +1,4 @@
-use Rattle.tw_words.proofs.Readings.{signed_same}
+use Rattle.tw_lexer.proofs.Readings.{signed_same}
 use Rattle.tw_asm.proofs.operands.signed_of.Goals as goal
 
 pub returns : goal.returns

@@ -1,5 +1,5 @@
 use Rattle.std.proofs.Common.{map}
-use Rattle.tw_words.specs.Seen.{seen}
+use Rattle.tw_lexer.specs.Seen.{seen}
 use Rattle.tw_asm.proofs.Whole.{all_fine, answered}
 use Rattle.tw_asm.proofs.read.statement_of.Goals as goal
 

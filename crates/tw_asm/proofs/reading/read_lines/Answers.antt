@@ -3,7 +3,7 @@ use Rattle.tw_asm.proofs.AsmNames.{err_from_is_err_and, lines, seen_reading}
 use Rattle.std.proofs.lemmas.Iterator.Consumers.{YieldsList-at, YieldsList-end, YieldsList-from_enumerate, YieldsList-so_far, YieldsList-turn}
 use Rattle.std.proofs.lemmas.Iterator.Splits.{YieldsList-from_lines}
 use Rattle.tw_asm.proofs.Steps.{items_more, line_stopped, lines_end}
-use Rattle.tw_words.proofs.LineLoops.{line_turn}
+use Rattle.tw_lexer.proofs.LineLoops.{line_turn}
 use Rattle.tw_asm.proofs.reading.read_lines.Goals as goal
 
 pub returns-in_err-reading : goal.returns-in_err-reading

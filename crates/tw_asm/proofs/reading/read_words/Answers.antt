@@ -1,6 +1,6 @@
 use Rattle.std.proofs.Common.{◌∙◌, ℕ, List, map, Err, inr, subst, ap}
 use Rattle.tw_asm.proofs.AsmNames.{IsBrokenLine, IsLine, IsLineRead, Word, seen as seen_word, seen_reading, seen_stage, situation_of, slice_get, stage_of}
-use Rattle.tw_words.specs.declared.numbers.TokenError.TheVariants as flaw
+use Rattle.tw_lexer.specs.declared.numbers.TokenError.TheVariants as flaw
 use Rattle.tw_asm.specs.declared.rejection.Rejection.{Rejection}
 use Rattle.tw_asm.specs.declared.rejection.Rejection.TheVariants as rejection
 use Rattle.tw_asm.specs.Seen.{IsRead, seen}

@@ -1,6 +1,6 @@
 use Rattle.std.proofs.Common.{◌∙◌, ℤ, Result, ap}
-use Rattle.tw_words.specs.declared.numbers.TokenError.{TokenError}
-use Rattle.tw_words.proofs.Readings.{signed_same}
+use Rattle.tw_lexer.specs.declared.numbers.TokenError.{TokenError}
+use Rattle.tw_lexer.proofs.Readings.{signed_same}
 use Rattle.tw_command.specs.InputReasons.{int_diagnostic}
 use Rattle.tw_command.proofs.input_diagnostics.number_diagnostic.Goals as goal
 

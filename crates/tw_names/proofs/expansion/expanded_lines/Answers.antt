@@ -3,7 +3,7 @@ use Rattle.tw_names.proofs.TextNames.{lines, seen_names, seen_procedures}
 use Rattle.std.proofs.lemmas.Iterator.Consumers.{YieldsList-at, YieldsList-end, YieldsList-from_enumerate, YieldsList-so_far, YieldsList-turn}
 use Rattle.std.proofs.lemmas.Iterator.Splits.{YieldsList-from_lines}
 use Rattle.std.proofs.lemmas.Result.{err_from_is_err_and}
-use Rattle.tw_words.proofs.LineLoops.{all_lines, line_turn}
+use Rattle.tw_lexer.proofs.LineLoops.{all_lines, line_turn}
 use Rattle.tw_names.proofs.Loops.{HasCome, come_end, come_more, lines_in, one_more_length, stopped}
 use Rattle.tw_names.proofs.expansion.expanded_lines.Goals as goal
 

@@ -1,5 +1,5 @@
 use Rattle.std.proofs.Common.{ℕ, List, subst, sym, arith}
-use Rattle.tw_words.specs.Seen.{seen}
+use Rattle.tw_lexer.specs.Seen.{seen}
 use Rattle.tw_names.specs.Lines.{StandsFirst}
 use Rattle.tw_names.proofs.Taking.{cut_word_at, rest_length}
 use Rattle.tw_names.proofs.line.cut_word.Goals as goal

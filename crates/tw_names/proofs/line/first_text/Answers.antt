@@ -1,6 +1,6 @@
-use Rattle.tw_words.specs.Seen.{seen}
-use Rattle.tw_words.specs.Words.{IsFirstWord}
-use Rattle.tw_words.proofs.Texts.{rest_utf8}
+use Rattle.tw_lexer.specs.Seen.{seen}
+use Rattle.tw_lexer.specs.Words.{IsFirstWord}
+use Rattle.tw_lexer.proofs.Texts.{rest_utf8}
 use Rattle.tw_names.proofs.Taking.{shorter}
 use Rattle.tw_names.proofs.line.first_text.Goals as goal
 

@@ -1,7 +1,7 @@
 use Rattle.std.proofs.Common.{◌≡◌, ◌<◌, ◌++◌, ◌∷◌, [], List, ℕ, length, IsUtf8, refl, ap, sym, subst, ◌∙◌}
 use Rattle.std.proofs.lemmas.Result.{IfOk-weaker}
 use Rattle.tw_names.proofs.TextNames.{Broken, IsTaken, Line, StandFirst, StandsFirst, Worded, line_rest, line_words, map-append, now, texts}
-use Rattle.tw_words.specs.Words.{IsBlank, IsBroken}
+use Rattle.tw_lexer.specs.Words.{IsBlank, IsBroken}
 use Rattle.tw_names.proofs.Taking.{first_more}
 use Rattle.tw_names.proofs.line.take_line.Goals as goal
 

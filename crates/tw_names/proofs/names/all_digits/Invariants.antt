@@ -1,5 +1,5 @@
 use Rattle.std.proofs.Common.{◌≡◌, drop}
-use Rattle.tw_words.specs.Digits.{all_digits}
+use Rattle.tw_lexer.specs.Digits.{all_digits}
 use Rattle.tw_names.proofs.names.all_digits.Given as goal
 
 abbrev pub invariant-loop-byte : goal.invariant-loop-byte

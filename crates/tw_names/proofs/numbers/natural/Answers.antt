@@ -1,6 +1,6 @@
 use Rattle.std.proofs.Common.{sym, ap, ◌∙◌}
 use Rattle.std.specs.Result.{result_ok}
-use Rattle.tw_words.proofs.Readings.{digits_same}
+use Rattle.tw_lexer.proofs.Readings.{digits_same}
 use Rattle.tw_names.proofs.numbers.natural.Goals as goal
 
 pub returns-in-Ok : goal.returns-in-Ok

@@ -1,6 +1,6 @@
 use Rattle.std.proofs.Common.{ap, ◌∙◌}
 use Rattle.std.specs.Result.{result_ok}
-use Rattle.tw_words.proofs.Readings.{signed_same}
+use Rattle.tw_lexer.proofs.Readings.{signed_same}
 use Rattle.tw_names.proofs.numbers.signed.Goals as goal
 
 pub returns : goal.returns

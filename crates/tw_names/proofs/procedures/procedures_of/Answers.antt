@@ -2,7 +2,7 @@ use Rattle.std.proofs.Common.{◌≡◌, List, ℕ, rules, subst, sym}
 use Rattle.tw_names.proofs.TextNames.{lines, seen_procedures}
 use Rattle.std.proofs.lemmas.Iterator.Consumers.{YieldsList-at, YieldsList-end, YieldsList-from_enumerate, YieldsList-so_far, YieldsList-turn}
 use Rattle.std.proofs.lemmas.Iterator.Splits.{YieldsList-from_lines}
-use Rattle.tw_words.proofs.LineLoops.{all_lines, line_turn}
+use Rattle.tw_lexer.proofs.LineLoops.{all_lines, line_turn}
 use Rattle.tw_names.proofs.Loops.{AreGathered, gather_more, lines_in, one_line_in}
 use Rattle.tw_names.proofs.procedures.procedures_of.Goals as goal
 

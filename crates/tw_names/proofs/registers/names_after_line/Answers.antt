@@ -2,7 +2,7 @@ use Rattle.std.proofs.Common.{◌≡◌, ℕ, ap, length, rules, subst, sym}
 use Rattle.tw_names.proofs.TextNames.{lines, seen_names, seen_procedures}
 use Rattle.std.proofs.lemmas.Iterator.Consumers.{YieldsList-at, YieldsList-end, YieldsList-from_enumerate, YieldsList-so_far, YieldsList-turn}
 use Rattle.std.proofs.lemmas.Iterator.Splits.{YieldsList-from_lines}
-use Rattle.tw_words.proofs.LineLoops.{all_lines, line_turn}
+use Rattle.tw_lexer.proofs.LineLoops.{all_lines, line_turn}
 use Rattle.tw_names.proofs.Loops.{lines_in, one_more_length}
 use Rattle.tw_names.proofs.RegisterNames.{HasGone, gone_end, gone_here, gone_more, gone_refused}
 use Rattle.tw_names.proofs.registers.names_after_line.Goals as goal

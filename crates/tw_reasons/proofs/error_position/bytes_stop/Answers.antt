@@ -1,5 +1,5 @@
 use Rattle.tw_reasons.proofs.ReasonNames.{Bare, IsBlank, IsBroken, blank_no_word, seen}
-use Rattle.tw_words.proofs.Texts.{rest_utf8}
+use Rattle.tw_lexer.proofs.Texts.{rest_utf8}
 use Rattle.tw_reasons.proofs.error_position.bytes_stop.Goals as goal
 
 pub word_stop-requires-clause-utf8 : goal.word_stop-requires-clause-utf8

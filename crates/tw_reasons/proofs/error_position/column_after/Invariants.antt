@@ -1,5 +1,5 @@
 use Rattle.std.proofs.Common.{◌≡◌, ◌+◌, ◌≤◌, drop, count_by}
-use Rattle.tw_words.specs.Shown.{begins_character}
+use Rattle.tw_lexer.specs.Shown.{begins_character}
 use Rattle.tw_reasons.specs.Stops.{column_after}
 use Rattle.tw_reasons.proofs.error_position.column_after.Given as goal
 

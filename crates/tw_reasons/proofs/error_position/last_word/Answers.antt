@@ -1,7 +1,7 @@
-use Rattle.tw_words.specs.declared.word.Next.TheVariants as next
+use Rattle.tw_lexer.specs.declared.word.Next.TheVariants as next
 use Rattle.tw_reasons.proofs.ReasonNames.{IsFirstWord, seen}
-use Rattle.tw_words.proofs.FirstWords.{behind_gap}
-use Rattle.tw_words.proofs.Texts.{rest_utf8}
+use Rattle.tw_lexer.proofs.FirstWords.{behind_gap}
+use Rattle.tw_lexer.proofs.Texts.{rest_utf8}
 use Rattle.tw_reasons.proofs.Standing.{broken_apart, last_of, one_passed, one_room}
 use Rattle.tw_reasons.proofs.error_position.last_word.Goals as goal
 

@@ -1,8 +1,8 @@
 use Rattle.std.proofs.Common.{[], ◌∷◌, sym}
-use Rattle.tw_words.specs.declared.word.Next.TheVariants as next
+use Rattle.tw_lexer.specs.declared.word.Next.TheVariants as next
 use Rattle.tw_reasons.proofs.ReasonNames.{Bare, IsBlank, IsBroken, IsFirstWord, seen}
-use Rattle.tw_words.proofs.FirstWords.{behind_gap}
-use Rattle.tw_words.proofs.Texts.{rest_utf8}
+use Rattle.tw_lexer.proofs.FirstWords.{behind_gap}
+use Rattle.tw_lexer.proofs.Texts.{rest_utf8}
 use Rattle.tw_asm.proofs.Whole.{all_fine}
 use Rattle.tw_reasons.proofs.Standing.{first_passed, first_room, one_passed, one_room}
 use Rattle.tw_reasons.proofs.Stopping.{begins, ended, follows_first, follows_on, vain_end, vain_found, whole}

@@ -1,6 +1,6 @@
 use Rattle.std.proofs.Common.{◌≡◌, ◌∙◌, List, ℕ, map, subst, sym}
 use Rattle.tw_reasons.proofs.ReasonNames.{IsRead, Say, seen}
-use Rattle.tw_words.specs.declared.word.Word as words
+use Rattle.tw_lexer.specs.declared.word.Word as words
 use Rattle.tw_reasons.proofs.Saying.{line_told}
 use Rattle.tw_reasons.proofs.parser_state.line_role.Goals as goal
 

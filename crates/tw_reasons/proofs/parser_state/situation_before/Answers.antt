@@ -2,7 +2,7 @@ use Rattle.std.proofs.Common.{◌≡◌, ◌++◌, ◌∷◌, [], ℕ, List, Bor
 use Rattle.tw_reasons.proofs.ReasonNames.{LinesSay, append-nil, at_start, length-append, lines, map-append}
 use Rattle.std.proofs.lemmas.Iterator.Consumers.{YieldsList-at, YieldsList-end, YieldsList-from_enumerate, YieldsList-so_far, YieldsList-turn}
 use Rattle.std.proofs.lemmas.Iterator.Splits.{YieldsList-from_lines}
-use Rattle.tw_words.proofs.LineLoops.{all_lines, line_turn}
+use Rattle.tw_lexer.proofs.LineLoops.{all_lines, line_turn}
 use Rattle.tw_reasons.proofs.Heads.{front_is}
 use Rattle.tw_reasons.proofs.Saying.{Stands, stands_on}
 use Rattle.tw_reasons.proofs.parser_state.situation_before.Goals as goal

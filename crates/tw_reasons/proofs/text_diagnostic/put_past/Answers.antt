@@ -1,5 +1,5 @@
 use Rattle.std.proofs.Common.{ℕ, List, ap, codes, refl, subst, sym, ◌∙◌}
-use Rattle.tw_words.specs.Names.{before_colon}
+use Rattle.tw_lexer.specs.Names.{before_colon}
 use Rattle.tw_reasons.specs.Diagnostics.{AddsPast, is_long_label}
 use Rattle.tw_reasons.proofs.Reasoning.{on_ok}
 use Rattle.tw_reasons.proofs.Whys.{literal, long_why, past_why}

@@ -1,5 +1,5 @@
 use Rattle.std.proofs.Common.{ℕ, List, codes, refl, subst}
-use Rattle.tw_words.specs.Names.{before_colon}
+use Rattle.tw_lexer.specs.Names.{before_colon}
 use Rattle.tw_reasons.specs.Labels.{IsTwinBefore}
 use Rattle.tw_reasons.specs.declared.hints.Hint.TheVariants.{Nothing}
 use Rattle.tw_reasons.proofs.Reasoning.{on_ok}

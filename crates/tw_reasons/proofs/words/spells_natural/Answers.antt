@@ -1,5 +1,5 @@
 use Rattle.std.proofs.Common.{◌∙◌, ℕ, Result, ap}
-use Rattle.tw_words.proofs.Readings.{digits_same}
+use Rattle.tw_lexer.proofs.Readings.{digits_same}
 use Rattle.tw_reasons.proofs.ReasonNames.{TokenError, has_form}
 use Rattle.tw_reasons.proofs.words.spells_natural.Goals as goal
 

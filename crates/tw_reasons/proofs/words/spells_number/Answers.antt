@@ -1,5 +1,5 @@
 use Rattle.std.proofs.Common.{◌∙◌, ℤ, Result, ap}
-use Rattle.tw_words.proofs.Readings.{signed_same}
+use Rattle.tw_lexer.proofs.Readings.{signed_same}
 use Rattle.tw_reasons.proofs.ReasonNames.{TokenError, has_form}
 use Rattle.tw_reasons.proofs.words.spells_number.Goals as goal
 

@@ -1,5 +1,0 @@
-use Rattle.tw_words.proofs.Numerals.{HasRead}
-use Rattle.tw_words.proofs.numbers.digits.Given as goal
-
-abbrev pub invariant-loop-byte : goal.invariant-loop-byte
-invariant-loop-byte l = HasRead l.text l.past l.byte-index l.value

@@ -1,5 +1,0 @@
-use Rattle.tw_words.proofs.Numerals as numerals
-use Rattle.tw_words.proofs.theorems.numbers_are_read_back.Goals as goal
-
-pub returns : goal.returns
-returns c = numerals.numbers_are_read_back

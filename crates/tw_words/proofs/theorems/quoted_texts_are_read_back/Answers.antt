@@ -1,5 +1,0 @@
-use Rattle.tw_words.proofs.Written as written
-use Rattle.tw_words.proofs.theorems.quoted_texts_are_read_back.Goals as goal
-
-pub returns : goal.returns
-returns c = written.quoted_texts_are_read_back
