@@ -13,7 +13,7 @@
 # For zsh:   mkdir -p ~/.zfunc; cp tools/tw.zsh ~/.zfunc/_tw; and before compinit in ~/.zshrc: fpath+=~/.zfunc
 root=$(dirname "$(dirname "$(readlink -f "$0")")")
 assembler=$root/crates/tw_asm/src
-names=$root/crates/tw_names/src
+names=$root/crates/tw_symbols/src
 room=$(mktemp -d)
 trap 'rm -rf "$room"' EXIT
 

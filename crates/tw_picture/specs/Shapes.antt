@@ -6,7 +6,7 @@ use Rattle.tw_types.specs.declared.event.Event.{Event}
 use Rattle.tw_types.specs.declared.event.Event.TheVariants as event
 use Rattle.tw_types.specs.Layout.{ActorCounts}
 use Rattle.tw_code.specs.machine.History.{actor_of}
-use Rattle.tw_names.specs.Symbols.{bracketed, name_at}
+use Rattle.tw_symbols.specs.Symbols.{bracketed, name_at}
 use Rattle.tw_report.specs.Events.{event_line}
 use Rattle.tw_picture.specs.declared.attributes.Attribute.{Attribute}
 use Rattle.tw_picture.specs.declared.attributes.Key.{Key}

@@ -2,7 +2,7 @@
 
 ghost use Rattle.std.specs.Prelude.{◌≡◌, ◌++◌, codes, decimal, IfOk, OnOk};
 ghost use Rattle.tw_picture.specs.Shapes.{bar_shape, bar_box, bar_class, bar_label, bar_parts, bar_title, bar_width, end_in, events_text, first_fitting, fits, full_text, has_bar, label_text, labelled, name_or};
-ghost use Rattle.tw_names.specs.Symbols.{name_at};
+ghost use Rattle.tw_symbols.specs.Symbols.{name_at};
 ghost use Rattle.tw_picture.specs.Xml.{all, xml_text};
 
 use crate::attributes::{Attribute, Key, Name, Word, fixed, number};
@@ -11,8 +11,8 @@ use crate::elements::{numbered, put_titled, put_words};
 use crate::marks::rectangle;
 use crate::places::{View, lane_top};
 use std::alloc::{AllocError, Global};
-use tw_names::Symbols;
 use tw_report::{put, put_numbered};
+use tw_symbols::Symbols;
 use tw_types::Layout;
 
 /// A text's row of attributes: where its first letter stands.

@@ -1,6 +1,6 @@
 //! What a picture shows.
 
-use tw_names::Symbols;
+use tw_symbols::Symbols;
 use tw_types::{Actor, Event, Layout, Link, TaskNo};
 
 /// An event of a history, with its number from 1.

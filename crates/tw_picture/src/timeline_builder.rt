@@ -15,8 +15,8 @@ use crate::circle::waits_at;
 use crate::drawing::{Bar, Drawing, Mark, Place, Thread};
 use std::alloc::{AllocError, Global};
 use tw_machine::{Plain, actor_of};
-use tw_names::Symbols;
 use tw_report::ending_line;
+use tw_symbols::Symbols;
 use tw_types::{Actor, Event, TaskNo};
 
 /// The number of the first task that an event makes; task 1 is main's.

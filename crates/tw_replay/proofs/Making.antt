@@ -19,7 +19,7 @@ use Rattle.tw_stats.specs.declared.dependency.Dependency.TheVariants.{Datum}
 use Rattle.tw_stats.specs.Waits.{made_at, made_by, made_in}
 use Rattle.tw_stats.proofs.Nexts.{step_more}
 use Rattle.tw_replay.specs.declared.stuck.Made.{Made}
-use Rattle.tw_names.specs.Symbols.{name_at}
+use Rattle.tw_symbols.specs.Symbols.{name_at}
 use Rattle.tw_report.proofs.HistoryReading.{never}
 
 none_some : {A : Type 0} {Z : Type 0} (x : A) → None ≡ Some x → Z

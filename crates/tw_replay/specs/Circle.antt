@@ -19,8 +19,8 @@ use Rattle.tw_code.specs.machine.Due.{instr_here}
 use Rattle.tw_code.specs.machine.Opening.{reached}
 use Rattle.tw_code.specs.machine.Pending.{circle}
 use Rattle.tw_code.specs.machine.State.{Frame, State}
-use Rattle.tw_names.specs.Expansion.{StandsFor}
-use Rattle.tw_names.specs.Symbols.{AreNames, bracketed, name_at}
+use Rattle.tw_symbols.specs.Expansion.{StandsFor}
+use Rattle.tw_symbols.specs.Symbols.{AreNames, bracketed, name_at}
 use Rattle.tw_replies.specs.Text.{IsLineOf, text_line}
 
 -- ---- who made a rule

@@ -30,7 +30,7 @@ use Rattle.tw_picture.specs.History.{IsDrawing}
 use Rattle.tw_picture.specs.Timeline.{picture_of}
 use Rattle.tw_picture.specs.Places.{between}
 use Rattle.tw_picture.specs.Xml.{xml_text}
-use Rattle.tw_names.specs.Symbols.{AreSymbols}
+use Rattle.tw_symbols.specs.Symbols.{AreSymbols}
 use Rattle.tw_report.specs.History.{AreParts, Tell, lines_in}
 use Rattle.tw_report.specs.Lines.{history_line, not_enabled_line, trap_line}
 use Rattle.tw_replies.specs.Lines.{opening_line}

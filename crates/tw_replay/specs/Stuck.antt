@@ -28,7 +28,7 @@ use Rattle.tw_replies.specs.declared.close.Close.{Close}
 use Rattle.tw_replies.specs.declared.close.Close.TheVariants.{Stuck}
 use Rattle.tw_replay.specs.declared.stuck.Made.{Made}
 use Rattle.tw_replay.specs.declared.stuck.Lookup.{Lookup}
-use Rattle.tw_names.specs.Symbols.{AreNames}
+use Rattle.tw_symbols.specs.Symbols.{AreNames}
 use Rattle.std.specs.Str.Lines.{lines}
 
 -- ---- rules that were made

@@ -13,9 +13,9 @@ use crate::replay::{close_of, stopped_reply};
 use std::alloc::{AllocError, Global};
 use tw_command::EventRange;
 use tw_machine::Plain;
-use tw_names::Symbols;
 use tw_picture::{Settings, TimelineBuilder, timeline};
 use tw_replies::Reply;
+use tw_symbols::Symbols;
 use tw_types::Event;
 
 /// The picture of these of the events that led to where the machine stands.

@@ -17,10 +17,10 @@ use crate::replay::{close_of, stopped_reply};
 use std::alloc::{AllocError, Global};
 use tw_code::Program;
 use tw_machine::{Plain, Stopped};
-use tw_names::Symbols;
 use tw_replies::Reply;
 use tw_report::report_state;
 use tw_stats::StatsBuilder;
+use tw_symbols::Symbols;
 use tw_types::Event;
 use tw_verify::{Verified, VerifyError, verify};
 

@@ -27,7 +27,6 @@ use std::alloc::{AllocError, Global};
 use tw_code::Program;
 use tw_command::{Answer, ReplayOptions, ReplayOrder, Source, inputs_of};
 use tw_machine::{Plain, Stopped};
-use tw_names::Symbols;
 use tw_replies::{
     Close, ReadProgram, Reply, SourceText, input_parts, not_utf8_reply, parse_error_reply,
     read_program, refused_by, refused_words_reply, symbols_of,
@@ -36,6 +35,7 @@ use tw_report::{
     HistoryFault, cut_history, put_history_line, put_not_enabled_line, put_trap_line, read_history,
     report_state,
 };
+use tw_symbols::Symbols;
 use tw_types::{Cause, Ending, Event};
 
 /// How a session ends whose history has ended so.

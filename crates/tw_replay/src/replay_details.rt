@@ -12,7 +12,7 @@ ghost use Rattle.tw_replay.specs.Replay.{ByOutcome, IsAnswer, AreAnswerDetails, 
 ghost use Rattle.tw_replies.specs.Reply.{reply};
 ghost use Rattle.tw_replies.specs.Source.{MayBeSource, text_of};
 ghost use Rattle.tw_replay.specs.Stuck.{CanTell, ClosesBy, IsStartOf, IsUndrawn, MayTell};
-ghost use Rattle.tw_names.specs.Symbols.{AreSymbols};
+ghost use Rattle.tw_symbols.specs.Symbols.{AreSymbols};
 ghost use Rattle.tw_replay.specs.Counted.{AreShort};
 
 use crate::opening::{inputs_refused_reply, opening_reply};

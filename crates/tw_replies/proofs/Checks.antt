@@ -5,7 +5,7 @@ use Rattle.tw_code.specs.accepting.Flow.{flows}
 use Rattle.tw_types.specs.declared.actor.Kind.TheVariants.{Control, Leaf}
 use Rattle.tw_code.specs.accepting.Needs.{needed}
 use Rattle.tw_code.specs.accepting.Walk.{IsBudget}
-use Rattle.tw_names.specs.Symbols.{name_at}
+use Rattle.tw_symbols.specs.Symbols.{name_at}
 use Rattle.tw_replies.specs.Check.{AreProcedureLines, IsCheckText, needs_line, procedure_line}
 
 pub lines_more : (names : List (List ℕ)) (number budget : ℕ) (ps : List Procedure) (p : Procedure) (lines : List ℕ) → AreProcedureLines names number ps lines → IsBudget (flows p.code) budget

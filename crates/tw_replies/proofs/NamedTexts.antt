@@ -1,8 +1,8 @@
 -- A text with names that is refused.
 use Rattle.std.proofs.Common.{◌≡◌, ◌⊎◌, inl, inr}
-use Rattle.tw_names.specs.Answers.{IsMemory}
-use Rattle.tw_names.specs.declared.rejection.NameNo.TheVariants as no
-use Rattle.tw_names.specs.declared.rejection.NameError.{NameError}
+use Rattle.tw_symbols.specs.Answers.{IsMemory}
+use Rattle.tw_symbols.specs.declared.rejection.NameNo.TheVariants as no
+use Rattle.tw_symbols.specs.declared.rejection.NameError.{NameError}
 
 -- what isn't want of memory is its first refusal
 pub is_refused : (f : NameError) (First : Type 0) → (f.no ≡ no.NoMemory → ⊥) → IsMemory f ⊎ First → First

@@ -5,7 +5,7 @@ use Rattle.std.specs.List.{slice_get}
 use Rattle.tw_asm.specs.Statement.{Statement, Code, Head}
 use Rattle.tw_reasons.proofs.Heads.{front_no_procedure}
 use Rattle.tw_reasons.specs.LineRole.{HasNoHead, IsFirstHead}
-use Rattle.tw_names.proofs.LineByLine.{as_many}
+use Rattle.tw_symbols.proofs.LineByLine.{as_many}
 use Rattle.tw_verify.specs.declared.rejection.VerifyError.{VerifyError}
 use Rattle.tw_verify.specs.declared.rejection.VerifyError.TheVariants as rejection
 

@@ -9,7 +9,7 @@ use Rattle.tw_code.specs.machine.Rights.{RightType, Typing, right_at}
 use Rattle.std.specs.Str.Lines.{lines}
 use Rattle.tw_asm.specs.Fault.{LinesSay, ParserState, after_line, at_start}
 use Rattle.tw_asm.specs.Statement.{Statement}
-use Rattle.tw_names.specs.Expansion.{StandsFor}
+use Rattle.tw_symbols.specs.Expansion.{StandsFor}
 use Rattle.tw_reasons.specs.LineRole.{says_of}
 use Rattle.tw_reasons.specs.declared.parser_state.LineRole.{LineRole}
 use Rattle.tw_reasons.specs.declared.parser_state.LineRole.TheVariants as says

@@ -3,15 +3,15 @@ use Rattle.std.specs.Prelude.{◌≡◌, ◌⊎◌, ◌++◌, ◌-◌, ℕ, Bool
 use Rattle.std.specs.Str.{bytes_eq}
 use Rattle.std.specs.Str.Lines.{lines}
 use Rattle.tw_asm.specs.declared.fault.FaultNo.{FaultNo}
-use Rattle.tw_names.specs.Answers.{name_number}
-use Rattle.tw_names.specs.Expansion.{HasNames, IsFirstRejection, Rejection, StandsFor}
-use Rattle.tw_names.specs.declared.meaning.Expected.{Expected}
-use Rattle.tw_names.specs.declared.meaning.Expected.TheVariants as asked
-use Rattle.tw_names.specs.declared.meaning.Bank.TheVariants as bank
-use Rattle.tw_names.specs.declared.meaning.Binding.{Binding}
-use Rattle.tw_names.specs.declared.meaning.Binding.TheVariants as binding
-use Rattle.tw_names.specs.declared.rejection.NameNo.{NameNo}
-use Rattle.tw_names.specs.declared.rejection.NameNo.TheVariants as no
+use Rattle.tw_symbols.specs.Answers.{name_number}
+use Rattle.tw_symbols.specs.Expansion.{HasNames, IsFirstRejection, Rejection, StandsFor}
+use Rattle.tw_symbols.specs.declared.meaning.Expected.{Expected}
+use Rattle.tw_symbols.specs.declared.meaning.Expected.TheVariants as asked
+use Rattle.tw_symbols.specs.declared.meaning.Bank.TheVariants as bank
+use Rattle.tw_symbols.specs.declared.meaning.Binding.{Binding}
+use Rattle.tw_symbols.specs.declared.meaning.Binding.TheVariants as binding
+use Rattle.tw_symbols.specs.declared.rejection.NameNo.{NameNo}
+use Rattle.tw_symbols.specs.declared.rejection.NameNo.TheVariants as no
 use Rattle.tw_reasons.specs.Diagnostics.{IsTextReason}
 use Rattle.tw_lexer.specs.Shown.{shortened}
 use Rattle.tw_replies.specs.Reply.{Reply, reply}

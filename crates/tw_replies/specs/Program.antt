@@ -14,8 +14,8 @@ use Rattle.tw_command.specs.declared.command.Assembling.TheVariants as assemblin
 use Rattle.tw_command.specs.declared.command.Source.{Source}
 use Rattle.tw_command.specs.declared.command.Source.TheVariants.{Hex, Assembly}
 use Rattle.tw_asm.specs.declared.fault.FaultNo.{FaultNo}
-use Rattle.tw_names.specs.Answers.{told}
-use Rattle.tw_names.specs.Expansion.{IsFirstRejection, StandsFor}
+use Rattle.tw_symbols.specs.Answers.{told}
+use Rattle.tw_symbols.specs.Expansion.{IsFirstRejection, StandsFor}
 use Rattle.tw_replies.specs.Lines.{asm_line, fault_line}
 use Rattle.tw_replies.specs.Input.{digits_in}
 use Rattle.tw_replies.specs.Names.{AreFaultDetails, RepliesByPlain, name_details, name_line}

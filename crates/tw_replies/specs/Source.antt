@@ -1,7 +1,7 @@
 -- How contracts see what the code keeps of a text beside its program.
 use Rattle.std.specs.Prelude.{◌≡◌, ℕ, List, Option, Some, None, IfSome, String, string_bytes}
 use Rattle.std.specs.declared.alloc.Global.{Global}
-use Rattle.tw_names.specs.Expansion.{StandsFor}
+use Rattle.tw_symbols.specs.Expansion.{StandsFor}
 use Rattle.tw_code.specs.declared.procedure.Procedure.{Procedure}
 use Rattle.tw_code.specs.declared.version.Version.{Version}
 use Rattle.tw_code.specs.format.Program.{IsProgram}

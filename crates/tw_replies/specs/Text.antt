@@ -4,9 +4,9 @@ use Rattle.std.specs.Str.{IsTrimAscii}
 use Rattle.std.specs.Str.Lines.{lines}
 use Rattle.tw_asm.specs.Origins.{AreOrigins, ComesFrom}
 use Rattle.tw_code.specs.declared.procedure.Procedure.{Procedure}
-use Rattle.tw_names.specs.Registers.{IsWithName}
-use Rattle.tw_names.specs.Symbols.{AreNames, name_at}
-use Rattle.tw_names.specs.Expansion.{StandsFor}
+use Rattle.tw_symbols.specs.Registers.{IsWithName}
+use Rattle.tw_symbols.specs.Symbols.{AreNames, name_at}
+use Rattle.tw_symbols.specs.Expansion.{StandsFor}
 use Rattle.tw_reasons.specs.Reasons.{TellsReason, shape_line}
 use Rattle.tw_reasons.specs.LineRole.{IsFirstHead}
 use Rattle.tw_lexer.specs.Shown.{shortened}

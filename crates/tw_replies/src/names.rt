@@ -3,8 +3,8 @@
 ghost use Rattle.std.specs.Prelude.{◌≡◌, ◌++◌, ◌-◌, ℕ, List, IfOk, OnOk, codes, decimal, option_map, slice_get};
 ghost use Rattle.std.specs.Str.Lines.{lines};
 ghost use Rattle.tw_reasons.specs.Diagnostics.{IsTextReason};
-ghost use Rattle.tw_names.specs.Answers.{told};
-ghost use Rattle.tw_names.specs.Expansion.{IsFirstRejection, StandsFor};
+ghost use Rattle.tw_symbols.specs.Answers.{told};
+ghost use Rattle.tw_symbols.specs.Expansion.{IsFirstRejection, StandsFor};
 ghost use Rattle.tw_replies.specs.Names.{AreFaultDetails, RepliesByPlain, expected_words, fixed_diagnostic, is_same_line, kind_diagnostic, line_text, name_details, name_line, name_diagnostic, binding_words, written_text};
 ghost use Rattle.tw_lexer.specs.Shown.{shortened};
 ghost use Rattle.tw_replies.specs.Reply.{reply};
@@ -14,8 +14,8 @@ use crate::reply::{Reply, fixed_reply, not_utf8_reply, refused_by};
 use std::alloc::{AllocError, Global};
 use tw_asm::AsmFault;
 use tw_lexer::{line_numbered, put, put_both, put_numbered, put_shortened};
-use tw_names::{Bank, Binding, Expected, NameError, NameNo, expanded_text};
 use tw_reasons::put_text_diagnostic;
+use tw_symbols::{Bank, Binding, Expected, NameError, NameNo, expanded_text};
 
 /// Adds the line of this number, shortened if it is long, where the text has one.
 fn put_line(out: &mut Vec<u8>, text: &str, number: usize) -> Result<(), AllocError>

@@ -7,8 +7,8 @@ ghost use Rattle.tw_asm.specs.declared.fault.AsmFault.{AsmFault as TextFault};
 ghost use Rattle.tw_command.specs.declared.command.Source.TheVariants.{Assembly, Hex};
 ghost use Rattle.tw_command.specs.declared.command.Source.{Source as ReadAs};
 ghost use Rattle.tw_asm.specs.Origins.{AreOrigins};
-ghost use Rattle.tw_names.specs.Expansion.{StandsFor};
-ghost use Rattle.tw_names.specs.declared.rejection.NameNo.TheVariants as no;
+ghost use Rattle.tw_symbols.specs.Expansion.{StandsFor};
+ghost use Rattle.tw_symbols.specs.declared.rejection.NameNo.TheVariants as no;
 ghost use Rattle.tw_replies.specs.Names.{AreFaultDetails, name_details};
 ghost use Rattle.tw_replies.specs.Program.{AreParseErrorDetails, Spells, SpellsNone, SpellsText, no_program_line, source_text};
 ghost use Rattle.tw_replies.specs.Reply.{reply};
@@ -30,7 +30,7 @@ use tw_binary::{Fault, FaultNo, decode};
 use tw_code::Program;
 use tw_command::Source;
 use tw_lexer::put;
-use tw_names::{NameError, NameNo, expanded_text};
+use tw_symbols::{NameError, NameNo, expanded_text};
 
 /// A program, and the text from which it was read, if from one.
 #[derive(Drop)]

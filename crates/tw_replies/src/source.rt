@@ -5,9 +5,9 @@ ghost use Rattle.std.specs.Str.Lines.{lines};
 ghost use Rattle.tw_asm.specs.Origins.{AreOrigins, ComesFrom, instr_at};
 ghost use Rattle.tw_code.specs.declared.procedure.Procedure.{Procedure as Section};
 ghost use Rattle.tw_replies.specs.Source.{IsSourceAt, MayBeSourceAt, plain_of, text_of};
-ghost use Rattle.tw_names.specs.Registers.{IsWithName};
-ghost use Rattle.tw_names.specs.Expansion.{StandsFor};
-ghost use Rattle.tw_names.specs.Symbols.{AreSymbols};
+ghost use Rattle.tw_symbols.specs.Registers.{IsWithName};
+ghost use Rattle.tw_symbols.specs.Expansion.{StandsFor};
+ghost use Rattle.tw_symbols.specs.Symbols.{AreSymbols};
 ghost use Rattle.tw_reasons.specs.Reasons.{TellsReason, shape_line};
 ghost use Rattle.tw_reasons.specs.LineRole.{IsFirstHead};
 ghost use Rattle.tw_replies.specs.Text.{IsBehind, IsLineOf, AreMainDetails, ArePlaceDetails, AreTextDetails, in_name, line_in_text, text_line};
@@ -17,8 +17,8 @@ use std::alloc::{AllocError, Global};
 use tw_asm::LineNumbers;
 use tw_code::Procedure;
 use tw_lexer::{line_numbered, put, put_numbered, put_shortened};
-use tw_names::{Symbols, put_with_name};
 use tw_reasons::{head_line, put_main_diagnostic, put_program_diagnostic};
+use tw_symbols::{Symbols, put_with_name};
 use tw_verify::{Refused, VerifyError};
 
 /// A text, and the line of each instruction of its program.

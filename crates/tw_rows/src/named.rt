@@ -7,7 +7,7 @@ use std::fs;
 use std::rt::Files;
 use tw_asm::assemble;
 use tw_binary::encode;
-use tw_names::expanded_text;
+use tw_symbols::expanded_text;
 
 /// The assembly text for which a text stands, with a slash for each line end; or its first refusal, or that it stands for itself.
 pub fn names_text(alloc: Global, text: &str) -> Result<String, Complaint> {

@@ -20,7 +20,7 @@ use Rattle.tw_picture.specs.History.{IsDrawing}
 use Rattle.tw_picture.specs.Timeline.{picture_of}
 use Rattle.tw_picture.specs.Places.{between}
 use Rattle.tw_picture.specs.Xml.{xml_text}
-use Rattle.tw_names.specs.Symbols.{AreSymbols}
+use Rattle.tw_symbols.specs.Symbols.{AreSymbols}
 use Rattle.tw_stats.specs.Text.{AreNumbers}
 use Rattle.tw_report.specs.Events.{event_line}
 use Rattle.tw_run_report.specs.Ends.{end_report}

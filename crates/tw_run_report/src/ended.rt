@@ -11,7 +11,7 @@ ghost use Rattle.tw_run_report.specs.Ends.{IsEndReport};
 ghost use Rattle.tw_run_report.specs.Over.{Goes, IsRunOver};
 ghost use Rattle.tw_replies.specs.Reply.{reply};
 ghost use Rattle.tw_run_report.specs.Run.{AreRunNumbers, AreRunDetails, IsRunPicture, IsRunText, begins, close_of, limit_details, trace_text};
-ghost use Rattle.tw_names.specs.Symbols.{AreSymbols};
+ghost use Rattle.tw_symbols.specs.Symbols.{AreSymbols};
 ghost use Rattle.tw_replies.specs.Source.{MayBeSource, text_of};
 
 use crate::end_report::report;

@@ -6,7 +6,7 @@ use Rattle.tw_types.specs.Layout.{ActorCounts}
 use Rattle.tw_code.specs.declared.procedure.Procedure.{Procedure}
 use Rattle.tw_report.specs.Events.{actor_part, part_text}
 use Rattle.tw_machine.specs.Moments.{Moment}
-use Rattle.tw_names.specs.Symbols.{bracketed, name_at}
+use Rattle.tw_symbols.specs.Symbols.{bracketed, name_at}
 use Rattle.tw_stats.specs.Numbers.{events_of, events_of_kind, instructions_of, most_of, tasks_of}
 use Rattle.tw_stats.specs.Waits.{IsLongest, steps_in}
 

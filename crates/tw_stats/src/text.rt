@@ -14,8 +14,8 @@ use crate::procedures::Procedures;
 use crate::stats_builder::StatsBuilder;
 use std::alloc::{AllocError, Global};
 use tw_machine::Plain;
-use tw_names::Symbols;
 use tw_report::{put, put_numbered};
+use tw_symbols::Symbols;
 use tw_types::{Actor, Layout};
 
 /// Adds a name and a number, as a line.

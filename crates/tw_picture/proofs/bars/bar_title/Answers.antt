@@ -1,5 +1,5 @@
 use Rattle.std.proofs.Common.{◌++◌, ◌∙◌, ℕ, List, [], ap, append_assoc, codes, decimal}
-use Rattle.tw_names.specs.Symbols.{bracketed, name_at}
+use Rattle.tw_symbols.specs.Symbols.{bracketed, name_at}
 use Rattle.tw_picture.specs.Shapes.{events_text}
 use Rattle.tw_picture.proofs.bars.bar_title.Goals as goal
 

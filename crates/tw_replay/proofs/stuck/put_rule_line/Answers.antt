@@ -1,5 +1,5 @@
 use Rattle.std.proofs.Common.{◌++◌, ◌∙◌, List, ap, append_assoc, ℕ}
-use Rattle.tw_names.specs.Symbols.{name_at}
+use Rattle.tw_symbols.specs.Symbols.{name_at}
 use Rattle.tw_replay.proofs.ReplayNames.{on_ok_weaker, rule_text, text_line}
 use Rattle.tw_replay.proofs.stuck.put_rule_line.Goals as goal
 

@@ -1,6 +1,6 @@
 use Rattle.std.proofs.Common.{◌++◌, ◌∙◌, List, ap, append_assoc, codes, decimal, ℕ}
 use Rattle.std.proofs.lemmas.Result.{on_ok_weaker}
-use Rattle.tw_names.specs.Symbols.{bracketed, name_at}
+use Rattle.tw_symbols.specs.Symbols.{bracketed, name_at}
 use Rattle.tw_replay.proofs.Unfits.{three_parts}
 use Rattle.tw_replay.proofs.stuck.put_rule_text.Goals as goal
 

@@ -1,5 +1,5 @@
 use Rattle.std.proofs.Common.{◌≡◌, ◌++◌, ◌∙◌, List, ℕ, ap, inl, inr}
-use Rattle.tw_names.specs.Answers.{told}
+use Rattle.tw_symbols.specs.Answers.{told}
 use Rattle.tw_replies.proofs.ReplyNames.{Refused, name_details, name_line, reply}
 use Rattle.tw_replies.proofs.names.named_reply.Goals as goal
 

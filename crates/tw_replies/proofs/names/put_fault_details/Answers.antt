@@ -1,7 +1,7 @@
 use Rattle.std.proofs.Common.{◌≡◌, ◌++◌, ◌-◌, List, ℕ, inr, refl, slice_get, string_bytes, subst, sym}
 use Rattle.tw_replies.proofs.ReplyNames.{HasNames, IsFirstRejection, StandsFor, lines, on_ok_weaker, written_text}
-use Rattle.tw_names.specs.Answers.{told}
-use Rattle.tw_names.proofs.Once.{never_both}
+use Rattle.tw_symbols.specs.Answers.{told}
+use Rattle.tw_symbols.proofs.Once.{never_both}
 use Rattle.tw_replies.proofs.NamedTexts.{is_refused}
 use Rattle.tw_replies.proofs.names.put_fault_details.Goals as goal
 

@@ -1,6 +1,6 @@
 use Rattle.std.proofs.Common.{Global, ℕ, Vec, ap, inl, string_bytes}
 use Rattle.tw_replies.proofs.ReplyNames.{IfOk-weaker, IsFirstRejection, RepliesByPlain, Reply, StandsFor, Success, reply}
-use Rattle.tw_names.specs.Answers.{told}
+use Rattle.tw_symbols.specs.Answers.{told}
 use Rattle.tw_replies.proofs.NamedTexts.{is_refused}
 use Rattle.tw_replies.proofs.names.text_plain_reply.Goals as goal
 

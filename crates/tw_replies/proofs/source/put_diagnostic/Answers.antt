@@ -1,6 +1,6 @@
 use Rattle.std.proofs.Common.{◌≡◌, ◌++◌, ◌∙◌, List, ℕ, ap, subst}
 use Rattle.std.proofs.lemmas.Result.{on_ok_weaker}
-use Rattle.tw_names.specs.Registers.{IsWithName}
+use Rattle.tw_symbols.specs.Registers.{IsWithName}
 use Rattle.tw_replies.proofs.source.put_diagnostic.Goals as goal
 
 pub returns : goal.returns

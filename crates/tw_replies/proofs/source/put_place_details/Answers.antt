@@ -1,5 +1,5 @@
 use Rattle.std.proofs.Common.{◌++◌, ◌∙◌, ℕ, List, ap, append_assoc, refl}
-use Rattle.tw_names.specs.Symbols.{name_at}
+use Rattle.tw_symbols.specs.Symbols.{name_at}
 use Rattle.tw_replies.specs.Text.{line_in_text}
 use Rattle.tw_replies.proofs.ReplyNames.{on_ok_weaker, plain_of}
 use Rattle.tw_replies.proofs.source.put_place_details.Goals as goal

@@ -1,6 +1,6 @@
 use Rattle.std.proofs.Common.{◌∙◌, Global, List, Some, Vec, ap, subst, sym, ℕ}
 use Rattle.tw_replies.proofs.ReplyNames.{IfOk-weaker, IsListing, LinesSay, StandsFor, Typing, at_start, lines, said_lines, typings_in, typings_of}
-use Rattle.tw_names.proofs.LineByLine.{as_many}
+use Rattle.tw_symbols.proofs.LineByLine.{as_many}
 use Rattle.tw_replies.proofs.LineListings.{right_in, some_said}
 use Rattle.tw_replies.proofs.text_listing.accepted_lines.Goals as goal
 

@@ -1,6 +1,6 @@
 use Rattle.std.proofs.Common.{◌∙◌, Global, List, Some, Vec, ap, subst, sym, ℕ}
 use Rattle.tw_replies.proofs.ReplyNames.{IfOk-weaker, IsRefusedListing, LinesSay, StandsFor, Typing, at_start, lines, said_lines, typings_in, verify_error_code}
-use Rattle.tw_names.proofs.LineByLine.{as_many}
+use Rattle.tw_symbols.proofs.LineByLine.{as_many}
 use Rattle.tw_replies.proofs.LineListings.{some_said}
 use Rattle.tw_replies.proofs.text_listing.refused_lines.Goals as goal
 

@@ -1,6 +1,0 @@
-use Rattle.std.proofs.Common.{map}
-use Rattle.tw_names.proofs.FirstNamed.{IsFirstNamed}
-use Rattle.tw_names.proofs.expansion.is_named.Given as goal
-
-abbrev pub invariant-loop-line : goal.invariant-loop-line
-invariant-loop-line l = IsFirstNamed (map (λ line. line.now) l.yielded) l.named

@@ -1,9 +1,0 @@
-use Rattle.std.proofs.Common.{◌≡◌, ◌++◌, length}
-use Rattle.tw_names.proofs.TextNames.{texts, value_types}
-use Rattle.tw_names.proofs.heads.value_types.Given as goal
-
-abbrev pub invariant-loop-rest : goal.invariant-loop-rest
-invariant-loop-rest l = texts l.types.items ++ value_types (texts l.rest) ≡ value_types (texts l.words)
-
-abbrev pub decreases-loop-rest : goal.decreases-loop-rest
-decreases-loop-rest l = length l.rest

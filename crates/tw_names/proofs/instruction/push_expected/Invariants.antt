@@ -1,6 +1,0 @@
-use Rattle.std.proofs.Common.{◌≡◌, ◌++◌, drop, map}
-use Rattle.tw_names.specs.LineExpansion.{argument_of}
-use Rattle.tw_names.proofs.instruction.push_expected.Given as goal
-
-abbrev pub invariant-loop-bank : goal.invariant-loop-bank
-invariant-loop-bank l = l.asked.items ++ map argument_of (drop l.bank-index l.banks) ≡ l.fn.asked.items ++ map argument_of l.banks

@@ -1,6 +1,0 @@
-use Rattle.std.proofs.Common.{◌≡◌, drop, filter}
-use Rattle.tw_names.proofs.TextNames.{behind, is_unnamed, texts}
-use Rattle.tw_names.proofs.listed.put_unnamed.Given as goal
-
-abbrev pub invariant-loop-word : goal.invariant-loop-word
-invariant-loop-word l = behind l.out.items (filter is_unnamed (texts (drop l.word-index l.words))) ≡ behind l.fn.out.items (filter is_unnamed (texts l.words))

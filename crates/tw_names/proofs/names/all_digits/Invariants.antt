@@ -1,6 +1,0 @@
-use Rattle.std.proofs.Common.{◌≡◌, drop}
-use Rattle.tw_lexer.specs.Digits.{all_digits}
-use Rattle.tw_names.proofs.names.all_digits.Given as goal
-
-abbrev pub invariant-loop-byte : goal.invariant-loop-byte
-invariant-loop-byte l = all_digits (drop l.byte-index l.text) ≡ all_digits l.text

@@ -1,6 +1,0 @@
-use Rattle.std.proofs.Common.{◌≡◌, ◌++◌, drop}
-use Rattle.tw_names.proofs.TextNames.{flat_map, pieces, texts}
-use Rattle.tw_names.proofs.pieces.pieces_of.Given as goal
-
-abbrev pub invariant-loop-word : goal.invariant-loop-word
-invariant-loop-word l = texts l.all.items ++ flat_map pieces (texts (drop l.word-index l.words)) ≡ flat_map pieces (texts l.words)

@@ -1,5 +1,0 @@
-use Rattle.tw_names.proofs.LineByLine.{as_many}
-use Rattle.tw_names.proofs.theorems.as_many_lines.Goals as goal
-
-pub returns : goal.returns
-returns c = as_many

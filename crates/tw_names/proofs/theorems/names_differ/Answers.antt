@@ -1,5 +1,0 @@
-use Rattle.tw_names.proofs.Apart.{names_differ}
-use Rattle.tw_names.proofs.theorems.names_differ.Goals as goal
-
-pub returns : goal.returns
-returns c = names_differ

@@ -1,0 +1,33 @@
+-- What a text says is one thing.
+use Rattle.std.proofs.Common.{◌≡◌, ℕ, List, Result, Ok, Err, inl, inr, refl, sym, ap, ◌∙◌}
+use Rattle.tw_symbols.proofs.TextNames.{Rejection, Says, lines, text_says}
+use Rattle.tw_symbols.specs.Theorems.{NotBoth, OneFirstRejection, StandsForItself, StandsForOne}
+use Rattle.tw_symbols.proofs.Taking.{all_once}
+
+says_once : (text : List ℕ) (x y : Result (List ℕ) Rejection) → Says text x → Says text y → x ≡ y
+says_once text x y (_, (all, taken, says)) (_, (others, again, other)) = sym says ∙ ap text_says (all_once all others (lines text) taken again) ∙ other
+
+ok_is : (a b : List ℕ) → ◌≡◌ {A = Result (List ℕ) Rejection} (Ok a) (Ok b) → a ≡ b
+ok_is a b e = cc
+
+err_is : (a b : Rejection) → ◌≡◌ {A = Result (List ℕ) Rejection} (Err a) (Err b) → a ≡ b
+err_is a b e = cc
+
+not_ok_err : (a : List ℕ) (b : Rejection) → ◌≡◌ {A = Result (List ℕ) Rejection} (Ok a) (Err b) → ⊥
+not_ok_err a b e = cc
+
+pub one_text : StandsForOne
+one_text text plain other (inl says) (inl again) = ok_is plain other (says_once text (Ok plain) (Ok other) says again)
+one_text text plain other (inl says) (inr (no_names, _)) = absurd (no_names says.0)
+one_text text plain other (inr (no_names, _)) (inl says) = absurd (no_names says.0)
+one_text text plain other (inr (_, same)) (inr (_, also)) = same ∙ sym also
+
+pub one_rejection : OneFirstRejection
+one_rejection text rejection other says again = err_is rejection other (says_once text (Err rejection) (Err other) says again)
+
+pub never_both : NotBoth
+never_both text plain rejection (inl says) refused = not_ok_err plain rejection (says_once text (Ok plain) (Err rejection) says refused)
+never_both text plain rejection (inr (no_names, _)) refused = no_names refused.0
+
+pub itself : StandsForItself
+itself text no_names = inr (no_names, refl)

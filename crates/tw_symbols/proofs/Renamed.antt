@@ -1,0 +1,56 @@
+-- Other names for the same things stand for the same text.
+use Rattle.std.proofs.Common.{[], ◌≡◌, ℕ, Bool, true, false, cond, List, ◌∷◌, Option, Some, None, Result, Ok, drop, refl, sym, ap, ◌∙◌}
+use Rattle.std.specs.Prelude.{slice_get, unwrap_or}
+use Rattle.std.specs.Str.{bytes_eq}
+use Rattle.tw_symbols.proofs.TextNames.{TokenError, Names, Procedures, Table, and_then, is_name, known, meaning, or_else, words_say}
+use Rattle.tw_symbols.specs.Theorems.{IsRenaming, RenamedAlike, renamed_names, renamed_procedures, renamed_table, renamed_word, renamed_words}
+use Rattle.tw_symbols.specs.LineExpansion.{fitting, named, stands, with_word, word_says}
+use Rattle.tw_symbols.specs.declared.meaning.Expected.{Expected}
+use Rattle.tw_symbols.specs.declared.meaning.Expected.TheVariants as asked
+use Rattle.tw_symbols.specs.declared.meaning.Binding.{Binding}
+use Rattle.tw_symbols.proofs.SaidTexts.{went_then}
+
+module _ (f : List ℕ → List ℕ) (is : IsRenaming f) where
+  meaning_kept : (name : List ℕ) (table : Table) → meaning (f name) (renamed_table f table) ≡ meaning name table
+  meaning_kept name [] = refl
+  meaning_kept name (e ∷ table) =
+      ap (λ (t : Bool). cond t (Some e.1) (meaning (f name) (renamed_table f table))) (is.apart name e.0) ∙ ap (cond (bytes_eq name e.0) (Some e.1)) (meaning_kept name table)
+
+  known_kept : (p : Procedures) (n : Names) (name : List ℕ) → known (renamed_procedures f p) (renamed_names f n) (f name) ≡ known p n name
+  known_kept p n name =
+      ap (λ (x : Option Binding). or_else x (or_else (meaning (f name) (renamed_table f n.constants)) (meaning (f name) (renamed_table f p.table)))) (meaning_kept name n.registers)
+      ∙ ap (λ (x : Option Binding). or_else (meaning name n.registers) (or_else x (meaning (f name) (renamed_table f p.table)))) (meaning_kept name n.constants)
+      ∙ ap (λ (x : Option Binding). or_else (meaning name n.registers) (or_else (meaning name n.constants) x)) (meaning_kept name p.table)
+
+  fits_too : (front word other : List ℕ) (a : Expected) (x : Binding) (o : Option (List ℕ)) (text : List ℕ) → fitting front word a x o ≡ Ok text → fitting front other a x o ≡ Ok text
+  fits_too front word other a x None text e = absurd cc
+  fits_too front word other a x (Some t) text e = e
+
+  named_too : (front word other : List ℕ) (k : Option Binding) (a : Expected) (text : List ℕ) → named front word k a ≡ Ok text → named front other k a ≡ Ok text
+  named_too front word other None a text e = absurd cc
+  named_too front word other (Some x) a text e = fits_too front word other a x (stands a x) text e
+
+  either_kept : (p : Procedures) (n : Names) (a : Expected) (front word text : List ℕ) (t : Bool) → is_name word ≡ t → cond t (named front word (known p n word) a) (Ok (with_word front word)) ≡ Ok text
+      → cond (is_name (f word)) (named front (f word) (known (renamed_procedures f p) (renamed_names f n) (f word)) a) (Ok (with_word front (f word))) ≡ Ok text
+  either_kept p n a front word text true e h =
+      ap (λ (t : Bool). cond t (named front (f word) (known (renamed_procedures f p) (renamed_names f n) (f word)) a) (Ok (with_word front (f word)))) (is.names word ∙ e)
+      ∙ ap (λ (k : Option Binding). named front (f word) k a) (known_kept p n word) ∙ named_too front word (f word) (known p n word) a text h
+  either_kept p n a front word text false e h =
+      ap (λ (t : Bool). cond t (named front (f word) (known (renamed_procedures f p) (renamed_names f n) (f word)) a) (Ok (with_word front (f word)))) (is.names word ∙ e)
+      ∙ ap (λ (w : List ℕ). Ok (with_word front w)) (is.others word e) ∙ h
+
+  word_kept : (p : Procedures) (n : Names) (a : Expected) (front word text : List ℕ) → word_says p n a front word ≡ Ok text → word_says (renamed_procedures f p) (renamed_names f n) a front (renamed_word f a word) ≡ Ok text
+  word_kept p n asked.Nothing front word text e = e
+  word_kept p n a front word text e = either_kept p n a front word text (is_name word) refl e
+
+  pub words_kept : (p : Procedures) (n : Names) (all : List Expected) (front : List ℕ) (words : List (List ℕ)) (text : List ℕ) → words_say p n all front words ≡ Ok text
+      → words_say (renamed_procedures f p) (renamed_names f n) all front (renamed_words f all words) ≡ Ok text
+  words_kept p n all front [] text e = e
+  words_kept p n all front (word ∷ words) text e =
+      let a = unwrap_or (slice_get all 0) asked.Nothing in
+      let went = went_then (word_says p n a front word) (λ (t : List ℕ). words_say p n (drop 1 all) t words) text e in
+      ap (λ (r : Result (List ℕ) TokenError). and_then r (λ (t : List ℕ). words_say (renamed_procedures f p) (renamed_names f n) (drop 1 all) t (renamed_words f (drop 1 all) words))) (word_kept p n a front word went.0 went.1)
+      ∙ words_kept p n (drop 1 all) went.0 words text went.2
+
+pub renamed_alike : RenamedAlike
+renamed_alike f is p n all front words text e = words_kept f is p n all front words text e

@@ -1,0 +1,17 @@
+-- The names of procedures, as a text's lines are read one by one.
+use Rattle.std.proofs.Common.{[], ◌≡◌, ℕ, List, ◌∷◌, ◌++◌, refl, ap, ◌∙◌}
+use Rattle.std.proofs.lemmas.List.{flat_map_more}
+use Rattle.tw_symbols.proofs.TextNames.{AreTaken, IsTaken, Line, flat_map}
+use Rattle.tw_symbols.proofs.Walk.{taken_more}
+use Rattle.tw_symbols.specs.Symbols.{line_names}
+
+-- these are the names in lines
+abbrev pub AreRead : List (List ℕ) → List (List ℕ) → Type 0
+AreRead ls names = (all : List Line) × AreTaken all ls × (names ≡ flat_map line_names all)
+
+pub none_read : (names : List (List ℕ)) → names ≡ [] → AreRead [] names
+none_read names e = ([], tt, e)
+
+pub read_more : (ls : List (List ℕ)) (line : List ℕ) (names new : List (List ℕ)) → AreRead ls names → ((t : Line) × IsTaken t line × (new ≡ names ++ line_names t)) → AreRead (ls ++ line ∷ []) new
+read_more ls line names new (all, are, is) (t, taken, e) =
+    (all ++ t ∷ [], taken_more all ls t line are taken, e ∙ ap (λ (ns : List (List ℕ)). ns ++ line_names t) is ∙ flat_map_more line_names [] all t)

@@ -1,0 +1,12 @@
+use Rattle.std.proofs.Common.{length, IsUtf8}
+use Rattle.tw_symbols.proofs.TextNames.{StandFirst, texts}
+use Rattle.tw_symbols.proofs.line.take_line.Given as goal
+
+abbrev pub invariant-loop-words : goal.invariant-loop-words
+invariant-loop-words l = record {
+  first : StandFirst (texts l.words.items) l.line l.rest;
+  utf8 : IsUtf8 l.rest;
+}
+
+abbrev pub decreases-loop-words : goal.decreases-loop-words
+decreases-loop-words l = length l.rest

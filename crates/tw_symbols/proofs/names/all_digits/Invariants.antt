@@ -1,0 +1,6 @@
+use Rattle.std.proofs.Common.{◌≡◌, drop}
+use Rattle.tw_lexer.specs.Digits.{all_digits}
+use Rattle.tw_symbols.proofs.names.all_digits.Given as goal
+
+abbrev pub invariant-loop-byte : goal.invariant-loop-byte
+invariant-loop-byte l = all_digits (drop l.byte-index l.text) ≡ all_digits l.text

@@ -1,0 +1,10 @@
+use Rattle.std.proofs.Common.{sym, ap, ◌∙◌}
+use Rattle.std.specs.Result.{result_ok}
+use Rattle.tw_lexer.proofs.Readings.{digits_same}
+use Rattle.tw_symbols.proofs.numbers.natural.Goals as goal
+
+pub returns-in-Ok : goal.returns-in-Ok
+returns-in-Ok c = ap result_ok (sym c.in-Ok.is ∙ digits_same 0 c.args.most c.args.text.now c.digits.result c.digits.ensures)
+
+pub returns-in-Err : goal.returns-in-Err
+returns-in-Err c = ap result_ok (sym c.in-Err.is ∙ digits_same 0 c.args.most c.args.text.now c.digits.result c.digits.ensures)

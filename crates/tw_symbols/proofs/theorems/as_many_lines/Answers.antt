@@ -1,0 +1,5 @@
+use Rattle.tw_symbols.proofs.LineByLine.{as_many}
+use Rattle.tw_symbols.proofs.theorems.as_many_lines.Goals as goal
+
+pub returns : goal.returns
+returns c = as_many

@@ -1,0 +1,5 @@
+use Rattle.tw_symbols.proofs.Apart.{names_differ}
+use Rattle.tw_symbols.proofs.theorems.names_differ.Goals as goal
+
+pub returns : goal.returns
+returns c = names_differ

@@ -1,0 +1,5 @@
+use Rattle.tw_symbols.proofs.Uses.{names_stay}
+use Rattle.tw_symbols.proofs.theorems.names_stay.Goals as goal
+
+pub returns : goal.returns
+returns c = names_stay

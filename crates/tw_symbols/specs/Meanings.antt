@@ -1,0 +1,129 @@
+-- What names mean.
+use Rattle.std.specs.Prelude.{◌==◌, ◌+◌, ◌&&◌, ◌||◌, ℕ, Bool, true, false, not, List, [], ◌∷◌, ◌++◌, length, codes, Option, Some, None, Result, Ok, Err, is_some, nat_lt, if◌then◌else◌}
+use Rattle.std.specs.Map.{lookup}
+use Rattle.std.specs.Str.{bytes_eq}
+use Rattle.tw_lexer.specs.Digits.{are_digits}
+use Rattle.tw_lexer.specs.Names as words
+use Rattle.tw_symbols.specs.declared.meaning.Bank.{Bank}
+use Rattle.tw_symbols.specs.declared.meaning.Bank.TheVariants as bank
+use Rattle.tw_symbols.specs.declared.meaning.Origin.{Origin}
+use Rattle.tw_symbols.specs.declared.meaning.Origin.TheVariants as origin
+use Rattle.tw_symbols.specs.declared.meaning.Binding.{Binding}
+use Rattle.tw_symbols.specs.declared.meaning.Binding.TheVariants as binding
+use Rattle.tw_symbols.specs.declared.rejection.NameNo.{NameNo}
+use Rattle.tw_symbols.specs.declared.rejection.NameNo.TheVariants as no
+
+-- ---- which words are names
+
+-- `v` or `d`, and digits
+abbrev pub is_register_word : List ℕ → Bool
+is_register_word [] = false
+is_register_word (b ∷ rest) = if (b == 118) || (b == 100) then are_digits rest else false
+
+-- a name as a label's, at most 64 bytes, and no word that means itself
+abbrev pub is_name : List ℕ → Bool
+is_name word =
+    if words.is_name word then (if nat_lt 64 (length word) then false else if is_register_word word then false else not (bytes_eq word (codes "any"))) else false
+
+-- ---- what is known at a line
+
+-- names, and what they mean
+abbrev pub Table : Type 0
+Table = List (List ℕ × Binding)
+
+abbrev pub meaning : List ℕ → Table → Option Binding
+meaning name table = lookup (λ other. bytes_eq name other) table
+
+-- a procedure: the banks of its parameters, and its line
+pub record Head : Type 0 where
+  pub banks : List Bank
+  pub line : ℕ
+
+-- the procedures of the text, and what their names mean
+pub record Procedures : Type 0 where
+  pub table : Table
+  pub heads : List Head
+
+pub record Names : Type 0 where
+  -- the constants so far, and the registers of the procedure so far
+  pub constants : Table
+  pub registers : Table
+  -- the types that its line `regs` leaves out
+  pub types : List (List ℕ)
+  -- one more than the highest right register that has a name
+  pub rights : ℕ
+
+abbrev pub no_names : Names
+no_names = record { constants = []; registers = []; types = []; rights = 0 }
+
+abbrev pub or_else : Option Binding → Option Binding → Option Binding
+or_else None other = other
+or_else (Some x) other = Some x
+
+-- what a name means at a line
+abbrev pub known : Procedures → Names → List ℕ → Option Binding
+known procedures names name = or_else (meaning name names.registers) (or_else (meaning name names.constants) (meaning name procedures.table))
+
+-- ---- refusals
+
+-- a number and a word
+pub record TokenError : Type 0 where
+  pub no : NameNo
+  pub word : List ℕ
+
+abbrev pub refused : {A : Type 0} → NameNo → List ℕ → Result A TokenError
+refused which word = Err (record { no = which; word = word })
+
+-- and then; what is refused first goes through
+abbrev pub and_then : {A B : Type 0} → Result A TokenError → (A → Result B TokenError) → Result B TokenError
+and_then (Ok a) next = next a
+and_then (Err flaw) next = Err flaw
+
+-- ---- a name more
+
+-- it is a name, and means nothing yet
+abbrev pub may_name : Procedures → Names → List ℕ → Result (Unit {0}) TokenError
+may_name procedures names name =
+    if is_name name then (if is_some (known procedures names name) then refused no.Twice name else Ok tt) else refused no.NoName name
+
+abbrev pub with_constant : Procedures → Names → List ℕ → Binding → Result Names TokenError
+with_constant procedures names name x = and_then (may_name procedures names name) (λ _. Ok (record names { constants = names.constants ++ (name, x) ∷ [] }))
+
+-- one more than the higher of a register's number and those before
+abbrev pub above : Bank → ℕ → ℕ → ℕ
+above bank.Value number rights = rights
+above bank.Right number rights = if nat_lt number rights then rights else number + 1
+
+abbrev pub name_register : Names → List ℕ → Bank → ℕ → Origin → Names
+name_register names name in_bank number by =
+    record names { registers = names.registers ++ (name, binding.Register in_bank number by) ∷ []; rights = above in_bank number names.rights }
+
+abbrev pub with_register : Procedures → Names → List ℕ → Bank → ℕ → Origin → Result Names TokenError
+with_register procedures names name in_bank number by =
+    and_then (may_name procedures names name) (λ _. if nat_lt number 16 then Ok (name_register names name in_bank number by) else refused no.Limit name)
+
+-- ---- a register that is listed has one name
+
+abbrev pub is_bank : Bank → Bank → Bool
+is_bank bank.Value bank.Value = true
+is_bank bank.Right bank.Right = true
+is_bank a b = false
+
+abbrev pub is_origin : Origin → Origin → Bool
+is_origin origin.Listed origin.Listed = true
+is_origin origin.Chosen origin.Chosen = true
+is_origin a b = false
+
+-- a name that means this is that by which the register was listed or made
+abbrev pub lists : Bank → ℕ → Binding → Bool
+lists in_bank number (binding.Register other place by) = is_bank in_bank other && ((number == place) && is_origin by origin.Listed)
+lists in_bank number x = false
+
+-- a register has a name by which it was listed or made
+abbrev pub is_listed : Bank → ℕ → Table → Bool
+is_listed in_bank number [] = false
+is_listed in_bank number (entry ∷ table) = lists in_bank number entry.1 || is_listed in_bank number table
+
+abbrev pub with_listed : Procedures → Names → List ℕ → Bank → ℕ → Result Names TokenError
+with_listed procedures names name in_bank number =
+    if is_listed in_bank number names.registers then refused no.Listed name else with_register procedures names name in_bank number origin.Listed

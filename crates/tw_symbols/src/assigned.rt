@@ -1,0 +1,126 @@
+//! Lines `const` and `let`.
+
+ghost use Rattle.std.specs.Prelude.{◌≡◌, drop};
+ghost use Rattle.tw_symbols.specs.Answers.{Gives};
+ghost use Rattle.tw_symbols.specs.LineExpansion.{assigned, bank_of_letter, constant_says, let_says, nothing_left, number_of, register_in, register_of, value_after};
+ghost use Rattle.tw_symbols.specs.Seen.{now, seen_names, seen_procedures, texts};
+
+use crate::meaning::{Bank, Origin};
+use crate::names::{Names, may_name, with_constant, with_register};
+use crate::numbers::{natural, signed};
+use crate::procedures::Procedures;
+use crate::rejection::{NameNo, Rejection};
+
+/// The number of a bank's last register.
+const LAST_REGISTER: u64 = 15;
+
+/// Returns the word behind `=`, of the words behind a name.
+///
+/// A missing word is told by the line's first word.
+fn assigned<'a>(first: &'a [u8], words: &[&'a [u8]]) -> Result<&'a [u8], Rejection<'a>>
+    ensures { Gives now result (assigned first.now (texts words.now)) }
+{
+    match words {
+        [] => Err(Rejection::Flawed(NameNo::Form, first)),
+        [sign, ..] if *sign != b"=".as_slice() => Err(Rejection::Flawed(NameNo::Form, *sign)),
+        [_, word, ..] => Ok(*word),
+        [_] => Err(Rejection::Flawed(NameNo::Form, first)),
+    }
+}
+
+/// Returns an error if a word is left behind `=` and the value.
+fn nothing_after<'a>(words: &[&'a [u8]]) -> Result<(), Rejection<'a>>
+    ensures { Gives (λ u. u) result (nothing_left (drop 2 (texts words.now))) }
+{
+    match words {
+        [_, _, word, ..] => Err(Rejection::Flawed(NameNo::Form, *word)),
+        _ => Ok(()),
+    }
+}
+
+/// Returns the number behind `=`, of the words behind a constant's name.
+fn number_after<'a>(first: &'a [u8], words: &[&'a [u8]]) -> Result<i64, Rejection<'a>>
+    ensures { Gives (λ n. n) result (value_after number_of first.now (texts words.now)) }
+{
+    let word = assigned(first, words)?;
+    let Some(number) = signed(word) else {
+        return Err(Rejection::Flawed(NameNo::Form, word));
+    };
+    nothing_after(words)?;
+    Ok(number)
+}
+
+/// Returns the register behind `=`, of the words behind its name.
+fn register_after<'a>(first: &'a [u8], words: &[&'a [u8]]) -> Result<(Bank, usize), Rejection<'a>>
+    ensures { Gives (λ r. r) result (value_after register_of first.now (texts words.now)) }
+{
+    let word = assigned(first, words)?;
+    let Some(register) = register_of(word) else {
+        return Err(Rejection::Flawed(NameNo::Form, word));
+    };
+    nothing_after(words)?;
+    Ok(register)
+}
+
+fn bank_of_letter(byte: u8) -> Option<Bank>
+    ensures { result ≡ bank_of_letter byte }
+{
+    match byte {
+        b'v' => Some(Bank::Value),
+        b'd' => Some(Bank::Right),
+        _ => None,
+    }
+}
+
+fn register_in(bank: Option<Bank>, number: Option<usize>) -> Option<(Bank, usize)>
+    ensures { result ≡ register_in bank number }
+{
+    Some((bank?, number?))
+}
+
+/// A register, by its letter and its number.
+pub fn register_of(word: &[u8]) -> Option<(Bank, usize)>
+    ensures { result ≡ register_of word.now }
+{
+    match word {
+        [letter, digits @ ..] => register_in(
+            bank_of_letter(*letter),
+            natural(digits, LAST_REGISTER),
+        ),
+        [] => None,
+    }
+}
+
+/// The names behind a line `const`.
+pub fn with_const<'a>(
+    procedures: &Procedures<'_>,
+    names: Names<'a>,
+    first: &'a [u8],
+    words: &[&'a [u8]],
+) -> Result<Names<'a>, Rejection<'a>>
+    ensures { Gives seen_names result (constant_says (seen_procedures procedures.now) (seen_names names.entry) first.now (texts words.now)) }
+{
+    let [name, others @ ..] = words else {
+        return Err(Rejection::Flawed(NameNo::Form, first));
+    };
+    may_name(procedures, &names, name)?;
+    let number = number_after(first, others)?;
+    with_constant(procedures, names, name, number)
+}
+
+/// The names behind a line `let`.
+pub fn with_let<'a>(
+    procedures: &Procedures<'_>,
+    names: Names<'a>,
+    first: &'a [u8],
+    words: &[&'a [u8]],
+) -> Result<Names<'a>, Rejection<'a>>
+    ensures { Gives seen_names result (let_says (seen_procedures procedures.now) (seen_names names.entry) first.now (texts words.now)) }
+{
+    let [name, others @ ..] = words else {
+        return Err(Rejection::Flawed(NameNo::Form, first));
+    };
+    may_name(procedures, &names, name)?;
+    let (bank, number) = register_after(first, others)?;
+    with_register(procedures, names, name, bank, number, Origin::Chosen)
+}

@@ -1,0 +1,186 @@
+//! The assembly text for which a text with names stands.
+
+ghost use Rattle.std.specs.Prelude.{◌≡◌, ◌⊎◌, ◌++◌, [], List, Ok, Err, IfOk, IsUtf8, MatchOption, MatchResult, string_bytes};
+ghost use Rattle.std.specs.Str.Lines.{lines};
+ghost use Rattle.tw_symbols.specs.Answers.{IsAtLine, IsMemory, IsNamed, IsNamedAfter, SaidAt, SaysBehind, named_by, told};
+ghost use Rattle.tw_symbols.specs.Lines.{AreTaken, IsTaken, Line, line_words};
+ghost use Rattle.tw_symbols.specs.Meanings.{and_then, no_names};
+ghost use Rattle.tw_symbols.specs.LineExpansion.{line_says};
+ghost use Rattle.tw_symbols.specs.Seen.{seen_names, seen_procedures, texts};
+ghost use Rattle.tw_symbols.specs.Expansion.{HasNames, IsFirstRejection, StandsFor, ended, lines_say, taken_says};
+
+use crate::line::take_line;
+use crate::line_expansion::{is_names_line, put_line};
+use crate::names::Names;
+use crate::operand_text::put_ended;
+use crate::procedures::{Procedures, procedures_of};
+use crate::rejection::{NameError, Rejection};
+use std::alloc::{AllocError, Global};
+
+/// Returns whether these words are just `names`; `None` if there are none.
+fn named_by(words: &[&[u8]]) -> Option<bool>
+    ensures { result ≡ named_by (texts words.now) }
+{
+    match words {
+        [first, others @ ..] => Some(is_names_line(first, others)),
+        [] => None,
+    }
+}
+
+/// Returns whether a line has just the word `names`; `None` if it has no word.
+fn names_in(alloc: Global, line: &str) -> Result<Option<bool>, AllocError>
+    ensures { IfOk result (λ named. (taken : Line) × IsTaken taken line.now × (named ≡ named_by (line_words taken))) }
+{
+    let taken = take_line(alloc, line)?;
+    Ok(named_by(&taken.words))
+}
+
+/// The same of the first line that has a word, where one line more is read.
+fn first_named(alloc: Global, named: Option<bool>, line: &str) -> Result<Option<bool>, AllocError>
+    ensures { IfOk result (λ after. IsNamedAfter named line.now after) }
+{
+    match named {
+        Some(known) => Ok(Some(known)),
+        None => names_in(alloc, line),
+    }
+}
+
+/// Whether the first line that has a word has just `names`.
+fn is_named(alloc: Global, text: &str) -> Result<bool, AllocError>
+    ensures { IfOk result (λ named. IsNamed named text.now) }
+{
+    let mut named = None;
+    for line in text.lines() {
+        named = first_named(alloc, named, line)?;
+    }
+    Ok(named.unwrap_or(false))
+}
+
+/// Adds what a line stands for that has these words, with its line feed, and gives the names behind it.
+fn put_worded<'a>(
+    alloc: Global,
+    procedures: &Procedures<'_>,
+    number: usize,
+    names: Names<'a>,
+    out: &mut Vec<u8>,
+    words: &[&'a [u8]],
+    rest: &'a [u8],
+) -> Result<Names<'a>, Rejection<'a>>
+    ensures { SaysBehind result out.new.items (and_then (line_says (seen_procedures procedures.now) number (seen_names names.entry) out.old.items (texts words.now)) (λ said. Ok (said.0, said.1 ++ ended rest.now))) }
+{
+    match put_line(alloc, procedures, number, names, out, words) {
+        Ok(names) => {
+            put_ended(out, rest)?;
+            Ok(names)
+        }
+        Err(rejection) => Err(rejection),
+    }
+}
+
+/// Adds what a line stands for, with its line feed, and gives the names behind it.
+fn put_taken<'a>(
+    alloc: Global,
+    procedures: &Procedures<'_>,
+    number: usize,
+    names: Names<'a>,
+    out: &mut Vec<u8>,
+    line: &'a str,
+) -> Result<Names<'a>, Rejection<'a>>
+    ensures { (taken : Line) → IsTaken taken line.entry.now → SaysBehind result out.new.items (taken_says (seen_procedures procedures.now) number (seen_names names.entry) out.old.items taken) }
+{
+    let taken = take_line(alloc, line)?;
+    put_worded(
+        alloc,
+        procedures,
+        number,
+        names,
+        out,
+        &taken.words,
+        taken.rest,
+    )
+}
+
+fn at_line(number: usize, rejection: Rejection<'_>) -> NameError<'_>
+    ensures { IsAtLine number rejection.entry result }
+{
+    match rejection {
+        Rejection::NoMemory => NameError::memory(),
+        Rejection::Flawed(no, word) => NameError {
+            no,
+            line: number,
+            word,
+        },
+    }
+}
+
+/// Adds what the line of this number stands for.
+pub fn put_numbered_line<'a>(
+    alloc: Global,
+    procedures: &Procedures<'_>,
+    number: usize,
+    names: Names<'a>,
+    out: &mut Vec<u8>,
+    line: &'a str,
+) -> Result<Names<'a>, NameError<'a>>
+    ensures { (taken : Line) → IsTaken taken line.entry.now → SaidAt number result out.new.items (taken_says (seen_procedures procedures.now) number (seen_names names.entry) out.old.items taken) }
+{
+    match put_taken(alloc, procedures, number, names, out, line) {
+        Ok(names) => Ok(names),
+        Err(rejection) => Err(at_line(number, rejection)),
+    }
+}
+
+/// What all lines stand for.
+fn expanded_lines<'a>(
+    alloc: Global,
+    procedures: &Procedures<'_>,
+    text: &'a str,
+) -> Result<Vec<u8>, NameError<'a>>
+    ensures { (all : List Line) → AreTaken all (lines text.entry.now) → MatchResult result
+        (λ out. lines_say (seen_procedures procedures.now) 1 no_names [] all ≡ Ok out.items)
+        (λ f. IsMemory f ⊎ (lines_say (seen_procedures procedures.now) 1 no_names [] all ≡ Err (told f))) }
+{
+    let mut out = Vec::new(alloc);
+    let mut names = Names::new(alloc, procedures.hash);
+    for (index, line) in text.lines().enumerate() {
+        names = put_numbered_line(alloc, procedures, index + 1, names, &mut out, line)?;
+    }
+    Ok(out)
+}
+
+/// What a text stands for whose first line with a word is `names`.
+fn named_text<'a>(alloc: Global, text: &'a str) -> Result<Vec<u8>, NameError<'a>>
+    requires { HasNames (lines text.now) }
+    ensures { MatchResult result
+        (λ plain. StandsFor text.entry.now plain.items)
+        (λ f. IsMemory f ⊎ IsFirstRejection text.entry.now (told f)) }
+{
+    let procedures = procedures_of(alloc, text)?;
+    expanded_lines(alloc, &procedures, text)
+}
+
+/// Bytes as a text.
+fn as_text(bytes: Vec<u8>) -> String
+    requires { IsUtf8 bytes.items }
+    ensures { string_bytes result ≡ bytes.items }
+{
+    match String::from_utf8(bytes) {
+        Ok(text) => text,
+        Err(_) => unreachable!(),
+    }
+}
+
+/// The assembly text for which a text with names stands, or its first refusal; `None` for a text without names, which stands for
+/// itself.
+pub fn expanded_text<'a>(alloc: Global, text: &'a str) -> Result<Option<String>, NameError<'a>>
+    ensures stands { MatchResult result
+        (λ read. MatchOption read (StandsFor text.entry.now text.entry.now) (λ plain. StandsFor text.entry.now (string_bytes plain)))
+        (λ f. IsMemory f ⊎ IsFirstRejection text.entry.now (told f)) }
+    ensures named { IfOk result (λ read. MatchOption read (HasNames (lines text.entry.now) → ⊥) (λ _. HasNames (lines text.entry.now))) }
+{
+    if !is_named(alloc, text)? {
+        return Ok(None);
+    }
+    let plain = named_text(alloc, text)?;
+    Ok(Some(as_text(plain)))
+}

@@ -1,0 +1,85 @@
+//! Words of heads.
+
+ghost use Rattle.std.specs.Prelude.{◌≡◌, IfOk};
+ghost use Rattle.std.specs.List.{filter_map};
+ghost use Rattle.std.specs.Option.{option_map};
+ghost use Rattle.tw_symbols.specs.LineExpansion.{bank_of_mode, parameters, procedure_name, value_types};
+ghost use Rattle.tw_symbols.specs.Seen.{now, texts};
+
+use crate::meaning::Bank;
+use std::alloc::{AllocError, Global};
+use tw_lexer::before_colon;
+
+/// The bank of a parameter of this mode.
+pub fn bank_of_mode(word: &[u8]) -> Option<Bank>
+    ensures { result ≡ bank_of_mode word.now }
+{
+    if word == b"val".as_slice() {
+        Some(Bank::Value)
+    } else if word == b"closed".as_slice()
+        || word == b"ref".as_slice()
+        || word == b"write".as_slice()
+    {
+        Some(Bank::Right)
+    } else {
+        None
+    }
+}
+
+/// The banks of the parameters.
+pub fn banks_of_modes(alloc: Global, words: &[&[u8]]) -> Result<Vec<Bank>, AllocError>
+    ensures { IfOk result (λ banks. banks.items ≡ filter_map bank_of_mode (texts words.now)) }
+{
+    let mut banks = Vec::new(alloc);
+    for word in words {
+        if let Some(bank) = bank_of_mode(word) {
+            banks.push(bank)?;
+        }
+    }
+    Ok(banks)
+}
+
+/// The word behind the kind, unless a parameter begins with it.
+pub fn procedure_name<'a>(words: &[&'a [u8]]) -> Option<&'a [u8]>
+    ensures { option_map now result ≡ procedure_name (texts words.now) }
+{
+    match words {
+        [_, word, ..] => {
+            if bank_of_mode(word).is_some() || before_colon(word).is_some() {
+                None
+            } else {
+                Some(*word)
+            }
+        }
+        _ => None,
+    }
+}
+
+/// The words behind the kind and the name.
+pub fn parameters<'b, 'a>(words: &'b [&'a [u8]]) -> &'b [&'a [u8]]
+    ensures { texts result.now ≡ parameters (texts words.now) }
+{
+    let named = procedure_name(words).is_some();
+    match words {
+        [_, _, rest @ ..] if named => rest,
+        [_, rest @ ..] => rest,
+        [] => words,
+    }
+}
+
+/// The words behind each `val`.
+pub fn value_types<'a>(alloc: Global, words: &[&'a [u8]]) -> Result<Vec<&'a [u8]>, AllocError>
+    ensures { IfOk result (λ types. texts types.items ≡ value_types (texts words.now)) }
+{
+    let mut types = Vec::new(alloc);
+    let mut rest = words;
+    while let [word, others @ ..] = rest {
+        if *word == b"val".as_slice() {
+            if let Some(ty) = others.first() {
+                types.push(*ty)?;
+            }
+        }
+        rest = others;
+    }
+    Ok(types)
+}

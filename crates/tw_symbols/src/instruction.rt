@@ -1,0 +1,216 @@
+//! Lines of instructions.
+
+ghost use Rattle.std.specs.Prelude.{◌≡◌, ◌++◌, IfOk, OnOk, drop, take};
+ghost use Rattle.std.specs.List.{flat_map};
+ghost use Rattle.std.specs.Result.{result_ok};
+ghost use Rattle.tw_lexer.specs.Digits.{digits_in};
+ghost use Rattle.tw_symbols.specs.Meanings.{known};
+ghost use Rattle.tw_symbols.specs.Answers.{Gives, SaysBehind};
+ghost use Rattle.tw_code.specs.format.Table.{forms_of};
+ghost use Rattle.tw_symbols.specs.LineExpansion.{argument_of, asked_by, banks_at, banks_of, callee, instruction_says, made_one, made_say, made_word, makes, words_say};
+ghost use Rattle.tw_symbols.specs.Seen.{seen_names, seen_procedures, texts};
+
+use crate::meaning::{Bank, Binding, Expected, Origin};
+use crate::names::{Names, is_name, known, with_register};
+use crate::numbers::natural;
+use crate::operand_text::{count, expected_after, first_words, put_word, put_words, words_after};
+use crate::procedures::Procedures;
+use crate::rejection::Rejection;
+use std::alloc::{AllocError, Global};
+use tw_code::{Form, Opcode};
+
+/// The greatest number of a procedure in a line.
+const LAST_PROCEDURE: u64 = 255;
+
+/// What an argument asks.
+fn argument_of(bank: Bank) -> Expected
+    ensures { result ≡ argument_of bank }
+{
+    match bank {
+        Bank::Value => Expected::ValueArgument,
+        Bank::Right => Expected::RightArgument,
+    }
+}
+
+/// Adds what an operand of a form asks, where the procedure's parameters are of these banks.
+fn push_expected(asked: &mut Vec<Expected>, banks: &[Bank], form: Form) -> Result<(), AllocError>
+    ensures { OnOk result (asked.new.items ≡ asked.old.items ++ asked_by banks.now form) }
+{
+    match form {
+        Form::Value => asked.push(Expected::Value)?,
+        Form::Right => asked.push(Expected::Right)?,
+        Form::Number | Form::Iterations | Form::Target => asked.push(Expected::Number)?,
+        Form::Callee => asked.push(Expected::Procedure)?,
+        Form::Literal | Form::TypeOf | Form::Skip => asked.push(Expected::Nothing)?,
+        Form::Args => {
+            for bank in banks {
+                asked.push(argument_of(*bank))?;
+            }
+        }
+    }
+    Ok(())
+}
+
+/// What the operands of forms ask.
+fn expected_in(alloc: Global, banks: &[Bank], forms: &[Form]) -> Result<Vec<Expected>, AllocError>
+    ensures { IfOk result (λ asked. asked.items ≡ flat_map (asked_by banks.now) forms.now) }
+{
+    let mut asked = Vec::new(alloc);
+    for form in forms {
+        push_expected(&mut asked, banks, *form)?;
+    }
+    Ok(asked)
+}
+
+/// A procedure, by its name or else by its number.
+fn callee(procedures: &Procedures<'_>, names: &Names<'_>, word: &[u8]) -> Option<usize>
+    ensures { result ≡ callee (known (seen_procedures procedures.now) (seen_names names.now) word.now) (result_ok (digits_in 0 255 word.now)) }
+{
+    match known(procedures, names, word) {
+        Some(Binding::Procedure(number)) => Some(number),
+        _ => natural(word, LAST_PROCEDURE),
+    }
+}
+
+/// The banks of the parameters of a procedure.
+fn banks_at<'p>(procedures: &'p Procedures<'_>, number: Option<usize>) -> &'p [Bank]
+    ensures { result.now ≡ banks_at (seen_procedures procedures.entry.now) number }
+{
+    let Some(number) = number else {
+        return &[];
+    };
+    match procedures.heads.get(number) {
+        Some(head) => head.banks.as_slice(),
+        None => &[],
+    }
+}
+
+/// Returns the first banks, at most so many.
+#[tactic(auto, using(std::proofs::lemmas::List::take_all))]
+fn first_banks(banks: &[Bank], count: usize) -> &[Bank]
+    ensures { result.now ≡ take count banks.now }
+{
+    if count < banks.len() {
+        &banks[..count]
+    } else {
+        banks
+    }
+}
+
+/// Returns the banks of the procedure that the first word tells, as many as there are words.
+fn banks_of<'p>(procedures: &'p Procedures<'_>, names: &Names<'_>, words: &[&[u8]]) -> &'p [Bank]
+    ensures { result.now ≡ banks_of (seen_procedures procedures.entry.now) (seen_names names.now) (texts words.now) }
+{
+    match words {
+        [word, ..] => first_banks(
+            banks_at(procedures, callee(procedures, names, word)),
+            count(words),
+        ),
+        [] => &[],
+    }
+}
+
+/// How many of its first operands are right registers that it fills.
+fn makes(opcode: Opcode) -> usize
+    ensures { result ≡ makes opcode }
+{
+    match opcode {
+        Opcode::New => 2,
+        Opcode::Look | Opcode::LookByText | Opcode::CopyRead | Opcode::CopyWrite => 1,
+        _ => 0,
+    }
+}
+
+/// A name that means nothing yet is the next right register.
+fn made_one<'a>(
+    procedures: &Procedures<'_>,
+    names: Names<'a>,
+    word: &'a [u8],
+) -> Result<Names<'a>, Rejection<'a>>
+    ensures { Gives seen_names result (made_one (seen_procedures procedures.now) (seen_names names.entry) word.now) }
+{
+    if is_name(word) && known(procedures, &names, word).is_none() {
+        let number = names.rights;
+        with_register(procedures, names, word, Bank::Right, number, Origin::Listed)
+    } else {
+        Ok(names)
+    }
+}
+
+/// Adds the register that a word stands for, after naming it if it has no meaning.
+fn put_made<'a>(
+    alloc: Global,
+    procedures: &Procedures<'_>,
+    names: Names<'a>,
+    out: &mut Vec<u8>,
+    word: &'a [u8],
+) -> Result<Names<'a>, Rejection<'a>>
+    ensures { SaysBehind result out.new.items (made_word (seen_procedures procedures.now) (seen_names names.entry) out.old.items word.now) }
+{
+    let names = made_one(procedures, names, word)?;
+    put_word(alloc, procedures, &names, out, Expected::Right, word)?;
+    Ok(names)
+}
+
+/// Adds the right registers that these words fill, each after naming it if it has no meaning.
+fn put_all_made<'a>(
+    alloc: Global,
+    procedures: &Procedures<'_>,
+    mut names: Names<'a>,
+    out: &mut Vec<u8>,
+    words: &[&'a [u8]],
+) -> Result<Names<'a>, Rejection<'a>>
+    ensures { SaysBehind result out.new.items (made_say (seen_procedures procedures.now) (seen_names names.entry) out.old.items (texts words.now)) }
+{
+    for word in words {
+        names = put_made(alloc, procedures, names, out, word)?;
+    }
+    Ok(names)
+}
+
+/// Adds what the words behind those stand for.
+fn put_others<'a>(
+    alloc: Global,
+    procedures: &Procedures<'_>,
+    names: &Names<'_>,
+    out: &mut Vec<u8>,
+    opcode: Opcode,
+    words: &[&'a [u8]],
+) -> Result<(), Rejection<'a>>
+    ensures { Gives (λ _. out.new.items) result (words_say (seen_procedures procedures.now) (seen_names names.now)
+        (drop (makes opcode) (flat_map (asked_by (banks_of (seen_procedures procedures.now) (seen_names names.now) (texts words.now))) (forms_of opcode)))
+        out.old.items (drop (makes opcode) (texts words.now))) }
+{
+    let asked = expected_in(alloc, banks_of(procedures, names, words), opcode.forms())?;
+    let made = makes(opcode);
+    put_words(
+        alloc,
+        procedures,
+        names,
+        out,
+        expected_after(&asked, made),
+        words_after(words, made),
+    )
+}
+
+/// Adds what the operands of an instruction stand for.
+pub fn put_instruction<'a>(
+    alloc: Global,
+    procedures: &Procedures<'_>,
+    names: Names<'a>,
+    out: &mut Vec<u8>,
+    opcode: Opcode,
+    words: &[&'a [u8]],
+) -> Result<Names<'a>, Rejection<'a>>
+    ensures { SaysBehind result out.new.items (instruction_says (seen_procedures procedures.now) (seen_names names.entry) opcode out.old.items (texts words.now)) }
+{
+    let names = put_all_made(
+        alloc,
+        procedures,
+        names,
+        out,
+        first_words(words, makes(opcode)),
+    )?;
+    put_others(alloc, procedures, &names, out, opcode, words)?;
+    Ok(names)
+}

@@ -1,0 +1,83 @@
+//! The words of a line, as they stand in it.
+
+ghost use Rattle.std.specs.Prelude.{◌≡◌, ◌++◌, ◌∷◌, [], ℕ, List, IfOk, IsUtf8};
+ghost use Rattle.tw_lexer.specs.Seen.{seen};
+ghost use Rattle.tw_lexer.specs.Words.{IsFirstWord};
+ghost use Rattle.tw_lexer.specs.reading.Next.{IsAfterGap};
+ghost use Rattle.tw_symbols.specs.Answers.{IsFirst};
+ghost use Rattle.tw_symbols.specs.Lines.{IsTaken, Line, StandsFirst, line_rest, line_words};
+ghost use Rattle.tw_symbols.specs.Seen.{texts};
+
+use std::alloc::{AllocError, Global};
+use tw_lexer::{Next, Word, next_word, without_gap};
+
+/// A line: its words, and what follows the last one.
+///
+/// What is no word counts as one more, the last, up to the line's end.
+#[derive(Drop)]
+pub struct ParsedLine<'a> {
+    pub words: Vec<&'a [u8]>,
+    pub rest: &'a [u8],
+}
+
+/// What stands first in what is left of a line.
+#[derive(Clone, Copy)]
+pub enum First<'a> {
+    /// A comment, or nothing.
+    End,
+    /// Something that is no word.
+    Broken,
+    /// A word as it stands, and what follows it.
+    Text(&'a [u8], &'a [u8]),
+}
+
+/// The word that stands first, as it stands there, where this follows it.
+fn cut_word<'a>(bytes: &'a [u8], _word: &Word<'_>, rest: &[u8]) -> &'a [u8]
+    requires utf8 { IsUtf8 bytes.now }
+    requires first { IsFirstWord (seen _word.now) bytes.now rest.now }
+    ensures { StandsFirst result.now bytes.entry.now rest.now }
+{
+    let here = without_gap(bytes);
+    let count = here.len() - rest.len();
+    let (word, _) = here.split_at(count);
+    word
+}
+
+/// What stands first.
+fn first_text(alloc: Global, bytes: &[u8]) -> Result<First<'_>, AllocError>
+    requires { IsUtf8 bytes.now }
+    ensures { IfOk result (λ first. IsFirst first bytes.now) }
+{
+    match next_word(alloc, bytes)? {
+        Next::End => Ok(First::End),
+        Next::Broken => Ok(First::Broken),
+        Next::Found(word, rest) => Ok(First::Text(cut_word(bytes, &word, rest), rest)),
+    }
+}
+
+/// Returns a line that has these words, and then something that is no word.
+fn broken<'a>(mut words: Vec<&'a [u8]>, rest: &'a [u8]) -> Result<ParsedLine<'a>, AllocError>
+    requires { IsUtf8 rest.now }
+    ensures { IfOk result (λ taken. (tail : List ℕ) × IsAfterGap rest.entry.now tail × (texts taken.words.items ≡ texts words.entry.items ++ tail ∷ []) × (taken.rest.now ≡ [])) }
+{
+    words.push(without_gap(rest))?;
+    Ok(ParsedLine { words, rest: b"" })
+}
+
+/// The words of a line.
+pub fn take_line(alloc: Global, line: &str) -> Result<ParsedLine<'_>, AllocError>
+    ensures { IfOk result (λ taken. (seen : Line) × IsTaken seen line.now × (texts taken.words.items ≡ line_words seen) × (taken.rest.now ≡ line_rest seen)) }
+{
+    let mut words = Vec::new(alloc);
+    let mut rest = line.as_bytes();
+    loop {
+        match first_text(alloc, rest)? {
+            First::End => return Ok(ParsedLine { words, rest }),
+            First::Broken => return broken(words, rest),
+            First::Text(word, after) => {
+                words.push(word)?;
+                rest = after;
+            }
+        }
+    }
+}

@@ -1,0 +1,115 @@
+//! What a line says.
+
+ghost use Rattle.std.specs.Prelude.{◌≡◌, ◌++◌};
+ghost use Rattle.tw_code.specs.format.Table.{opcode_in};
+ghost use Rattle.tw_code.specs.declared.version.Version.TheVariants.{Two};
+ghost use Rattle.tw_symbols.specs.Answers.{SaysBehind};
+ghost use Rattle.std.specs.List.{flat_map};
+ghost use Rattle.tw_symbols.specs.Lines.{pieces};
+ghost use Rattle.tw_symbols.specs.LineExpansion.{body_says, head_says, is_names_line, line_says, registers_say};
+ghost use Rattle.tw_symbols.specs.Seen.{seen_names, seen_procedures, texts};
+
+use crate::assigned::{with_const, with_let};
+use crate::instruction::put_instruction;
+use crate::listed::{put_head, put_registers};
+use crate::names::Names;
+use crate::operand_text::put_all;
+use crate::pieces::pieces_of;
+use crate::procedures::Procedures;
+use crate::rejection::Rejection;
+use std::alloc::{AllocError, Global};
+use tw_code::{Version, opcode_in};
+
+/// Whether a line has just the word `names`.
+pub fn is_names_line(first: &[u8], words: &[&[u8]]) -> bool
+    ensures { result ≡ is_names_line first.now (texts words.now) }
+{
+    first == b"names".as_slice() && words.is_empty()
+}
+
+/// Adds what a line of an instruction stands for, and else the line as it stands.
+fn put_body<'a>(
+    alloc: Global,
+    procedures: &Procedures<'_>,
+    names: Names<'a>,
+    out: &mut Vec<u8>,
+    first: &'a [u8],
+    words: &[&'a [u8]],
+) -> Result<Names<'a>, Rejection<'a>>
+    ensures { SaysBehind result out.new.items (body_says (seen_procedures procedures.now) (seen_names names.entry) (opcode_in Two first.now) (out.old.items ++ first.now) (texts words.now)) }
+{
+    out.extend_from_slice(first)?;
+    match opcode_in(Version::Two, first) {
+        Some(opcode) => {
+            let pieces = pieces_of(alloc, words)?;
+            put_instruction(alloc, procedures, names, out, opcode, &pieces)
+        }
+        None => {
+            put_all(out, words)?;
+            Ok(names)
+        }
+    }
+}
+
+/// Adds what stands behind `proc`, and the word.
+fn put_proc<'a>(
+    alloc: Global,
+    procedures: &Procedures<'_>,
+    number: usize,
+    names: Names<'a>,
+    out: &mut Vec<u8>,
+    first: &'a [u8],
+    words: &[&'a [u8]],
+) -> Result<Names<'a>, Rejection<'a>>
+    ensures { SaysBehind result out.new.items (head_says (seen_procedures procedures.now) number (seen_names names.entry) (out.old.items ++ first.now) (flat_map pieces (texts words.now))) }
+{
+    out.extend_from_slice(first)?;
+    let pieces = pieces_of(alloc, words)?;
+    put_head(alloc, procedures, number, names, out, &pieces)
+}
+
+/// Adds what stands behind `regs`, and the word.
+fn put_regs<'a>(
+    alloc: Global,
+    procedures: &Procedures<'_>,
+    names: Names<'a>,
+    out: &mut Vec<u8>,
+    first: &'a [u8],
+    words: &[&'a [u8]],
+) -> Result<Names<'a>, Rejection<'a>>
+    ensures { SaysBehind result out.new.items (registers_say (seen_procedures procedures.now) (seen_names names.entry) (out.old.items ++ first.now) (flat_map pieces (texts words.now))) }
+{
+    out.extend_from_slice(first)?;
+    let pieces = pieces_of(alloc, words)?;
+    put_registers(procedures, names, out, &pieces)
+}
+
+/// Adds what the words of the line of this number stand for, and gives the names behind it.
+#[tactic(auto, unfolding(crate::specs::LineExpansion::line_says))]
+pub fn put_line<'a>(
+    alloc: Global,
+    procedures: &Procedures<'_>,
+    number: usize,
+    names: Names<'a>,
+    out: &mut Vec<u8>,
+    words: &[&'a [u8]],
+) -> Result<Names<'a>, Rejection<'a>>
+    ensures { SaysBehind result out.new.items (line_says (seen_procedures procedures.now) number (seen_names names.entry) out.old.items (texts words.now)) }
+{
+    let [first, others @ ..] = words else {
+        return Ok(names);
+    };
+    if is_names_line(first, others) {
+        Ok(names)
+    } else if *first == b"const".as_slice() {
+        with_const(procedures, names, first, others)
+    } else if *first == b"let".as_slice() {
+        with_let(procedures, names, first, others)
+    } else if *first == b"proc".as_slice() {
+        put_proc(alloc, procedures, number, names, out, first, others)
+    } else if *first == b"regs".as_slice() {
+        put_regs(alloc, procedures, names, out, first, others)
+    } else {
+        put_body(alloc, procedures, names, out, first, others)
+    }
+}

@@ -1,0 +1,257 @@
+//! Lines that list registers, `proc` and `regs`.
+
+ghost use Rattle.std.specs.Prelude.{◌≡◌, ◌≤◌, ◌^◌, IfOk, OnOk, filter, length};
+ghost use Rattle.std.specs.Option.{option_map};
+ghost use Rattle.tw_symbols.specs.Answers.{Gives, SaysBehind};
+ghost use Rattle.tw_lexer.specs.Names.{before_colon};
+ghost use Rattle.tw_symbols.specs.LineExpansion.{at_head, begins, behind, begins_at, begins_first, has_colon, head_says, is_listed_word, is_unnamed, list_name, list_says, name_before, name_says, number_in, registers_say, unnamed_says};
+ghost use Rattle.tw_symbols.specs.Seen.{now, seen_names, seen_procedures, texts};
+
+use crate::heads::{bank_of_mode, parameters, procedure_name, value_types};
+use crate::meaning::{Bank, Binding, Listed};
+use crate::names::{Names, is_name, meaning, with_listed};
+use crate::operand_text::{count, first_words, put_all, put_plain};
+use crate::pieces::begins_quoted;
+use crate::procedures::Procedures;
+use crate::rejection::{NameNo, Rejection};
+use indexmap::IndexMap;
+use std::alloc::{AllocError, Global};
+use tw_lexer::before_colon;
+
+/// Of which bank a register begins with this word.
+fn begins(listed: Listed, word: &[u8]) -> Option<Bank>
+    ensures { result ≡ begins listed word.now }
+{
+    match listed {
+        Listed::Parameters => bank_of_mode(word),
+        Listed::Registers => {
+            if before_colon(word).is_some() {
+                None
+            } else {
+                Some(Bank::Value)
+            }
+        }
+    }
+}
+
+fn begins_first(listed: Listed, words: &[&[u8]]) -> Option<Bank>
+    ensures { result ≡ begins_first listed (texts words.now) }
+{
+    match words {
+        [word, ..] => begins(listed, word),
+        [] => None,
+    }
+}
+
+fn number_in(bank: Bank, values: usize, rights: usize) -> usize
+    ensures { result ≡ number_in bank values rights }
+{
+    match bank {
+        Bank::Value => values,
+        Bank::Right => rights,
+    }
+}
+
+/// Whether a word is a mode, or one of a type.
+fn is_listed_word(word: &[u8]) -> bool
+    ensures { result ≡ is_listed_word word.now }
+{
+    bank_of_mode(word).is_some()
+        || word == b"int".as_slice()
+        || word == b"text".as_slice()
+        || word == b"cont".as_slice()
+        || word == b"tcont".as_slice()
+}
+
+/// Returns whether a `:` stands in a word that isn't quoted.
+fn has_colon(word: &[u8]) -> bool
+    ensures { result ≡ has_colon word.now }
+{
+    !begins_quoted(word) && word.contains(&b':')
+}
+
+/// The names behind a word that isn't a name and `:`.
+fn unnamed<'a>(names: Names<'a>, word: &'a [u8]) -> Result<Names<'a>, Rejection<'a>>
+    ensures { Gives seen_names result (unnamed_says (seen_names names.entry) word.now) }
+{
+    if is_name(word) && !is_listed_word(word) {
+        Err(Rejection::Flawed(NameNo::Unknown, word))
+    } else if has_colon(word) {
+        Err(Rejection::Flawed(NameNo::Form, word))
+    } else {
+        Ok(names)
+    }
+}
+
+/// The names with one of a register that begins behind it.
+fn name_begun<'a>(
+    procedures: &Procedures<'_>,
+    names: Names<'a>,
+    begun: (usize, usize),
+    word: &'a [u8],
+    name: &'a [u8],
+    bank: Option<Bank>,
+) -> Result<Names<'a>, Rejection<'a>>
+    ensures { Gives seen_names result (list_name (seen_procedures procedures.now) (seen_names names.entry) begun.0 begun.1 word.now name.now bank) }
+{
+    match bank {
+        Some(bank) if !name.is_empty() => {
+            let number = number_in(bank, begun.0, begun.1);
+            with_listed(procedures, names, name, bank, number)
+        }
+        _ => Err(Rejection::Flawed(NameNo::Form, word)),
+    }
+}
+
+/// The names with that of a register that begins behind this word, if it is a name and `:`.
+fn name_listed<'a>(
+    procedures: &Procedures<'_>,
+    listed: Listed,
+    names: Names<'a>,
+    begun: (usize, usize),
+    word: &'a [u8],
+    others: &[&'a [u8]],
+) -> Result<Names<'a>, Rejection<'a>>
+    ensures { Gives seen_names result (name_before (seen_procedures procedures.now) listed (seen_names names.entry) begun.0 begun.1 word.now (texts others.now) (before_colon word.now)) }
+{
+    match before_colon(word) {
+        Some(name) => name_begun(
+            procedures,
+            names,
+            begun,
+            word,
+            name,
+            begins_first(listed, others),
+        ),
+        None => unnamed(names, word),
+    }
+}
+
+/// The names with those of listed registers, of which so many value registers stand before these words.
+fn list<'a>(
+    procedures: &Procedures<'_>,
+    listed: Listed,
+    mut names: Names<'a>,
+    first: usize,
+    words: &[&'a [u8]],
+) -> Result<Names<'a>, Rejection<'a>>
+    requires { first ≤ 2 ^ 63 }
+    ensures { Gives seen_names result (list_says (seen_procedures procedures.now) listed (seen_names names.entry) first 0 (texts words.now)) }
+{
+    let mut values = first;
+    let mut rights = 0;
+    let mut rest = words;
+    while let [word, others @ ..] = rest {
+        names = name_listed(procedures, listed, names, (values, rights), word, others)?;
+        match begins(listed, word) {
+            Some(Bank::Value) => values += 1,
+            Some(Bank::Right) => rights += 1,
+            None => {}
+        }
+        rest = others;
+    }
+    Ok(names)
+}
+
+/// Adds the words that aren't a name and `:`.
+fn put_unnamed(out: &mut Vec<u8>, words: &[&[u8]]) -> Result<(), AllocError>
+    ensures { OnOk result (out.new.items ≡ behind out.old.items (filter is_unnamed (texts words.now))) }
+{
+    for word in words {
+        if before_colon(word).is_none() {
+            put_plain(out, word)?;
+        }
+    }
+    Ok(())
+}
+
+/// Whether the procedure that a name means begins at this line.
+fn begins_at(procedures: &Procedures<'_>, number: usize, binding: Option<Binding>) -> bool
+    ensures { result ≡ begins_at (seen_procedures procedures.now) number binding }
+{
+    match binding {
+        Some(Binding::Procedure(index)) => match procedures.heads.get(index) {
+            Some(head) => head.line == number,
+            None => false,
+        },
+        _ => false,
+    }
+}
+
+fn check_name<'a>(
+    procedures: &Procedures<'_>,
+    number: usize,
+    name: Option<&'a [u8]>,
+) -> Result<(), Rejection<'a>>
+    ensures { Gives (λ u. u) result (name_says (seen_procedures procedures.now) number (option_map now name.entry)) }
+{
+    let Some(name) = name else {
+        return Ok(());
+    };
+    if !is_name(name) {
+        Err(Rejection::Flawed(NameNo::NoName, name))
+    } else if begins_at(procedures, number, meaning(&procedures.table, name)) {
+        Ok(())
+    } else {
+        Err(Rejection::Flawed(NameNo::Twice, name))
+    }
+}
+
+/// Returns the names at a head: no registers yet.
+fn at_head<'a>(
+    alloc: Global,
+    procedures: &Procedures<'_>,
+    names: Names<'a>,
+    words: &[&'a [u8]],
+) -> Result<Names<'a>, AllocError>
+    ensures { IfOk result (λ after. seen_names after ≡ at_head (seen_names names.entry) (texts words.now)) }
+{
+    let types = if procedure_name(words).is_some() {
+        value_types(alloc, parameters(words))?
+    } else {
+        Vec::new(alloc)
+    };
+    let Names { constants, .. } = names;
+    Ok(Names {
+        constants,
+        registers: IndexMap::with_hasher(alloc, procedures.hash),
+        types,
+        rights: 0,
+    })
+}
+
+/// Adds what stands behind `proc`.
+pub fn put_head<'a>(
+    alloc: Global,
+    procedures: &Procedures<'_>,
+    number: usize,
+    names: Names<'a>,
+    out: &mut Vec<u8>,
+    words: &[&'a [u8]],
+) -> Result<Names<'a>, Rejection<'a>>
+    ensures { SaysBehind result out.new.items (head_says (seen_procedures procedures.now) number (seen_names names.entry) out.old.items (texts words.now)) }
+{
+    check_name(procedures, number, procedure_name(words))?;
+    let names = at_head(alloc, procedures, names, words)?;
+    let params = parameters(words);
+    let names = list(procedures, Listed::Parameters, names, 0, params)?;
+    put_all(out, first_words(words, 1))?;
+    put_unnamed(out, params)?;
+    Ok(names)
+}
+
+/// Adds what stands behind `regs`.
+pub fn put_registers<'a>(
+    procedures: &Procedures<'_>,
+    names: Names<'a>,
+    out: &mut Vec<u8>,
+    words: &[&'a [u8]],
+) -> Result<Names<'a>, Rejection<'a>>
+    ensures { SaysBehind result out.new.items (registers_say (seen_procedures procedures.now) (seen_names names.entry) out.old.items (texts words.now)) }
+{
+    let first = count(&names.types);
+    let names = list(procedures, Listed::Registers, names, first, words)?;
+    put_all(out, &names.types)?;
+    put_unnamed(out, words)?;
+    Ok(names)
+}

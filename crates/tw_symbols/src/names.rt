@@ -1,0 +1,263 @@
+//! The names that are known at a line.
+
+ghost use Rattle.std.specs.Prelude.{◌≡◌, ◌==◌, ◌||◌, ◌∷◌, [], ◌++◌, ◌<◌, None, OnOk, nat_lt, slice_get};
+ghost use Rattle.tw_lexer.specs.Digits.{all_digits, are_digits};
+ghost use Rattle.std.specs.Char.{digit_value};
+ghost use Rattle.tw_symbols.specs.Answers.{Gives, lists_entry};
+ghost use Rattle.tw_symbols.specs.Meanings.{above, is_name, is_register_word, known, may_name, meaning, no_names, with_constant, with_listed, with_register, is_listed, lists};
+ghost use Rattle.tw_symbols.specs.declared.meaning.Binding.TheVariants.{Constant};
+ghost use Rattle.tw_symbols.specs.Seen.{seen_names, seen_procedures, seen_table};
+
+use crate::meaning::{Bank, Binding, Origin, is_bank, is_origin};
+use crate::procedures::Procedures;
+use crate::rejection::{NameNo, Rejection};
+use indexmap::IndexMap;
+use std::alloc::{AllocError, Global};
+use tw_lexer::TextHash;
+
+/// Names, and what they mean.
+pub type Table<'a> = IndexMap<&'a [u8], Binding, TextHash>;
+
+/// The most bytes of a name.
+const MAX_NAME: usize = 64;
+
+/// How many registers a bank has.
+const REGISTERS: usize = 16;
+
+/// The names that the lines so far have given.
+#[derive(Drop)]
+pub struct Names<'a> {
+    pub constants: Table<'a>,
+    /// Those of the procedure so far.
+    pub registers: Table<'a>,
+    /// The types that its line `regs` leaves out.
+    pub types: Vec<&'a [u8]>,
+    /// One more than the highest right register that has a name.
+    pub rights: usize,
+}
+
+impl<'a> Names<'a> {
+    /// Makes an empty table of names, to be hashed so.
+    pub fn new(alloc: Global, hash: TextHash) -> Names<'a>
+        ensures { seen_names result ≡ no_names }
+    {
+        Names {
+            constants: IndexMap::with_hasher(alloc, hash),
+            registers: IndexMap::with_hasher(alloc, hash),
+            types: Vec::new(alloc),
+            rights: 0,
+        }
+    }
+}
+
+fn is_digit(byte: u8) -> bool
+    ensures { result ≡ nat_lt (digit_value byte) 10 }
+{
+    match byte {
+        b'0'..=b'9' => true,
+        _ => false,
+    }
+}
+
+fn all_digits(text: &[u8]) -> bool
+    ensures { result ≡ all_digits text.now }
+{
+    for byte in text {
+        if !is_digit(*byte) {
+            return false;
+        }
+    }
+    true
+}
+
+fn are_digits(text: &[u8]) -> bool
+    ensures { result ≡ are_digits text.now }
+{
+    match text {
+        [] => false,
+        [_, ..] => all_digits(text),
+    }
+}
+
+fn is_bank_letter(byte: u8) -> bool
+    ensures { result ≡ (byte == 118) || (byte == 100) }
+{
+    byte == b'v' || byte == b'd'
+}
+
+/// `v` or `d`, and digits.
+fn is_register_word(word: &[u8]) -> bool
+    ensures { result ≡ is_register_word word.now }
+{
+    match word {
+        [first, rest @ ..] if is_bank_letter(*first) => are_digits(rest),
+        _ => false,
+    }
+}
+
+/// Whether a word may be a name: as a label's, and no word that means itself.
+pub fn is_name(word: &[u8]) -> bool
+    ensures { result ≡ is_name word.now }
+{
+    if !tw_lexer::is_name(word) {
+        false
+    } else if word.len() > MAX_NAME {
+        false
+    } else if is_register_word(word) {
+        false
+    } else {
+        word != b"any".as_slice()
+    }
+}
+
+/// What a name means in a table.
+pub fn meaning(table: &Table<'_>, name: &[u8]) -> Option<Binding>
+    ensures { result ≡ meaning name.now (seen_table table.now.entries) }
+{
+    match table.get(name) {
+        Some(binding) => Some(*binding),
+        None => None,
+    }
+}
+
+/// What a name means at a line.
+pub fn known(procedures: &Procedures<'_>, names: &Names<'_>, name: &[u8]) -> Option<Binding>
+    ensures { result ≡ known (seen_procedures procedures.now) (seen_names names.now) name.now }
+{
+    match meaning(&names.registers, name) {
+        Some(binding) => Some(binding),
+        None => match meaning(&names.constants, name) {
+            Some(binding) => Some(binding),
+            None => meaning(&procedures.table, name),
+        },
+    }
+}
+
+/// Whether a word may be given a meaning: it is a name, and means nothing yet.
+pub fn may_name<'a>(
+    procedures: &Procedures<'_>,
+    names: &Names<'_>,
+    name: &'a [u8],
+) -> Result<(), Rejection<'a>>
+    ensures { Gives (λ u. u) result (may_name (seen_procedures procedures.now) (seen_names names.now) name.now) }
+{
+    if !is_name(name) {
+        Err(Rejection::Flawed(NameNo::NoName, name))
+    } else if known(procedures, names, name).is_some() {
+        Err(Rejection::Flawed(NameNo::Twice, name))
+    } else {
+        Ok(())
+    }
+}
+
+/// Adds a name that a table hasn't.
+pub fn put_name<'a>(
+    table: &mut Table<'a>,
+    name: &'a [u8],
+    binding: Binding,
+) -> Result<(), AllocError>
+    requires { meaning name.now (seen_table table.old.entries) ≡ None }
+    ensures { OnOk result (seen_table table.new.entries ≡ seen_table table.old.entries ++ (name.now, binding) ∷ []) }
+{
+    table.insert(name, binding)?;
+    Ok(())
+}
+
+/// The names with a constant more.
+pub fn with_constant<'a>(
+    procedures: &Procedures<'_>,
+    mut names: Names<'a>,
+    name: &'a [u8],
+    number: i64,
+) -> Result<Names<'a>, Rejection<'a>>
+    ensures { Gives seen_names result (with_constant (seen_procedures procedures.now) (seen_names names.entry) name.now (Constant number)) }
+{
+    may_name(procedures, &names, name)?;
+    put_name(&mut names.constants, name, Binding::Constant(number))?;
+    Ok(names)
+}
+
+/// One more than the higher of a register's number and those before.
+fn above(bank: Bank, number: usize, rights: usize) -> usize
+    requires { number < 16 }
+    ensures { result ≡ above bank number rights }
+{
+    match bank {
+        Bank::Value => rights,
+        Bank::Right => { if number < rights { rights } else { number + 1 } }
+    }
+}
+
+/// The names with a register more.
+pub fn with_register<'a>(
+    procedures: &Procedures<'_>,
+    mut names: Names<'a>,
+    name: &'a [u8],
+    bank: Bank,
+    number: usize,
+    origin: Origin,
+) -> Result<Names<'a>, Rejection<'a>>
+    ensures { Gives seen_names result (with_register (seen_procedures procedures.now) (seen_names names.entry) name.now bank number origin) }
+{
+    may_name(procedures, &names, name)?;
+    if number >= REGISTERS {
+        return Err(Rejection::Flawed(NameNo::Limit, name));
+    }
+    put_name(
+        &mut names.registers,
+        name,
+        Binding::Register(bank, number, origin),
+    )?;
+    names.rights = above(bank, number, names.rights);
+    Ok(names)
+}
+
+/// Returns whether a name with this meaning is that by which the register was listed or made.
+fn lists(bank: Bank, number: usize, binding: Binding) -> bool
+    ensures { result ≡ lists bank number binding }
+{
+    match binding {
+        Binding::Register(other, place, origin) => {
+            is_bank(bank, other) && number == place && is_origin(origin, Origin::Listed)
+        }
+        _ => false,
+    }
+}
+
+/// Returns whether the entry at an index names this register, which was listed or made by that name.
+fn lists_at(table: &Table<'_>, index: usize, bank: Bank, number: usize) -> bool
+    ensures { result ≡ lists_entry bank number (slice_get (seen_table table.now.entries) index) }
+{
+    match table.get_index(index) {
+        Some((_, binding)) => lists(bank, number, *binding),
+        None => false,
+    }
+}
+
+/// Returns whether a register has a name by which it was listed or made.
+fn is_listed(table: &Table<'_>, bank: Bank, number: usize) -> bool
+    ensures { result ≡ is_listed bank number (seen_table table.now.entries) }
+{
+    for index in 0..table.len() {
+        if lists_at(table, index, bank, number) {
+            return true;
+        }
+    }
+    false
+}
+
+/// Returns the names with a register more, unless it has been listed or made by another name.
+pub fn with_listed<'a>(
+    procedures: &Procedures<'_>,
+    names: Names<'a>,
+    name: &'a [u8],
+    bank: Bank,
+    number: usize,
+) -> Result<Names<'a>, Rejection<'a>>
+    ensures { Gives seen_names result (with_listed (seen_procedures procedures.now) (seen_names names.entry) name.now bank number) }
+{
+    if is_listed(&names.registers, bank, number) {
+        return Err(Rejection::Flawed(NameNo::Listed, name));
+    }
+    with_register(procedures, names, name, bank, number, Origin::Listed)
+}

@@ -1,0 +1,211 @@
+//! What is asked in the place of a word, and what stands there.
+
+ghost use Rattle.std.specs.Prelude.{◌≡◌, ◌++◌, OnOk, drop, length, slice_get, take, unwrap_or};
+ghost use Rattle.tw_symbols.specs.declared.meaning.Expected.TheVariants.{Nothing};
+ghost use Rattle.std.specs.Option.{option_map};
+ghost use Rattle.tw_symbols.specs.Answers.{Gives, standing_text};
+ghost use Rattle.tw_symbols.specs.LineExpansion.{behind, named, stands, with_word, word_says, words_say};
+ghost use Rattle.tw_symbols.specs.Expansion.{ended};
+ghost use Rattle.tw_symbols.specs.Seen.{seen_names, seen_procedures, texts};
+
+use crate::meaning::{Bank, Binding, Expected};
+use crate::names::{Names, is_name, known};
+use crate::procedures::Procedures;
+use crate::rejection::{NameNo, Rejection};
+use std::alloc::{AllocError, Global};
+use tw_lexer::{put_numbered, put_signed};
+
+/// What stands in the place of a name.
+#[derive(Clone, Copy)]
+pub enum OperandText {
+    /// A register or a procedure, behind its letter.
+    Numbered(&'static str, usize),
+    /// A constant.
+    Number(i64),
+}
+
+/// What stands in the place of a name that means this, if it is what is asked.
+fn operand_text_of(asked: Expected, binding: Binding) -> Option<OperandText>
+    ensures { option_map standing_text result ≡ stands asked binding }
+{
+    match binding {
+        Binding::Constant(number) => match asked {
+            Expected::Number => Some(OperandText::Number(number)),
+            _ => None,
+        },
+        Binding::Register(Bank::Value, number, _) => match asked {
+            Expected::Value => Some(OperandText::Numbered("v", number)),
+            Expected::ValueArgument => Some(OperandText::Numbered("", number)),
+            _ => None,
+        },
+        Binding::Register(Bank::Right, number, _) => match asked {
+            Expected::Right => Some(OperandText::Numbered("d", number)),
+            Expected::RightArgument => Some(OperandText::Numbered("", number)),
+            _ => None,
+        },
+        Binding::Procedure(number) => match asked {
+            Expected::Procedure => Some(OperandText::Numbered("", number)),
+            _ => None,
+        },
+    }
+}
+
+fn put_operand_text(
+    alloc: Global,
+    out: &mut Vec<u8>,
+    standing: OperandText,
+) -> Result<(), AllocError>
+    ensures { OnOk result (out.new.items ≡ out.old.items ++ standing_text standing) }
+{
+    match standing {
+        OperandText::Numbered(front, number) => put_numbered(alloc, out, front, number),
+        OperandText::Number(number) => put_signed(alloc, out, number),
+    }
+}
+
+/// Adds a space, and a word as it stands.
+pub fn put_plain(out: &mut Vec<u8>, word: &[u8]) -> Result<(), AllocError>
+    ensures { OnOk result (out.new.items ≡ with_word out.old.items word.now) }
+{
+    out.extend_from_slice(b" ")?;
+    out.extend_from_slice(word)
+}
+
+/// Returns how many words there are.
+pub fn count(words: &[&[u8]]) -> usize
+    ensures { result ≡ length (texts words.now) }
+{
+    words.len()
+}
+
+/// The first so many words, or all.
+#[tactic(auto, using(crate::proofs::Cutting::first_taken, crate::proofs::Cutting::all_taken))]
+pub fn first_words<'b, 'a>(words: &'b [&'a [u8]], count: usize) -> &'b [&'a [u8]]
+    ensures { texts result.now ≡ take count (texts words.now) }
+{
+    if count < words.len() {
+        &words[..count]
+    } else {
+        words
+    }
+}
+
+/// Returns the words after the first so many.
+#[tactic(auto, using(crate::proofs::Cutting::left_after, crate::proofs::Cutting::none_after))]
+pub fn words_after<'b, 'a>(words: &'b [&'a [u8]], count: usize) -> &'b [&'a [u8]]
+    ensures { texts result.now ≡ drop count (texts words.now) }
+{
+    if count < words.len() {
+        &words[count..]
+    } else {
+        &[]
+    }
+}
+
+/// Returns what is required after the first so many places.
+#[tactic(auto, using(std::proofs::lemmas::List::drop_all))]
+pub fn expected_after(asked: &[Expected], count: usize) -> &[Expected]
+    ensures { result.now ≡ drop count asked.now }
+{
+    if count < asked.len() {
+        &asked[count..]
+    } else {
+        &[]
+    }
+}
+
+/// Adds a line's end, and a line feed.
+pub fn put_ended(out: &mut Vec<u8>, line: &[u8]) -> Result<(), AllocError>
+    ensures { OnOk result (out.new.items ≡ out.old.items ++ ended line.now) }
+{
+    out.extend_from_slice(line)?;
+    out.extend_from_slice(b"\n")
+}
+
+/// Adds words as they stand.
+pub fn put_all(out: &mut Vec<u8>, words: &[&[u8]]) -> Result<(), AllocError>
+    ensures { OnOk result (out.new.items ≡ behind out.old.items (texts words.now)) }
+{
+    for word in words {
+        put_plain(out, word)?;
+    }
+    Ok(())
+}
+
+/// Adds a space, and what stands in the place of a name.
+fn put_named<'a>(
+    alloc: Global,
+    out: &mut Vec<u8>,
+    asked: Expected,
+    word: &'a [u8],
+    binding: Option<Binding>,
+) -> Result<(), Rejection<'a>>
+    ensures { Gives (λ _. out.new.items) result (named out.old.items word.now binding asked) }
+{
+    let Some(binding) = binding else {
+        return Err(Rejection::Flawed(NameNo::Unknown, word));
+    };
+    let Some(standing) = operand_text_of(asked, binding) else {
+        return Err(Rejection::Flawed(NameNo::Kind(binding, asked), word));
+    };
+    out.extend_from_slice(b" ")?;
+    put_operand_text(alloc, out, standing)?;
+    Ok(())
+}
+
+/// Adds a space, and what a word stands for.
+pub fn put_word<'a>(
+    alloc: Global,
+    procedures: &Procedures<'_>,
+    names: &Names<'_>,
+    out: &mut Vec<u8>,
+    asked: Expected,
+    word: &'a [u8],
+) -> Result<(), Rejection<'a>>
+    ensures { Gives (λ _. out.new.items) result (word_says (seen_procedures procedures.now) (seen_names names.now) asked out.old.items word.now) }
+{
+    if matches!(asked, Expected::Nothing) || !is_name(word) {
+        put_plain(out, word)?;
+        return Ok(());
+    }
+    put_named(alloc, out, asked, word, known(procedures, names, word))
+}
+
+/// What is asked in the first place.
+fn first_expected(asked: &[Expected]) -> Expected
+    ensures { result ≡ unwrap_or (slice_get asked.now 0) Nothing }
+{
+    match asked {
+        [first, ..] => *first,
+        [] => Expected::Nothing,
+    }
+}
+
+/// What is asked in the places behind it.
+fn after_first(asked: &[Expected]) -> &[Expected]
+    ensures { result.now ≡ drop 1 asked.now }
+{
+    match asked {
+        [_, others @ ..] => others,
+        [] => asked,
+    }
+}
+
+/// Adds what words stand for; behind what is asked each stands for itself.
+pub fn put_words<'a>(
+    alloc: Global,
+    procedures: &Procedures<'_>,
+    names: &Names<'_>,
+    out: &mut Vec<u8>,
+    asked: &[Expected],
+    words: &[&'a [u8]],
+) -> Result<(), Rejection<'a>>
+    ensures { Gives (λ _. out.new.items) result (words_say (seen_procedures procedures.now) (seen_names names.now) asked.now out.old.items (texts words.now)) }
+{
+    let mut left = asked;
+    for word in words {
+        put_word(alloc, procedures, names, out, first_expected(left), word)?;
+        left = after_first(left);
+    }
+    Ok(())
+}

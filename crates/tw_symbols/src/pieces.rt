@@ -1,0 +1,91 @@
+//! Words of lines that list registers, where signs part words too.
+
+ghost use Rattle.std.specs.Prelude.{◌≡◌, [], ◌++◌, ◌+◌, ◌<◌, ◌≤◌, IfOk, OnOk, length};
+ghost use Rattle.tw_symbols.specs.Answers.{pieces_left};
+ghost use Rattle.std.specs.List.{flat_map};
+ghost use Rattle.tw_symbols.specs.Lines.{begins_quoted, is_sign, pieces, pieces_after, some_piece};
+ghost use Rattle.tw_symbols.specs.Seen.{texts};
+
+use std::alloc::{AllocError, Global};
+
+fn is_sign(byte: u8) -> bool
+    ensures { result ≡ is_sign byte }
+{
+    byte == b'(' || byte == b')' || byte == b','
+}
+
+/// Adds a piece, if there is anything.
+fn push_some<'a>(out: &mut Vec<&'a [u8]>, piece: &'a [u8]) -> Result<(), AllocError>
+    ensures { OnOk result (texts out.new.items ≡ texts out.old.items ++ some_piece piece.now) }
+{
+    if !piece.is_empty() {
+        out.push(piece)?;
+    }
+    Ok(())
+}
+
+/// Adds the piece that begins at a place, where it ends at the index, and tells where the piece behind the index begins.
+#[tactic(auto, using(crate::proofs::Cutting::goes_on, crate::proofs::Cutting::ends))]
+fn push_ended<'a>(
+    out: &mut Vec<&'a [u8]>,
+    word: &'a [u8],
+    start: usize,
+    index: usize,
+) -> Result<usize, AllocError>
+    requires start { start ≤ index }
+    requires index { index < length word.now }
+    ensures start { IfOk result (λ next. next ≤ index + 1) }
+    ensures pieces { IfOk result (λ next. texts out.new.items ++ pieces_left word.entry.now next (index + 1) ≡ texts out.old.items ++ pieces_left word.entry.now start index) }
+{
+    if is_sign(word[index]) {
+        push_some(out, &word[start..index])?;
+        Ok(index + 1)
+    } else {
+        Ok(start)
+    }
+}
+
+/// Adds the pieces of a word that isn't quoted.
+#[tactic(auto, using(crate::proofs::Cutting::left_first))]
+fn push_parted<'a>(out: &mut Vec<&'a [u8]>, word: &'a [u8]) -> Result<(), AllocError>
+    ensures { OnOk result (texts out.new.items ≡ texts out.old.items ++ pieces_after [] word.entry.now) }
+{
+    let mut start = 0;
+    for index in 0..word.len() {
+        start = push_ended(out, word, start, index)?;
+    }
+    push_some(out, &word[start..])?;
+    Ok(())
+}
+
+/// Returns whether a word begins with a quote.
+pub fn begins_quoted(word: &[u8]) -> bool
+    ensures { result ≡ begins_quoted word.now }
+{
+    match word {
+        [byte, ..] => *byte == b'"',
+        [] => false,
+    }
+}
+
+/// Adds the pieces of a word.
+fn push_pieces<'a>(out: &mut Vec<&'a [u8]>, word: &'a [u8]) -> Result<(), AllocError>
+    ensures { OnOk result (texts out.new.items ≡ texts out.old.items ++ pieces word.entry.now) }
+{
+    if begins_quoted(word) {
+        push_some(out, word)
+    } else {
+        push_parted(out, word)
+    }
+}
+
+/// The pieces of words, one word after the other.
+pub fn pieces_of<'a>(alloc: Global, words: &[&'a [u8]]) -> Result<Vec<&'a [u8]>, AllocError>
+    ensures { IfOk result (λ all. texts all.items ≡ flat_map pieces (texts words.now)) }
+{
+    let mut all = Vec::new(alloc);
+    for word in words {
+        push_pieces(&mut all, word)?;
+    }
+    Ok(all)
+}

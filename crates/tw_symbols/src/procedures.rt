@@ -1,0 +1,114 @@
+//! The procedures of a text.
+
+ghost use Rattle.std.specs.Prelude.{◌≡◌, List, IfOk, OnOk};
+ghost use Rattle.std.specs.Option.{option_map};
+ghost use Rattle.std.specs.Str.Lines.{lines};
+ghost use Rattle.tw_symbols.specs.Lines.{AreTaken, IsTaken, Line};
+ghost use Rattle.tw_symbols.specs.Seen.{now, seen_procedures, seen_table, texts};
+ghost use Rattle.tw_symbols.specs.Expansion.{procedures_of, with_head, with_line, with_name, with_words};
+
+use crate::heads::{banks_of_modes, procedure_name};
+use crate::line::take_line;
+use crate::meaning::{Bank, Binding};
+use crate::names::{Table, meaning, put_name};
+use crate::pieces::pieces_of;
+use indexmap::IndexMap;
+use std::alloc::{AllocError, Global};
+use tw_lexer::TextHash;
+
+/// A procedure: the banks of its parameters, and the line at which it begins.
+#[derive(Drop)]
+pub struct Head {
+    pub banks: Vec<Bank>,
+    pub line: usize,
+}
+
+/// The procedures of a text, and what their names mean.
+#[derive(Drop)]
+pub struct Procedures<'a> {
+    /// How the text's names are hashed.
+    pub hash: TextHash,
+    pub table: Table<'a>,
+    pub heads: Vec<Head>,
+}
+
+/// The first procedure of a name has it.
+fn name_procedure<'a>(
+    table: &mut Table<'a>,
+    name: Option<&'a [u8]>,
+    number: usize,
+) -> Result<(), AllocError>
+    ensures { OnOk result (seen_table table.new.entries ≡ with_name (option_map now name.entry) number (seen_table table.old.entries)) }
+{
+    if let Some(name) = name {
+        if meaning(table, name).is_none() {
+            put_name(table, name, Binding::Procedure(number))?;
+        }
+    }
+    Ok(())
+}
+
+/// The procedures with one more.
+fn with_head<'a>(
+    alloc: Global,
+    mut procedures: Procedures<'a>,
+    number: usize,
+    words: &[&'a [u8]],
+) -> Result<Procedures<'a>, AllocError>
+    ensures { IfOk result (λ after. seen_procedures after ≡ with_head (seen_procedures procedures.entry) number (texts words.now)) }
+{
+    let count = procedures.heads.len();
+    name_procedure(&mut procedures.table, procedure_name(words), count)?;
+    let banks = banks_of_modes(alloc, words)?;
+    procedures.heads.push(Head {
+        banks,
+        line: number,
+    })?;
+    Ok(procedures)
+}
+
+fn with_words<'a>(
+    alloc: Global,
+    procedures: Procedures<'a>,
+    number: usize,
+    words: &[&'a [u8]],
+) -> Result<Procedures<'a>, AllocError>
+    ensures { IfOk result (λ after. seen_procedures after ≡ with_words (seen_procedures procedures.entry) number (texts words.now)) }
+{
+    match words {
+        [first, others @ ..] if *first == b"proc".as_slice() => {
+            let pieces = pieces_of(alloc, others)?;
+            with_head(alloc, procedures, number, &pieces)
+        }
+        _ => Ok(procedures),
+    }
+}
+
+/// The procedures with what the line of this number says.
+fn with_line<'a>(
+    alloc: Global,
+    procedures: Procedures<'a>,
+    number: usize,
+    line: &'a str,
+) -> Result<Procedures<'a>, AllocError>
+    ensures { IfOk result (λ after. (taken : Line) × IsTaken taken line.entry.now × (seen_procedures after ≡ with_line (seen_procedures procedures.entry) number taken)) }
+{
+    let taken = take_line(alloc, line)?;
+    with_words(alloc, procedures, number, &taken.words)
+}
+
+/// The procedures of a text.
+pub fn procedures_of(alloc: Global, text: &str) -> Result<Procedures<'_>, AllocError>
+    ensures { IfOk result (λ procedures. (all : List Line) × AreTaken all (lines text.now) × (seen_procedures procedures ≡ procedures_of all)) }
+{
+    let hash = TextHash::new(text);
+    let mut procedures = Procedures {
+        hash,
+        table: IndexMap::with_hasher(alloc, hash),
+        heads: Vec::new(alloc),
+    };
+    for (index, line) in text.lines().enumerate() {
+        procedures = with_line(alloc, procedures, index + 1, line)?;
+    }
+    Ok(procedures)
+}

@@ -1,0 +1,165 @@
+//! The names of registers, beside what is told of them.
+
+ghost use Rattle.std.specs.Prelude.{◌≡◌, ◌==◌, ◌++◌, [], ℕ, List, None, IfOk, OnOk, MatchOption, Ok, drop, length, option_map, slice_get};
+ghost use Rattle.std.specs.Result.{IsErr};
+ghost use Rattle.std.specs.Str.Lines.{lines};
+ghost use Rattle.tw_symbols.specs.Lines.{AreTaken, IsTaken, Line};
+ghost use Rattle.tw_symbols.specs.Meanings.{no_names};
+ghost use Rattle.tw_symbols.specs.Registers.{IsWithName, entry_name, first_part, is_register, last_name, name_of, name_text, names_after_line, registers_at};
+ghost use Rattle.tw_symbols.specs.LineExpansion.{register_of};
+ghost use Rattle.tw_symbols.specs.Seen.{now, seen_names, seen_procedures, seen_table};
+ghost use Rattle.tw_symbols.specs.Expansion.{taken_says};
+
+use crate::assigned::register_of;
+use crate::expansion::put_numbered_line;
+use crate::meaning::{Bank, Binding, is_bank};
+use crate::names::{Names, Table};
+use crate::procedures::{Procedures, procedures_of};
+use crate::rejection::NameNo;
+use std::alloc::{AllocError, Global};
+
+/// The names behind a line, unless it is refused.
+fn names_after<'a>(
+    alloc: Global,
+    procedures: &Procedures<'_>,
+    number: usize,
+    names: Names<'a>,
+    out: &mut Vec<u8>,
+    line: &'a str,
+) -> Result<Option<Names<'a>>, AllocError>
+    ensures { (taken : Line) → IsTaken taken line.entry.now → IfOk result (λ after. MatchOption after
+        (IsErr (taken_says (seen_procedures procedures.now) number (seen_names names.entry) out.old.items taken))
+        (λ n. taken_says (seen_procedures procedures.now) number (seen_names names.entry) out.old.items taken ≡ Ok (seen_names n, out.new.items))) }
+{
+    match put_numbered_line(alloc, procedures, number, names, out, line) {
+        Ok(after) => Ok(Some(after)),
+        Err(rejection) => match rejection.no {
+            NameNo::NoMemory => Err(AllocError),
+            _ => Ok(None),
+        },
+    }
+}
+
+/// The names behind the line of this number, unless it or one before is refused, or there is no such line.
+fn names_after_line<'a>(
+    alloc: Global,
+    procedures: &Procedures<'_>,
+    text: &'a str,
+    last: usize,
+) -> Result<Option<Names<'a>>, AllocError>
+    ensures { (all : List Line) → AreTaken all (lines text.entry.now) → IfOk result (λ found.
+        option_map seen_names found ≡ names_after_line (seen_procedures procedures.now) last 1 no_names [] all) }
+{
+    let mut names = Names::new(alloc, procedures.hash);
+    let mut out = Vec::new(alloc);
+    for (index, line) in text.lines().enumerate() {
+        match names_after(alloc, procedures, index + 1, names, &mut out, line)? {
+            Some(after) if index + 1 == last => return Ok(Some(after)),
+            Some(after) => names = after,
+            None => return Ok(None),
+        }
+    }
+    Ok(None)
+}
+
+fn is_register(bank: Bank, number: usize, binding: Binding) -> bool
+    ensures { result ≡ is_register bank number binding }
+{
+    match binding {
+        Binding::Register(other, place, _) => is_bank(bank, other) && number == place,
+        _ => false,
+    }
+}
+
+/// The name at an index, if it is that of this register.
+fn named_at<'a>(table: &Table<'a>, index: usize, bank: Bank, number: usize) -> Option<&'a [u8]>
+    ensures { option_map now result ≡ entry_name bank number (slice_get (seen_table table.now.entries) index) }
+{
+    match table.get_index(index) {
+        Some((name, binding)) if is_register(bank, number, *binding) => Some(*name),
+        _ => None,
+    }
+}
+
+/// The name that a register was given last.
+fn last_name<'a>(table: &Table<'a>, bank: Bank, number: usize) -> Option<&'a [u8]>
+    ensures { option_map now result ≡ last_name (seen_table table.now.entries) bank number None }
+{
+    let mut found = None;
+    for index in 0..table.len() {
+        found = named_at(table, index, bank, number).or(found);
+    }
+    found
+}
+
+/// Whether a space stands here, or nothing.
+fn ends_part(text: &[u8]) -> bool
+    ensures { result ≡ (length (first_part text.now) == 0) }
+{
+    match text {
+        [byte, ..] => *byte == b' ',
+        [] => true,
+    }
+}
+
+/// What stands up to the first space, and the rest.
+fn cut(text: &[u8]) -> (&[u8], &[u8])
+    ensures first { result.0.now ≡ first_part text.entry.now }
+    ensures rest { result.1.now ≡ drop (length (first_part text.entry.now)) text.entry.now }
+{
+    let mut count = 0;
+    while !ends_part(&text[count..]) {
+        count += 1;
+    }
+    text.split_at(count)
+}
+
+fn put_name(out: &mut Vec<u8>, name: Option<&[u8]>) -> Result<(), AllocError>
+    ensures { OnOk result (out.new.items ≡ out.old.items ++ name_text (option_map now name.entry)) }
+{
+    match name {
+        Some(name) => {
+            out.extend_from_slice(b" (")?;
+            out.extend_from_slice(name)?;
+            out.extend_from_slice(b")")
+        }
+        None => Ok(()),
+    }
+}
+
+/// The name of the register of a word, by those behind the line of this number.
+fn name_after_line<'a>(
+    alloc: Global,
+    text: &'a str,
+    last: usize,
+    word: &[u8],
+) -> Result<Option<&'a [u8]>, AllocError>
+    ensures { IfOk result (λ name. (all : List Line) × AreTaken all (lines text.entry.now) × (option_map now name ≡ name_of (registers_at all last) (register_of word.now))) }
+{
+    let procedures = procedures_of(alloc, text)?;
+    let names = names_after_line(alloc, &procedures, text, last)?;
+    let Some((bank, number)) = register_of(word) else {
+        return Ok(None);
+    };
+    match names {
+        Some(names) => Ok(last_name(&names.registers, bank, number)),
+        None => Ok(None),
+    }
+}
+
+/// Adds what is told, and behind the register with which it begins that register's name, if the lines of the text up to this
+/// one have given it one.
+pub fn put_with_name(
+    alloc: Global,
+    out: &mut Vec<u8>,
+    text: &str,
+    line: usize,
+    told: &[u8],
+) -> Result<(), AllocError>
+    ensures { OnOk result ((more : List ℕ) × IsWithName text.now line told.now more × (out.new.items ≡ out.old.items ++ more)) }
+{
+    let (word, rest) = cut(told);
+    out.extend_from_slice(word)?;
+    put_name(out, name_after_line(alloc, text, line, word)?)?;
+    out.extend_from_slice(rest)
+}
