@@ -9,10 +9,10 @@ use Rattle.tw_code.specs.accepting.Typing.{asks_action, asks_priority}
 use Rattle.tw_code.specs.accepting.Walk.{IsBudget}
 use Rattle.tw_code.specs.format.Program.{IsProgram}
 use Rattle.tw_code.specs.machine.Holders.{Typings, typing_at}
-use Rattle.tw_no_trap.specs.NoTrap.{AreRight}
-use Rattle.tw_no_trap.proofs.Called.{callee_met}
-use Rattle.tw_no_trap.proofs.Running.{asked_at}
-use Rattle.tw_no_trap.proofs.Values.{AllYes, yes_behind}
+use Rattle.tw_soundness.specs.NoTrap.{AreRight}
+use Rattle.tw_soundness.proofs.Called.{callee_met}
+use Rattle.tw_soundness.proofs.Running.{asked_at}
+use Rattle.tw_soundness.proofs.Values.{AllYes, yes_behind}
 use Rattle.tw_bounds.specs.Bounds.{Calls}
 use Rattle.tw_bounds.specs.Cost.{cost_of, IsGreatestCost}
 use Rattle.tw_bounds.specs.Solving.{IsBoundable}

@@ -20,10 +20,10 @@ use Rattle.tw_code.specs.machine.Inputs.{AreInputsOf}
 use Rattle.tw_code.specs.machine.Machine.{run, step}
 use Rattle.tw_code.specs.machine.Opening.{Opened, main_params, main_task, nothing_opened, opened, opening, opening_of, reached}
 use Rattle.tw_code.specs.machine.State.{State}
-use Rattle.tw_no_trap.specs.Invariant.{IsHeld}
-use Rattle.tw_no_trap.specs.NoTrap.{AreRight}
-use Rattle.tw_no_trap.proofs.Safe.{kept_by, opened_held}
-use Rattle.tw_no_trap.proofs.Sums.{sum_new}
+use Rattle.tw_soundness.specs.Invariant.{IsHeld}
+use Rattle.tw_soundness.specs.NoTrap.{AreRight}
+use Rattle.tw_soundness.proofs.Safe.{kept_by, opened_held}
+use Rattle.tw_soundness.proofs.Sums.{sum_new}
 use Rattle.tw_bounds.specs.declared.weights.Weights.{Weights}
 use Rattle.tw_bounds.specs.Bounds.{AreBounds, bound_at}
 use Rattle.tw_bounds.proofs.Numbers.{num_at, of_known}

@@ -15,8 +15,8 @@ use Rattle.tw_code.specs.machine.Opening.{opening, reached}
 use Rattle.tw_code.specs.machine.State.{State}
 use Rattle.tw_code.proofs.Runs.{run_more}
 use Rattle.tw_code.proofs.Next.{some_enabled}
-use Rattle.tw_no_trap.specs.NoTrap.{AreRight}
-use Rattle.tw_no_trap.proofs.Safe.{reached_is_held, safe}
+use Rattle.tw_soundness.specs.NoTrap.{AreRight}
+use Rattle.tw_soundness.proofs.Safe.{reached_is_held, safe}
 use Rattle.tw_bounds.specs.Ends.{RunsEnd}
 use Rattle.tw_bounds.specs.Runs.{IsBoundOfMain, events_alone}
 use Rattle.tw_bounds.proofs.Along.{few_events}

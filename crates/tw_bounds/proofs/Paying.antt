@@ -50,12 +50,12 @@ use Rattle.tw_code.proofs.Placed.{IsCalled, called_is, put_called_is}
 use Rattle.tw_budget.specs.Frames.{LoopsFit}
 use Rattle.tw_budget.specs.Sound.{IsSound}
 use Rattle.tw_budget.proofs.FrameTheorems.{stands_next}
-use Rattle.tw_no_trap.specs.Invariant.{IsHeld}
-use Rattle.tw_no_trap.specs.NoTrap.{AreRight}
-use Rattle.tw_no_trap.proofs.Safe.{accepts}
-use Rattle.tw_no_trap.proofs.Asked.{noted}
-use Rattle.tw_no_trap.proofs.Sums.{sum_apart, sum_new, sum_replaced}
-use Rattle.tw_no_trap.proofs.TaskEvents.{fresh_rule, fresh_task}
+use Rattle.tw_soundness.specs.Invariant.{IsHeld}
+use Rattle.tw_soundness.specs.NoTrap.{AreRight}
+use Rattle.tw_soundness.proofs.Safe.{accepts}
+use Rattle.tw_soundness.proofs.Asked.{noted}
+use Rattle.tw_soundness.proofs.Sums.{sum_apart, sum_new, sum_replaced}
+use Rattle.tw_soundness.proofs.TaskEvents.{fresh_rule, fresh_task}
 use Rattle.tw_bounds.specs.GreatestCost.{greatest_cost}
 use Rattle.tw_bounds.specs.declared.weights.Weights.{Weights}
 use Rattle.tw_bounds.specs.Bounds.{AreBounds, bound_at, cost_in, data_weight, rule_events}

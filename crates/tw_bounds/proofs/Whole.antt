@@ -3,7 +3,7 @@ use Rattle.std.proofs.Common.{List}
 use Rattle.tw_code.specs.declared.procedure.Procedure.{Procedure}
 use Rattle.tw_code.specs.format.Program.{IsProgram}
 use Rattle.tw_code.specs.machine.Holders.{Typings}
-use Rattle.tw_no_trap.specs.NoTrap.{AreRight}
+use Rattle.tw_soundness.specs.NoTrap.{AreRight}
 use Rattle.tw_bounds.specs.declared.bound.RunBounds.{RunBounds}
 use Rattle.tw_bounds.specs.Reports.{AreRunBounds, BoundsRuns}
 use Rattle.tw_bounds.specs.Runs.{events_alone}

@@ -6,7 +6,7 @@ ghost use Rattle.tw_code.specs.declared.flow.Flow.{Flow};
 ghost use Rattle.tw_code.specs.declared.procedure.Procedure.{Procedure};
 ghost use Rattle.tw_code.specs.format.Program.{IsProgram};
 ghost use Rattle.tw_code.specs.machine.Holders.{Typings};
-ghost use Rattle.tw_no_trap.specs.NoTrap.{AreRight};
+ghost use Rattle.tw_soundness.specs.NoTrap.{AreRight};
 ghost use Rattle.tw_bounds.specs.declared.weights.Weights.{Weights};
 ghost use Rattle.tw_bounds.specs.Cost.{IsGreatestCost};
 ghost use Rattle.tw_bounds.specs.Runs.{IsBoundOfMain, IsWithinBound};

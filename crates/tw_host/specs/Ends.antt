@@ -6,7 +6,7 @@ use Rattle.tw_types.specs.declared.actor.Actor.{Actor}
 use Rattle.tw_types.specs.declared.event.Event.{Event}
 use Rattle.tw_types.specs.Actor.{is_in}
 use Rattle.tw_types.specs.Layout.{ActorCounts}
-use Rattle.tw_no_trap.specs.EndsWell.{EndsWell}
+use Rattle.tw_soundness.specs.EndsWell.{EndsWell}
 use Rattle.tw_pool.specs.Actors.{events_of}
 use Rattle.tw_pool.specs.Ends.{FinalView, IsShut}
 use Rattle.tw_pool.specs.History.{HistoryView}

@@ -1,7 +1,7 @@
 -- The results of a pool whose run is over.
 use Rattle.std.proofs.Common.{◌≡◌, false, ap, subst, sym, ◌∙◌}
 use Rattle.tw_code.specs.machine.State.{State}
-use Rattle.tw_no_trap.specs.EndsWell.{EndsWell}
+use Rattle.tw_soundness.specs.EndsWell.{EndsWell}
 use Rattle.tw_pool.specs.Ends.{FinalView, IsShut}
 use Rattle.tw_pool.specs.History.{HistoryView}
 use Rattle.tw_pool.specs.PoolView.{HasState, PoolView}

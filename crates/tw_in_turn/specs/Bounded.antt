@@ -5,7 +5,7 @@ use Rattle.tw_types.specs.Layout.{ActorCounts}
 use Rattle.tw_code.specs.format.Program.{IsProgram}
 use Rattle.tw_code.specs.machine.Inputs.{AreInputsOf}
 use Rattle.tw_code.specs.machine.State.{State}
-use Rattle.tw_no_trap.specs.NoTrap.{AreRight}
+use Rattle.tw_soundness.specs.NoTrap.{AreRight}
 use Rattle.tw_verify.specs.Typed.{TypedProgram, typings_of}
 use Rattle.tw_bounds.specs.Runs.{IsBoundOfMain, events_alone}
 use Rattle.tw_pool.specs.declared.answer.Closing.{Closing}

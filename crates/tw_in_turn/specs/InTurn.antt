@@ -5,7 +5,7 @@ use Rattle.tw_types.specs.declared.actor.Actor.{Actor}
 use Rattle.tw_types.specs.Actor.{actor_at, actor_count}
 use Rattle.tw_types.specs.Layout.{ActorCounts}
 use Rattle.tw_code.specs.machine.State.{State}
-use Rattle.tw_no_trap.specs.EndsWell.{EndsWell}
+use Rattle.tw_soundness.specs.EndsWell.{EndsWell}
 use Rattle.tw_frame.specs.Jobs.{DoneView, IsDone, JobView}
 use Rattle.tw_pool.specs.declared.answer.Closing.{Closing}
 use Rattle.tw_pool.specs.declared.answer.Closing.TheVariants.{Quiet, Stuck, Stopped, Limit}

@@ -5,7 +5,7 @@ use Rattle.tw_rights.specs.Bundled.{Bundled, bundled}
 use Rattle.tw_queue.specs.Queues as queues
 use Rattle.tw_code.specs.declared.instr.Instr.{Instr}
 use Rattle.tw_code.specs.format.Program as format
-use Rattle.tw_no_trap.proofs.Accepted.{all_found}
+use Rattle.tw_soundness.proofs.Accepted.{all_found}
 use Rattle.tw_parts.proofs.Fitting.{seen}
 use Rattle.tw_parts.proofs.Handovers.{few_params, low_place, may_bundle}
 use Rattle.tw_parts.proofs.Law.{runner_has_seat}

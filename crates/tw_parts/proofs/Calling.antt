@@ -6,11 +6,11 @@ use Rattle.tw_code.specs.declared.instr.DataInstr.{DataInstr}
 use Rattle.tw_code.specs.declared.instr.Instr.TheVariants as instr
 use Rattle.tw_code.specs.machine.Holders.{typing_at}
 use Rattle.tw_code.specs.machine.Machine.{step}
-use Rattle.tw_no_trap.specs.Invariant.{IsHeld}
-use Rattle.tw_no_trap.proofs.Accepted.{all_found}
-use Rattle.tw_no_trap.proofs.Live.{output_is_live, register_is_live, rule_is_live, task_is_live}
-use Rattle.tw_no_trap.proofs.Safe.{kept_by}
-use Rattle.tw_no_trap.proofs.Turning.{data_goes}
+use Rattle.tw_soundness.specs.Invariant.{IsHeld}
+use Rattle.tw_soundness.proofs.Accepted.{all_found}
+use Rattle.tw_soundness.proofs.Live.{output_is_live, register_is_live, rule_is_live, task_is_live}
+use Rattle.tw_soundness.proofs.Safe.{kept_by}
+use Rattle.tw_soundness.proofs.Turning.{data_goes}
 use Rattle.tw_parts.proofs.Fitting.{seen}
 use Rattle.tw_parts.proofs.Goings.{may_stand}
 use Rattle.tw_parts.proofs.Keeping.{all_kept, args_kept, file_kept}

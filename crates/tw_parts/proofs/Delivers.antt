@@ -6,7 +6,7 @@ use Rattle.tw_types.specs.declared.stage.Stage.{Stage}
 use Rattle.tw_types.specs.declared.stage.Stage.TheVariants.{Waiting, Ready}
 use Rattle.tw_rules.specs.Table.{stage_at, staged}
 use Rattle.tw_code.specs.machine.Machine.{step}
-use Rattle.tw_no_trap.proofs.Asked.{Noted, noted}
+use Rattle.tw_soundness.proofs.Asked.{Noted, noted}
 use Rattle.tw_parts.proofs.Law.{goes_to, held}
 use Rattle.tw_parts.proofs.Fitting.{Behind, behind, stand_staged}
 use Rattle.tw_parts.proofs.Notes as notes

@@ -1,6 +1,6 @@
 -- DROPW and DROPR: their requirements hold, and they are executed.
 use Rattle.tw_parts.proofs.PartNames.{Context, Datum, EmptyRegister, FrameView, FreedDatum, IsDone, IsHere, IsLeft, KeepsPlaces, MayDo, Notices, Ok, Right, Served, at_next_place, bare_file, data_instr, drop_read_asks, drop_write_asks, get, kind_at, may_drop_read, may_drop_write, notices_after, notices_of_write_dropped, ok_after, one_write_less, read_dropped, reads, right_at, sees, there_then, with_notices, write_dropped, writes as writes_one}
-use Rattle.tw_no_trap.proofs.DataLeft.{read_no_write}
+use Rattle.tw_soundness.proofs.DataLeft.{read_no_write}
 use Rattle.tw_rights.specs.declared.held.Held.TheVariants as held
 use Rattle.tw_code.specs.declared.instr.DataInstr.TheVariants as on_data
 use Rattle.std.proofs.Common.{◌≡◌, ◌∙◌, ◌+◌, ℕ, true, false, [], None, Some, refl, sym, ap, inl, slice_index_or, slice_set}

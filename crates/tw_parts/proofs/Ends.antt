@@ -5,7 +5,7 @@ use Rattle.std.specs.List.{list_all}
 use Rattle.tw_code.specs.declared.instr.Instr.TheVariants.{Ret}
 use Rattle.tw_code.specs.machine.Holders.{typing_of}
 use Rattle.tw_code.specs.machine.Machine.{step}
-use Rattle.tw_no_trap.proofs.AllEvents.{all_empty}
+use Rattle.tw_soundness.proofs.AllEvents.{all_empty}
 use Rattle.tw_parts.proofs.Fitting.{seen, stand_ended}
 use Rattle.tw_parts.proofs.Law.{goes_to, held}
 use Rattle.tw_parts.proofs.Seating.{get_other_left}

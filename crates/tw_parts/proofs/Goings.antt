@@ -6,7 +6,7 @@ use Rattle.tw_types.proofs.Outcomes.{same_went}
 use Rattle.tw_code.specs.machine.History.{actor_of}
 use Rattle.tw_code.specs.machine.Machine.{step, local_steps}
 use Rattle.tw_code.specs.machine.State.{Frame}
-use Rattle.tw_no_trap.proofs.Safe.{kept_by}
+use Rattle.tw_soundness.proofs.Safe.{kept_by}
 use Rattle.tw_frame.specs.Jobs.{DoneView, FrameView, IsDone, JobView, MayStand, bare_frame, job_of}
 use Rattle.tw_frame.proofs.Lending.{stands_fresh}
 use Rattle.tw_parts.proofs.Fitting.{seen, stand_seated}

@@ -4,7 +4,7 @@ use Rattle.tw_parts.proofs.PartNames.{Action, Actor, ActorCounts, AreParts, AreP
 use Rattle.tw_rights.specs.Bundled.{Bundled, bundled}
 use Rattle.tw_code.specs.declared.instr.Instr.{Instr}
 use Rattle.tw_code.specs.machine.Holders.{typing_at}
-use Rattle.tw_no_trap.proofs.Accepted.{all_found}
+use Rattle.tw_soundness.proofs.Accepted.{all_found}
 use Rattle.tw_parts.proofs.Copied.{are_vals}
 use Rattle.tw_parts.proofs.Handing.{Handed, handed}
 use Rattle.tw_parts.proofs.Kinding.{kinds_left}

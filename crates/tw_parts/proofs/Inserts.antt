@@ -1,6 +1,6 @@
 -- INS: its requirements hold, and it is executed.
 use Rattle.tw_parts.proofs.PartNames.{Context, EmptyRegister, FrameView, Held, IsAbsent, IsDone, IsHere, IsNow, IsSome, IsUnchanged, MayDo, Notices, Ok, Right, RightType, Scalar, Served, Skipped, Subscript, after_insert, at_goal, at_next_place, bare_file, bare_frame, data_instr, first_so, get, insert_asks, inserted, is_container_by, is_element_of, is_read, is_write, kind_at, may_insert, member_at, of_type_at, ok_after, ok_first, passed, passes, reads_member_of, right_at, scalar_of, sees, there_then, writes_container_by}
-use Rattle.tw_no_trap.proofs.DataLeft.{read_no_write}
+use Rattle.tw_soundness.proofs.DataLeft.{read_no_write}
 use Rattle.tw_rights.specs.declared.held.Held.TheVariants as held
 use Rattle.tw_code.specs.declared.instr.DataInstr.TheVariants as on_data
 use Rattle.std.proofs.Common.{◌≡◌, ◌<◌, ◌∙◌, ◌+◌, ℕ, length, zero, suc, true, false, List, [], ◌∷◌, None, Some, Option, refl, sym, ap, inl, slice_get, slice_index_or, slice_set}

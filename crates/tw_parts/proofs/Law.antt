@@ -9,8 +9,8 @@ use Rattle.tw_code.specs.machine.History.{actor_of}
 use Rattle.tw_code.specs.accepting.Needs.{up_to}
 use Rattle.tw_code.proofs.Placed.{IsPlaced, count_of, engine_below, reached_placed}
 use Rattle.tw_code.proofs.Runs.{run_more}
-use Rattle.tw_no_trap.specs.Invariant.{IsHeld}
-use Rattle.tw_no_trap.proofs.Safe.{reached_is_held}
+use Rattle.tw_soundness.specs.Invariant.{IsHeld}
+use Rattle.tw_soundness.proofs.Safe.{reached_is_held}
 use Rattle.tw_queue.specs.Queues.{IsTarget}
 use Rattle.tw_parts.proofs.Fitting.{seen}
 

@@ -6,8 +6,8 @@ use Rattle.std.specs.declared.option.Option.{Option}
 use Rattle.tw_code.specs.declared.instr.Instr.TheVariants as instr
 use Rattle.tw_code.specs.machine.Holders.{typing_at}
 use Rattle.tw_code.specs.machine.Machine.{step}
-use Rattle.tw_no_trap.proofs.Called.{callee_met}
-use Rattle.tw_no_trap.proofs.Safe.{safe}
+use Rattle.tw_soundness.proofs.Called.{callee_met}
+use Rattle.tw_soundness.proofs.Safe.{safe}
 use Rattle.tw_parts.proofs.Fitting.{seen}
 use Rattle.tw_parts.proofs.Handing.{AreSuited}
 use Rattle.tw_parts.proofs.Kinding.{suited}

@@ -10,7 +10,7 @@ use Rattle.tw_code.specs.accepting.Needs.{HasTargets}
 use Rattle.tw_code.specs.machine.Inputs.{AreInputsOf}
 use Rattle.tw_code.specs.machine.Machine.{run}
 use Rattle.tw_code.specs.machine.Opening.{main_params, main_task, nothing_opened, opened, opening}
-use Rattle.tw_no_trap.specs.NoTrap.{AreRight}
+use Rattle.tw_soundness.specs.NoTrap.{AreRight}
 use Rattle.tw_parts.specs.Opening.{IsOpening}
 use Rattle.tw_parts.proofs.Fitting.{stand_put}
 

@@ -54,9 +54,9 @@ pub use Rattle.tw_rights.specs.declared.arg.Arg.TheVariants.{Read, Val, Write}
 pub use Rattle.tw_rights.specs.declared.held.Held.{Held}
 pub use Rattle.tw_frame.specs.Drafts.{MaySet, MayStart, StartsAsMachine, started}
 pub use Rattle.tw_frame.specs.Jobs.{DoneView, DraftView, FrameView, JobView, MayStand, bare_frame, draft_of, job_of}
-pub use Rattle.tw_no_trap.proofs.Conditions.{copy_read_asks, copy_write_asks, drop_read_asks, drop_write_asks, get_asks, insert_asks, look_asks, new_asks, size_asks, store_asks, subscript_asks}
-pub use Rattle.tw_no_trap.proofs.Running.{asked_at, stands_there, steps_leave, typed_after, typed_at_start}
-pub use Rattle.tw_no_trap.proofs.Values.{AllYes, passed, yes_behind}
+pub use Rattle.tw_soundness.proofs.Conditions.{copy_read_asks, copy_write_asks, drop_read_asks, drop_write_asks, get_asks, insert_asks, look_asks, new_asks, size_asks, store_asks, subscript_asks}
+pub use Rattle.tw_soundness.proofs.Running.{asked_at, stands_there, steps_leave, typed_after, typed_at_start}
+pub use Rattle.tw_soundness.proofs.Values.{AllYes, passed, yes_behind}
 pub use Rattle.tw_parts.specs.Coming.{Begins, BeginsOrNone, begun, come, gone_on, lent_as}
 pub use Rattle.tw_parts.specs.Copies.{named_values}
 pub use Rattle.tw_parts.specs.Data.{HasRoom, IsAnswer, IsDone, IsLentAnswer, IsLentBehind, IsLive, IsRefused, AreNotified, MayDo, sees}

@@ -8,9 +8,9 @@ use Rattle.tw_types.specs.declared.stage.Stage.TheVariants.{Unasked, Waiting, Re
 use Rattle.tw_rules.specs.Table.{right_at, stage_at, staged}
 use Rattle.tw_code.specs.machine.Machine.{asked, step}
 use Rattle.tw_code.proofs.Found.{IsOwn, IsUnaskedAt, ask_found, own_rule_there}
-use Rattle.tw_no_trap.specs.InOrder.{is_asked_for}
-use Rattle.tw_no_trap.specs.Invariant.{IsHeld, RuleArgsFit}
-use Rattle.tw_no_trap.proofs.Wanted.{asked_is_there}
+use Rattle.tw_soundness.specs.InOrder.{is_asked_for}
+use Rattle.tw_soundness.specs.Invariant.{IsHeld, RuleArgsFit}
+use Rattle.tw_soundness.proofs.Wanted.{asked_is_there}
 use Rattle.tw_parts.proofs.Delivers.{staged_bare, staged_is}
 use Rattle.tw_parts.proofs.Fitting.{Behind, behind, seen, stand_staged}
 use Rattle.tw_types.proofs.Chosen.{next_ask_mapped}

@@ -3,7 +3,7 @@ use Rattle.std.proofs.Common.{map as each, ◌≡◌, ◌-◌, ℕ, zero, suc, t
 use Rattle.tw_parts.proofs.PartNames.{Actor, ActorCounts, AreParts, ArePlaced, Arg, ArgStands, ArgsStand, Begins, Cause, FrameFits, FrameView, Goes, JobView, MayStand, MayStart, Notices, Param, Parts, Places, Procedure, Read, Right, RightType, Seated, Stand, StartsAsMachine, Take, TaskOf, TasksOf, Trap, TypedProgram, Val, Value, Went, Write, actor_cmp-IsAntisymmetric, actor_cmp_total, bare_arg, bare_file, bare_frame, bare_rule, bare_task, best, entry_by, first_rights, frame_of, get, insert, insert_mapped, is_in, is_write, kinds_in, mapped, nat_cmp-IsAntisymmetric, nat_cmp_total, params_in, remove, remove_mapped, right_of, rights_given, started, state_of, typed_at_start, typings_of, with_frame}
 use Rattle.tw_types.proofs.Best.{best_waits}
 use Rattle.tw_code.specs.machine.Machine.{step}
-use Rattle.tw_no_trap.proofs.Safe.{safe}
+use Rattle.tw_soundness.proofs.Safe.{safe}
 use Rattle.tw_frame.proofs.Frames.{first_each}
 use Rattle.tw_rights.specs.Filed.{filed, rights_in}
 use Rattle.tw_rights.specs.Kinds.{writes}
@@ -14,7 +14,7 @@ use Rattle.tw_types.proofs.Chosen.{best_mapped}
 use Rattle.tw_parts.proofs.Law.{goes_to, held}
 use Rattle.tw_parts.proofs.Goings.{may_stand}
 use Rattle.tw_parts.proofs.Seating.{get_other, get_own}
-use Rattle.tw_no_trap.specs.Invariant.{IsHeld}
+use Rattle.tw_soundness.specs.Invariant.{IsHeld}
 
 -- ---- the first registers
 

@@ -7,7 +7,7 @@ use Rattle.tw_types.proofs.NoticeOrder.{notice_cmp_total}
 use Rattle.tw_code.specs.machine.Waiting.{stage_at, times_among, times_noticed, times_subscribed}
 use Rattle.tw_code.proofs.Sets.{is_that, that_itself}
 use Rattle.tw_code.proofs.Subscribed.{noticed_one, subscribed-le, waits-le}
-use Rattle.tw_no_trap.specs.Noticed.{AreNamed}
+use Rattle.tw_soundness.specs.Noticed.{AreNamed}
 use Rattle.tw_parts.proofs.Notes.{itself, same_is}
 
 -- ---- lists

@@ -22,7 +22,7 @@ use Rattle.tw_code.specs.accepting.Typing.{after_data, asks_data}
 use Rattle.tw_code.specs.format.Program.{IsDataInstr}
 use Rattle.tw_code.specs.machine.Data.{Context, data_instr}
 use Rattle.tw_code.specs.machine.Rights.{Typing}
-use Rattle.tw_no_trap.proofs.Values.{AllYes}
+use Rattle.tw_soundness.proofs.Values.{AllYes}
 use Rattle.tw_frame.specs.Jobs.{DoneView, DraftView, FrameView, JobView, MayStand, draft_of, job_of}
 use Rattle.tw_parts.specs.Coming.{come, lent_as}
 use Rattle.tw_parts.specs.Fits.{ArePlaced, IsAt, kinds_in, right_in}

@@ -28,7 +28,7 @@ use Rattle.tw_code.specs.machine.Inputs.{AreInputsOf}
 use Rattle.tw_code.specs.machine.Opening.{reached}
 use Rattle.tw_code.specs.machine.Rights.{RightType, Typing, right_of}
 use Rattle.tw_code.specs.machine.State.{State}
-use Rattle.tw_no_trap.specs.NoTrap.{AreRight}
+use Rattle.tw_soundness.specs.NoTrap.{AreRight}
 use Rattle.tw_verify.specs.Typed.{TypedProgram, typings_of}
 use Rattle.tw_frame.specs.Jobs.{FrameView}
 use Rattle.tw_parts.specs.Notes.{AreQueued}

@@ -20,10 +20,10 @@ use Rattle.tw_code.specs.machine.Opening.{opening, reached}
 use Rattle.tw_code.specs.machine.Rights.{RightType}
 use Rattle.tw_code.specs.machine.State.{State}
 use Rattle.tw_code.proofs.Growth.{opening_is_small}
-use Rattle.tw_no_trap.specs.InOrder.{right_until}
-use Rattle.tw_no_trap.specs.Invariant.{ArgFits, IsHeld, RuleArgsFit}
-use Rattle.tw_no_trap.proofs.Accepted.{all_found}
-use Rattle.tw_no_trap.proofs.Along.{numbers_along}
+use Rattle.tw_soundness.specs.InOrder.{right_until}
+use Rattle.tw_soundness.specs.Invariant.{ArgFits, IsHeld, RuleArgsFit}
+use Rattle.tw_soundness.proofs.Accepted.{all_found}
+use Rattle.tw_soundness.proofs.Along.{numbers_along}
 
 -- ---- a rule has at most eight parameters, and its rights are on data that were made
 

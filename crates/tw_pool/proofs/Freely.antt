@@ -30,9 +30,9 @@ use Rattle.tw_code.specs.machine.Due.{IsDueFree, first_of, take_of}
 use Rattle.tw_code.specs.machine.Machine.{step}
 use Rattle.tw_code.specs.machine.State.{Frame, State}
 use Rattle.tw_code.proofs.Found.{ask_found, own_rule_there, release_found}
-use Rattle.tw_no_trap.specs.Invariant.{IsHeld}
-use Rattle.tw_no_trap.proofs.Asked.{Noted, noted}
-use Rattle.tw_no_trap.proofs.Safe.{reached_is_held}
+use Rattle.tw_soundness.specs.Invariant.{IsHeld}
+use Rattle.tw_soundness.proofs.Asked.{Noted, noted}
+use Rattle.tw_soundness.proofs.Safe.{reached_is_held}
 use Rattle.tw_verify.specs.Typed.{TypedProgram, typings_of}
 use Rattle.tw_frame.specs.Jobs.{FrameView, JobView, bare_frame, job_of}
 use Rattle.tw_parts.specs.Events.{Goes, IsTaken, IsTried, Makes, Untouched}

@@ -29,8 +29,8 @@ use Rattle.tw_code.specs.machine.State.{Frame, State}
 use Rattle.tw_code.proofs.Growth.{below_more, opening_is_small}
 use Rattle.tw_code.proofs.Leaving.{end_leaves}
 use Rattle.tw_code.proofs.Runs.{run_more}
-use Rattle.tw_no_trap.proofs.Along.{small_along}
-use Rattle.tw_no_trap.proofs.Safe.{opened_held}
+use Rattle.tw_soundness.proofs.Along.{small_along}
+use Rattle.tw_soundness.proofs.Safe.{opened_held}
 use Rattle.tw_verify.specs.Typed.{TypedProgram, typings_of}
 use Rattle.tw_frame.specs.Jobs.{DoneView, FrameView, JobView, bare_frame, job_of}
 use Rattle.tw_parts.specs.Coming.{come, lent_as}

@@ -6,7 +6,7 @@ ghost use Rattle.std.specs.Option.{option_copied};
 ghost use Rattle.tw_store.specs.Calls.{IsShown};
 ghost use Rattle.tw_store.specs.Served.{KnowsPlaces};
 ghost use Rattle.tw_code.specs.machine.State.{State};
-ghost use Rattle.tw_no_trap.specs.EndsWell.{EndsWell};
+ghost use Rattle.tw_soundness.specs.EndsWell.{EndsWell};
 ghost use Rattle.tw_pool.specs.Ends.{IsShut};
 ghost use Rattle.tw_pool.specs.PoolView.{HasState};
 

@@ -7,7 +7,7 @@ use denote.Ref.{Bor}
 use Rattle.tw_asm.specs.Statement.{Statement}
 use Rattle.tw_code.specs.accepting.WellTyped.{IsWellTyped}
 use Rattle.tw_code.specs.machine.Holders.{Typings}
-use Rattle.tw_no_trap.specs.NoTrap.{AreRight}
+use Rattle.tw_soundness.specs.NoTrap.{AreRight}
 use Rattle.tw_reasons.specs.LineRole.{says_of}
 use Rattle.tw_reasons.specs.declared.parser_state.LineRole.{LineRole}
 use Rattle.tw_reasons.proofs.Saying.{split_last}

@@ -1,6 +1,6 @@
 -- A refused place is one of the program's.
 use Rattle.std.proofs.Common.{◌≡◌, ℕ, List, [], ◌∷◌, Option, Some, None, inl, inr, sym, subst, ap, ◌∙◌, arith}
-use Rattle.tw_no_trap.proofs.Accepted.{all_found}
+use Rattle.tw_soundness.proofs.Accepted.{all_found}
 use Rattle.tw_verify.proofs.Lists.{get_none}
 use Rattle.tw_replies.proofs.ReplyNames.{IsProcedure, IsProgram, MayBeSource, MayBeSourceAt, Procedure, instr_at, slice_get-map}
 use Rattle.std.specs.List.{slice_get}

@@ -13,7 +13,7 @@ use Rattle.tw_symbols.specs.Expansion.{StandsFor}
 use Rattle.tw_reasons.specs.LineRole.{says_of}
 use Rattle.tw_reasons.specs.declared.parser_state.LineRole.{LineRole}
 use Rattle.tw_reasons.specs.declared.parser_state.LineRole.TheVariants as says
-use Rattle.tw_no_trap.specs.NoTrap.{AreRight}
+use Rattle.tw_soundness.specs.NoTrap.{AreRight}
 use Rattle.tw_asm.specs.Disassembly.{disassembly, label_at, label_line, label_places}
 use Rattle.tw_asm.specs.Listing.{head_lines, instr_text, right_text}
 use Rattle.tw_command.specs.declared.command.Places.{Places}

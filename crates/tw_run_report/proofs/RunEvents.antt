@@ -14,10 +14,10 @@ use Rattle.tw_code.specs.machine.Holders.{Typings}
 use Rattle.tw_code.specs.machine.Inputs.{AreInputsOf}
 use Rattle.tw_code.specs.machine.Machine.{run, step}
 use Rattle.tw_command.specs.declared.command.RunOrder.{RunOrder}
-use Rattle.tw_no_trap.specs.Invariant.{IsHeld}
-use Rattle.tw_no_trap.specs.NoTrap.{AreRight}
-use Rattle.tw_no_trap.proofs.Along.{event_small}
-use Rattle.tw_no_trap.proofs.Safe.{kept_by, opened_held}
+use Rattle.tw_soundness.specs.Invariant.{IsHeld}
+use Rattle.tw_soundness.specs.NoTrap.{AreRight}
+use Rattle.tw_soundness.proofs.Along.{event_small}
+use Rattle.tw_soundness.proofs.Safe.{kept_by, opened_held}
 use Rattle.tw_machine.specs.Moments.{history}
 use Rattle.tw_code.specs.declared.version.Version.{Version}
 use Rattle.tw_picture.specs.declared.drawing.Drawing.{Drawing}

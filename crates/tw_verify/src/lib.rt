@@ -32,7 +32,7 @@ pub use reached::next_place;
 pub use refused::Refused;
 pub use rejection::VerifyError;
 pub use theorems::{ends_well, no_trap, one_first_rejection};
-pub use tw_no_trap::{budgets_held, counts_held, notes_held, types_held};
+pub use tw_soundness::{budgets_held, counts_held, notes_held, types_held};
 pub use typing::{RightType, Typing};
 pub use verified::Verified;
 pub use verifier::verify;

@@ -9,9 +9,9 @@ ghost use Rattle.tw_code.specs.machine.Holders.{Typings};
 ghost use Rattle.tw_code.specs.machine.Inputs.{AreInputsOf};
 ghost use Rattle.tw_code.specs.machine.Opening.{reached};
 ghost use Rattle.tw_code.specs.machine.State.{State};
-ghost use Rattle.tw_no_trap.specs.EndsWell.{EndsWell};
-ghost use Rattle.tw_no_trap.specs.InOrder.{StaysInOrder};
-ghost use Rattle.tw_no_trap.specs.NoTrap.{AreRight, NoTrap};
+ghost use Rattle.tw_soundness.specs.EndsWell.{EndsWell};
+ghost use Rattle.tw_soundness.specs.InOrder.{StaysInOrder};
+ghost use Rattle.tw_soundness.specs.NoTrap.{AreRight, NoTrap};
 ghost use Rattle.tw_verify.specs.Theorems.{AcceptedUnrefused, OneFirstRejection};
 ghost use Rattle.tw_verify.specs.Typed.{typings_of};
 

@@ -1,7 +1,7 @@
 use Rattle.std.proofs.Common.{◌<◌, refl, sym, ap, ◌∙◌, arith, subst, inl, inr, length, map}
 use Rattle.std.proofs.lemmas.List.{length-map}
 use Rattle.std.proofs.lemmas.List.Sorted.{length_permutation}
-use Rattle.tw_no_trap.specs.EndsWell.{EndsWell}
+use Rattle.tw_soundness.specs.EndsWell.{EndsWell}
 use Rattle.tw_types.specs.Actor.{is_in}
 use Rattle.tw_host.specs.Run.{Run}
 use Rattle.tw_host.specs.Seats.{actors_of, told_by}

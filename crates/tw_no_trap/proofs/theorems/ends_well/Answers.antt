@@ -1,6 +1,0 @@
-use Rattle.tw_no_trap.proofs.Ends as ends
-use Rattle.tw_no_trap.proofs.Safe.{reached_is_held}
-use Rattle.tw_no_trap.proofs.theorems.ends_well.Goals as goal
-
-pub returns : goal.returns
-returns c program typings inputs layout events s is right given e = ends.ends_well program typings s (reached_is_held program typings is right inputs layout events s given e)

@@ -1,5 +1,0 @@
-use Rattle.tw_no_trap.proofs.Safe as safe
-use Rattle.tw_no_trap.proofs.theorems.notes_held.Goals as goal
-
-pub returns : goal.returns
-returns c = λ program typings layout event s next is right held e. (safe.kept_by program typings layout event s next is right held e).notices

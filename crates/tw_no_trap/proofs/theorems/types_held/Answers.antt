@@ -1,8 +1,0 @@
-use Rattle.tw_no_trap.proofs.Safe as safe
-use Rattle.tw_no_trap.proofs.theorems.types_held.Goals as goal
-
-pub returns-clause-numbers : goal.returns-clause-numbers
-returns-clause-numbers c = λ program typings layout event s next is right held e. (safe.kept_by program typings layout event s next is right held e).numbers
-
-pub returns-clause-types : goal.returns-clause-types
-returns-clause-types c = λ program typings layout event s next is right held e. (safe.kept_by program typings layout event s next is right held e).types
