@@ -35,7 +35,7 @@ class Break:
 HOST = "crates/tw_host/src/host.rt"
 PARKERS = "crates/tw_host/src/parkers.rt"
 SLEEPERS = "crates/tw_host/src/sleepers.rt"
-WORK = "crates/tw_parts/src/work.rt"
+WORK = "crates/tw_pool_state/src/work.rt"
 BREAKS = (
     Break("turns_wake_nobody", HOST, "        self.parkers.unpark(due);\n        answer\n", "        answer\n"),
     Break("turns_do_not_end", HOST, "            self.progress.end();\n        }\n", "        }\n"),

@@ -35,12 +35,12 @@ use Rattle.tw_soundness.proofs.Asked.{Noted, noted}
 use Rattle.tw_soundness.proofs.Safe.{reached_is_held}
 use Rattle.tw_verify.specs.Typed.{TypedProgram, typings_of}
 use Rattle.tw_frame.specs.Jobs.{FrameView, JobView, bare_frame, job_of}
-use Rattle.tw_parts.specs.Events.{Goes, IsTaken, IsTried, Makes, Untouched}
-use Rattle.tw_parts.specs.Fits.{FrameFits}
-use Rattle.tw_parts.specs.Memory.{AsksOpen, EventTakes, TakesTexts}
-use Rattle.tw_parts.specs.Notes.{is_among, queue_at}
-use Rattle.tw_parts.specs.Parts.{state_of}
-use Rattle.tw_parts.specs.declared.parts.Parts.{Parts}
+use Rattle.tw_pool_state.specs.Events.{Goes, IsTaken, IsTried, Makes, Untouched}
+use Rattle.tw_pool_state.specs.Fits.{FrameFits}
+use Rattle.tw_pool_state.specs.Memory.{AsksOpen, EventTakes, TakesTexts}
+use Rattle.tw_pool_state.specs.Notes.{is_among, queue_at}
+use Rattle.tw_pool_state.specs.Parts.{state_of}
+use Rattle.tw_pool_state.specs.declared.parts.Parts.{Parts}
 use Rattle.tw_pool.specs.declared.answer.Turn.{Turn}
 use Rattle.tw_pool.specs.declared.answer.Turn.TheVariants.{Idle, NoMemory, Run, Went as Made}
 use Rattle.tw_pool.specs.Actors.{events_of}

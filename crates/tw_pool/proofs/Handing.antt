@@ -33,13 +33,13 @@ use Rattle.tw_soundness.proofs.Along.{small_along}
 use Rattle.tw_soundness.proofs.Safe.{opened_held}
 use Rattle.tw_verify.specs.Typed.{TypedProgram, typings_of}
 use Rattle.tw_frame.specs.Jobs.{DoneView, FrameView, JobView, bare_frame, job_of}
-use Rattle.tw_parts.specs.Coming.{come, lent_as}
-use Rattle.tw_parts.specs.Events.{Goes, IsLent, IsOwed, IsSmall, Makes, MakesBehind, StandsAt, with_done}
-use Rattle.tw_parts.specs.Fits.{AreParts}
-use Rattle.tw_parts.specs.Memory.{EventTakes, InstrTakes, StandsAtTaker}
-use Rattle.tw_parts.specs.Parts.{state_of}
-use Rattle.tw_parts.specs.declared.parts.Parts.{Parts}
-use Rattle.tw_parts.proofs.Goings.{lent_parts, lent_state}
+use Rattle.tw_pool_state.specs.Coming.{come, lent_as}
+use Rattle.tw_pool_state.specs.Events.{Goes, IsLent, IsOwed, IsSmall, Makes, MakesBehind, StandsAt, with_done}
+use Rattle.tw_pool_state.specs.Fits.{AreParts}
+use Rattle.tw_pool_state.specs.Memory.{EventTakes, InstrTakes, StandsAtTaker}
+use Rattle.tw_pool_state.specs.Parts.{state_of}
+use Rattle.tw_pool_state.specs.declared.parts.Parts.{Parts}
+use Rattle.tw_pool_state.proofs.Goings.{lent_parts, lent_state}
 use Rattle.tw_pool.specs.declared.answer.Closing.TheVariants.{Limit}
 use Rattle.tw_pool.specs.declared.answer.Turn.{Turn}
 use Rattle.tw_pool.specs.declared.answer.Turn.TheVariants.{Over, Run}

@@ -23,10 +23,10 @@ use Rattle.tw_code.proofs.Leaving.{ask_leaves, deliver_leaves, release_leaves}
 use Rattle.tw_code.proofs.Runs.{run_more}
 use Rattle.tw_verify.specs.Typed.{TypedProgram}
 use Rattle.tw_frame.specs.Jobs.{FrameView, bare_frame}
-use Rattle.tw_parts.specs.Events.{Goes, Untouched}
-use Rattle.tw_parts.specs.Fits.{AreParts, IsReached}
-use Rattle.tw_parts.specs.Parts.{state_of}
-use Rattle.tw_parts.specs.declared.parts.Parts.{Parts}
+use Rattle.tw_pool_state.specs.Events.{Goes, Untouched}
+use Rattle.tw_pool_state.specs.Fits.{AreParts, IsReached}
+use Rattle.tw_pool_state.specs.Parts.{state_of}
+use Rattle.tw_pool_state.specs.declared.parts.Parts.{Parts}
 use Rattle.tw_pool.specs.Actors.{events_of, same_actor}
 use Rattle.tw_pool.specs.Kept.{AreLent, IsKept}
 use Rattle.tw_pool.proofs.Counting.{itself, of_more, the_same}

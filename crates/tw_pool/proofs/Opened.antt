@@ -11,10 +11,10 @@ use Rattle.tw_code.specs.machine.Machine.{run}
 use Rattle.tw_code.specs.machine.Opening.{opening, reached}
 use Rattle.tw_code.specs.machine.State.{State}
 use Rattle.tw_verify.specs.Typed.{TypedProgram}
-use Rattle.tw_parts.specs.Opening.{IsOpening}
-use Rattle.tw_parts.specs.Parts.{state_of}
-use Rattle.tw_parts.specs.Seats.{Seated}
-use Rattle.tw_parts.specs.declared.parts.Parts.{Parts}
+use Rattle.tw_pool_state.specs.Opening.{IsOpening}
+use Rattle.tw_pool_state.specs.Parts.{state_of}
+use Rattle.tw_pool_state.specs.Seats.{Seated}
+use Rattle.tw_pool_state.specs.declared.parts.Parts.{Parts}
 use Rattle.tw_pool.specs.Kept.{AreLent, IsKept}
 use Rattle.tw_pool.specs.Openings.{MayOpen}
 

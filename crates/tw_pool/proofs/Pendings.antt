@@ -26,7 +26,7 @@ use Rattle.tw_code.specs.declared.procedure.Procedure.{Procedure}
 use Rattle.tw_code.specs.machine.Arguments.{params_of}
 use Rattle.tw_code.specs.machine.Pending.{pending_of, waited_for, written_by}
 use Rattle.tw_code.specs.machine.Rights.{right_of}
-use Rattle.tw_parts.specs.Fits.{ArgStands, ArgsStand}
+use Rattle.tw_pool_state.specs.Fits.{ArgStands, ArgsStand}
 use Rattle.tw_pool.specs.Pendings.{pending_with_data, waited_at, waits_in, written_at}
 
 -- ---- one argument more

@@ -21,7 +21,7 @@ use Rattle.tw_code.specs.machine.State.{Frame, State}
 use Rattle.tw_verify.specs.Typed.{TypedProgram}
 use Rattle.tw_frame.specs.Jobs.{DoneView, FrameView, IsDone, JobView, bare_frame, job_of}
 use Rattle.tw_frame.specs.Ready.{IsStop, StopsAt}
-use Rattle.tw_parts.specs.declared.parts.Parts.{Parts}
+use Rattle.tw_pool_state.specs.declared.parts.Parts.{Parts}
 use Rattle.tw_pool.specs.declared.answer.Closing.{Closing}
 use Rattle.tw_pool.specs.declared.answer.Closing.TheVariants.{Limit, Stopped}
 use Rattle.tw_pool.specs.declared.answer.Turn.{Turn}

@@ -13,7 +13,7 @@ use Rattle.tw_code.specs.machine.Due.{IsDueFree, event_of}
 use Rattle.tw_code.specs.machine.Ending.{ending}
 use Rattle.tw_code.specs.machine.State.{Frame, State}
 use Rattle.tw_frame.specs.Jobs.{DoneView, JobView}
-use Rattle.tw_parts.specs.Memory.{EventTakes}
+use Rattle.tw_pool_state.specs.Memory.{EventTakes}
 use Rattle.tw_pool.specs.declared.answer.Closing.{Closing}
 use Rattle.tw_pool.specs.declared.answer.Closing.TheVariants.{Quiet, Stuck, Stopped, Limit}
 use Rattle.tw_pool.specs.declared.answer.Turn.{Turn}

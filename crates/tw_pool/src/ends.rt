@@ -16,7 +16,7 @@ use crate::pending::all_pending;
 use crate::pool::Pool;
 use std::alloc::{AllocError, Global};
 use std::marker::Model;
-use tw_parts::Remains;
+use tw_pool_state::Remains;
 use tw_store::{Datum, ShownMember};
 use tw_types::{DatumId, Pending};
 use tw_verify::ends_well;

@@ -7,7 +7,7 @@ use crate::history::History;
 use crate::pool::Pool;
 use std::alloc::{AllocError, Global};
 use tw_code::{has_fitting_inputs, has_input_count};
-use tw_parts::Parts;
+use tw_pool_state::Parts;
 use tw_types::{Input, Layout};
 use tw_verify::Verified;
 

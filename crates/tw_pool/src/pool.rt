@@ -5,7 +5,7 @@ ghost use Rattle.tw_pool.specs.Actors.{HasPlace, events_of};
 
 use crate::history::History;
 use std::marker::Model;
-use tw_parts::Parts;
+use tw_pool_state::Parts;
 use tw_types::{Actor, Input, Layout};
 use tw_verify::Verified;
 

@@ -5,7 +5,7 @@ ghost use Rattle.std.specs.FinMap.{get};
 ghost use Rattle.tw_types.specs.Actor.{is_in};
 ghost use Rattle.tw_code.specs.machine.Ending.{ending};
 ghost use Rattle.tw_code.specs.machine.State.{State};
-ghost use Rattle.tw_parts.specs.Seats.{HasSeat};
+ghost use Rattle.tw_pool_state.specs.Seats.{HasSeat};
 ghost use Rattle.tw_pool.specs.PoolView.{HasState};
 ghost use Rattle.tw_pool.specs.Turns.{IsTurn, closing_at, closing_of};
 
@@ -13,7 +13,7 @@ use crate::answer::{Closing, Turn};
 use crate::pool::Pool;
 use std::alloc::Global;
 use tw_frame::Done;
-use tw_parts::Parts;
+use tw_pool_state::Parts;
 use tw_types::{Actor, Ending};
 
 fn closing_of(ending: Ending) -> Closing

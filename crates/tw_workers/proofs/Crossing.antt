@@ -26,9 +26,9 @@ use Rattle.tw_verify.proofs.verified.Verified.TheSendSync as OfVerified
 use Rattle.tw_store.specs.contracts.store.Store
 use Rattle.tw_rules.proofs.table.RuleTable.TheSendSync as OfRules
 use Rattle.tw_queue.proofs.queues.TaskQueues.TheSendSync as OfTasks
-use Rattle.tw_parts.proofs.seats.Seats.TheSendSync as OfSeats
-use Rattle.tw_parts.proofs.outputs.Outputs.TheSendSync as OfOutputs
-use Rattle.tw_parts.specs.contracts.parts.Parts
+use Rattle.tw_pool_state.proofs.seats.Seats.TheSendSync as OfSeats
+use Rattle.tw_pool_state.proofs.outputs.Outputs.TheSendSync as OfOutputs
+use Rattle.tw_pool_state.specs.contracts.parts.Parts
 use Rattle.tw_pool.proofs.history.History.TheSendSync as OfHistory
 use Rattle.tw_pool.specs.contracts.pool.Pool
 use Rattle.tw_host.specs.declared.named.Named as Named

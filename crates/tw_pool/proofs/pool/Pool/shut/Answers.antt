@@ -7,7 +7,7 @@ use Rattle.tw_store.specs.Served.{Served}
 use Rattle.tw_code.specs.machine.Pending.{pending_of}
 use Rattle.tw_code.specs.machine.State.{State}
 use Rattle.tw_soundness.specs.EndsWell.{EndsWell}
-use Rattle.tw_parts.specs.Parts.{state_of}
+use Rattle.tw_pool_state.specs.Parts.{state_of}
 use Rattle.tw_pool.specs.Pendings.{pending_with_data}
 use Rattle.tw_pool.specs.PoolView.{PoolView, HasState}
 use Rattle.tw_pool.proofs.Pendings.{pending_is}

@@ -1,7 +1,7 @@
 use Rattle.std.proofs.Common.{◌∙◌, ◌+◌, ◌∷◌, [], sym, ap, subst, None, arith}
 use Rattle.tw_types.specs.declared.event.Event.TheVariants.{Take}
 use Rattle.tw_frame.specs.Jobs.{JobView}
-use Rattle.tw_parts.specs.Parts.{state_of}
+use Rattle.tw_pool_state.specs.Parts.{state_of}
 use Rattle.tw_pool.specs.Turns.{GoesFree}
 use Rattle.tw_pool.specs.declared.answer.Turn.TheVariants.{Idle, NoMemory, Run}
 use Rattle.tw_pool.proofs.Counting.{few}

@@ -1,7 +1,0 @@
-use Rattle.std.proofs.Common.{take}
-use Rattle.tw_types.specs.Given.{members_by}
-use Rattle.tw_parts.proofs.Filled.{IsFilled}
-use Rattle.tw_parts.proofs.input_data.add_container.Given as goal
-
-abbrev pub invariant-loop-subscript : goal.invariant-loop-subscript
-invariant-loop-subscript g l = IsFilled l.fn.store l.fn.ty (members_by g.K.AsValue.value g.V.AsValue.value (take l.subscript-index l.members)) l.store l.write

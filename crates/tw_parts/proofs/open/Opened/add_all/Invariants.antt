@@ -1,5 +1,0 @@
-use Rattle.tw_parts.proofs.MainParameters.{IsBegun}
-use Rattle.tw_parts.proofs.open.Opened.add_all.Given as goal
-
-abbrev pub invariant-loop-param : goal.invariant-loop-param
-invariant-loop-param l = IsBegun l.fn.self l.params l.fn.inputs l.param-index l.self l.rest

@@ -1,6 +1,0 @@
-use Rattle.std.proofs.Common.{ap, ◌∙◌}
-use Rattle.tw_parts.proofs.PartNames.{Arg, TasksOf, get, get-empty, nat_cmp}
-use Rattle.tw_parts.proofs.parts.Parts.begun.Goals as goal
-
-pub put-requires-clause-new : goal.put-requires-clause-new
-put-requires-clause-new c = ap (λ (m : TasksOf Arg). get m c.new.result) c.requires.tasks ∙ get-empty nat_cmp c.new.result

@@ -1,0 +1,46 @@
+-- A task ends: on the parts.
+use Rattle.std.proofs.Common.{map, ◌≡◌, ◌∙◌, Some, true, refl, ap, slice_get, is_none}
+use Rattle.tw_pool_state.proofs.PartNames.{Actor, ActorCounts, AreParts, End, FrameView, Goes, Notices, Parts, Procedure, Right, Stand, TypedProgram, Went, actor_cmp-IsAntisymmetric, actor_cmp_total, asked_at, bare_frame, bare_rule, bare_task, get, mapped, remove, remove_mapped, state_of, typings_of}
+use Rattle.std.specs.List.{list_all}
+use Rattle.tw_code.specs.declared.instr.Instr.TheVariants.{Ret}
+use Rattle.tw_code.specs.machine.Holders.{typing_of}
+use Rattle.tw_code.specs.machine.Machine.{step}
+use Rattle.tw_soundness.proofs.AllEvents.{all_empty}
+use Rattle.tw_pool_state.proofs.Fitting.{seen, stand_ended}
+use Rattle.tw_pool_state.proofs.Law.{goes_to, held}
+use Rattle.tw_pool_state.proofs.Seating.{get_other_left}
+
+module _ (verified : TypedProgram) (layout : ActorCounts) (old : Parts) (notices : Notices) (h : AreParts verified layout old notices)
+    (actor : Actor) (f : FrameView) (p : Procedure) (runs : get old.seats actor ≡ Some f) (here : slice_get verified.program f.procedure ≡ Some p)
+    (at : slice_get p.code f.position.place ≡ Some Ret) where
+  there : get (mapped bare_frame old.seats) actor ≡ Some (bare_frame f)
+  there = seen bare_frame old.seats actor (Some f) runs
+
+  empty : list_all is_none (bare_frame f).rights ≡ true
+  empty =
+      let asked = asked_at verified.program (typings_of verified) h.runnable.is h.runnable.right f.procedure p here f.position.place Ret at in
+      all_empty old.store.store (typing_of (typings_of verified) (bare_frame f)) (bare_frame f).rights ((held verified layout old notices h).types.rights actor (bare_frame f) there) asked.0
+
+  goes : step verified.program layout (End actor) (state_of old notices) ≡ Went (record (state_of old notices) { frames = remove (mapped bare_frame old.seats) actor })
+  unfolding step
+  goes = let t = there in let e = empty in rw (t, here, at, e) refl
+
+  module _ (new : Parts) (seats : new.seats ≡ remove old.seats actor) (store : new.store ≡ old.store) (rules : new.rules ≡ old.rules) (tasks : new.tasks ≡ old.tasks) (next_task : new.next_task ≡ old.next_task) (outputs : new.outputs ≡ old.outputs) where
+    same_state : state_of new notices ≡ record (state_of old notices) { frames = remove (mapped bare_frame old.seats) actor }
+    same_state = λ i. record {
+      store = (store i).store;
+      rules = mapped bare_rule (rules i).rules;
+      next_rule = (rules i).next;
+      tasks = mapped bare_task (tasks i).tasks;
+      next_task = next_task i;
+      frames = (ap (mapped bare_frame) seats ∙ remove_mapped bare_frame actor_cmp_total actor_cmp-IsAntisymmetric old.seats actor) i;
+      notices = notices;
+      outputs = map (λ (right : Right). right.id) (outputs i);
+    }
+
+    pub ended : Goes verified layout (End actor) old notices new
+    ended = goes_to verified layout old notices h (End actor) new notices _ goes same_state (rw store h.queued) (rw store h.servers) stand_is
+        (λ other apart. ap (λ m. get m other) seats ∙ get_other_left old.seats actor other apart)
+      where
+        stand_is : Stand verified new.store.places new.seats new.tasks.tasks new.rules.rules new.outputs
+        stand_is = rw (store, seats, tasks, rules, outputs) (stand_ended verified old.store.places old.seats old.tasks.tasks old.rules.rules old.outputs h.stand actor)

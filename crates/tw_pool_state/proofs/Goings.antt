@@ -1,0 +1,119 @@
+-- A task moves on by local steps, and its next job is issued: on the parts.
+use Rattle.std.proofs.Common.{◌≡◌, ◌<◌, ◌+◌, ◌∙◌, ℕ, false, List, Some, refl, sym, ap, subst, slice_get, arith, nat_eq}
+use Rattle.tw_pool_state.proofs.PartNames.{Actor, ActorCounts, AreParts, FrameFits, Goes, IsLent, IsOwed, IsReached, Local, Notices, Parts, Procedure, Seated, Stand, State, TypedProgram, Went, actor_cmp-IsAntisymmetric, actor_cmp_total, come, get, insert, insert_mapped, kinds_in, lent_as, mapped, nat_tests, stands_there, state_of, steps_leave, typings_of, with_done, with_frame}
+use Rattle.tw_types.specs.declared.event.Event.{Event}
+use Rattle.tw_types.proofs.Outcomes.{same_went}
+use Rattle.tw_code.specs.machine.History.{actor_of}
+use Rattle.tw_code.specs.machine.Machine.{step, local_steps}
+use Rattle.tw_code.specs.machine.State.{Frame}
+use Rattle.tw_soundness.proofs.Safe.{kept_by}
+use Rattle.tw_frame.specs.Jobs.{DoneView, FrameView, IsDone, JobView, MayStand, bare_frame, job_of}
+use Rattle.tw_frame.proofs.Lending.{stands_fresh}
+use Rattle.tw_pool_state.proofs.Fitting.{seen, stand_seated}
+use Rattle.tw_pool_state.proofs.Law.{goes_to, held}
+use Rattle.tw_pool_state.proofs.Seating.{again, get_other, get_own, same_seat}
+
+-- where the `Done` of the frame's job leads
+pub record Leads (program : List Procedure) (f : FrameView) (done : DoneView) : Type 0 where
+  pub p : Procedure
+  pub here : slice_get program f.procedure ≡ Some p
+  pub steps : local_steps done.steps p.code f.position ≡ Went done.after
+
+pub leads : (old : Parts) (actor : Actor) (f : FrameView) (done : DoneView) → IsOwed old actor f done
+    → IsDone done.before.program.program done.before.procedure done.before.position done.after done.steps done.short → Leads done.before.program.program f done
+leads old actor f done owed law = record {
+  p = law.p;
+  here = ap (λ (j : JobView). slice_get done.before.program.program j.procedure) (sym owed.own) ∙ law.here;
+  steps = ap (λ (j : JobView). local_steps done.steps law.p.code j.position) (sym owed.own) ∙ law.reached.went;
+}
+
+-- ---- local steps
+
+module _ (verified : TypedProgram) (layout : ActorCounts) (old : Parts) (notices : Notices) (h : AreParts verified layout old notices)
+    (actor : Actor) (f : FrameView) (runs : get old.seats actor ≡ Some f) (done : DoneView) (way : Leads verified.program f done) where
+  there : get (mapped bare_frame old.seats) actor ≡ Some (bare_frame f)
+  there = seen bare_frame old.seats actor (Some f) runs
+
+  goes : 0 < done.steps → step verified.program layout (Local actor done.steps) (state_of old notices) ≡ Went (with_frame (state_of old notices) actor (bare_frame (come f done)))
+  unfolding step
+  goes some =
+      let t = there in let test : nat_eq done.steps 0 ≡ false = grind (arith, nat_tests) in
+      let here = way.here in let steps = way.steps in
+      rw (test, t, here, steps) refl
+
+  fits : FrameFits verified old.store.places actor (come f done)
+  fits =
+      let before = h.stand.frames actor f runs in
+      let same = steps_leave verified.program (typings_of verified) h.runnable.is h.runnable.right (state_of old notices) (held verified layout old notices h) actor (bare_frame f) there way.p way.here done.steps done.after way.steps in
+      record { program = before.program; own = before.own; placed = before.placed; kinds = before.kinds ∙ ap kinds_in (sym same) }
+
+  same_state : state_of (with_done old actor f done) notices ≡ with_frame (state_of old notices) actor (bare_frame (come f done))
+  same_state = ap (λ m. record (state_of old notices) { frames = m }) (insert_mapped bare_frame actor_cmp_total actor_cmp-IsAntisymmetric old.seats actor (come f done))
+
+  pub gone : 0 < done.steps → Goes verified layout (Local actor done.steps) old notices (with_done old actor f done)
+  gone some = goes_to verified layout old notices h (Local actor done.steps) (with_done old actor f done) notices _ (goes some) same_state h.queued h.servers
+      (stand_seated verified old.store.places old.seats old.tasks.tasks old.rules.rules old.outputs h.stand actor (come f done) fits)
+      (get_other old.seats actor (come f done))
+
+-- without a step its position doesn't change
+pub stayed : (program : List Procedure) (old : Parts) (actor : Actor) (f : FrameView) → get old.seats actor ≡ Some f → (done : DoneView) → Leads program f done → done.steps ≡ 0 → with_done old actor f done ≡ old
+stayed program old actor f runs done way none =
+    let at : f.position ≡ done.after = same_went f.position done.after (ap (λ n. local_steps n way.p.code f.position) (sym none) ∙ way.steps) in
+    let spent : f.spent + done.steps ≡ f.spent = omega (arith, none) in
+    let same : come f done ≡ f = λ i. record f { position = sym at i; spent = spent i } in
+    ap (λ m. record old { seats = m }) (ap (insert old.seats actor) same ∙ same_seat old.seats actor f runs)
+
+-- ---- issuing
+
+module _ (verified : TypedProgram) (layout : ActorCounts) (old : Parts) (notices : Notices) (h : AreParts verified layout old notices)
+    (actor : Actor) (f : FrameView) (runs : get old.seats actor ≡ Some f) where
+  in_frames : get (mapped bare_frame old.seats) actor ≡ Some (bare_frame f)
+  in_frames = seen bare_frame old.seats actor (Some f) runs
+
+  -- it may run from there
+  pub may_stand : MayStand f.program.program f.procedure f.position
+  may_stand p here =
+      let fits = h.stand.frames actor f runs in
+      stands_fresh p f.spent f.position
+      (stands_there verified.program (typings_of verified) h.runnable.is h.runnable.right (state_of old notices) (held verified layout old notices h) actor (bare_frame f) in_frames p
+      (ap (λ (v : TypedProgram). slice_get v.program f.procedure) (sym fits.program) ∙ here))
+
+  -- and where an event leads it
+  pub stands_then : (event : Event) (t : State) → step verified.program layout event (state_of old notices) ≡ Went t → (g : Frame) → get t.frames actor ≡ Some g → MayStand verified.program g.procedure g.position
+  stands_then event t goes g now p here = stands_fresh p g.spent g.position (stands_there verified.program (typings_of verified) h.runnable.is h.runnable.right t
+      (kept_by verified.program (typings_of verified) layout event (state_of old notices) t h.runnable.is h.runnable.right (held verified layout old notices h) goes) actor g now p here)
+
+-- the number under which it is issued isn't in the machine's state
+module _ (new : Parts) (seats : Seated) (actor : Actor) (f : FrameView) (event_no : ℕ) (sits : new.seats ≡ insert seats actor (lent_as event_no f)) where
+  abbrev unlent : Parts
+  unlent = record new { seats = insert seats actor f }
+
+  pub lent_state : (notices : Notices) → state_of new notices ≡ state_of unlent notices
+  lent_state notices = ap (λ m. record (state_of new notices) { frames = m })
+      (ap (mapped bare_frame) sits ∙ insert_mapped bare_frame actor_cmp_total actor_cmp-IsAntisymmetric seats actor (lent_as event_no f)
+      ∙ sym (insert_mapped bare_frame actor_cmp_total actor_cmp-IsAntisymmetric seats actor f))
+
+  module _ (verified : TypedProgram) (layout : ActorCounts) (notices : Notices) (h : AreParts verified layout unlent notices) where
+    before : FrameFits verified new.store.places actor f
+    before = h.stand.frames actor f (get_own seats actor f)
+
+    pub lent_parts : AreParts verified layout new notices
+    lent_parts = record {
+      runnable = h.runnable;
+      law = subst (IsReached verified.program layout) (sym (lent_state notices)) h.law;
+      queued = h.queued;
+      servers = h.servers;
+      stand = subst (λ m. Stand verified new.store.places m new.tasks.tasks new.rules.rules new.outputs) (again seats actor f (lent_as event_no f) ∙ sym sits)
+          (stand_seated verified new.store.places (insert seats actor f) new.tasks.tasks new.rules.rules new.outputs h.stand actor (lent_as event_no f) (record { program = before.program; own = before.own; placed = before.placed; kinds = before.kinds }));
+    }
+
+  pub lent_goes : (verified : TypedProgram) (layout : ActorCounts) (event : Event) → actor_of event ≡ actor → (old : Parts) (notices : Notices) → Goes verified layout event old notices unlent → Goes verified layout event old notices new
+  lent_goes verified layout event own old notices goes = record {
+    left = goes.left;
+    step_is = goes.step_is ∙ ap Went (sym (lent_state goes.left));
+    parts = lent_parts verified layout goes.left goes.parts;
+    others = λ other apart. ap (λ m. get m other) sits ∙ get_other seats actor (lent_as event_no f) other (λ e. apart (e ∙ sym own)) ∙ sym (get_other seats actor f other (λ e. apart (e ∙ sym own))) ∙ goes.others other apart;
+  }
+
+  pub is_lent : (job : JobView) → job ≡ job_of (lent_as event_no f) → IsLent new actor event_no job
+  is_lent job is = record { f = lent_as event_no f; sits = ap (λ m. get m actor) sits ∙ get_own seats actor (lent_as event_no f); number = refl; job_is = is }

@@ -1,0 +1,72 @@
+-- RULE: on the parts.
+use Rattle.std.proofs.Common.{map as each, ◌≡◌, ◌+◌, ◌∙◌, List, Option, Some, refl, sym, ap, subst, slice_get}
+use Rattle.tw_pool_state.proofs.PartNames.{Action, Actor, ActorCounts, AreParts, Arg, Call, Completed, FrameFits, FrameView, Goes, Held, MayStand, Notices, Parts, Procedure, Right, RuleOf, Stand, TypedProgram, Value, Went, actor_cmp-IsAntisymmetric, actor_cmp_total, at_next_place, bare_frame, bare_rule, bare_task, context_of, get, gone_behind, gone_on, insert, insert_mapped, mapped, named_values, nat_cmp-IsAntisymmetric, nat_cmp_total, new_rule, number_in_kind, state_of, typed_after, typings_of, with_frame, with_rule}
+use Rattle.tw_rights.specs.Bundled.{bundled}
+use Rattle.tw_code.specs.declared.instr.Instr.TheVariants as instr
+use Rattle.tw_code.specs.machine.Machine.{step}
+use Rattle.tw_rules.specs.Table as table
+use Rattle.tw_pool_state.proofs.Fitting.{seen, stand_ruled, stand_seated}
+use Rattle.tw_pool_state.proofs.Goings.{stands_then}
+use Rattle.tw_pool_state.proofs.Handovers.{args_stand, bare_args, fits_behind, frame_is}
+use Rattle.tw_pool_state.proofs.Law.{goes_to}
+use Rattle.tw_pool_state.proofs.Naming.{IsNamed, rules}
+use Rattle.tw_pool_state.proofs.Seating.{get_other, get_own}
+
+module _ (verified : TypedProgram) (layout : ActorCounts) (old : Parts) (notices : Notices) (h : AreParts verified layout old notices)
+    (actor : Actor) (f : FrameView) (p : Procedure) (action : Action) (runs : get old.seats actor ≡ Some f) (here : slice_get verified.program f.procedure ≡ Some p)
+    (at : slice_get p.code f.position.place ≡ Some (instr.Rule action)) where
+  pub rule_named : IsNamed verified.program p.kind (context_of (state_of old notices) (bare_frame f)) action f.held
+  rule_named = rules verified layout old notices h actor f p action runs here at
+
+  rule_steps : step verified.program layout (Call actor) (state_of old notices) ≡ Went (with_frame (with_rule (state_of old notices) (new_rule (number_in_kind actor) rule_named.procedure.params (record { kind = rule_named.procedure.kind; procedure = action.procedure; priority = rule_named.priority; target = action.target; args = rule_named.given.args }))) actor (gone_behind (bare_frame f) rule_named.given.rights))
+  unfolding step
+  rule_steps =
+      let t = seen bare_frame old.seats actor (Some f) runs in
+      let g = rule_named.goes in
+      rw (t, here, at, g) refl
+
+  -- it may run from the place after it
+  pub rule_stands : MayStand f.program.program f.procedure (at_next_place f.position)
+  rule_stands = subst (λ (v : TypedProgram). MayStand v.program f.procedure (at_next_place f.position)) (sym (h.stand.frames actor f runs).program)
+      (stands_then verified layout old notices h actor f runs (Call actor) _ rule_steps (gone_behind (bare_frame f) rule_named.given.rights) (get_own (mapped bare_frame old.seats) actor (gone_behind (bare_frame f) rule_named.given.rights)))
+
+  module _ (vals : List Value) (are : each Some vals ≡ named_values f.position.values rule_named.procedure.params action.args)
+      (args : List Arg) (file : List (Option Held)) (over : bundled f.held rule_named.procedure.params action.args vals ≡ Some (record { args = args; file = file })) where
+    abbrev pub rule : RuleOf Arg
+    rule = table.new_rule (number_in_kind actor) rule_named.procedure.params (record { procedure = action.procedure; priority = rule_named.priority; target = action.target }) args
+
+    bare_is : bare_rule rule ≡ new_rule (number_in_kind actor) rule_named.procedure.params (record { kind = rule_named.procedure.kind; procedure = action.procedure; priority = rule_named.priority; target = action.target; args = rule_named.given.args })
+    bare_is = ap (λ xs. new_rule (number_in_kind actor) rule_named.procedure.params (record { kind = rule_named.procedure.kind; procedure = action.procedure; priority = rule_named.priority; target = action.target; args = xs }))
+        (bare_args verified layout old notices h actor f p action runs rule_named vals are args file over)
+
+    goes : step verified.program layout (Call actor) (state_of old notices) ≡ Went (with_frame (with_rule (state_of old notices) (bare_rule rule)) actor (bare_frame (gone_on f file)))
+    goes = rule_steps ∙ ap (λ k. Went (with_frame (with_rule (state_of old notices) k) actor (gone_behind (bare_frame f) rule_named.given.rights))) (sym bare_is)
+        ∙ ap (λ k. Went (with_frame (with_rule (state_of old notices) (bare_rule rule)) actor k)) (sym (frame_is verified layout old notices h actor f p action runs rule_named vals are args file over))
+
+    fits : FrameFits verified old.store.places actor (gone_on f file)
+    fits = fits_behind verified layout old notices h actor f p action runs rule_named vals are args file over
+        (typed_after verified.program (typings_of verified) h.runnable.is h.runnable.right f.procedure p here f.position.place (f.position.place + 1) (instr.Rule action) Completed at refl).1
+
+    module _ (new : Parts) (ruled : new.rules.rules ≡ insert old.rules.rules old.rules.next rule) (next_rule : new.rules.next ≡ old.rules.next + 1) (seats : new.seats ≡ insert old.seats actor (gone_on f file)) (store : new.store ≡ old.store) (tasks : new.tasks ≡ old.tasks) (next_task : new.next_task ≡ old.next_task) (outputs : new.outputs ≡ old.outputs) where
+      same_state : state_of new notices ≡ with_frame (with_rule (state_of old notices) (bare_rule rule)) actor (bare_frame (gone_on f file))
+      same_state = λ i. record {
+        store = (store i).store;
+        rules = (ap (mapped bare_rule) ruled ∙ insert_mapped bare_rule nat_cmp_total nat_cmp-IsAntisymmetric old.rules.rules old.rules.next rule) i;
+        next_rule = next_rule i;
+        tasks = mapped bare_task (tasks i).tasks;
+        next_task = next_task i;
+        frames = (ap (mapped bare_frame) seats ∙ insert_mapped bare_frame actor_cmp_total actor_cmp-IsAntisymmetric old.seats actor (gone_on f file)) i;
+        notices = notices;
+        outputs = each (λ (right : Right). right.id) (outputs i);
+      }
+
+      pub rule_goes : Goes verified layout (Call actor) old notices new
+      rule_goes = goes_to verified layout old notices h (Call actor) new notices _ goes same_state (rw store h.queued) (rw store h.servers) stand_is
+          (λ other apart. ap (λ m. get m other) seats ∙ get_other old.seats actor (gone_on f file) other apart)
+        where
+          ruled_there : Stand verified old.store.places old.seats old.tasks.tasks (insert old.rules.rules old.rules.next rule) old.outputs
+          ruled_there = stand_ruled verified old.store.places old.seats old.tasks.tasks old.rules.rules old.outputs h.stand old.rules.next rule
+              (args_stand verified layout old notices h actor f p action runs rule_named vals are args file over)
+
+          stand_is : Stand verified new.store.places new.seats new.tasks.tasks new.rules.rules new.outputs
+          stand_is = rw (store, seats, tasks, ruled, outputs) (stand_seated verified old.store.places old.seats old.tasks.tasks (insert old.rules.rules old.rules.next rule) old.outputs ruled_there actor (gone_on f file) fits)

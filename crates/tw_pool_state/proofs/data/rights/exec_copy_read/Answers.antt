@@ -1,0 +1,21 @@
+use Rattle.std.proofs.Common.{◌∙◌, ◌+◌, ap}
+use Rattle.tw_pool_state.proofs.PartNames.{FrameView, at_next_place}
+use Rattle.tw_pool_state.proofs.Copies.{copy_read_empty, copy_read_here, copy_read_right, read_copied_done, read_room}
+use Rattle.tw_pool_state.proofs.data.rights.exec_copy_read.Goals as goal
+
+pub peek_read-requires : goal.peek_read-requires
+peek_read-requires c = copy_read_right c.args.to c.args.from c.args.store.now c.args.frame.now c.requires
+
+pub copy_read-right-requires-clause-here : goal.copy_read-right-requires-clause-here
+copy_read-right-requires-clause-here c = copy_read_here c.args.to c.args.from c.args.store.now c.args.frame.now c.requires c.peek_read.result.now c.peek_read.ensures
+
+pub copy_read-right-requires-clause-room : goal.copy_read-right-requires-clause-room
+copy_read-right-requires-clause-room c = read_room c.args.store.now c.args.frame.now c.requires.room c.peek_read.result.now.id
+
+pub fill-requires-clause-empty : goal.fill-requires-clause-empty
+fill-requires-clause-empty c = copy_read_empty c.args.to c.args.from c.args.store.now c.args.frame.now c.requires
+
+pub returns-clause-done : goal.returns-clause-done
+returns-clause-done c =
+    read_copied_done c.args.to c.args.from c.args.store.now c.args.frame.now c.requires c.peek_read.result.now c.peek_read.ensures c.copy_read-right.new.self c.copy_read-right.result c.copy_read-right.ensures.right c.copy_read-right.ensures.counted
+    c.to_next_place.new.self (c.to_next_place.ensures ∙ ap (λ (n : FrameView). record n { position = at_next_place n.position; spent = n.spent + 1 }) c.fill.ensures)

@@ -1,0 +1,6 @@
+use Rattle.std.proofs.Common.{◌≡◌, map as each, take, Some}
+use Rattle.tw_pool_state.specs.Copies.{named_values}
+use Rattle.tw_pool_state.proofs.operands.values_of.Given as goal
+
+abbrev pub invariant-loop-index : goal.invariant-loop-index
+invariant-loop-index l = each Some l.vals.items ≡ named_values l.done.after.values (take l.index l.params) (take l.index l.args)

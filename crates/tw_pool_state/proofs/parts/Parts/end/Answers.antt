@@ -1,0 +1,27 @@
+use Rattle.std.proofs.Common.{◌≡◌, ◌∙◌, refl, sym, ap, slice_get, is_some}
+use Rattle.tw_pool_state.proofs.PartNames.{FrameView, actor_cmp-IsAntisymmetric, actor_cmp_total, come, same_Some, with_done}
+use Rattle.tw_types.proofs.Maps.{remove_insert}
+use Rattle.tw_pool_state.proofs.Ends.{ended}
+use Rattle.tw_pool_state.proofs.Law.{runner_has_seat}
+use Rattle.tw_pool_state.proofs.Seating.{get_own}
+use Rattle.tw_pool_state.proofs.parts.Parts.end.Goals as goal
+
+pub end-requires : goal.end-requires
+end-requires c =
+    let s = c.requires.stands in
+    let done = c.args.done in
+    record {
+      seat = runner_has_seat done.before.program s.layout (with_done c.args.self.now c.args.actor s.f done) s.notices s.parts c.args.actor (come s.f done) (get_own c.args.self.now.seats c.args.actor (come s.f done));
+      sits = ap is_some s.owed.sits;
+    }
+
+pub returns : goal.returns
+returns c = λ layout f owed notices h.
+    let s = c.requires.stands in
+    let done = c.args.done in
+    let old = c.args.self.now in
+    let same : s.f ≡ f = same_Some s.f f (sym s.owed.sits ∙ owed.sits) in
+    ended done.before.program layout (with_done old c.args.actor f done) notices h c.args.actor (come f done) s.q (get_own old.seats c.args.actor (come f done))
+    (ap (λ (g : FrameView). slice_get done.before.program.program g.procedure) (sym same) ∙ s.here) s.behind _
+    (c.end.ensures ∙ sym (remove_insert actor_cmp_total actor_cmp-IsAntisymmetric old.seats c.args.actor (come f done)))
+    refl refl refl refl refl

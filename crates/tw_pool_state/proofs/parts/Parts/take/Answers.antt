@@ -1,0 +1,24 @@
+use Rattle.std.proofs.Common.{◌∙◌, refl, ap}
+use Rattle.tw_store.proofs.Here.{unchanged}
+use Rattle.tw_pool_state.proofs.PartNames.{begun, get}
+use Rattle.tw_pool_state.proofs.Seating.{get_own}
+use Rattle.tw_pool_state.proofs.Takes.{begun_stands, may_start, taken, takes}
+use Rattle.tw_pool_state.proofs.parts.Parts.take.Goals as goal
+
+pub start-requires-clause-may : goal.start-requires-clause-may
+start-requires-clause-may c = λ e due. let p = c.requires.parts in may_start c.args.verified.now p.0 c.args.self.now p.1 p.2 c.args.actor p.3 c.requires.free e due
+
+pub start-requires-clause-stands : goal.start-requires-clause-stands
+start-requires-clause-stands c = λ e values due starts machine. let p = c.requires.parts in begun_stands c.args.verified.now p.0 c.args.self.now p.1 p.2 c.args.actor p.3 c.requires.free e due values starts machine
+
+pub returns-clause-taken : goal.returns-clause-taken
+returns-clause-taken c =
+    taken c.args.verified.now c.args.actor c.args.event_no c.args.self.now.seats c.args.self.now.tasks.tasks c.start.new.self c.start.new.tasks.tasks _ _ c.start.result c.start.ensures.begun
+    (λ job b.
+    let f = begun c.args.verified.now c.args.actor c.args.event_no b.e b.values in (
+      record { f = f; sits = ap (λ m. get m c.args.actor) b.sits ∙ get_own c.args.self.now.seats c.args.actor f; number = refl; job_is = b.lent },
+      λ layout there notices h.
+          takes c.args.verified.now layout c.args.self.now notices h c.args.actor there c.requires.free b.e b.due b.values b.starts b.machine c.args.event_no _
+          b.rest b.sits refl refl refl refl,
+    ))
+    (λ seats tasks. record { store = unchanged c.args.self.now.store; rules = refl; next_rule = refl; tasks = tasks; next_task = refl; seats = seats; outputs = refl })

@@ -1,0 +1,6 @@
+use Rattle.std.proofs.Common.{◌≡◌, ◌<◌, ℕ, None}
+use Rattle.tw_types.specs.Rule.{next_ask, next_release}
+use Rattle.tw_pool_state.proofs.quiet.has_work.Given as goal
+
+abbrev pub invariant-loop-engine : goal.invariant-loop-engine
+invariant-loop-engine l = (k : ℕ) → k < l.engine → (next_ask k l.rules.rules ≡ None) × (next_release k l.rules.rules ≡ None)

@@ -1,0 +1,146 @@
+//! Instructions on data.
+
+ghost use Rattle.std.specs.Prelude.{◌≡◌, ◌<◌, IfErr, IfOk, OnErr, OnOk};
+ghost use Rattle.tw_types.specs.declared.event.Event.TheVariants as event;
+ghost use Rattle.tw_code.specs.declared.instr.Instr.TheVariants as instr_is;
+ghost use Rattle.tw_frame.specs.Jobs.{FrameView, draft_of, job_of};
+ghost use Rattle.tw_pool_state.specs.Coming.{come};
+ghost use Rattle.tw_pool_state.specs.Data.{IsAnswer, IsDone, IsLentAnswer, MayDo, TakesNone};
+ghost use Rattle.tw_pool_state.specs.Memory.{TakesMemory};
+ghost use Rattle.tw_pool_state.specs.Events.{IsLent, IsOwed, MakesBehind, StandsAt, Untouched};
+
+mod containers;
+pub(crate) mod results;
+mod rights;
+mod scalars;
+
+use crate::data::containers::{exec_insert, exec_look, exec_size, exec_subscript_at};
+use crate::data::rights::{
+    exec_copy_read, exec_copy_write, exec_drop_read, exec_drop_write, exec_new,
+};
+use crate::data::scalars::{exec_get, exec_store};
+use crate::parts::Parts;
+use std::alloc::Global;
+use tw_code::DataInstr;
+use tw_frame::{Done, Draft, Frame, Job};
+use tw_store::Store;
+use tw_types::Actor;
+
+/// Executes an instruction that doesn't allocate.
+fn run_at_once<'a>(
+    store: &mut Store,
+    frame: &mut Frame<'a>,
+    draft: &mut Draft<'a>,
+    instr: &DataInstr,
+)
+    requires none { TakesNone instr.now }
+    requires may { MayDo instr.now store.old frame.old }
+    requires like { draft.old ≡ draft_of frame.old }
+    ensures done { IsDone instr.now store.old store.new frame.old frame.new }
+    ensures drafted { draft.new ≡ draft_of frame.new }
+{
+    match instr {
+        DataInstr::Look {
+            by,
+            member,
+            container,
+            subscript,
+            skip,
+        } => exec_look(store, frame, *by, *member, *container, *subscript, *skip),
+        DataInstr::Size { to, container } => exec_size(store, frame, draft, *to, *container),
+        DataInstr::CopyRead { to, from } => exec_copy_read(store, frame, *to, *from),
+        DataInstr::CopyWrite { to, from } => exec_copy_write(store, frame, *to, *from),
+        DataInstr::DropRead { right } => exec_drop_read(store, frame, *right),
+        DataInstr::New { .. } | DataInstr::Store { .. } | DataInstr::Get { .. } => unreachable!(),
+        DataInstr::Insert { .. } | DataInstr::SubscriptAt { .. } => unreachable!(),
+        DataInstr::DropWrite { .. } => unreachable!(),
+    }
+}
+
+/// Completes a task's job, executes an instruction, and returns a draft of the values then. Returns the `Done` if an allocation
+/// fails.
+fn run_data<'a>(
+    store: &mut Store,
+    frame: &mut Frame<'a>,
+    alloc: Global,
+    done: Done<'a>,
+    instr: &DataInstr,
+) -> Result<Draft<'a>, Done<'a>>
+    requires own { done.before ≡ job_of frame.old }
+    requires may { MayDo instr.now store.old (come frame.old done) }
+    ensures { IsAnswer instr.now store.old store.new frame.old frame.new done.entry result }
+{
+    match instr {
+        DataInstr::New { write, read, ty } => exec_new(
+            store, frame, alloc, done, *write, *read, *ty,
+        ),
+        DataInstr::Store { datum, from } => exec_store(store, frame, alloc, done, *datum, *from),
+        DataInstr::Get { to, datum } => exec_get(store, frame, alloc, done, *to, *datum),
+        DataInstr::Insert {
+            by,
+            container,
+            subscript,
+            member,
+            skip,
+        } => exec_insert(
+            store, frame, alloc, done, *by, *container, *subscript, *member, *skip,
+        ),
+        DataInstr::SubscriptAt {
+            by,
+            to,
+            container,
+            index,
+            skip,
+        } => exec_subscript_at(
+            store, frame, alloc, done, *by, *to, *container, *index, *skip,
+        ),
+        DataInstr::DropWrite { right } => exec_drop_write(store, frame, done, *right),
+        other => {
+            let mut draft = frame.complete_job(done);
+            run_at_once(store, frame, &mut draft, other);
+            Ok(draft)
+        }
+    }
+}
+
+/// Like `run_data`, but also issues the next job.
+pub(crate) fn run_and_lend<'a>(
+    store: &mut Store,
+    frame: &mut Frame<'a>,
+    alloc: Global,
+    event_no: u64,
+    done: Done<'a>,
+    instr: &DataInstr,
+) -> Result<Job<'a>, Done<'a>>
+    requires own { done.before ≡ job_of frame.old }
+    requires may { MayDo instr.now store.old (come frame.old done) }
+    ensures { IsLentAnswer instr.now store.old store.new frame.old frame.new event_no done.entry result }
+{
+    match run_data(store, frame, alloc, done, instr) {
+        Ok(draft) => Ok(frame.lend(event_no, draft)),
+        Err(done) => Err(done),
+    }
+}
+
+impl<'a> Parts<'a> {
+    /// Completes the actor's job, executes this instruction on data, at which the task then is, and issues the next job.
+    /// `event_no` is the number of its actor's events. Returns the `Done` if an allocation fails.
+    pub fn call_data(
+        &mut self,
+        alloc: Global,
+        actor: Actor,
+        event_no: u64,
+        instr: &DataInstr,
+        done: Done<'a>,
+    ) -> Result<Job<'a>, Done<'a>>
+        requires stands { StandsAt self.old actor done (instr_is.Data instr.now) }
+        ensures called { OnOk result (MakesBehind (event.Call actor) self.old actor done.entry self.new) }
+        ensures lent { IfOk result (λ job. IsLent self.new actor event_no job) }
+        ensures refused { OnErr result (Untouched self.old self.new) }
+        ensures back { IfErr result (λ back. back ≡ done.entry) }
+        ensures memory { OnErr result ((f : FrameView) → IsOwed self.old actor f done.entry → TakesMemory instr.now self.old.store (come f done.entry)) }
+    {
+        self.seats
+            .exec_data(actor, &mut self.store, alloc, event_no, done, instr)
+    }
+}

@@ -1,0 +1,59 @@
+//! PUT.
+
+ghost use Rattle.std.specs.Prelude.{◌≡◌, IfErr, IfOk, OnOk, OnErr};
+ghost use Rattle.tw_types.specs.declared.event.Event.TheVariants as event;
+ghost use Rattle.tw_code.specs.declared.instr.Instr.TheVariants as instr;
+ghost use Rattle.tw_pool_state.specs.Events.{IsLent, MakesBehind, StandsAt, Untouched};
+
+use crate::operands::action_operands;
+use crate::parts::Parts;
+use std::alloc::Global;
+use tw_code::Action;
+use tw_frame::{Done, Job};
+use tw_queue::Task;
+use tw_types::{Actor, TaskNo};
+
+impl<'a> Parts<'a> {
+    /// Completes the actor's job, executes this PUT, at which the task then is, and issues the next job. `event_no` is the number of
+    /// its actor's events. Returns the `Done` if an allocation fails.
+    pub fn put(
+        &mut self,
+        alloc: Global,
+        actor: Actor,
+        event_no: u64,
+        action: &Action,
+        done: Done<'a>,
+    ) -> Result<Job<'a>, Done<'a>>
+        requires stands { StandsAt self.old actor done (instr.Put action.now) }
+        ensures put { OnOk result (MakesBehind (event.Call actor) self.old actor done.entry self.new) }
+        ensures lent { IfOk result (λ job. IsLent self.new actor event_no job) }
+        ensures refused { OnErr result (Untouched self.old self.new) }
+        ensures back { IfErr result (λ back. back ≡ done.entry) }
+    {
+        let Ok(asked) = action_operands(alloc, &done, action) else {
+            return Err(done);
+        };
+        let (callee, priority) = (asked.callee, asked.priority);
+        let Ok(()) = self.tasks.reserve(callee.kind, action.target) else {
+            return Err(done);
+        };
+        let (params, registers) = (callee.params.as_slice(), action.args.as_slice());
+        let Ok(room) = Vec::with_capacity(alloc, params.len()) else {
+            return Err(done);
+        };
+        let (args, job) = self
+            .seats
+            .take_args(actor, event_no, done, registers, asked, room);
+        let task = Task {
+            no: TaskNo::new(self.next_task),
+            procedure: action.procedure,
+            args,
+        };
+        match self.tasks.put(callee.kind, priority, action.target, task) {
+            Ok(()) => {}
+            Err(_task) => unreachable!(),
+        }
+        self.next_task += 1;
+        Ok(job)
+    }
+}
