@@ -12,7 +12,7 @@ use Rattle.tw_types.specs.declared.value.Value.{Value}
 use Rattle.tw_code.specs.declared.procedure.Procedure.{Procedure}
 use Rattle.tw_code.specs.machine.Inputs.{has_fitting_inputs, has_input_count, input_params, is_input_of, rises}
 use Rattle.tw_code.specs.machine.Opening.{main_params}
-use Rattle.tw_reasons.specs.Words.{type_text}
+use Rattle.tw_diagnostics.specs.Words.{type_text}
 
 -- ---- how many
 

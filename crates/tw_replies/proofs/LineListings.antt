@@ -8,9 +8,9 @@ use Rattle.tw_asm.specs.Statement.{Statement}
 use Rattle.tw_code.specs.accepting.WellTyped.{IsWellTyped}
 use Rattle.tw_code.specs.machine.Holders.{Typings}
 use Rattle.tw_soundness.specs.NoTrap.{AreRight}
-use Rattle.tw_reasons.specs.LineRole.{says_of}
-use Rattle.tw_reasons.specs.declared.parser_state.LineRole.{LineRole}
-use Rattle.tw_reasons.proofs.Saying.{split_last}
+use Rattle.tw_diagnostics.specs.LineRole.{says_of}
+use Rattle.tw_diagnostics.specs.declared.parser_state.LineRole.{LineRole}
+use Rattle.tw_diagnostics.proofs.Saying.{split_last}
 use Rattle.tw_replies.specs.declared.source.SourceText.{SourceText}
 use Rattle.tw_replies.specs.declared.text_listing.Counts.{Counts}
 use Rattle.tw_replies.proofs.Places.{main_there}

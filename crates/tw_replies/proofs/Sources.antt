@@ -3,8 +3,8 @@ use Rattle.std.proofs.Common.{◌≡◌, ℕ, zero, suc, ◌+◌, ◌-◌, ◌<�
 use Rattle.tw_replies.proofs.ReplyNames.{AreOrigins, ComesFrom, ArePlaceDetails, AreTextDetails, LinesSay, Procedure, ParserState, StandsFor, after_line, at_place, at_start, instr_at, length-append, lines}
 use Rattle.std.specs.List.{slice_get}
 use Rattle.tw_asm.specs.Statement.{Statement, Code, Head}
-use Rattle.tw_reasons.proofs.Heads.{front_no_procedure}
-use Rattle.tw_reasons.specs.LineRole.{HasNoHead, IsFirstHead}
+use Rattle.tw_diagnostics.proofs.Heads.{front_no_procedure}
+use Rattle.tw_diagnostics.specs.LineRole.{HasNoHead, IsFirstHead}
 use Rattle.tw_symbols.proofs.LineByLine.{as_many}
 use Rattle.tw_verify.specs.declared.rejection.VerifyError.{VerifyError}
 use Rattle.tw_verify.specs.declared.rejection.VerifyError.TheVariants as rejection

@@ -10,9 +10,9 @@ use Rattle.std.specs.Str.Lines.{lines}
 use Rattle.tw_asm.specs.Fault.{LinesSay, ParserState, after_line, at_start}
 use Rattle.tw_asm.specs.Statement.{Statement}
 use Rattle.tw_symbols.specs.Expansion.{StandsFor}
-use Rattle.tw_reasons.specs.LineRole.{says_of}
-use Rattle.tw_reasons.specs.declared.parser_state.LineRole.{LineRole}
-use Rattle.tw_reasons.specs.declared.parser_state.LineRole.TheVariants as says
+use Rattle.tw_diagnostics.specs.LineRole.{says_of}
+use Rattle.tw_diagnostics.specs.declared.parser_state.LineRole.{LineRole}
+use Rattle.tw_diagnostics.specs.declared.parser_state.LineRole.TheVariants as says
 use Rattle.tw_soundness.specs.NoTrap.{AreRight}
 use Rattle.tw_asm.specs.Disassembly.{disassembly, label_at, label_line, label_places}
 use Rattle.tw_asm.specs.Listing.{head_lines, instr_text, right_text}

@@ -12,7 +12,7 @@ use Rattle.tw_symbols.specs.declared.meaning.Binding.{Binding}
 use Rattle.tw_symbols.specs.declared.meaning.Binding.TheVariants as binding
 use Rattle.tw_symbols.specs.declared.rejection.NameNo.{NameNo}
 use Rattle.tw_symbols.specs.declared.rejection.NameNo.TheVariants as no
-use Rattle.tw_reasons.specs.Diagnostics.{IsTextReason}
+use Rattle.tw_diagnostics.specs.Diagnostics.{IsTextReason}
 use Rattle.tw_lexer.specs.Shown.{shortened}
 use Rattle.tw_replies.specs.Reply.{Reply, reply}
 use Rattle.tw_replies.specs.Text.{RepliesByUtf8}

@@ -7,8 +7,8 @@ use Rattle.tw_code.specs.declared.procedure.Procedure.{Procedure}
 use Rattle.tw_symbols.specs.Registers.{IsWithName}
 use Rattle.tw_symbols.specs.Symbols.{AreNames, name_at}
 use Rattle.tw_symbols.specs.Expansion.{StandsFor}
-use Rattle.tw_reasons.specs.Reasons.{TellsReason, shape_line}
-use Rattle.tw_reasons.specs.LineRole.{IsFirstHead}
+use Rattle.tw_diagnostics.specs.Reasons.{TellsReason, shape_line}
+use Rattle.tw_diagnostics.specs.LineRole.{IsFirstHead}
 use Rattle.tw_lexer.specs.Shown.{shortened}
 use Rattle.tw_verify.specs.declared.rejection.VerifyError.{VerifyError}
 use Rattle.tw_verify.specs.declared.rejection.VerifyError.TheVariants as rejection

@@ -2,7 +2,7 @@
 
 ghost use Rattle.std.specs.Prelude.{◌≡◌, ◌++◌, ◌-◌, ℕ, List, IfOk, OnOk, codes, decimal, option_map, slice_get};
 ghost use Rattle.std.specs.Str.Lines.{lines};
-ghost use Rattle.tw_reasons.specs.Diagnostics.{IsTextReason};
+ghost use Rattle.tw_diagnostics.specs.Diagnostics.{IsTextReason};
 ghost use Rattle.tw_symbols.specs.Answers.{told};
 ghost use Rattle.tw_symbols.specs.Expansion.{IsFirstRejection, StandsFor};
 ghost use Rattle.tw_replies.specs.Names.{AreFaultDetails, RepliesByPlain, expected_words, fixed_diagnostic, is_same_line, kind_diagnostic, line_text, name_details, name_line, name_diagnostic, binding_words, written_text};
@@ -13,8 +13,8 @@ use crate::close::Close;
 use crate::reply::{Reply, fixed_reply, not_utf8_reply, refused_by};
 use std::alloc::{AllocError, Global};
 use tw_asm::AsmFault;
+use tw_diagnostics::put_text_diagnostic;
 use tw_lexer::{line_numbered, put, put_both, put_numbered, put_shortened};
-use tw_reasons::put_text_diagnostic;
 use tw_symbols::{Bank, Binding, Expected, NameError, NameNo, expanded_text};
 
 /// Adds the line of this number, shortened if it is long, where the text has one.

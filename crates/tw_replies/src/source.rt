@@ -8,16 +8,16 @@ ghost use Rattle.tw_replies.specs.Source.{IsSourceAt, MayBeSourceAt, plain_of, t
 ghost use Rattle.tw_symbols.specs.Registers.{IsWithName};
 ghost use Rattle.tw_symbols.specs.Expansion.{StandsFor};
 ghost use Rattle.tw_symbols.specs.Symbols.{AreSymbols};
-ghost use Rattle.tw_reasons.specs.Reasons.{TellsReason, shape_line};
-ghost use Rattle.tw_reasons.specs.LineRole.{IsFirstHead};
+ghost use Rattle.tw_diagnostics.specs.Reasons.{TellsReason, shape_line};
+ghost use Rattle.tw_diagnostics.specs.LineRole.{IsFirstHead};
 ghost use Rattle.tw_replies.specs.Text.{IsBehind, IsLineOf, AreMainDetails, ArePlaceDetails, AreTextDetails, in_name, line_in_text, text_line};
 
 use crate::text_lines::TextLines;
 use std::alloc::{AllocError, Global};
 use tw_asm::LineNumbers;
 use tw_code::Procedure;
+use tw_diagnostics::{head_line, put_main_diagnostic, put_program_diagnostic};
 use tw_lexer::{line_numbered, put, put_numbered, put_shortened};
-use tw_reasons::{head_line, put_main_diagnostic, put_program_diagnostic};
 use tw_symbols::{Symbols, put_with_name};
 use tw_verify::{Refused, VerifyError};
 

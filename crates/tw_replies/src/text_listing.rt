@@ -4,7 +4,7 @@ ghost use Rattle.std.specs.Prelude.{◌≡◌, ◌<◌, ◌++◌, ◌-◌, ℕ, 
 ghost use Rattle.std.specs.Str.Lines.{lines};
 ghost use Rattle.tw_asm.specs.Fault.{LineSays, LinesSay, ParserState, after_line, at_start};
 ghost use Rattle.tw_asm.specs.Statement.{Statement};
-ghost use Rattle.tw_reasons.specs.LineRole.{says_of};
+ghost use Rattle.tw_diagnostics.specs.LineRole.{says_of};
 ghost use Rattle.tw_replies.specs.Listed.{counts_of, typings_in};
 ghost use Rattle.tw_replies.specs.Listing.{IsListing, IsRefusedListing, beside, place_column, rights_text, said_line, said_lines};
 ghost use Rattle.tw_replies.specs.Source.{IsSource};
@@ -15,8 +15,8 @@ ghost use Rattle.tw_verify.specs.Typed.{typings_of};
 use crate::listing::{put_beside, put_place, rights_at};
 use crate::source::SourceText;
 use std::alloc::{AllocError, Global};
+use tw_diagnostics::{LineRole, line_role};
 use tw_lexer::{put, put_numbered};
-use tw_reasons::{LineRole, line_role};
 use tw_types::Items;
 use tw_verify::{Refused, Typing, Verified};
 

@@ -1,7 +1,7 @@
 use Rattle.std.proofs.Common.{◌++◌, ◌∙◌, ℕ, List, ap, append_assoc, subst, sym}
 use Rattle.tw_replies.proofs.ReplyNames.{ComesFrom, StandsFor, on_ok_weaker, text_line}
-use Rattle.tw_reasons.specs.Reasons.{shape_line}
-use Rattle.tw_reasons.specs.LineRole.{IsFirstHead}
+use Rattle.tw_diagnostics.specs.Reasons.{shape_line}
+use Rattle.tw_diagnostics.specs.LineRole.{IsFirstHead}
 use Rattle.tw_replies.proofs.Sources.{head_there, some_head}
 use Rattle.tw_replies.proofs.source.put_head_details.Goals as goal
 

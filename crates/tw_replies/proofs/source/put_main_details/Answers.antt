@@ -2,7 +2,7 @@ use Rattle.std.proofs.Common.{◌++◌, ◌∙◌, List, ap, refl, sym}
 use Rattle.std.specs.List.{slice_get}
 use Rattle.tw_replies.proofs.ReplyNames.{Procedure, on_ok_weaker, plain_of, text_line}
 use Rattle.tw_asm.proofs.Taking.{no_first}
-use Rattle.tw_reasons.specs.Reasons.{shape_line}
+use Rattle.tw_diagnostics.specs.Reasons.{shape_line}
 use Rattle.tw_replies.proofs.Sources.{none_there, some_origin}
 use Rattle.tw_replies.proofs.source.put_main_details.Goals as goal
 

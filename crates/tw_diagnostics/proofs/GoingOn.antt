@@ -1,0 +1,219 @@
+-- A line is gone along just where some statement goes on so.
+use Rattle.std.proofs.Common.{◌≡◌, ◌+◌, ◌&&◌, ◌||◌, ◌==◌, ℕ, zero, suc, Bool, true, false, not, cond, List, [], ◌∷◌, codes, drop, length, Option, None, Some, Ok, Err, refl, sym, ap, ◌∙◌, add-one}
+use Rattle.std.specs.Cmp.{second_so}
+use Rattle.tw_diagnostics.proofs.ReasonNames.{Bare, Form, Limit, Operand, Quoted, Version, Word, after_operand, bytes_eq, each, ends_at, form_behind, go_on, goal, goes, has_form, is_any, is_goal, is_quoted, line_in, line_of, literal, nat_lt, natural, number, only_if, operand_in, right, slice_get, target, type_in, value}
+use Rattle.std.specs.Borrow.{Bor}
+use Rattle.tw_types.specs.DataType.{scalar_type}
+use Rattle.tw_code.specs.declared.form.Form.{Form as OperandForm}
+use Rattle.tw_code.specs.declared.form.Form.TheVariants as form
+use Rattle.tw_lexer.specs.Digits.{as_is, digits_in}
+use Rattle.tw_asm.specs.reading.Operands.{at_label, both, container_in, further, goal_in, literal_in, name_in, natural_in, number_in, register_in, scalar_in, target_in}
+use Rattle.tw_lexer.specs.Names.{is_name}
+use Rattle.tw_diagnostics.specs.declared.step.Read.{Read}
+use Rattle.tw_diagnostics.specs.declared.step.Read.TheVariants as read
+use Rattle.tw_diagnostics.proofs.Classes.{Class, class_of, container, mode, other, scalar}
+use Rattle.tw_diagnostics.proofs.Forms.{all_form, and_false, and_true, form_as_is, form_both, form_contained, form_each, form_few}
+
+pub untrue : false ≡ true → ⊥
+untrue e = cc
+
+pub on_if : (b : Bool) (next : Read) (g : Read → Bool) → go_on (only_if b next) g ≡ (b && g next)
+on_if true next g = refl
+on_if false next g = refl
+
+-- ---- types
+
+abbrev pub is_end : List Word → Bool
+is_end [] = true
+is_end (w ∷ ws) = false
+
+-- one word more before the rest of a type
+pub type_more : (version : Version) (w : Word) (ws : List Word) → has_form (type_in version (w ∷ ws)) ≡ cond (has_form (scalar_in w)) (is_end ws) (has_form (container_in version w) && has_form (type_in version ws))
+type_more version w [] = form_as_is scalar_type (scalar_in w) ∙ by (has_form (scalar_in w)) (has_form (container_in version w))
+  where
+    by : (b c : Bool) → b ≡ cond b true (c && false)
+    by true c = refl
+    by false c = sym (and_false c)
+type_more version w (x ∷ ws) = form_contained (container_in version w) (type_in version (x ∷ ws)) ∙ by (class_of version w)
+  where
+    by : Class version w → (has_form (container_in version w) && has_form (type_in version (x ∷ ws))) ≡ cond (has_form (scalar_in w)) false (has_form (container_in version w) && has_form (type_in version (x ∷ ws)))
+    by (scalar s e f g) = rw (e, f) refl
+    by (container b e f g) = rw (e, f) refl
+    by (mode m e f g) = rw (e, f) refl
+    by (other e f g) = rw (e, f) refl
+
+-- ---- operands of one word
+
+pub name_form : (text : List ℕ) → has_form (name_in text) ≡ is_name text
+unfolding name_in
+name_form text = by (is_name text) (nat_lt 64 (length text))
+  where
+    by : (b c : Bool) → has_form (cond b (cond c (Err Limit) (Ok text)) (Err Form)) ≡ b
+    by true true = refl
+    by true false = refl
+    by false c = refl
+
+goal_form : (w : Word) → has_form (goal_in w) ≡ is_goal w
+goal_form (Bare []) = refl
+goal_form (Bare (b ∷ rest)) = by (b == 43)
+  where
+    by : (t : Bool) → has_form (cond t (as_is further (digits_in 0 65535 rest)) (as_is at_label (name_in (b ∷ rest)))) ≡ cond t (has_form (digits_in 0 65535 rest)) (is_name (b ∷ rest))
+    by true = form_as_is further (digits_in 0 65535 rest)
+    by false = form_as_is at_label (name_in (b ∷ rest)) ∙ name_form (b ∷ rest)
+goal_form (Quoted text) = refl
+
+literal_form : (w : Word) → has_form (literal_in w) ≡ is_quoted w
+literal_form (Bare text) = refl
+literal_form (Quoted text) = by (nat_lt 4096 (length text))
+  where
+    by : (b : Bool) → has_form (cond b (Err Limit) (Ok text)) ≡ true
+    by true = refl
+    by false = refl
+
+target_form : (w : Word) → has_form (target_in w) ≡ (is_any w || has_form (natural_in 0 15 w))
+target_form (Bare text) = by (bytes_eq text (codes "any"))
+  where
+    by : (b : Bool) → has_form (cond b (Ok None) (as_is (λ (n : ℕ). Some n) (digits_in 0 15 text))) ≡ (b || has_form (digits_in 0 15 text))
+    by true = refl
+    by false = form_as_is (λ (n : ℕ). Some n) (digits_in 0 15 text)
+target_form (Quoted text) = refl
+
+-- ---- operands, one after the other
+
+-- a skip, a type and arguments stand last
+abbrev pub stands_last : OperandForm → Bool
+stands_last form.Value = false
+stands_last form.Right = false
+stands_last form.Number = false
+stands_last form.Iterations = false
+stands_last form.Literal = false
+stands_last form.TypeOf = true
+stands_last form.Skip = true
+stands_last form.Callee = false
+stands_last form.Target = false
+stands_last form.Args = true
+
+abbrev pub lasts : List OperandForm → Bool
+lasts [] = true
+lasts (f ∷ []) = true
+lasts (f ∷ g ∷ fs) = not (stands_last f) && lasts (g ∷ fs)
+
+abbrev first_in : List OperandForm → Option OperandForm
+first_in [] = None
+first_in (f ∷ fs) = Some f
+
+at_drop : (fs : List OperandForm) (k : ℕ) → slice_get fs k ≡ first_in (drop k fs)
+at_drop [] zero = refl
+at_drop [] (suc k) = refl
+at_drop (f ∷ fs) zero = refl
+at_drop (f ∷ fs) (suc k) = at_drop fs k
+
+drop_more : (fs : List OperandForm) (k : ℕ) (f : OperandForm) (gs : List OperandForm) → drop k fs ≡ f ∷ gs → drop (suc k) fs ≡ gs
+drop_more [] zero f gs e = absurd cc
+drop_more [] (suc k) f gs e = absurd cc
+drop_more (g ∷ fs) zero f gs e = tail_of g f fs gs e
+  where
+    tail_of : (x y : OperandForm) (xs ys : List OperandForm) → x ∷ xs ≡ y ∷ ys → xs ≡ ys
+    tail_of x y xs ys h = cc
+drop_more (g ∷ fs) (suc k) f gs e = drop_more fs k f gs e
+
+tail_lasts : (f : OperandForm) (fs : List OperandForm) → lasts (f ∷ fs) ≡ true → lasts fs ≡ true
+tail_lasts f [] l = refl
+tail_lasts f (g ∷ fs) l = second_so (not (stands_last f)) (lasts (g ∷ fs)) l
+
+type_on : (s c : Bool) (a b : Read) (g : Read → Bool) → go_on (cond s (Some a) (only_if c b)) g ≡ cond s (g a) (c && g b)
+type_on true c a b g = refl
+type_on false c a b g = on_if c b g
+
+module _ (version : Version) (name : Bor (List ℕ)) where
+  abbrev at : ℕ → Read
+  at k = read.Operands name k
+
+  -- the words from a place on, where this operand is due there
+  abbrev by_form : ℕ → Option OperandForm → List Word → Bool
+  by_form k f [] = ends_at f
+  by_form k f (w ∷ ws) = go_on (after_operand version name k w f) (λ next. goes version next ws)
+
+  goes_by : (k : ℕ) (ws : List Word) → goes version (at k) ws ≡ by_form k (form_behind version name.now k) ws
+  goes_by k [] = refl
+  goes_by k (w ∷ ws) = refl
+
+  module _ (forms : List OperandForm) (have : (k : ℕ) → form_behind version name.now k ≡ slice_get forms k) where
+    goes_due : (k : ℕ) (fs : List OperandForm) → drop k forms ≡ fs → (ws : List Word) → goes version (at k) ws ≡ by_form k (first_in fs) ws
+    goes_due k fs cut ws = goes_by k ws ∙ ap (λ (f : Option OperandForm). by_form k f ws) (have k ∙ (at_drop forms k ∙ ap first_in cut))
+
+    next_cut : (k : ℕ) (f : OperandForm) (fs : List OperandForm) → drop k forms ≡ f ∷ fs → drop (k + 1) forms ≡ fs
+    next_cut k f fs cut = ap (λ (n : ℕ). drop n forms) (add-one k) ∙ drop_more forms k f fs cut
+
+    end_goes : (k : ℕ) → drop k forms ≡ [] → (ws : List Word) → is_end ws ≡ goes version (at k) ws
+    end_goes k cut [] = sym (goes_due k [] cut [])
+    end_goes k cut (w ∷ ws) = sym (goes_due k [] cut (w ∷ ws))
+
+    -- an operand of one word, and what is behind it
+    operand_goes : (o : Operand) (b : Bool) (fs : List OperandForm) (k : ℕ) (w : Word) (ws : List Word) → has_form (operand_in o w) ≡ b → has_form (line_in (line_of version fs) ws) ≡ goes version (at (k + 1)) ws
+        → has_form (both (operand_in o w) (line_in (line_of version fs) ws)) ≡ go_on (only_if b (at (k + 1))) (λ next. goes version next ws)
+    operand_goes o b fs k w ws is rest =
+        form_both (operand_in o w) (line_in (line_of version fs) ws)
+        ∙ ap (λ (c : Bool). c && has_form (line_in (line_of version fs) ws)) is
+        ∙ ap (λ (c : Bool). b && c) rest
+        ∙ sym (on_if b (at (k + 1)) (λ next. goes version next ws))
+
+    type_goes : (k : ℕ) → drop k forms ≡ form.TypeOf ∷ [] → (ws : List Word) → has_form (type_in version ws) ≡ goes version (at k) ws
+    type_goes k cut [] = sym (goes_due k (form.TypeOf ∷ []) cut [])
+    type_goes k cut (w ∷ ws) =
+        type_more version w ws
+        ∙ ap (λ (b : Bool). cond (has_form (scalar_in w)) b (has_form (container_in version w) && has_form (type_in version ws))) (end_goes (k + 1) (next_cut k form.TypeOf [] cut) ws)
+        ∙ ap (λ (b : Bool). cond (has_form (scalar_in w)) (goes version (at (k + 1)) ws) (has_form (container_in version w) && b)) (type_goes k cut ws)
+        ∙ sym (type_on (has_form (scalar_in w)) (has_form (container_in version w)) (at (k + 1)) (at k) (λ next. goes version next ws))
+        ∙ sym (goes_due k (form.TypeOf ∷ []) cut (w ∷ ws))
+
+    args_go : (k : ℕ) → drop k forms ≡ form.Args ∷ [] → (ws : List Word) → all_form (natural_in 0 15) ws ≡ goes version (at k) ws
+    args_go k cut [] = sym (goes_due k (form.Args ∷ []) cut [])
+    args_go k cut (w ∷ ws) =
+        ap (λ (b : Bool). has_form (natural_in 0 15 w) && b) (args_go k cut ws)
+        ∙ sym (on_if (has_form (natural_in 0 15 w)) (at k) (λ next. goes version next ws))
+        ∙ sym (goes_due k (form.Args ∷ []) cut (w ∷ ws))
+
+    skip_goes : (k : ℕ) → drop k forms ≡ form.Skip ∷ [] → (ws : List Word) → has_form (line_in goal ws) ≡ goes version (at k) ws
+    skip_goes k cut [] = sym (goes_due k (form.Skip ∷ []) cut [])
+    skip_goes k cut (w ∷ ws) =
+        by ws
+        ∙ ap (λ (b : Bool). is_goal w && b) (end_goes (k + 1) (next_cut k form.Skip [] cut) ws)
+        ∙ sym (on_if (is_goal w) (at (k + 1)) (λ next. goes version next ws))
+        ∙ sym (goes_due k (form.Skip ∷ []) cut (w ∷ ws))
+      where
+        by : (vs : List Word) → has_form (line_in goal (w ∷ vs)) ≡ (is_goal w && is_end vs)
+        by [] = goal_form w ∙ sym (and_true (is_goal w))
+        by (x ∷ vs) = sym (and_false (is_goal w))
+
+    -- an instruction's operands from a place on
+    pub line_goes : (fs : List OperandForm) (k : ℕ) → drop k forms ≡ fs → lasts fs ≡ true → (ws : List Word) → has_form (line_in (line_of version fs) ws) ≡ goes version (at k) ws
+    line_goes [] k cut l [] = sym (goes_due k [] cut [])
+    line_goes [] k cut l (w ∷ ws) = sym (goes_due k [] cut (w ∷ ws))
+    line_goes (form.Value ∷ fs) k cut l [] = sym (goes_due k (form.Value ∷ fs) cut [])
+    line_goes (form.Value ∷ fs) k cut l (w ∷ ws) =
+        operand_goes value (has_form (register_in 118 w)) fs k w ws refl (line_goes fs (k + 1) (next_cut k form.Value fs cut) (tail_lasts form.Value fs l) ws) ∙ sym (goes_due k (form.Value ∷ fs) cut (w ∷ ws))
+    line_goes (form.Right ∷ fs) k cut l [] = sym (goes_due k (form.Right ∷ fs) cut [])
+    line_goes (form.Right ∷ fs) k cut l (w ∷ ws) =
+        operand_goes right (has_form (register_in 100 w)) fs k w ws refl (line_goes fs (k + 1) (next_cut k form.Right fs cut) (tail_lasts form.Right fs l) ws) ∙ sym (goes_due k (form.Right ∷ fs) cut (w ∷ ws))
+    line_goes (form.Number ∷ fs) k cut l [] = sym (goes_due k (form.Number ∷ fs) cut [])
+    line_goes (form.Number ∷ fs) k cut l (w ∷ ws) =
+        operand_goes number (has_form (number_in w)) fs k w ws refl (line_goes fs (k + 1) (next_cut k form.Number fs cut) (tail_lasts form.Number fs l) ws) ∙ sym (goes_due k (form.Number ∷ fs) cut (w ∷ ws))
+    line_goes (form.Iterations ∷ fs) k cut l [] = sym (goes_due k (form.Iterations ∷ fs) cut [])
+    line_goes (form.Iterations ∷ fs) k cut l (w ∷ ws) =
+        operand_goes (natural 1 1000) (has_form (natural_in 1 1000 w)) fs k w ws refl (line_goes fs (k + 1) (next_cut k form.Iterations fs cut) (tail_lasts form.Iterations fs l) ws) ∙ sym (goes_due k (form.Iterations ∷ fs) cut (w ∷ ws))
+    line_goes (form.Literal ∷ fs) k cut l [] = sym (goes_due k (form.Literal ∷ fs) cut [])
+    line_goes (form.Literal ∷ fs) k cut l (w ∷ ws) =
+        operand_goes literal (is_quoted w) fs k w ws (literal_form w) (line_goes fs (k + 1) (next_cut k form.Literal fs cut) (tail_lasts form.Literal fs l) ws) ∙ sym (goes_due k (form.Literal ∷ fs) cut (w ∷ ws))
+    line_goes (form.TypeOf ∷ []) k cut l ws = type_goes k cut ws
+    line_goes (form.TypeOf ∷ g ∷ fs) k cut l ws = absurd (untrue l)
+    line_goes (form.Skip ∷ []) k cut l ws = skip_goes k cut ws
+    line_goes (form.Skip ∷ g ∷ fs) k cut l ws = absurd (untrue l)
+    line_goes (form.Callee ∷ fs) k cut l [] = sym (goes_due k (form.Callee ∷ fs) cut [])
+    line_goes (form.Callee ∷ fs) k cut l (w ∷ ws) =
+        operand_goes (natural 0 255) (has_form (natural_in 0 255 w)) fs k w ws refl (line_goes fs (k + 1) (next_cut k form.Callee fs cut) (tail_lasts form.Callee fs l) ws) ∙ sym (goes_due k (form.Callee ∷ fs) cut (w ∷ ws))
+    line_goes (form.Target ∷ fs) k cut l [] = sym (goes_due k (form.Target ∷ fs) cut [])
+    line_goes (form.Target ∷ fs) k cut l (w ∷ ws) =
+        operand_goes target (is_any w || has_form (natural_in 0 15 w)) fs k w ws (target_form w) (line_goes fs (k + 1) (next_cut k form.Target fs cut) (tail_lasts form.Target fs l) ws) ∙ sym (goes_due k (form.Target ∷ fs) cut (w ∷ ws))
+    line_goes (form.Args ∷ []) k cut l ws = form_few 8 (each (natural_in 0 15) ws) ∙ (form_each (natural_in 0 15) ws ∙ args_go k cut ws)
+    line_goes (form.Args ∷ g ∷ fs) k cut l ws = absurd (untrue l)

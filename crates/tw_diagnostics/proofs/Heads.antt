@@ -1,0 +1,117 @@
+-- The first line that begins a procedure, and lines up to one.
+use Rattle.std.proofs.Common.{◌≡◌, ◌+◌, ℕ, suc, true, false, List, [], ◌∷◌, ◌++◌, length, Option, Some, None, refl, sym, ap, subst, ◌∙◌, arith}
+use Rattle.tw_diagnostics.proofs.ReasonNames.{AllByRecursion, Code, Head, Label, LineSays, LinesSay, OfVersion, Registers, ParserState, Statement, after_line, at_start, lines, situation, situation_from}
+use Rattle.tw_diagnostics.specs.LineRole.{HasNoHead, IsFirstHead, is_head, says_of}
+use Rattle.tw_diagnostics.specs.declared.parser_state.LineRole.{LineRole}
+use Rattle.tw_diagnostics.proofs.Saying.{split_last}
+
+untrue : true ≡ false → ⊥
+untrue e = cc
+
+tail_is : {A : Type 0} (x y : A) (xs ys : List A) → x ∷ xs ≡ y ∷ ys → xs ≡ ys
+tail_is x y xs ys e = cc
+
+first_is : {A : Type 0} (x y : A) (xs ys : List A) → x ∷ xs ≡ y ∷ ys → x ≡ y
+first_is x y xs ys e = cc
+
+-- fronts of one list that are of one length
+pub front_is : {A : Type 0} (a b c d : List A) → a ++ c ≡ b ++ d → length a ≡ length b → a ≡ b
+front_is [] [] c d e l = refl
+front_is [] (y ∷ b) c d e l = absurd (omega (arith, l))
+front_is (x ∷ a) [] c d e l = absurd (omega (arith, l))
+front_is {A} (x ∷ a) (y ∷ b) c d e l =
+    ap (λ (z : A). z ∷ a) (first_is x y (a ++ c) (b ++ d) e) ∙ ap (λ (zs : List A). y ∷ zs) (front_is a b c d (tail_is x y (a ++ c) (b ++ d) e) (omega (arith, l)))
+
+-- ---- lines before one
+
+-- what they say up to a line, what that says, and what those behind it say
+pub record SplitAt (number : ℕ) (s : ParserState) (ls : List (List ℕ)) (line : List ℕ) (said : List (Option Statement)) : Type 0 where
+  pub before : List (Option Statement)
+  pub here : Option Statement
+  pub after : List (Option Statement)
+  pub is : said ≡ before ++ (here ∷ after)
+  pub say : LinesSay number s ls before
+  pub says : LineSays (situation_from number s before) line here
+  pub count : length before ≡ length ls
+
+pub split_at : (number : ℕ) (s : ParserState) (ls : List (List ℕ)) (line : List ℕ) (others : List (List ℕ)) (said : List (Option Statement)) → LinesSay number s (ls ++ (line ∷ others)) said → SplitAt number s ls line said
+split_at number s [] line others [] h = absurd h
+split_at number s [] line others (x ∷ said) h = record { before = []; here = x; after = said; is = refl; say = tt; says = h.0; count = refl }
+split_at number s (l ∷ ls) line others [] h = absurd h
+split_at number s (l ∷ ls) line others (x ∷ said) h =
+    let more = split_at (number + 1) (after_line number x s) ls line others said h.1 in
+    record {
+      before = x ∷ more.before;
+      here = more.here;
+      after = more.after;
+      is = ap (λ (xs : List (Option Statement)). x ∷ xs) more.is;
+      say = (h.0, more.say);
+      says = more.says;
+      count = ap suc more.count;
+    }
+
+-- ---- heads
+
+abbrev pub NoHeads : List (List ℕ) → Type 0
+NoHeads ls = (said : List (Option Statement)) → LinesSay 1 at_start ls said → HasNoHead said
+
+pub all_more : {A : Type 0} (P : A → Type 0) (xs : List A) (x : A) → AllByRecursion P xs → P x → AllByRecursion P (xs ++ (x ∷ []))
+all_more P [] x all p = (p, tt)
+all_more P (y ∷ xs) x all p = (all.0, all_more P xs x all.1 p)
+
+pub none_on : (ls : List (List ℕ)) (line : List ℕ) (told : LineRole) → NoHeads ls → ((s : ParserState) (said : Option Statement) → LineSays s line said → told ≡ says_of said) → is_head told ≡ false → NoHeads (ls ++ (line ∷ []))
+none_on ls line told before tells nohead said say =
+    let split = split_last 1 at_start ls line said say in
+    let here : is_head (says_of split.last) ≡ false = ap is_head (sym (tells (situation split.before) split.last split.says)) ∙ nohead in
+    subst HasNoHead (sym split.is) (all_more (λ (s : Option Statement). is_head (says_of s) ≡ false) split.before split.last (before split.before split.say) here)
+
+none_begun : (number : ℕ) (s : ParserState) (said : List (Option Statement)) → HasNoHead said → (situation_from number s said).procedures ≡ s.procedures
+none_begun number s [] h = refl
+none_begun number s (x ∷ said) h = none_begun (number + 1) (after_line number x s) said h.1 ∙ by x h.0
+  where
+    by : (y : Option Statement) → is_head (says_of y) ≡ false → (after_line number y s).procedures ≡ s.procedures
+    by None e = refl
+    by (Some (OfVersion version)) e = refl
+    by (Some (Head kind params)) e = absurd (untrue e)
+    by (Some (Registers registers)) e = refl
+    by (Some (Label name)) e = refl
+    by (Some (Code i)) e = refl
+
+pub no_procedure : (said : List (Option Statement)) → HasNoHead said → (situation said).procedures ≡ 0
+no_procedure said h = none_begun 1 at_start said h
+
+front_none : (xs ys : List (Option Statement)) → HasNoHead (xs ++ ys) → HasNoHead xs
+front_none [] ys h = tt
+front_none (x ∷ xs) ys h = (h.0, front_none xs ys h.1)
+
+-- so none before a line that begins one
+pub front_no_procedure : (before after : List (Option Statement)) → HasNoHead (before ++ after) → (situation before).procedures ≡ 0
+front_no_procedure before after h = no_procedure before (front_none before after h)
+
+pub first_head : (text : List ℕ) (ls : List (List ℕ)) (line : List ℕ) (others : List (List ℕ)) (told : LineRole) (index : ℕ) (said : List (Option Statement)) → lines text ≡ ls ++ (line ∷ others) → index ≡ length ls → NoHeads ls
+    → ((s : ParserState) (x : Option Statement) → LineSays s line x → told ≡ says_of x) → is_head told ≡ true → LinesSay 1 at_start (lines text) said → IsFirstHead text (index + 1)
+first_head text ls line others told index said parts index_is none tells headed say = by split.here (ap is_head (sym (tells (situation split.before) split.here split.says)) ∙ headed) split.is
+  where
+    split : SplitAt 1 at_start ls line said
+    split = split_at 1 at_start ls line others said (subst (λ (all : List (List ℕ)). LinesSay 1 at_start all said) parts say)
+
+    no : false ≡ true → ⊥
+    no e = cc
+
+    by : (x : Option Statement) → is_head (says_of x) ≡ true → said ≡ split.before ++ (x ∷ split.after) → IsFirstHead text (index + 1)
+    by None e is = absurd (no e)
+    by (Some (OfVersion version)) e is = absurd (no e)
+    by (Some (Head kind params)) e is = record {
+      said = said;
+      say = say;
+      before = split.before;
+      kind = kind;
+      params = params;
+      after = split.after;
+      parts = is;
+      number_is = ap (λ (n : ℕ). n + 1) (index_is ∙ sym split.count);
+      first = no_procedure split.before (none split.before split.say);
+    }
+    by (Some (Registers registers)) e is = absurd (no e)
+    by (Some (Label name)) e is = absurd (no e)
+    by (Some (Code i)) e is = absurd (no e)

@@ -1,0 +1,187 @@
+-- A line's first word tells what the line says.
+use Rattle.std.proofs.Common.{◌≡◌, ◌≢◌, ◌+◌, ℕ, suc, Bool, true, false, List, [], ◌∷◌, ◌++◌, length, map, codes, Option, Some, None, refl, sym, ap, subst, ◌∙◌, arith}
+use Rattle.tw_diagnostics.proofs.ReasonNames.{AnyShortName, Bare, Code, Head, IsLine, IsRead, Label, LineSays, LinesSay, OfVersion, Quoted, Registers, Say, ParserState, SpellParts, Spells, Statement, Version, Word, after_line, at_start, before_colon, broken_no_line, bytes_eq, flat_map, line_once, opcode_in, seen, situation, situation_from, version_by}
+use Rattle.std.proofs.lemmas.Slice.Eq.{bytes_eq-Decides}
+use Rattle.tw_code.specs.declared.opcode.Opcode.{Opcode}
+use Rattle.tw_code.specs.format.Program.{IsWithin}
+use Rattle.tw_code.specs.format.Table.{row, word_of}
+use Rattle.tw_lexer.specs.Number.{SpellsDigits}
+use Rattle.tw_lexer.specs.declared.word.Word as words
+use Rattle.tw_asm.specs.Parts.{Name, Natural, kind_word, operand_parts, param_parts, register_part}
+use Rattle.tw_asm.proofs.Answered.{first_is, none_some, proc_is_none, regs_is_none, version_is_none}
+use Rattle.tw_asm.proofs.Sayings.{code_first, no_label}
+use Rattle.tw_asm.proofs.Spelled.{bare_is}
+use Rattle.tw_asm.proofs.Table.{found_back, no_colon}
+use Rattle.tw_diagnostics.specs.LineRole.{behind, says_of, situation_of}
+use Rattle.tw_diagnostics.specs.declared.parser_state.LineRole.{LineRole}
+use Rattle.tw_diagnostics.specs.declared.parser_state.LineRole.TheVariants as says
+use Rattle.tw_diagnostics.specs.declared.parser_state.ParserState as declared
+
+-- ---- the first word of a statement
+
+abbrev pub IsFirst : Version → Statement → Word → List Word → Type 0
+IsFirst version (OfVersion number) w ws = (w ≡ Bare (codes "version")) × ((text : List ℕ) × SpellsDigits number text × (ws ≡ Bare text ∷ [])) × IsWithin 1 2 number
+IsFirst version (Head kind params) w ws = w ≡ Bare (codes "proc")
+IsFirst version (Registers registers) w ws = w ≡ Bare (codes "regs")
+IsFirst version (Label name) w ws = w ≡ Bare (name ++ codes ":")
+IsFirst version (Code i) w ws = (word : List ℕ) × (o : Opcode) × (w ≡ Bare word) × (opcode_in version word ≡ Some o)
+
+one_number : (number : ℕ) (ws : List Word) → SpellParts AnyShortName (Natural number ∷ []) ws → (text : List ℕ) × SpellsDigits number text × (ws ≡ Bare text ∷ [])
+one_number number ws (first, others, cut, (digits, spells, is), none) =
+    (digits, spells, cut ∙ ap (λ (f : List Word). f ++ others) is ∙ ap (λ (o : List Word). Bare digits ∷ o) none)
+
+pub first_said : (version : Version) (statement : Statement) (w : Word) (ws : List Word) → Say version statement (w ∷ ws) → IsFirst version statement w ws
+first_said version (OfVersion number) w ws say =
+    let h = first_is AnyShortName (codes "version") (Natural number ∷ []) w ws say.0.parts in
+    (h.0, one_number number ws h.1, say.1)
+first_said version (Head kind params) w ws say = (first_is AnyShortName (codes "proc") (Name (kind_word kind) ∷ flat_map param_parts params) w ws say.0.parts).0
+first_said version (Registers registers) w ws say = (first_is AnyShortName (codes "regs") (map register_part registers) w ws say.0.parts).0
+first_said version (Label name) w ws say = (first_is AnyShortName (name ++ codes ":") [] w ws say.0.parts).0
+first_said version (Code i) w ws say =
+    let word = word_of (row i).0 in
+    let h = first_is AnyShortName word (flat_map operand_parts (row i).1) w ws say.0.parts in
+    let k = code_first version AnyShortName i word ws (subst (λ (v : Word). Spells version AnyShortName (Code i) (v ∷ ws)) h.0 say.0) in
+    (word, k.0, h.0, k.1)
+
+pub quoted_apart : (text word : List ℕ) → Quoted text ≡ Bare word → ⊥
+quoted_apart text word e = cc
+
+-- ---- what a first word says
+
+pub apart : (a b : List ℕ) → bytes_eq a b ≡ false → a ≡ b → ⊥
+apart a b isnt e = no (sym isnt ∙ (bytes_eq-Decides a b).1 e)
+  where
+    no : false ≡ true → ⊥
+    no e = cc
+
+pub is_word : (a b : List ℕ) → bytes_eq a b ≡ true → a ≡ b
+is_word a b e = (bytes_eq-Decides a b).0 e
+
+abbrev pub Tells : Version → List ℕ → List Word → LineRole → Type 0
+Tells version first ws said = (statement : Statement) → Say version statement (Bare first ∷ ws) → said ≡ says_of (Some statement)
+
+-- a word that is none of an instruction
+no_code : {Z : Type 0} (version : Version) (first other : List ℕ) (i : (word : List ℕ) × (o : Opcode) × (Bare first ≡ Bare word) × (opcode_in version word ≡ Some o)) → first ≡ other → opcode_in version other ≡ None → Z
+no_code version first other (word, o, is, found) e none = absurd (none_some o (sym none ∙ (ap (opcode_in version) (sym e ∙ bare_is first word is) ∙ found)))
+
+module _ (version : Version) (first : List ℕ) (ws : List Word) where
+  pub version_tells : (v : Version) → first ≡ codes "version" → ((number : ℕ) (text : List ℕ) → ws ≡ Bare text ∷ [] → SpellsDigits number text → IsWithin 1 2 number → v ≡ version_by number) → Tells version first ws (says.Version v)
+  version_tells v e is statement say = by statement (first_said version statement (Bare first) ws say)
+    where
+      by : (s : Statement) → IsFirst version s (Bare first) ws → says.Version v ≡ says_of (Some s)
+      by (OfVersion number) f = ap says.Version (is number f.1.0 f.1.2 f.1.1 f.2)
+      by (Head kind params) f = absurd (apart (codes "version") (codes "proc") refl (sym e ∙ bare_is first (codes "proc") f))
+      by (Registers registers) f = absurd (apart (codes "version") (codes "regs") refl (sym e ∙ bare_is first (codes "regs") f))
+      by (Label name) f = absurd (no_label (codes "version") name refl (sym e ∙ bare_is first (name ++ codes ":") f))
+      by (Code i) f = no_code version first (codes "version") f e (version_is_none version)
+
+  pub head_tells : first ≡ codes "proc" → Tells version first ws says.Head
+  head_tells e statement say = by statement (first_said version statement (Bare first) ws say)
+    where
+      by : (s : Statement) → IsFirst version s (Bare first) ws → says.Head ≡ says_of (Some s)
+      by (OfVersion number) f = absurd (apart (codes "proc") (codes "version") refl (sym e ∙ bare_is first (codes "version") f.0))
+      by (Head kind params) f = refl
+      by (Registers registers) f = absurd (apart (codes "proc") (codes "regs") refl (sym e ∙ bare_is first (codes "regs") f))
+      by (Label name) f = absurd (no_label (codes "proc") name refl (sym e ∙ bare_is first (name ++ codes ":") f))
+      by (Code i) f = no_code version first (codes "proc") f e (proc_is_none version)
+
+  pub registers_tell : first ≡ codes "regs" → Tells version first ws says.Registers
+  registers_tell e statement say = by statement (first_said version statement (Bare first) ws say)
+    where
+      by : (s : Statement) → IsFirst version s (Bare first) ws → says.Registers ≡ says_of (Some s)
+      by (OfVersion number) f = absurd (apart (codes "regs") (codes "version") refl (sym e ∙ bare_is first (codes "version") f.0))
+      by (Head kind params) f = absurd (apart (codes "regs") (codes "proc") refl (sym e ∙ bare_is first (codes "proc") f))
+      by (Registers registers) f = refl
+      by (Label name) f = absurd (no_label (codes "regs") name refl (sym e ∙ bare_is first (name ++ codes ":") f))
+      by (Code i) f = no_code version first (codes "regs") f e (regs_is_none version)
+
+  pub label_tells : (front : List ℕ) → first ≡ front ++ codes ":" → Tells version first ws says.Label
+  label_tells front e statement say = by statement (first_said version statement (Bare first) ws say)
+    where
+      by : (s : Statement) → IsFirst version s (Bare first) ws → says.Label ≡ says_of (Some s)
+      by (OfVersion number) f = absurd (no_label (codes "version") front refl (sym (bare_is first (codes "version") f.0) ∙ e))
+      by (Head kind params) f = absurd (no_label (codes "proc") front refl (sym (bare_is first (codes "proc") f) ∙ e))
+      by (Registers registers) f = absurd (no_label (codes "regs") front refl (sym (bare_is first (codes "regs") f) ∙ e))
+      by (Label name) f = refl
+      by (Code i) (word, o, is, found) =
+          let named = (found_back version word o found).0 in
+          absurd (no_label first front (ap before_colon (bare_is first word is ∙ named) ∙ no_colon o) e)
+
+  pub code_tells : first ≢ codes "version" → first ≢ codes "proc" → first ≢ codes "regs" → ((front : List ℕ) → first ≢ front ++ codes ":") → Tells version first ws says.Code
+  code_tells no_version no_head no_registers no_colon' statement say = by statement (first_said version statement (Bare first) ws say)
+    where
+      by : (s : Statement) → IsFirst version s (Bare first) ws → says.Code ≡ says_of (Some s)
+      by (OfVersion number) f = absurd (no_version (bare_is first (codes "version") f.0))
+      by (Head kind params) f = absurd (no_head (bare_is first (codes "proc") f))
+      by (Registers registers) f = absurd (no_registers (bare_is first (codes "regs") f))
+      by (Label name) f = absurd (no_colon' name (bare_is first (name ++ codes ":") f))
+      by (Code i) f = refl
+
+-- ---- a line
+
+words_are : (ws vs : List Word) (whole : Bool) (line : List ℕ) → IsRead ws whole line → IsLine vs line → ws ≡ vs
+words_are ws vs true line read is = line_once ws vs line read is
+words_are ws vs false line read is = absurd (broken_no_line ws vs line read is)
+
+nothing_seen : (ws : List words.Word) → map seen ws ≡ [] → ws ≡ []
+nothing_seen [] e = refl
+nothing_seen (w ∷ ws) e = absurd cc
+
+pub line_told : (ws : List words.Word) (whole : Bool) (line : List ℕ) (told : LineRole) → IsRead (map seen ws) whole line → (ws ≡ [] → told ≡ says_of None)
+    → ((version : Version) (statement : Statement) → Say version statement (map seen ws) → told ≡ says_of (Some statement)) → (s : ParserState) (said : Option Statement) → LineSays s line said → told ≡ says_of said
+line_told ws whole line told read nothing says s None is = nothing (nothing_seen ws (words_are (map seen ws) [] whole line read is))
+line_told ws whole line told read nothing says s (Some statement) ((vs, is, say), may) =
+    says s.version statement (subst (λ (us : List Word). Say s.version statement us) (sym (words_are (map seen ws) vs whole line read is)) say)
+
+-- ---- situations, line by line
+
+pub behind_is : (number : ℕ) (s : ParserState) (said : Option Statement) (line : List ℕ) → LineSays s line said → behind (situation_of s) (says_of said) ≡ situation_of (after_line number said s)
+behind_is number s None line says = refl
+behind_is number s (Some (OfVersion version)) line says = refl
+behind_is number s (Some (Head kind params)) line says = refl
+behind_is number s (Some (Registers registers)) line says = refl
+behind_is number s (Some (Label name)) line says = refl
+behind_is number s (Some (Code i)) line says = refl
+
+-- what the lines up to the last one say, and what it says there
+pub record SplitLast (number : ℕ) (s : ParserState) (ls : List (List ℕ)) (line : List ℕ) (said : List (Option Statement)) : Type 0 where
+  pub before : List (Option Statement)
+  pub last : Option Statement
+  pub is : said ≡ before ++ (last ∷ [])
+  pub say : LinesSay number s ls before
+  pub says : LineSays (situation_from number s before) line last
+  pub leads : situation_from number s said ≡ after_line (number + length before) last (situation_from number s before)
+
+pub split_last : (number : ℕ) (s : ParserState) (ls : List (List ℕ)) (line : List ℕ) (said : List (Option Statement)) → LinesSay number s (ls ++ (line ∷ [])) said → SplitLast number s ls line said
+split_last number s [] line [] h = absurd h
+split_last number s [] line (x ∷ []) h =
+    let e : number ≡ number + 0 = omega arith in
+    record { before = []; last = x; is = refl; say = tt; says = h.0; leads = ap (λ (n : ℕ). after_line n x s) e }
+split_last number s [] line (x ∷ y ∷ said) h = absurd h.1
+split_last number s (l ∷ ls) line [] h = absurd h
+split_last number s (l ∷ ls) line (x ∷ said) h =
+    let more = split_last (number + 1) (after_line number x s) ls line said h.1 in
+    let e : (number + 1) + length more.before ≡ number + suc (length more.before) = omega arith in
+    record {
+      before = x ∷ more.before;
+      last = more.last;
+      is = ap (λ (xs : List (Option Statement)). x ∷ xs) more.is;
+      say = (h.0, more.say);
+      says = more.says;
+      leads = more.leads ∙ ap (λ (n : ℕ). after_line n more.last (situation_from (number + 1) (after_line number x s) more.before)) e;
+    }
+
+-- the situation behind these lines, whatever they say that can follow
+abbrev pub Stands : List (List ℕ) → declared.ParserState → Type 0
+Stands ls now = (said : List (Option Statement)) → LinesSay 1 at_start ls said → now ≡ situation_of (situation said)
+
+pub stands_on : (ls : List (List ℕ)) (line : List ℕ) (now next : declared.ParserState) (told : LineRole) → Stands ls now → ((s : ParserState) (said : Option Statement) → LineSays s line said → told ≡ says_of said) → next ≡ behind now told
+    → Stands (ls ++ (line ∷ [])) next
+stands_on ls line now next told before tells is said say =
+    let split = split_last 1 at_start ls line said say in
+    let here = before split.before split.say in
+    is
+    ∙ ap (λ (x : declared.ParserState). behind x told) here
+    ∙ ap (behind (situation_of (situation split.before))) (tells (situation split.before) split.last split.says)
+    ∙ behind_is (1 + length split.before) (situation split.before) split.last line split.says
+    ∙ ap situation_of (sym split.leads)

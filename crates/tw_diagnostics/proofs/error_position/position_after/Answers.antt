@@ -1,0 +1,71 @@
+use Rattle.std.proofs.Common.{[], ◌∷◌, sym}
+use Rattle.tw_lexer.specs.declared.word.Next.TheVariants as next
+use Rattle.tw_diagnostics.proofs.ReasonNames.{Bare, IsBlank, IsBroken, IsFirstWord, seen}
+use Rattle.tw_lexer.proofs.FirstWords.{behind_gap}
+use Rattle.tw_lexer.proofs.Texts.{rest_utf8}
+use Rattle.tw_asm.proofs.Whole.{all_fine}
+use Rattle.tw_diagnostics.proofs.Standing.{first_passed, first_room, one_passed, one_room}
+use Rattle.tw_diagnostics.proofs.Stopping.{begins, ended, follows_first, follows_on, vain_end, vain_found, whole}
+use Rattle.tw_diagnostics.proofs.error_position.position_after.Goals as goal
+
+pub words-init : goal.words-init
+words-init c = record {
+  utf8 = c.requires.utf8;
+  passed = first_passed (Bare c.args.first.now) c.args.line.now c.args.after.now c.requires.first;
+  follows = λ form. follows_first c.args.version c.args.first c.args.line.now c.args.after.now c.after_first-ahead.result.read c.requires.first c.after_first-ahead.ensures;
+  room = first_room (Bare c.args.first.now) c.args.line.now c.args.after.now c.requires.first;
+}
+
+pub words-preserved-in-Some : goal.words-preserved-in-Some
+words-preserved-in-Some c =
+    let here : IsFirstWord (seen c.in-Found.word) c.without_gap-here.result.now c.in-Found.after.now = rw c.in-Found.is at c.in_ok-word.ensures in
+    let first : IsFirstWord (seen c.in-Found.word) c.words.rest.now c.in-Found.after.now = behind_gap (next.Found c.in-Found.word c.in-Found.after) c.words.rest.now c.without_gap-here.result.now c.without_gap-here.ensures.after here in
+    record {
+      utf8 = rest_utf8 (seen c.in-Found.word) c.words.rest.now c.in-Found.after.now first c.words.invariant.utf8;
+      passed = one_passed (seen c.in-Found.word) c.args.line.now c.words.rest.now c.in-Found.after.now c.words.before c.words.invariant.passed first;
+      follows = λ form.
+          follows_on c.args.version c.args.first.now c.args.line.now c.words.rest.now c.in-Found.after.now c.words.before c.words.ahead.read c.in-Some.more.read (seen c.in-Found.word) (c.words.invariant.follows form) first (all_fine (c.in-Found.word ∷ [])).0
+          (sym (c.in-Some.ensures form));
+      room = one_room (seen c.in-Found.word) c.args.line.now c.words.rest.now c.in-Found.after.now c.words.before c.words.invariant.room first;
+    }
+
+pub words-preserved : goal.words-preserved
+words-preserved c =
+    let here : IsFirstWord (seen c.in-Found.word) c.without_gap-here.result.now c.in-Found.after.now = rw c.in-Found.is at c.in_ok-word.ensures in
+    let first : IsFirstWord (seen c.in-Found.word) c.words.rest.now c.in-Found.after.now = behind_gap (next.Found c.in-Found.word c.in-Found.after) c.words.rest.now c.without_gap-here.result.now c.without_gap-here.ensures.after here in
+    record {
+      utf8 = rest_utf8 (seen c.in-Found.word) c.words.rest.now c.in-Found.after.now first c.words.invariant.utf8;
+      passed = one_passed (seen c.in-Found.word) c.args.line.now c.words.rest.now c.in-Found.after.now c.words.before c.words.invariant.passed first;
+      follows = λ form.
+          follows_on c.args.version c.args.first.now c.args.line.now c.words.rest.now c.in-Found.after.now c.words.before c.words.ahead.read c.in-Some.more.read (seen c.in-Found.word) (c.words.invariant.follows form) first (all_fine (c.in-Found.word ∷ [])).0
+          (sym (c.in-Some.ensures form));
+      room = one_room (seen c.in-Found.word) c.args.line.now c.words.rest.now c.in-Found.after.now c.words.before c.words.invariant.room first;
+    }
+
+pub returns-in-None-clause-first : goal.returns-in-None-clause-first
+returns-in-None-clause-first c = λ form expected ex.
+    let f = c.words.invariant.follows form in
+    let word : IsFirstWord (seen c.in-Found.word) c.without_gap-here.result.now c.in-Found.after.now = rw c.in-Found.is at c.in_ok-word.ensures in
+    let there = c.word_found-found.ensures (seen c.in-Found.word) word in
+    c.stop_with.ensures.first c.args.version (Bare f.word.now ∷ f.others) c.words.rest.now f.are c.without_gap-here.ensures.after f.many there
+    (begins c.args.version expected c.args.first.now c.args.line.now c.words.rest.now c.words.before c.words.ahead.read ex f)
+    (vain_found c.args.version expected c.args.first.now c.args.line.now c.words.rest.now c.words.before c.words.ahead.read ex f c.word_found-found.result c.without_gap-here.result.now c.in-Found.after.now (seen c.in-Found.word) there word (all_fine (c.in-Found.word ∷ [])).0
+    (sym (c.in-None.ensures form)))
+
+pub returns-in-End-clause-first : goal.returns-in-End-clause-first
+returns-in-End-clause-first c = λ form expected ex.
+    let f = c.words.invariant.follows form in
+    let nothing : IsBlank c.without_gap-here.result.now = rw c.in-End.is at c.in_ok-word.ensures in
+    ended _ _ _ c.end_stop.result
+    (λ may. whole c.args.version expected c.args.first.now c.args.line.now c.words.rest.now c.words.before c.words.ahead.read ex f (behind_gap next.End c.words.rest.now c.without_gap-here.result.now c.without_gap-here.ensures.after nothing) may)
+    (c.end_stop.ensures.first (Bare f.word.now ∷ f.others) c.words.rest.now f.are c.without_gap-here.ensures.after f.many nothing
+    (begins c.args.version expected c.args.first.now c.args.line.now c.words.rest.now c.words.before c.words.ahead.read ex f)
+    (vain_end c.args.version expected c.args.first.now c.args.line.now c.words.rest.now c.words.before c.words.ahead.read ex f c.without_gap-here.result.now))
+
+pub returns-in-Broken-clause-first : goal.returns-in-Broken-clause-first
+returns-in-Broken-clause-first c = λ form expected ex.
+    let f = c.words.invariant.follows form in
+    let broken : IsBroken c.without_gap-here.result.now = rw c.in-Broken.is at c.in_ok-word.ensures in
+    c.stop_with-in-Broken.ensures.first c.args.version (Bare f.word.now ∷ f.others) c.words.rest.now f.are c.without_gap-here.ensures.after f.many broken
+    (begins c.args.version expected c.args.first.now c.args.line.now c.words.rest.now c.words.before c.words.ahead.read ex f)
+    tt

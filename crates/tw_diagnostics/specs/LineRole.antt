@@ -1,0 +1,84 @@
+-- What a line says that can follow the ones before it, as far as its first word tells.
+use Rattle.std.specs.Prelude.{◌≡◌, ℕ, ◌+◌, Bool, true, false, List, ◌∷◌, ◌++◌, length, codes, Option, Some, None}
+use Rattle.std.specs.List.{AllByRecursion}
+use Rattle.std.specs.Str.Lines.{lines}
+use Rattle.tw_types.specs.declared.actor.Kind.{Kind}
+use Rattle.tw_types.specs.declared.param.Param.{Param}
+use Rattle.tw_code.specs.declared.version.Version.{Version}
+use Rattle.tw_asm.specs.Fault.{LinesSay, ParserState, at_start, situation}
+use Rattle.tw_asm.specs.Fault as asm
+use Rattle.tw_asm.specs.Statement.{Statement, OfVersion, Head, Registers, Label, Code, version_by}
+use Rattle.tw_diagnostics.specs.declared.parser_state.LineRole.{LineRole}
+use Rattle.tw_diagnostics.specs.declared.parser_state.LineRole.TheVariants as says
+use Rattle.tw_diagnostics.specs.declared.parser_state.ParserState as declared
+use Rattle.tw_diagnostics.specs.declared.parser_state.Stage.{Stage}
+use Rattle.tw_diagnostics.specs.declared.parser_state.Stage.TheVariants as stage
+
+abbrev pub says_of : Option Statement → LineRole
+says_of None = says.Nothing
+says_of (Some (OfVersion number)) = says.Version (version_by number)
+says_of (Some (Head kind params)) = says.Head
+says_of (Some (Registers registers)) = says.Registers
+says_of (Some (Label name)) = says.Label
+says_of (Some (Code i)) = says.Code
+
+-- ---- situations
+
+abbrev pub stage_of : asm.Stage → Stage
+stage_of asm.Start = stage.Start
+stage_of asm.AfterVersion = stage.AfterVersion
+stage_of asm.AfterHead = stage.AfterHead
+stage_of asm.InBody = stage.InBody
+
+-- the version, and what may follow
+abbrev pub situation_of : ParserState → declared.ParserState
+situation_of s = record { version = s.version; stage = stage_of s.stage }
+
+-- what may begin the next line
+abbrev pub stage_text : Stage → List ℕ
+stage_text stage.Start = codes "proc or version"
+stage_text stage.AfterVersion = codes "proc"
+stage_text stage.AfterHead = codes "regs"
+stage_text stage.InBody = codes "proc, a label or an instruction"
+
+-- behind a line that says this
+abbrev pub stage_after : Stage → LineRole → Stage
+stage_after now says.Nothing = now
+stage_after now (says.Version version) = stage.AfterVersion
+stage_after now says.Head = stage.AfterHead
+stage_after now says.Registers = stage.InBody
+stage_after now says.Label = now
+stage_after now says.Code = now
+
+abbrev pub version_after : Version → LineRole → Version
+version_after now (says.Version version) = version
+version_after now s = now
+
+abbrev pub behind : declared.ParserState → LineRole → declared.ParserState
+behind now s = record { version = version_after now.version s; stage = stage_after now.stage s }
+
+-- ---- the first head
+
+abbrev pub is_head : LineRole → Bool
+is_head says.Nothing = false
+is_head (says.Version version) = false
+is_head says.Head = true
+is_head says.Registers = false
+is_head says.Label = false
+is_head says.Code = false
+
+-- no line of these begins a procedure
+abbrev pub HasNoHead : List (Option Statement) → Type 0
+HasNoHead said = AllByRecursion (λ s. is_head (says_of s) ≡ false) said
+
+-- the line of this number, counted from 1, is the first that begins a procedure
+pub record IsFirstHead (text : List ℕ) (number : ℕ) : Type 0 where
+  pub said : List (Option Statement)
+  pub say : LinesSay 1 at_start (lines text) said
+  pub before : List (Option Statement)
+  pub kind : Kind
+  pub params : List Param
+  pub after : List (Option Statement)
+  pub parts : said ≡ before ++ (Some (Head kind params) ∷ after)
+  pub number_is : number ≡ length before + 1
+  pub first : (situation before).procedures ≡ 0

@@ -1,0 +1,214 @@
+-- What an instruction asks of its registers at a typing: of each register in the order of the questions, what it holds and what is
+-- wanted of it. The questions are those of right typing, register by register (Same says so); these here have the register besides.
+use Rattle.std.specs.Prelude.{ℕ, zero, suc, ◌+◌, ◌==◌, Bool, true, false, not, ◌&&◌, ◌||◌, if◌then◌else◌, List, [], ◌∷◌, ◌++◌, Option, Some, None, is_none, is_some, slice_get, slice_set}
+use Rattle.std.specs.List.{find}
+use Rattle.std.specs.Option.{option_and_then}
+use Rattle.tw_types.specs.Nesting.{NestedScalar}
+use Rattle.tw_types.specs.declared.data_type.Scalar.{Scalar}
+use Rattle.tw_types.specs.declared.data_type.Scalar.TheVariants as scalar
+use Rattle.tw_types.specs.declared.param.Param.{Param}
+use Rattle.tw_types.specs.DataType.{element_of, same_scalar}
+use Rattle.tw_types.specs.Mode.{is_val}
+use Rattle.tw_code.specs.declared.instr.Action.{Action}
+use Rattle.tw_code.specs.declared.instr.DataInstr.{DataInstr}
+use Rattle.tw_code.specs.declared.instr.DataInstr.TheVariants as on_data
+use Rattle.tw_code.specs.declared.instr.Instr.{Instr}
+use Rattle.tw_code.specs.declared.instr.Instr.TheVariants as instr
+use Rattle.tw_code.specs.declared.instr.LocalInstr.{LocalInstr}
+use Rattle.tw_code.specs.declared.instr.LocalInstr.TheVariants as local
+use Rattle.tw_code.specs.declared.instr.Priority.{Priority}
+use Rattle.tw_code.specs.declared.instr.Priority.TheVariants.{Constant, Computed}
+use Rattle.tw_code.specs.declared.procedure.Procedure.{Procedure}
+use Rattle.tw_code.specs.accepting.Question.{Question, passes}
+use Rattle.tw_code.specs.accepting.Typing.{may_stand_for, reads, reads_closed_container, reads_closed_container_by, reads_closed_scalar, reads_member_of, value_types, writes, writes_container_by, writes_scalar}
+use Rattle.tw_code.specs.machine.Arguments.{params_of}
+use Rattle.tw_code.specs.machine.Rights.{RightType, Typing, right_at}
+use Rattle.tw_diagnostics.specs.declared.register_check.RegisterCheck.{RegisterCheck}
+use Rattle.tw_diagnostics.specs.declared.register_check.RegisterState.{RegisterState}
+use Rattle.tw_diagnostics.specs.declared.register_check.RegisterState.TheVariants as held
+use Rattle.tw_diagnostics.specs.declared.register_check.Requirement.{Requirement}
+use Rattle.tw_diagnostics.specs.declared.register_check.Requirement.TheVariants as wanted
+
+-- the question, without its register
+abbrev pub question_of : RegisterCheck → Question
+question_of a = (a.number, a.is_met)
+
+-- its answer is no, and this number is told
+abbrev pub is_unmet : ℕ → RegisterCheck → Bool
+is_unmet number a = (a.number == number) && not a.is_met
+
+-- ---- value registers
+
+abbrev pub scalar_requirement : Option Scalar → Requirement
+scalar_requirement None = wanted.AnyScalar
+scalar_requirement (Some ty) = wanted.Scalar ty
+
+abbrev pub is_declared : List Scalar → ℕ → Option Scalar → RegisterCheck
+is_declared registers register ty = record {
+  number = 1;
+  is_met = is_some (slice_get registers register);
+  register = register;
+  held = held.Value (slice_get registers register);
+  wanted = scalar_requirement ty;
+}
+
+abbrev pub is_of : List Scalar → ℕ → Bool → Option Scalar → RegisterCheck
+is_of registers register met ty = record {
+  number = 2;
+  is_met = met;
+  register = register;
+  held = held.Value (slice_get registers register);
+  wanted = scalar_requirement ty;
+}
+
+abbrev pub has_type : List Scalar → ℕ → Scalar → Bool
+has_type registers register ty = passes (λ declared. same_scalar declared ty) (slice_get registers register)
+
+abbrev pub checks_value : List Scalar → ℕ → Scalar → List RegisterCheck
+checks_value registers register ty = is_declared registers register (Some ty) ∷ is_of registers register (has_type registers register ty) (Some ty) ∷ []
+
+-- of two that are to be of one type, the first is told
+abbrev pub checks_alike : List Scalar → ℕ → ℕ → List RegisterCheck
+checks_alike registers first second =
+    is_declared registers first None ∷ is_declared registers second None
+    ∷ is_of registers first (passes (λ ty. has_type registers second ty) (slice_get registers first)) (slice_get registers second) ∷ []
+
+abbrev pub checks_two : List Scalar → ℕ → Scalar → ℕ → Scalar → List RegisterCheck
+checks_two registers first ty second other = checks_value registers first ty ++ checks_value registers second other
+
+abbrev pub checks_three : List Scalar → ℕ → ℕ → ℕ → Scalar → List RegisterCheck
+checks_three registers first second third ty = checks_value registers first ty ++ checks_two registers second ty third ty
+
+-- ---- right registers
+
+abbrev pub holds : ℕ → Typing → ℕ → Bool → Requirement → RegisterCheck
+holds number typing register met want = record { number = number; is_met = met; register = register; held = held.Right (right_at typing register); wanted = want }
+
+abbrev pub is_empty : Typing → ℕ → RegisterCheck
+is_empty typing register = holds 3 typing register (is_none (right_at typing register)) wanted.Empty
+
+abbrev pub are_two : ℕ → ℕ → RegisterCheck
+are_two first second = record { number = 3; is_met = not (first == second); register = first; held = held.Twice; wanted = wanted.TwoRegisters }
+
+abbrev pub right_scalar : Option RightType → Option Scalar
+right_scalar None = None
+right_scalar (Some r) = Some r.ty.scalar
+
+-- a right in the one register that passes, and its datum's type in the other
+abbrev pub checks_value_of : List Scalar → ℕ → (RightType → Bool) → Typing → ℕ → Requirement → List RegisterCheck
+checks_value_of registers register test typing datum want =
+    holds 4 typing datum (passes test (right_at typing datum)) want
+    ∷ is_declared registers register (right_scalar (right_at typing datum))
+    ∷ is_of registers register (not (passes test (right_at typing datum)) || passes (λ r. has_type registers register r.ty.scalar) (right_at typing datum)) (right_scalar (right_at typing datum)) ∷ []
+
+abbrev pub checks_read : Typing → ℕ → RegisterCheck
+checks_read typing register = holds 4 typing register (passes reads (right_at typing register)) wanted.AnyRead
+
+abbrev pub checks_closed : Scalar → Typing → ℕ → RegisterCheck
+checks_closed by typing register = holds 4 typing register (passes (reads_closed_container_by by) (right_at typing register)) (wanted.ClosedContainer by)
+
+abbrev pub checks_container_write : Typing → ℕ → List RegisterCheck
+checks_container_write typing register =
+    holds 4 typing register (passes writes (right_at typing register)) wanted.AnyWrite
+    ∷ holds 15 typing register (not (passes writes_scalar (right_at typing register))) wanted.AnyContainerWrite ∷ []
+
+-- what members a container has
+abbrev pub member_type : Option RightType → Option NestedScalar
+member_type right = option_and_then (λ r. element_of r.ty) right
+
+abbrev pub checks_member : Typing → ℕ → ℕ → RegisterCheck
+checks_member typing container member =
+    holds 4 typing member (passes (λ right. passes (reads_member_of right) (right_at typing member)) (right_at typing container)) (wanted.ReadOf (member_type (right_at typing container)))
+
+-- ---- a line an instruction
+
+abbrev pub checks_local : List Scalar → LocalInstr → List RegisterCheck
+checks_local registers (local.Int to n) = checks_value registers to scalar.Int
+checks_local registers (local.Text to text) = checks_value registers to scalar.Text
+checks_local registers (local.Copy to from) = checks_alike registers to from
+checks_local registers (local.Compute operation to left right skip) = checks_three registers to left right scalar.Int
+checks_local registers (local.Concatenate to left right skip) = checks_three registers to left right scalar.Text
+checks_local registers (local.Length to from) = checks_two registers to scalar.Int from scalar.Text
+checks_local registers (local.Show to from) = checks_two registers to scalar.Text from scalar.Int
+checks_local registers (local.ReadInt to from skip) = checks_two registers to scalar.Int from scalar.Text
+checks_local registers (local.Jump skip) = []
+checks_local registers (local.JumpEqual left right skip) = checks_alike registers left right
+checks_local registers (local.JumpLess left right skip) = checks_two registers left scalar.Int right scalar.Int
+checks_local registers (local.Repeat iterations) = []
+checks_local registers local.End = []
+
+abbrev pub checks_data : List Scalar → DataInstr → Typing → List RegisterCheck
+checks_data registers (on_data.New write read ty) typing = is_empty typing write ∷ is_empty typing read ∷ are_two write read ∷ []
+checks_data registers (on_data.Store datum from) typing = checks_value_of registers from writes_scalar typing datum (wanted.WriteScalar (slice_get registers from))
+checks_data registers (on_data.Get to datum) typing = checks_value_of registers to reads_closed_scalar typing datum (wanted.ClosedScalar (slice_get registers to))
+checks_data registers (on_data.Insert by container subscript member skip) typing =
+    holds 4 typing container (passes (writes_container_by by) (right_at typing container)) (wanted.WriteContainer by)
+    ∷ checks_member typing container member ∷ checks_value registers subscript by
+checks_data registers (on_data.Look by member container subscript skip) typing = is_empty typing member ∷ checks_closed by typing container ∷ checks_value registers subscript by
+checks_data registers (on_data.Size to container) typing = holds 4 typing container (passes reads_closed_container (right_at typing container)) wanted.AnyClosedContainer ∷ checks_value registers to scalar.Int
+checks_data registers (on_data.SubscriptAt by to container index skip) typing = checks_closed by typing container ∷ checks_two registers to by index scalar.Int
+checks_data registers (on_data.CopyRead to from) typing = is_empty typing to ∷ checks_read typing from ∷ []
+checks_data registers (on_data.CopyWrite to from) typing = is_empty typing to ∷ checks_container_write typing from
+checks_data registers (on_data.DropRead right) typing = checks_read typing right ∷ []
+checks_data registers (on_data.DropWrite right) typing = checks_container_write typing right
+
+-- ---- RULE and PUT
+
+-- what an argument's register holds, where the arguments before have left these rights; it was named before where it held one at first
+abbrev pub argument_held : ℕ → Typing → Typing → RegisterState
+argument_held arg typing left = if is_none (right_at left arg) && is_some (right_at typing arg) then held.Twice else held.Right (right_at left arg)
+
+abbrev pub checks_right : Bool → Param → ℕ → Typing → Typing → RegisterCheck
+checks_right waits p arg typing left = record {
+  number = 4;
+  is_met = passes (may_stand_for waits p) (right_at left arg);
+  register = arg;
+  held = argument_held arg typing left;
+  wanted = wanted.Param waits p;
+}
+
+abbrev pub checks_args : Bool → List Scalar → List Param → List ℕ → Typing → Typing → List RegisterCheck
+checks_args waits registers [] args typing left = []
+checks_args waits registers (p ∷ params) [] typing left = []
+checks_args waits registers (p ∷ params) (arg ∷ args) typing left =
+    if is_val p.mode
+    then checks_value registers arg p.ty.scalar ++ checks_args waits registers params args typing left
+    else checks_right waits p arg typing left ∷ checks_args waits registers params args typing (slice_set left arg None)
+
+abbrev pub checks_priority : List Scalar → Priority → List RegisterCheck
+checks_priority registers (Constant n) = []
+checks_priority registers (Computed register) = checks_value registers register scalar.Int
+
+abbrev pub checks_action : Bool → List Procedure → List Scalar → Action → Typing → List RegisterCheck
+checks_action waits program registers action typing =
+    checks_priority registers action.priority ++ checks_args waits registers (params_of program action.procedure) action.args typing typing
+
+-- ---- RET, and the parameters
+
+abbrev pub is_left : Typing → ℕ → RegisterCheck
+is_left typing register = holds 10 typing register (is_none (right_at typing register)) wanted.Empty
+
+-- so many registers from this one on are to be empty at RET
+abbrev pub checks_left : ℕ → ℕ → Typing → List RegisterCheck
+checks_left zero register typing = []
+checks_left (suc count) register typing = is_left typing register ∷ checks_left count (register + 1) typing
+
+-- the registers from this one on are to be of these types
+abbrev pub checks_values : List Scalar → ℕ → List Scalar → List RegisterCheck
+checks_values registers register [] = []
+checks_values registers register (ty ∷ types) = checks_value registers register ty ++ checks_values registers (register + 1) types
+
+abbrev pub checks_instr : List Procedure → List Scalar → Instr → Typing → List RegisterCheck
+checks_instr program registers (instr.Local i) typing = checks_local registers i
+checks_instr program registers (instr.Data i) typing = checks_data registers i typing
+checks_instr program registers (instr.Rule action) typing = checks_action true program registers action typing
+checks_instr program registers (instr.Put action) typing = checks_action false program registers action typing
+checks_instr program registers instr.Ret typing = checks_left 16 0 typing
+
+-- at a place of a procedure; the parameters' values are asked at the first
+abbrev pub checks_at : List Procedure → Procedure → ℕ → Instr → Typing → List RegisterCheck
+checks_at program p place i typing = (if place == 0 then checks_values p.registers 0 (value_types p.params) else []) ++ checks_instr program p.registers i typing
+
+-- the first that is asked in vain with this number
+abbrev pub first_unmet : ℕ → List RegisterCheck → Option RegisterCheck
+first_unmet number check = find (is_unmet number) check

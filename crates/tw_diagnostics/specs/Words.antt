@@ -1,0 +1,71 @@
+-- How a question about a register is told: what the register holds, and what is wanted of it.
+use Rattle.std.specs.Prelude.{ℕ, Bool, List, ◌++◌, codes, decimal, Option, Some, None, if◌then◌else◌}
+use Rattle.std.specs.List.{join_with_byte}
+use Rattle.tw_types.specs.Nesting.{NestedScalar}
+use Rattle.tw_types.specs.declared.data_type.Scalar.{Scalar}
+use Rattle.tw_types.specs.declared.param.Mode.{Mode}
+use Rattle.tw_types.specs.declared.param.Mode.TheVariants.{Val, Closed, Ref, Write}
+use Rattle.tw_types.specs.declared.param.Param.{Param}
+use Rattle.tw_asm.specs.Parts.{container_word, mode_word, scalar_word, type_words}
+use Rattle.tw_code.specs.machine.Rights.{RightType}
+use Rattle.tw_diagnostics.specs.declared.register_check.RegisterCheck.{RegisterCheck}
+use Rattle.tw_diagnostics.specs.declared.register_check.RegisterState.{RegisterState}
+use Rattle.tw_diagnostics.specs.declared.register_check.RegisterState.TheVariants as held
+use Rattle.tw_diagnostics.specs.declared.register_check.Requirement.{Requirement}
+use Rattle.tw_diagnostics.specs.declared.register_check.Requirement.TheVariants as wanted
+
+-- ---- types and rights
+
+-- the words of a type, with a space between
+abbrev pub type_text : NestedScalar → List ℕ
+type_text ty = join_with_byte 32 (type_words ty)
+
+abbrev pub param_text : Param → List ℕ
+param_text param = mode_word param.mode ++ (codes " " ++ type_text param.ty)
+
+abbrev pub right_text : RightType → List ℕ
+right_text right = mode_word right.mode ++ (codes " " ++ type_text right.ty)
+
+-- a scalar, or any
+abbrev pub scalar_text : Option Scalar → List ℕ
+scalar_text None = codes "int or text"
+scalar_text (Some ty) = scalar_word ty
+
+-- ---- what a register holds
+
+abbrev pub held_text : ℕ → RegisterState → List ℕ
+held_text register (held.Value None) = codes "v" ++ (decimal register ++ codes " isn't declared")
+held_text register (held.Value (Some ty)) = codes "v" ++ (decimal register ++ (codes " is " ++ scalar_word ty))
+held_text register (held.Right None) = codes "d" ++ (decimal register ++ codes " is empty")
+held_text register (held.Right (Some right)) = codes "d" ++ (decimal register ++ (codes " holds " ++ right_text right))
+held_text register held.Twice = codes "d" ++ (decimal register ++ codes " is named twice")
+
+-- ---- what is wanted
+
+-- the mode of a right that may stand for a parameter; a task that waits takes any read for a closed one
+abbrev pub stand_in_text : Bool → Mode → List ℕ
+stand_in_text waits Val = codes "val"
+stand_in_text waits Closed = if waits then codes "closed or ref" else codes "closed"
+stand_in_text waits Ref = codes "closed or ref"
+stand_in_text waits Write = codes "write"
+
+abbrev pub wanted_text : Requirement → List ℕ
+wanted_text wanted.AnyScalar = codes "int or text"
+wanted_text (wanted.Scalar ty) = scalar_word ty
+wanted_text wanted.Empty = codes "empty"
+wanted_text wanted.TwoRegisters = codes "two registers"
+wanted_text (wanted.WriteScalar ty) = codes "write " ++ scalar_text ty
+wanted_text (wanted.ClosedScalar ty) = codes "closed " ++ scalar_text ty
+wanted_text (wanted.WriteContainer by) = codes "write " ++ container_word by
+wanted_text (wanted.ClosedContainer by) = codes "closed " ++ container_word by
+wanted_text wanted.AnyClosedContainer = codes "closed cont or tcont"
+wanted_text wanted.AnyWrite = codes "write of a container"
+wanted_text wanted.AnyContainerWrite = codes "write of a container"
+wanted_text wanted.AnyRead = codes "closed or ref"
+wanted_text (wanted.ReadOf None) = codes "closed or ref"
+wanted_text (wanted.ReadOf (Some ty)) = codes "closed or ref " ++ type_text ty
+wanted_text (wanted.Param waits param) = stand_in_text waits param.mode ++ (codes " " ++ type_text param.ty)
+
+-- the line of a question that is asked in vain
+abbrev pub asked_line : RegisterCheck → List ℕ
+asked_line a = held_text a.register a.held ++ (codes ", asked: " ++ (wanted_text a.wanted ++ codes "\n"))

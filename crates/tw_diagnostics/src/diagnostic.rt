@@ -1,0 +1,168 @@
+//! What is told of the place at which a line stops.
+
+ghost use Rattle.std.specs.Prelude.{◌≡◌, ◌++◌, OnOk, codes};
+ghost use Rattle.tw_diagnostics.specs.Diagnostics.{break_text, expected_text, found_text, has_part, hidden_text, line_text, said_text, stop_line, where_text, word_text};
+
+use crate::breaks::Break;
+use crate::error_position::{ErrorPosition, Token};
+use crate::hints::{Hint, put_hint};
+use std::alloc::{AllocError, Global};
+use tw_lexer::{put, put_both, put_numbered, put_shortened};
+
+// ---- words that stood there
+
+/// Whether bytes have a part somewhere.
+#[tactic(auto, using(crate::proofs::Lines::has_part_here))]
+fn has_part(part: &[u8], bytes: &[u8]) -> bool
+    ensures { result ≡ has_part part.now bytes.now }
+{
+    let mut rest = bytes;
+    'bytes: loop {
+        if rest.starts_with(part) {
+            return true;
+        }
+        match rest {
+            [] => return false,
+            [_, after @ ..] => rest = after,
+        }
+    }
+}
+
+/// The name of what isn't seen in a word.
+fn hidden_text(word: &[u8]) -> &'static str
+    ensures { result.now ≡ hidden_text word.now }
+{
+    if has_part(b"\xef\xbb\xbf", word) {
+        "a byte order mark in "
+    } else if has_part(b"\xc2\xa0", word) {
+        "a no-break space in "
+    } else {
+        ""
+    }
+}
+
+/// Adds a word, shortened if it is long, after the name of what isn't seen in it.
+fn put_word(out: &mut Vec<u8>, word: &[u8]) -> Result<(), AllocError>
+    ensures { OnOk result (out.new.items ≡ out.old.items ++ word_text word.now) }
+{
+    put(out, hidden_text(word))?;
+    put_shortened(out, word)
+}
+
+fn break_text(broken: Break) -> &'static str
+    ensures { result.now ≡ break_text broken }
+{
+    match broken {
+        Break::Unclosed => "an unclosed quote",
+        Break::Escape => "no such escape",
+        Break::Behind => "a word right behind a quoted text",
+    }
+}
+
+// ---- what is said of them
+
+/// Adds at which word and column a line stops.
+fn put_where(alloc: Global, out: &mut Vec<u8>, stop: &ErrorPosition<'_>) -> Result<(), AllocError>
+    ensures { OnOk result (out.new.items ≡ out.old.items ++ where_text stop.now) }
+{
+    put_numbered(alloc, out, "word ", stop.word)?;
+    put_numbered(alloc, out, ", column ", stop.column)?;
+    put(out, ": ")
+}
+
+/// Adds what was expected, and what stood there.
+fn put_expected(out: &mut Vec<u8>, expected: &str, found: &Token<'_>) -> Result<(), AllocError>
+    ensures { OnOk result (out.new.items ≡ out.old.items ++ expected_text expected.now found.now) }
+{
+    match found {
+        Token::End => {
+            put(out, "the line ends too early, expected ")?;
+            put(out, expected)
+        }
+        Token::Word(word) => {
+            put(out, "expected ")?;
+            put(out, expected)?;
+            put(out, ", found ")?;
+            put_word(out, word)
+        }
+        Token::Broken(broken) => put(out, break_text(*broken)),
+    }
+}
+
+fn put_found(out: &mut Vec<u8>, found: &Token<'_>) -> Result<(), AllocError>
+    ensures { OnOk result (out.new.items ≡ out.old.items ++ found_text found.now) }
+{
+    match found {
+        Token::Word(word) => {
+            put(out, ", found ")?;
+            put_word(out, word)
+        }
+        Token::End => Ok(()),
+        Token::Broken(_) => Ok(()),
+    }
+}
+
+/// What is said of a stop.
+#[derive(Clone, Copy)]
+pub(crate) enum Diagnostic<'a> {
+    /// This was expected; the line of a label; and the word that was meant.
+    Expected(&'a str, Option<usize>, Hint),
+    TooMany,
+    Limit(&'a str),
+}
+
+fn put_line_of(alloc: Global, out: &mut Vec<u8>, line: Option<usize>) -> Result<(), AllocError>
+    ensures { OnOk result (out.new.items ≡ out.old.items ++ line_text line) }
+{
+    match line {
+        Some(line) => put_numbered(alloc, out, " of line ", line),
+        None => Ok(()),
+    }
+}
+
+fn put_diagnostic(
+    alloc: Global,
+    out: &mut Vec<u8>,
+    said: &Diagnostic<'_>,
+    found: &Token<'_>,
+) -> Result<(), AllocError>
+    ensures { OnOk result (out.new.items ≡ out.old.items ++ said_text said.now found.now) }
+{
+    match said {
+        Diagnostic::Expected(expected, line, hint) => {
+            put_expected(out, expected, found)?;
+            put_line_of(alloc, out, *line)?;
+            put_hint(out, *hint)
+        }
+        Diagnostic::TooMany => {
+            put(out, "one word too many")?;
+            put_found(out, found)
+        }
+        Diagnostic::Limit(limit) => {
+            put_both(out, "the limit is ", limit)?;
+            put_found(out, found)
+        }
+    }
+}
+
+/// Adds where a line stops, and what is said of it.
+pub(crate) fn put_stop(
+    alloc: Global,
+    out: &mut Vec<u8>,
+    stop: &ErrorPosition<'_>,
+    said: &Diagnostic<'_>,
+) -> Result<(), AllocError>
+    ensures { OnOk result (out.new.items ≡ out.old.items ++ stop_line stop.now (said_text said.now stop.now.found)) }
+{
+    put_where(alloc, out, stop)?;
+    put_diagnostic(alloc, out, said, &stop.found)?;
+    put(out, "\n")
+}
+
+/// Adds a sentence on the whole.
+pub(crate) fn put_whole(out: &mut Vec<u8>, whole: &str) -> Result<(), AllocError>
+    ensures { OnOk result (out.new.items ≡ out.old.items ++ (whole.now ++ codes "\n")) }
+{
+    put(out, whole)?;
+    put(out, "\n")
+}

@@ -1,0 +1,99 @@
+//! What a line may go on with.
+
+ghost use Rattle.std.specs.Prelude.{◌≡◌};
+ghost use Rattle.tw_diagnostics.specs.DueWords.{due_limit, due_text, limit_of, operand_limit, operand_text};
+
+use tw_code::Form;
+
+/// What is due next in a line.
+#[derive(Clone, Copy, PartialEq, Eq)]
+pub(crate) enum Due {
+    /// An operand of this form.
+    Operand(Form),
+    /// The number of a version.
+    Version,
+    /// The kind of a procedure.
+    Kind,
+    /// A parameter, by its mode.
+    Param,
+    /// The rest of a right parameter's type.
+    ParamType,
+    /// The type of a parameter that is a value.
+    ParamScalar,
+    /// The type of a value register.
+    Register,
+}
+
+fn operand_text(form: Form) -> &'static str
+    ensures { result.now ≡ operand_text form }
+{
+    match form {
+        Form::Value => "a value register",
+        Form::Right => "a right register",
+        Form::Number => "a number",
+        Form::Iterations => "a number of turns",
+        Form::Callee => "a procedure's number",
+        Form::Literal => "a quoted text",
+        Form::Skip => "a label or +n",
+        Form::TypeOf => "a type",
+        Form::Target => "any or an actor's number",
+        Form::Args => "an argument, the number of a register",
+    }
+}
+
+fn operand_limit(form: Form) -> &'static str
+    ensures { result.now ≡ operand_limit form }
+{
+    match form {
+        Form::Value => "v0 to v15",
+        Form::Right => "d0 to d15",
+        Form::Number => "-9223372036854775808 to 9223372036854775807",
+        Form::Iterations => "1 to 1000",
+        Form::Callee => "0 to 255",
+        Form::Literal => "4096 bytes",
+        Form::Skip => "64 bytes and +65535",
+        Form::TypeOf => "3 containers",
+        Form::Target => "0 to 15",
+        Form::Args => "8 arguments, each 0 to 15",
+    }
+}
+
+impl Due {
+    /// Names the words that are due.
+    pub(crate) fn text(self) -> &'static str
+        ensures { result.now ≡ due_text self }
+    {
+        match self {
+            Due::Operand(form) => operand_text(form),
+            Due::Version => "a version's number",
+            Due::Kind => "control or leaf",
+            Due::Param => "a mode (val, closed, ref or write)",
+            Due::ParamType => "a type",
+            Due::ParamScalar | Due::Register => "int or text",
+        }
+    }
+
+    /// Names how much of that there may be.
+    pub(crate) fn limit(self) -> &'static str
+        ensures { result.now ≡ due_limit self }
+    {
+        match self {
+            Due::Operand(form) => operand_limit(form),
+            Due::Version => "1 or 2",
+            Due::Kind | Due::ParamScalar => "one word",
+            Due::Param => "8 parameters",
+            Due::ParamType => "3 containers",
+            Due::Register => "16 registers",
+        }
+    }
+}
+
+/// Names the limit at a word where this is due.
+pub(crate) fn limit_of(due: Option<Due>) -> &'static str
+    ensures { result.now ≡ limit_of due }
+{
+    match due {
+        Some(due) => due.limit(),
+        None => "one statement",
+    }
+}

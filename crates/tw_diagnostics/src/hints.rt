@@ -1,0 +1,228 @@
+//! Which word was meant by one that can't stand where it does.
+
+ghost use Rattle.std.specs.Prelude.{◌≡◌, ◌++◌, IfOk, OnOk, drop, take};
+ghost use Rattle.tw_diagnostics.specs.Hints.{container_hint, due_hint, first_hint, hint_text, instruction_hint, is_near, is_one_edit, is_swapped, known_hint, meant_text, near_text, opcode_near, opcode_text, operand_hint, scalar_hint, type_hint, word_hint};
+ghost use Rattle.tw_diagnostics.specs.declared.due.Due.TheVariants as dues;
+
+use crate::due::Due;
+use crate::parser_state::{ParserState, Stage};
+use std::alloc::{AllocError, Global};
+use tw_code::{Form, OPCODES, Opcode, Version, opcode_in, word_of};
+use tw_lexer::put;
+
+/// What a message says of the word that was meant.
+#[derive(Clone, Copy)]
+pub(crate) enum Hint {
+    Nothing,
+    /// The word is an instruction of version 2.
+    NeedsVersion,
+    /// The word is nearly this one.
+    Meant(&'static str),
+}
+
+/// Returns the first letter, if there is one.
+fn first_letter(word: &[u8]) -> &[u8]
+    ensures { result.now ≡ take 1 word.now }
+{
+    if word.is_empty() { word } else { &word[..1] }
+}
+
+/// Returns the letters after the first.
+fn later_letters(word: &[u8]) -> &[u8]
+    ensures { result.now ≡ drop 1 word.now }
+{
+    if word.is_empty() { word } else { &word[1..] }
+}
+
+/// Tells whether the first two letters are swapped, and nothing else is wrong.
+fn is_swapped(name: &[u8], word: &[u8]) -> bool
+    ensures { result ≡ is_swapped name.now word.now }
+{
+    let name_rest = later_letters(name);
+    let word_rest = later_letters(word);
+    first_letter(name) == first_letter(word_rest)
+        && first_letter(name_rest) == first_letter(word)
+        && later_letters(name_rest) == later_letters(word_rest)
+}
+
+/// Tells whether the first letter alone is wrong, missing, one too many, or swapped with the next.
+fn is_one_edit(name: &[u8], word: &[u8]) -> bool
+    ensures { result ≡ is_one_edit name.now word.now }
+{
+    let name_rest = later_letters(name);
+    let word_rest = later_letters(word);
+    name_rest == word_rest || name_rest == word || name == word_rest || is_swapped(name, word)
+}
+
+/// Tells whether a word is this name with at most one mistake.
+fn is_near(name: &[u8], word: &[u8]) -> bool
+    ensures { result ≡ is_near name.now word.now }
+{
+    match name {
+        [] => word.len() < 2,
+        [a, others @ ..] => match word {
+            [] => is_one_edit(name, word),
+            [b, more @ ..] => {
+                if a == b {
+                    is_near(others, more)
+                } else {
+                    is_one_edit(name, word)
+                }
+            }
+        },
+    }
+}
+
+/// Returns the first instruction of the version that is near a word in capitals.
+#[tactic(auto, unfolding(crate::specs::Hints::opcode_near))]
+fn opcode_near(version: Version, word: &[u8]) -> Option<Opcode>
+    ensures { result ≡ opcode_near version word.now }
+{
+    OPCODES.iter().copied().find(|opcode| opcode.is_in(version)
+        && is_near(word_of(*opcode).as_bytes(), word))
+}
+
+fn opcode_hint(opcode: Option<Opcode>) -> Hint
+    ensures { hint_text result ≡ opcode_text opcode }
+{
+    match opcode {
+        Some(opcode) => Hint::Meant(word_of(opcode)),
+        None => Hint::Nothing,
+    }
+}
+
+/// Returns which instruction was meant by a word.
+fn instruction_hint(alloc: Global, version: Version, word: &[u8]) -> Result<Hint, AllocError>
+    ensures { IfOk result (λ hint. hint_text hint ≡ instruction_hint version word.now) }
+{
+    if opcode_in(Version::Two, word).is_some() {
+        return Ok(Hint::NeedsVersion);
+    }
+    let capitals = word.to_ascii_uppercase(alloc)?;
+    Ok(opcode_hint(opcode_near(version, &capitals)))
+}
+
+/// Returns what was meant by the first word of a line.
+pub(crate) fn first_hint(
+    alloc: Global,
+    situation: ParserState,
+    word: &[u8],
+) -> Result<Hint, AllocError>
+    ensures { IfOk result (λ hint. hint_text hint ≡ first_hint situation.stage situation.version word.now) }
+{
+    match situation.stage {
+        Stage::Start | Stage::AfterVersion | Stage::AfterHead => Ok(Hint::Nothing),
+        Stage::InBody => instruction_hint(alloc, situation.version, word),
+    }
+}
+
+fn near_or(name: &'static str, word: &[u8], other: Hint) -> Hint
+    ensures { hint_text result ≡ near_text name.now word.now (hint_text other) }
+{
+    if is_near(name.as_bytes(), word) {
+        Hint::Meant(name)
+    } else {
+        other
+    }
+}
+
+fn scalar_hint(word: &[u8], other: Hint) -> Hint
+    ensures { hint_text result ≡ scalar_hint word.now (hint_text other) }
+{
+    near_or("int", word, near_or("text", word, other))
+}
+
+fn container_hint(word: &[u8]) -> Hint
+    ensures { hint_text result ≡ container_hint word.now }
+{
+    near_or("cont", word, near_or("tcont", word, Hint::Nothing))
+}
+
+fn known_hint(word: &[u8]) -> Hint
+    ensures { hint_text result ≡ known_hint word.now }
+{
+    scalar_hint(word, container_hint(word))
+}
+
+fn type_hint(word: &[u8]) -> Hint
+    ensures { hint_text result ≡ type_hint word.now }
+{
+    if word == b"tcont".as_slice() {
+        Hint::NeedsVersion
+    } else {
+        known_hint(word)
+    }
+}
+
+fn operand_hint(form: Form, word: &[u8]) -> Hint
+    ensures { hint_text result ≡ operand_hint form word.now }
+{
+    match form {
+        Form::TypeOf => type_hint(word),
+        _ => Hint::Nothing,
+    }
+}
+
+fn mode_hint(word: &[u8]) -> Hint
+    ensures { hint_text result ≡ due_hint dues.Param word.now }
+{
+    let right = near_or("ref", word, near_or("write", word, Hint::Nothing));
+    near_or("val", word, near_or("closed", word, right))
+}
+
+fn kind_hint(word: &[u8]) -> Hint
+    ensures { hint_text result ≡ due_hint dues.Kind word.now }
+{
+    near_or("control", word, near_or("leaf", word, Hint::Nothing))
+}
+
+fn small_hint(due: Due, word: &[u8]) -> Hint
+    ensures { hint_text result ≡ due_hint due word.now }
+{
+    match due {
+        Due::Operand(form) => operand_hint(form, word),
+        Due::Version => Hint::Nothing,
+        Due::Kind => kind_hint(word),
+        Due::Param => mode_hint(word),
+        Due::ParamType => type_hint(word),
+        Due::ParamScalar | Due::Register => scalar_hint(word, Hint::Nothing),
+    }
+}
+
+/// Returns what was meant by a word where this is due.
+pub(crate) fn word_hint(alloc: Global, due: Option<Due>, word: &[u8]) -> Result<Hint, AllocError>
+    ensures { IfOk result (λ hint. hint_text hint ≡ word_hint due word.now) }
+{
+    match due {
+        Some(due) => {
+            let small = word.to_ascii_lowercase(alloc)?;
+            Ok(small_hint(due, &small))
+        }
+        None => Ok(Hint::Nothing),
+    }
+}
+
+fn put_around(out: &mut Vec<u8>, front: &str, name: &str, back: &str) -> Result<(), AllocError>
+    ensures { OnOk result (out.new.items ≡ out.old.items ++ (front.now ++ (name.now ++ back.now))) }
+{
+    put(out, front)?;
+    put(out, name)?;
+    put(out, back)
+}
+
+fn put_meant(out: &mut Vec<u8>, name: &str) -> Result<(), AllocError>
+    ensures { OnOk result (out.new.items ≡ out.old.items ++ meant_text name.now) }
+{
+    put_around(out, "; did you mean ", name, "?")
+}
+
+/// Adds what was meant.
+pub(crate) fn put_hint(out: &mut Vec<u8>, hint: Hint) -> Result<(), AllocError>
+    ensures { OnOk result (out.new.items ≡ out.old.items ++ hint_text hint) }
+{
+    match hint {
+        Hint::Nothing => Ok(()),
+        Hint::NeedsVersion => put(out, "; version 2 has it"),
+        Hint::Meant(name) => put_meant(out, name),
+    }
+}

@@ -1,0 +1,84 @@
+//! Where a label is.
+
+ghost use Rattle.std.specs.Prelude.{◌≡◌, false, IfOk, IsTrue, IsUtf8, if◌then◌else◌, Some};
+ghost use Rattle.tw_lexer.specs.Seen.{seen};
+ghost use Rattle.tw_lexer.specs.Words.{Bare};
+ghost use Rattle.tw_diagnostics.specs.Labels.{IsLabelBefore, IsLabelLine, IsTwinBefore};
+ghost use Rattle.tw_lexer.specs.Names.{before_colon};
+ghost use Rattle.tw_diagnostics.specs.LabelWords.{is_label};
+
+use std::alloc::{AllocError, Global};
+use tw_lexer::{Next, Word, before_colon, next_word};
+
+fn is_label(word: &[u8], name: &[u8]) -> bool
+    ensures { result ≡ is_label name.now (Bare word.now) }
+{
+    match before_colon(word) {
+        Some(front) => front == name,
+        None => false,
+    }
+}
+
+/// Tells whether a word is the label of this name.
+fn is_label_word(word: &Word<'_>, name: &[u8]) -> bool
+    ensures { result ≡ is_label name.now (seen word.now) }
+{
+    match word {
+        Word::Bare(word) => is_label(word, name),
+        Word::Quoted(_) => false,
+    }
+}
+
+/// Tells whether a line begins with the label of this name.
+fn is_label_line(alloc: Global, line: &str, name: &[u8]) -> Result<bool, AllocError>
+    ensures is { IfOk result (λ is. IsTrue is → IsLabelLine name.now line.now) }
+    ensures not { IfOk result (λ is. is ≡ false → IsLabelLine name.now line.now → ⊥) }
+{
+    match next_word(alloc, line.as_bytes())? {
+        Next::Found(word, _) => Ok(is_label_word(&word, name)),
+        Next::End => Ok(false),
+        Next::Broken => Ok(false),
+    }
+}
+
+/// Returns this line, if it begins with the label, or else the last one that does.
+fn later(last: Option<usize>, begins: bool, number: usize) -> Option<usize>
+    ensures { result ≡ (if begins then Some number else last) }
+{
+    if begins { Some(number) } else { last }
+}
+
+/// Returns the last line before this one that begins with the label of this name.
+pub(crate) fn label_before(
+    alloc: Global,
+    text: &str,
+    number: usize,
+    name: &[u8],
+) -> Result<Option<usize>, AllocError>
+    ensures { IfOk result (IsLabelBefore text.now number name.now) }
+{
+    let mut last = None;
+    for (index, line) in text.lines().enumerate() {
+        if index + 1 >= number {
+            return Ok(last);
+        }
+        let begins = is_label_line(alloc, line, name)?;
+        last = later(last, begins, index + 1);
+    }
+    Ok(last)
+}
+
+/// Returns the last line before this one that begins with the same word, if that is a label.
+pub(crate) fn twin_before(
+    alloc: Global,
+    text: &str,
+    number: usize,
+    word: &[u8],
+) -> Result<Option<usize>, AllocError>
+    ensures { IfOk result (IsTwinBefore text.now number (before_colon word.now)) }
+{
+    match before_colon(word) {
+        Some(name) => label_before(alloc, text, number, name),
+        None => Ok(None),
+    }
+}

@@ -1,0 +1,112 @@
+//! What an instruction asks of value registers.
+
+ghost use Rattle.std.specs.Prelude.{◌≡◌, Some, slice_get};
+ghost use Rattle.tw_code.specs.accepting.Question.{passes};
+ghost use Rattle.tw_diagnostics.specs.RegisterCheck.{checks_alike, checks_local, checks_three, checks_two, checks_value, has_type, is_of, is_unmet, first_unmet};
+
+use crate::register_check::*;
+use tw_code::LocalInstr;
+use tw_types::Scalar;
+
+pub(crate) fn is_unmet(number: u8, check: &RegisterCheck) -> bool
+    ensures { result ≡ is_unmet number check.now }
+{
+    check.number == number && !check.is_met
+}
+
+/// The first of these that is asked in vain with a number.
+pub(crate) fn first_of(number: u8, check: &[RegisterCheck]) -> Option<RegisterCheck>
+    ensures { result ≡ first_unmet number check.now }
+{
+    check.iter().copied().find(|check| is_unmet(number, check))
+}
+
+/// Whether two value registers are declared, and of one type.
+fn are_alike(registers: &[Scalar], first: u8, second: u8) -> bool
+    ensures { result ≡ passes (λ ty. has_type registers.now second ty) (slice_get registers.now first) }
+{
+    match declared(registers, first) {
+        Some(ty) => has_type(registers, second, ty),
+        None => false,
+    }
+}
+
+pub(crate) fn value_is(registers: &[Scalar], register: u8, ty: Scalar) -> RegisterCheck
+    ensures { result ≡ is_of registers.now register (has_type registers.now register ty) (Some ty) }
+{
+    is_of(
+        registers,
+        register,
+        has_type(registers, register, ty),
+        Some(ty),
+    )
+}
+
+pub(crate) fn value(
+    number: u8,
+    registers: &[Scalar],
+    register: u8,
+    ty: Scalar,
+) -> Option<RegisterCheck>
+    ensures { result ≡ first_unmet number (checks_value registers.now register ty) }
+{
+    first_of(
+        number,
+        &[
+            is_declared(registers, register, Some(ty)),
+            value_is(registers, register, ty),
+        ],
+    )
+}
+
+#[rattlefmt::skip]
+fn two_values(number: u8, registers: &[Scalar], first: u8, ty: Scalar, second: u8, other: Scalar) -> Option<RegisterCheck>
+    ensures { result ≡ first_unmet number (checks_two registers.now first ty second other) }
+{
+    first_of(number, &[
+        is_declared(registers, first, Some(ty)), value_is(registers, first, ty),
+        is_declared(registers, second, Some(other)), value_is(registers, second, other),
+    ])
+}
+
+#[rattlefmt::skip]
+fn three_values(number: u8, registers: &[Scalar], to: u8, left: u8, right: u8, ty: Scalar) -> Option<RegisterCheck>
+    ensures { result ≡ first_unmet number (checks_three registers.now to left right ty) }
+{
+    first_of(number, &[
+        is_declared(registers, to, Some(ty)), value_is(registers, to, ty),
+        is_declared(registers, left, Some(ty)), value_is(registers, left, ty),
+        is_declared(registers, right, Some(ty)), value_is(registers, right, ty),
+    ])
+}
+
+#[rattlefmt::skip]
+fn alike(number: u8, registers: &[Scalar], first: u8, second: u8) -> Option<RegisterCheck>
+    ensures { result ≡ first_unmet number (checks_alike registers.now first second) }
+{
+    let met = are_alike(registers, first, second);
+    first_of(number, &[
+        is_declared(registers, first, None), is_declared(registers, second, None),
+        is_of(registers, first, met, declared(registers, second)),
+    ])
+}
+
+/// What a local instruction asks, a row an instruction.
+#[rattlefmt::skip]
+pub(crate) fn unmet_by_local(number: u8, registers: &[Scalar], instr: &LocalInstr) -> Option<RegisterCheck>
+    ensures { result ≡ first_unmet number (checks_local registers.now instr.now) }
+{
+    match instr {
+        LocalInstr::Int { to, .. } => value(number, registers, *to, Scalar::Int),
+        LocalInstr::Text { to, .. } => value(number, registers, *to, Scalar::Text),
+        LocalInstr::Copy { to, from } => alike(number, registers, *to, *from),
+        LocalInstr::Compute { to, left, right, .. } => three_values(number, registers, *to, *left, *right, Scalar::Int),
+        LocalInstr::Concatenate { to, left, right, .. } => three_values(number, registers, *to, *left, *right, Scalar::Text),
+        LocalInstr::Length { to, from } => two_values(number, registers, *to, Scalar::Int, *from, Scalar::Text),
+        LocalInstr::Show { to, from } => two_values(number, registers, *to, Scalar::Text, *from, Scalar::Int),
+        LocalInstr::ReadInt { to, from, .. } => two_values(number, registers, *to, Scalar::Int, *from, Scalar::Text),
+        LocalInstr::JumpEqual { left, right, .. } => alike(number, registers, *left, *right),
+        LocalInstr::JumpLess { left, right, .. } => two_values(number, registers, *left, Scalar::Int, *right, Scalar::Int),
+        LocalInstr::Jump { .. } | LocalInstr::Repeat { .. } | LocalInstr::End => None,
+    }
+}

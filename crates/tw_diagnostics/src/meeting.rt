@@ -1,0 +1,198 @@
+//! Typings that differ where ways meet.
+
+ghost use Rattle.std.specs.Prelude.{◌≡◌, ◌≢◌, ◌<◌, ◌≤◌, ◌^◌, ℕ, false, Some, IsTrue, MatchOption, length};
+ghost use Rattle.tw_code.specs.accepting.Flow.{flow_of, onward};
+ghost use Rattle.tw_code.specs.accepting.WellTyped.{Brings, LeadsTo};
+ghost use Rattle.tw_code.specs.format.Program.{IsInstr};
+ghost use Rattle.tw_code.specs.machine.Rights.{Typing as HeldBy, right_at};
+ghost use Rattle.std.specs.List.{AllByRecursion};
+ghost use Rattle.std.specs.Option.{option_eq};
+ghost use Rattle.tw_verify.specs.Same.{same_right};
+ghost use Rattle.tw_code.specs.declared.flow.Way.{Way as AWay};
+ghost use Rattle.tw_diagnostics.specs.Bringing.{BringsNothingElse};
+ghost use Rattle.tw_diagnostics.specs.Meetings.{IsDifference, IsMeeting};
+ghost use Rattle.tw_diagnostics.specs.Reasons.{HasNoMeeting};
+ghost use Rattle.tw_diagnostics.specs.declared.meeting.Difference.{Difference as ADifference};
+
+use tw_code::{Instr, Procedure, Way};
+use tw_verify::{RightType, Typing, next_place};
+
+/// A register of which two typings say something else.
+#[derive(Clone, Copy)]
+pub(crate) struct Difference {
+    pub(crate) register: u8,
+    pub(crate) first: Option<RightType>,
+    pub(crate) second: Option<RightType>,
+}
+
+/// Whether two rights are the same.
+fn is_same(first: RightType, second: RightType) -> bool
+    ensures { result ≡ same_right first second }
+{
+    first.mode() == second.mode() && first.ty() == second.ty()
+}
+
+/// Whether two registers hold the same.
+fn hold_same(first: Option<RightType>, second: Option<RightType>) -> bool
+    ensures { result ≡ option_eq same_right first second }
+{
+    match first {
+        None => second.is_none(),
+        Some(first) => match second {
+            None => false,
+            Some(second) => is_same(first, second),
+        },
+    }
+}
+
+/// Whether two typings say something else of a register.
+fn differ(first: &Typing, second: &Typing, register: u8) -> bool
+    requires { register < 16 }
+    ensures alike { result ≡ false → right_at first.now register ≡ right_at second.now register }
+    ensures differs { IsTrue result → right_at first.now register ≢ right_at second.now register }
+{
+    !hold_same(first.right_at(register), second.right_at(register))
+}
+
+/// The first register of which two typings say something else.
+pub(crate) fn first_difference(first: &Typing, second: &Typing) -> Option<Difference>
+    ensures { MatchOption result ((d : ADifference) → IsDifference first.now second.now d → ⊥) (IsDifference first.now second.now) }
+{
+    for register in 0..16u8 {
+        if differ(first, second, register) {
+            return Some(Difference {
+                register,
+                first: first.right_at(register),
+                second: second.right_at(register),
+            });
+        }
+    }
+    None
+}
+
+/// Whether an instruction at a place goes on at another by this outcome.
+fn goes_on(way: Way, before: usize, instr: &Instr, place: usize) -> bool
+    requires { before < 2 ^ 32 }
+    ensures goes { IsTrue result → onward way before (flow_of instr.now) ≡ Some place }
+    ensures stays { result ≡ false → onward way before (flow_of instr.now) ≢ Some place }
+{
+    match next_place(way, before, instr.flow()) {
+        Some(next) => next == place,
+        None => false,
+    }
+}
+
+/// The first place that leads to one.
+fn first_leading(code: &[Instr], place: usize) -> Option<usize>
+    requires { length code.now ≤ 4096 }
+    ensures { MatchOption result ((before : ℕ) → LeadsTo code.now before place → ⊥) (λ before. LeadsTo code.now before place) }
+{
+    for (before, instr) in code.iter().enumerate() {
+        if before >= place {
+            return None;
+        }
+        if goes_on(Way::Completed, before, instr, place)
+            || goes_on(Way::Skipped, before, instr, place)
+        {
+            return Some(before);
+        }
+    }
+    None
+}
+
+/// Where what a place brings by this outcome differs from what is at another.
+fn brought(
+    procedures: &[Procedure],
+    procedure: &Procedure,
+    typings: &[Typing],
+    way: Way,
+    before: usize,
+    place: usize,
+    here: &Typing,
+) -> Option<Difference>
+    requires short { length procedure.now.code ≤ 4096 }
+    requires operands { AllByRecursion IsInstr procedure.now.code }
+    requires earlier { before < place }
+    ensures { MatchOption result
+        (BringsNothingElse procedures.now procedure.now typings.now way before place here.now)
+        (λ d. (other : HeldBy) × Brings procedures.now procedure.now typings.now before place other × IsDifference here.now other d) }
+{
+    let instr = procedure.code.as_slice().get(before)?;
+    let from = typings.get(before)?;
+    if goes_on(way, before, instr, place) {
+        let other = from.after(procedures, way, instr);
+        first_difference(here, &other)
+    } else {
+        None
+    }
+}
+
+/// Two places that lead to one, of which the second brings another typing than is there.
+#[derive(Clone, Copy)]
+pub(crate) struct Meeting {
+    pub(crate) first: usize,
+    pub(crate) second: usize,
+    pub(crate) difference: Difference,
+}
+
+/// The first place before one that brings another typing than is there.
+fn second_of(
+    procedures: &[Procedure],
+    procedure: &Procedure,
+    typings: &[Typing],
+    place: usize,
+    here: &Typing,
+) -> Option<(usize, Difference)>
+    requires short { length procedure.now.code ≤ 4096 }
+    requires operands { AllByRecursion IsInstr procedure.now.code }
+    ensures { MatchOption result
+        ((before : ℕ) (way : AWay) → BringsNothingElse procedures.now procedure.now typings.now way before place here.now)
+        (λ found. (other : HeldBy) × Brings procedures.now procedure.now typings.now found.0 place other × IsDifference here.now other found.1) }
+{
+    for before in 0..place {
+        if let Some(found) = brought(
+            procedures,
+            procedure,
+            typings,
+            Way::Completed,
+            before,
+            place,
+            here,
+        ) {
+            return Some((before, found));
+        }
+        if let Some(found) = brought(
+            procedures,
+            procedure,
+            typings,
+            Way::Skipped,
+            before,
+            place,
+            here,
+        ) {
+            return Some((before, found));
+        }
+    }
+    None
+}
+
+/// The first place that leads to one, and the first that brings another typing than is there.
+pub(crate) fn meeting_at(
+    procedures: &[Procedure],
+    procedure: &Procedure,
+    typings: &[Typing],
+    place: usize,
+) -> Option<Meeting>
+    requires short { length procedure.now.code ≤ 4096 }
+    requires operands { AllByRecursion IsInstr procedure.now.code }
+    ensures { MatchOption result (HasNoMeeting procedures.now procedure.now typings.now place) (IsMeeting procedures.now procedure.now typings.now place) }
+{
+    let here = typings.get(place)?;
+    let first = first_leading(procedure.code.as_slice(), place)?;
+    let (second, difference) = second_of(procedures, procedure, typings, place, here)?;
+    Some(Meeting {
+        first,
+        second,
+        difference,
+    })
+}

@@ -1,0 +1,228 @@
+//! What lines say, by their first words.
+
+ghost use Rattle.std.specs.Prelude.{◌≡◌, ◌≢◌, ◌+◌, ◌++◌, [], ◌∷◌, ℕ, List, Option, None, Some, IfOk, MatchOption, length, map};
+ghost use Rattle.std.specs.Str.Lines.{lines};
+ghost use Rattle.tw_code.specs.format.Program.{IsWithin};
+ghost use Rattle.tw_lexer.specs.Number.{SpellsDigits};
+ghost use Rattle.tw_lexer.specs.Seen.{seen};
+ghost use Rattle.tw_lexer.specs.Words.{Bare};
+ghost use Rattle.tw_asm.specs.Fault.{LineSays, LinesSay, ParserState as Standing, at_start, situation};
+ghost use Rattle.tw_asm.specs.Statement.{Say, Statement, version_by};
+ghost use Rattle.tw_code.specs.declared.version.Version.{Version as AVersion};
+ghost use Rattle.tw_diagnostics.specs.LineRole.{HasNoHead, IsFirstHead, behind, is_head, says_of, situation_of, stage_after, stage_text, version_after};
+
+use std::alloc::{AllocError, Global};
+use tw_code::Version;
+use tw_lexer::{Word, digits, words_of};
+
+/// What a line says that can follow the ones before it.
+#[derive(Clone, Copy)]
+pub enum LineRole {
+    /// Nothing: it is empty, or a comment.
+    Nothing,
+    /// The version of the language.
+    Version(Version),
+    /// A procedure begins.
+    Head,
+    /// The types of its value registers.
+    Registers,
+    /// A label.
+    Label,
+    /// An instruction.
+    Code,
+}
+
+/// What may begin a line.
+#[derive(Clone, Copy, PartialEq, Eq)]
+pub(crate) enum Stage {
+    Start,
+    AfterVersion,
+    AfterHead,
+    InBody,
+}
+
+impl Stage {
+    pub(crate) fn text(self) -> &'static str
+        ensures { result.now ≡ stage_text self }
+    {
+        match self {
+            Stage::Start => "proc or version",
+            Stage::AfterVersion => "proc",
+            Stage::AfterHead => "regs",
+            Stage::InBody => "proc, a label or an instruction",
+        }
+    }
+}
+
+/// What the lines so far have said.
+#[derive(Clone, Copy)]
+pub(crate) struct ParserState {
+    pub(crate) version: Version,
+    pub(crate) stage: Stage,
+}
+
+fn version_by(number: u64) -> Version
+    ensures { result ≡ version_by number }
+{
+    if number == 2 {
+        Version::Two
+    } else {
+        Version::One
+    }
+}
+
+/// The version of a number, 1 or 2.
+fn version_in(text: &[u8]) -> Version
+    ensures { (number : ℕ) → SpellsDigits number text.now → IsWithin 1 2 number → result ≡ version_by number }
+{
+    match digits(text, 1, 2) {
+        Ok(number) => version_by(number),
+        Err(_) => Version::One,
+    }
+}
+
+/// The version of the number behind `version`.
+fn version_after(others: &[Word<'_>]) -> Version
+    ensures { (number : ℕ) (text : List ℕ) → map seen others.now ≡ Bare text ∷ [] → SpellsDigits number text → IsWithin 1 2 number → result ≡ version_by number }
+{
+    match others {
+        [] => Version::One,
+        [first, ..] => match first {
+            Word::Bare(text) => version_in(text),
+            Word::Quoted(_) => Version::One,
+        },
+    }
+}
+
+/// What stands before a `:` that stands last.
+fn before_colon(word: &[u8]) -> Option<&[u8]>
+    ensures { MatchOption result
+        ((front : List ℕ) → word.now ≢ front ++ 58 ∷ [])
+        (λ front. word.now ≡ front.now ++ 58 ∷ []) }
+{
+    word.strip_suffix(b":")
+}
+
+/// What these words say, if they are a statement.
+fn words_role(first: &[u8], others: &[Word<'_>]) -> LineRole
+    ensures { (version : AVersion) (statement : Statement) → Say version statement (Bare first.now ∷ map seen others.now) → result ≡ says_of (Some statement) }
+{
+    if first == b"version".as_slice() {
+        return LineRole::Version(version_after(others));
+    }
+    if first == b"proc".as_slice() {
+        return LineRole::Head;
+    }
+    if first == b"regs".as_slice() {
+        return LineRole::Registers;
+    }
+    match before_colon(first) {
+        Some(_) => LineRole::Label,
+        None => LineRole::Code,
+    }
+}
+
+fn said_in(words: &[Word<'_>]) -> LineRole
+    ensures nothing { words.now ≡ [] → result ≡ says_of None }
+    ensures says { (version : AVersion) (statement : Statement) → Say version statement (map seen words.now) → result ≡ says_of (Some statement) }
+{
+    match words {
+        [] => LineRole::Nothing,
+        [first, others @ ..] => match first {
+            Word::Bare(word) => words_role(word, others),
+            Word::Quoted(_) => LineRole::Code,
+        },
+    }
+}
+
+/// What a line says, if it can follow the ones before it.
+pub fn line_role(alloc: Global, line: &str) -> Result<LineRole, AllocError>
+    ensures { IfOk result (λ says. (s : Standing) (said : Option Statement) → LineSays s line.now said → says ≡ says_of said) }
+{
+    let read = words_of(alloc, line.as_bytes())?;
+    Ok(said_in(&read.words))
+}
+
+fn stage_after(stage: Stage, says: LineRole) -> Stage
+    ensures { result ≡ stage_after stage says }
+{
+    match says {
+        LineRole::Nothing => stage,
+        LineRole::Version(_) => Stage::AfterVersion,
+        LineRole::Head => Stage::AfterHead,
+        LineRole::Registers => Stage::InBody,
+        LineRole::Label | LineRole::Code => stage,
+    }
+}
+
+fn version_after_line(version: Version, says: LineRole) -> Version
+    ensures { result ≡ version_after version says }
+{
+    match says {
+        LineRole::Version(said) => said,
+        LineRole::Nothing
+        | LineRole::Head
+        | LineRole::Registers
+        | LineRole::Label
+        | LineRole::Code => version,
+    }
+}
+
+/// The situation behind a line that says this.
+fn behind(situation: ParserState, says: LineRole) -> ParserState
+    ensures { result ≡ behind situation says }
+{
+    ParserState {
+        version: version_after_line(situation.version, says),
+        stage: stage_after(situation.stage, says),
+    }
+}
+
+/// The situation before the line of this number, from 1.
+pub(crate) fn situation_before(
+    alloc: Global,
+    text: &str,
+    number: usize,
+) -> Result<ParserState, AllocError>
+    ensures { IfOk result (λ s. (before others : List (List ℕ)) (said : List (Option Statement)) → lines text.now ≡ before ++ others → number ≡ length before + 1
+        → LinesSay 1 at_start before said → s ≡ situation_of (situation said)) }
+{
+    let mut standing = ParserState {
+        version: Version::One,
+        stage: Stage::Start,
+    };
+    for (index, line) in text.lines().enumerate() {
+        if index + 1 >= number {
+            return Ok(standing);
+        }
+        let says = line_role(alloc, line)?;
+        standing = behind(standing, says);
+    }
+    Ok(standing)
+}
+
+fn is_head(says: LineRole) -> bool
+    ensures { result ≡ is_head says }
+{
+    match says {
+        LineRole::Head => true,
+        LineRole::Nothing
+        | LineRole::Version(_)
+        | LineRole::Registers
+        | LineRole::Label
+        | LineRole::Code => false,
+    }
+}
+
+/// The number of the line that begins the first procedure, from 1, if one does.
+pub fn head_line(alloc: Global, text: &str) -> Result<Option<usize>, AllocError>
+    ensures { IfOk result (λ found. (said : List (Option Statement)) → LinesSay 1 at_start (lines text.now) said → MatchOption found (HasNoHead said) (IsFirstHead text.now)) }
+{
+    for (index, line) in text.lines().enumerate() {
+        let says = line_role(alloc, line)?;
+        if is_head(says) {
+            return Ok(Some(index + 1));
+        }
+    }
+    Ok(None)
+}

@@ -1,0 +1,86 @@
+//! What registers hold, as text.
+
+ghost use Rattle.std.specs.Prelude.{◌≡◌, ◌++◌, OnOk, if◌then◌else◌};
+ghost use Rattle.tw_asm.specs.Parts.{container_word, mode_word, scalar_word};
+ghost use Rattle.tw_types.specs.DataType.{is_container_by};
+ghost use Rattle.tw_types.specs.declared.data_type.Scalar.TheVariants.{Int, Text};
+ghost use Rattle.tw_diagnostics.specs.Words.{param_text, right_text, type_text};
+
+use std::alloc::AllocError;
+use tw_lexer::put;
+use tw_types::{DataType, Mode, Param, Scalar};
+use tw_verify::RightType;
+
+pub(crate) fn scalar_word(scalar: Scalar) -> &'static str
+    ensures { result.now ≡ scalar_word scalar }
+{
+    match scalar {
+        Scalar::Int => "int",
+        Scalar::Text => "text",
+    }
+}
+
+pub(crate) fn mode_word(mode: Mode) -> &'static str
+    ensures { result.now ≡ mode_word mode }
+{
+    match mode {
+        Mode::Val => "val",
+        Mode::Closed => "closed",
+        Mode::Ref => "ref",
+        Mode::Write => "write",
+    }
+}
+
+/// The word of a container with such subscripts.
+pub(crate) fn container_word(by: Scalar) -> &'static str
+    ensures { result.now ≡ container_word by }
+{
+    match by {
+        Scalar::Int => "cont",
+        Scalar::Text => "tcont",
+    }
+}
+
+/// By what the members of a container are named.
+fn outermost(ty: DataType) -> Scalar
+    ensures { result ≡ (if is_container_by Text ty then Text else Int) }
+{
+    if ty.is_container_by(Scalar::Text) {
+        Scalar::Text
+    } else {
+        Scalar::Int
+    }
+}
+
+#[tactic(auto, using(crate::proofs::Types::more_type))]
+/// Adds the words of a type, with a space between.
+pub fn put_type(out: &mut Vec<u8>, ty: DataType) -> Result<(), AllocError>
+    ensures { OnOk result (out.new.items ≡ out.old.items ++ type_text ty) }
+{
+    match ty.element() {
+        Some(element) => {
+            put(out, container_word(outermost(ty)))?;
+            put(out, " ")?;
+            put_type(out, element)
+        }
+        None => put(out, scalar_word(ty.scalar())),
+    }
+}
+
+/// A mode and a type.
+pub(crate) fn put_param(out: &mut Vec<u8>, param: Param) -> Result<(), AllocError>
+    ensures { OnOk result (out.new.items ≡ out.old.items ++ param_text param) }
+{
+    put(out, mode_word(param.mode))?;
+    put(out, " ")?;
+    put_type(out, param.ty)
+}
+
+/// What a right is.
+pub(crate) fn put_right(out: &mut Vec<u8>, right: RightType) -> Result<(), AllocError>
+    ensures { OnOk result (out.new.items ≡ out.old.items ++ right_text right) }
+{
+    put(out, mode_word(right.mode()))?;
+    put(out, " ")?;
+    put_type(out, right.ty())
+}

@@ -1,0 +1,232 @@
+//! One word more of a line.
+
+ghost use Rattle.std.specs.Prelude.{◌≡◌, ◌<◌, IfSome, option_map};
+ghost use Rattle.tw_lexer.specs.Seen.{seen};
+ghost use Rattle.tw_diagnostics.specs.Going.{after, after_mode, after_operand, after_type, ends_at, first_read, may_end, only_if};
+ghost use Rattle.tw_diagnostics.specs.declared.words.Ask.TheVariants as asked;
+ghost use Rattle.tw_diagnostics.specs.declared.step.Read.TheVariants as read;
+
+use crate::due::Due;
+use crate::words::*;
+use tw_code::{Form, Version, form_at};
+use tw_lexer::Word;
+use tw_types::Mode;
+
+/// What has been read of a statement.
+#[derive(Clone, Copy)]
+pub(crate) enum Read<'a> {
+    /// The name of an instruction, and so many of its operands; a label, which has none, counts as a name.
+    Operands(&'a [u8], usize),
+    /// `version`.
+    Version,
+    /// `proc`.
+    Head,
+    /// The kind of a procedure, and whole parameters.
+    Params,
+    /// The mode of a right, and containers around its type.
+    RightMode,
+    /// `val`.
+    Val,
+    /// `regs`, and types.
+    Registers,
+    /// All of it.
+    Whole,
+}
+
+/// What has been read of a line, with how many items, and how many containers in the last of them.
+#[derive(Clone, Copy)]
+pub(crate) struct LineProgress<'a> {
+    read: Read<'a>,
+    items: usize,
+    depth: usize,
+}
+
+fn first_read<'a>(word: &'a [u8]) -> Read<'a>
+    ensures { result ≡ first_read word.entry }
+{
+    if word == b"proc".as_slice() {
+        Read::Head
+    } else if word == b"regs".as_slice() {
+        Read::Registers
+    } else if word == b"version".as_slice() {
+        Read::Version
+    } else {
+        Read::Operands(word, 0)
+    }
+}
+
+fn ends_at(form: Option<Form>) -> bool
+    ensures { result ≡ ends_at form }
+{
+    match form {
+        None | Some(Form::Args) => true,
+        Some(_) => false,
+    }
+}
+
+impl<'a> LineProgress<'a> {
+    /// Behind the first word of a statement.
+    pub(crate) fn after_first(word: &'a [u8]) -> LineProgress<'a>
+        ensures { result.read ≡ first_read word.entry }
+    {
+        LineProgress {
+            read: first_read(word),
+            items: 0,
+            depth: 0,
+        }
+    }
+
+    /// What is due next, if the line may go on.
+    pub(crate) fn due(self, version: Version) -> Option<Due> {
+        match self.read {
+            Read::Operands(name, place) => match form_at(version, name, place) {
+                Some(form) => Some(Due::Operand(form)),
+                None => None,
+            },
+            Read::Version => Some(Due::Version),
+            Read::Head => Some(Due::Kind),
+            Read::Params => Some(Due::Param),
+            Read::RightMode => Some(Due::ParamType),
+            Read::Val => Some(Due::ParamScalar),
+            Read::Registers => Some(Due::Register),
+            Read::Whole => None,
+        }
+    }
+
+    /// Whether the line may end.
+    pub(crate) fn may_end(self, version: Version) -> bool
+        ensures { result ≡ may_end version self.entry.read }
+    {
+        match self.read {
+            Read::Operands(name, place) => ends_at(form_at(version, name, place)),
+            Read::Params | Read::Registers | Read::Whole => true,
+            Read::Version | Read::Head | Read::RightMode | Read::Val => false,
+        }
+    }
+
+    fn with(self, read: Read<'a>) -> LineProgress<'a>
+        ensures { result.read ≡ read.entry }
+    {
+        LineProgress {
+            read,
+            items: self.items,
+            depth: 0,
+        }
+    }
+
+    /// That, if it may be.
+    fn only_if(self, passes: bool, read: Read<'a>) -> Option<LineProgress<'a>>
+        ensures { option_map (λ a. a.read) result ≡ only_if passes read.entry }
+    {
+        if passes { Some(self.with(read)) } else { None }
+    }
+
+    /// One item more of several, if it may be.
+    fn one_more(
+        self,
+        ask: Ask,
+        most: usize,
+        passes: bool,
+        read: Read<'a>,
+    ) -> Option<LineProgress<'a>>
+        ensures { ask ≡ asked.Form → option_map (λ a. a.read) result ≡ only_if passes read.entry }
+    {
+        let items = self.items.saturating_add(1);
+        if passes && ask.has_room(items, most) {
+            Some(LineProgress {
+                read,
+                items,
+                depth: 0,
+            })
+        } else {
+            None
+        }
+    }
+
+    /// One container more, if it may be.
+    fn deeper(self, ask: Ask, passes: bool) -> Option<LineProgress<'a>>
+        ensures { ask ≡ asked.Form → option_map (λ a. a.read) result ≡ only_if passes self.entry.read }
+    {
+        let depth = self.depth.saturating_add(1);
+        if passes && ask.has_room(depth, 3) {
+            Some(LineProgress {
+                read: self.read,
+                items: self.items,
+                depth,
+            })
+        } else {
+            None
+        }
+    }
+
+    /// One word more of a type, with this behind it.
+    fn after_type(
+        self,
+        ask: Ask,
+        version: Version,
+        word: &Word<'_>,
+        whole: Read<'a>,
+    ) -> Option<LineProgress<'a>>
+        ensures { ask ≡ asked.Form → option_map (λ a. a.read) result ≡ after_type version (seen word.now) self.entry.read whole.entry }
+    {
+        if is_scalar(word) {
+            Some(self.with(whole))
+        } else {
+            self.deeper(ask, is_container(version, word))
+        }
+    }
+
+    fn after_operand(
+        self,
+        ask: Ask,
+        version: Version,
+        name: &'a [u8],
+        place: usize,
+        form: Option<Form>,
+        word: &Word<'_>,
+    ) -> Option<LineProgress<'a>>
+        requires read { self.read ≡ read.Operands name place }
+        requires few { IfSome form (λ _. place < 4) }
+        ensures { ask ≡ asked.Form → option_map (λ a. a.read) result ≡ after_operand version name.entry place (seen word.now) form }
+    {
+        match form {
+            None => None,
+            Some(Form::TypeOf) => {
+                self.after_type(ask, version, word, Read::Operands(name, place + 1))
+            }
+            Some(Form::Args) => self.one_more(ask, 8, is_natural(ask, 0, 15, word), self.read),
+            Some(form) => {
+                self.only_if(is_operand(ask, form, word), Read::Operands(name, place + 1))
+            }
+        }
+    }
+
+    fn after_mode(self, ask: Ask, mode: Option<Mode>) -> Option<LineProgress<'a>>
+        ensures { ask ≡ asked.Form → option_map (λ a. a.read) result ≡ after_mode mode }
+    {
+        match mode {
+            None => None,
+            Some(Mode::Val) => self.one_more(ask, 8, true, Read::Val),
+            Some(Mode::Closed | Mode::Ref | Mode::Write) => {
+                self.one_more(ask, 8, true, Read::RightMode)
+            }
+        }
+    }
+
+    /// Behind one word more, if that may stand here.
+    #[rattlefmt::skip]
+    pub(crate) fn behind(self, ask: Ask, version: Version, word: &Word<'_>) -> Option<LineProgress<'a>>
+        ensures { ask ≡ asked.Form → option_map (λ a. a.read) result ≡ after version self.entry.read (seen word.now) }
+    {
+        match self.read {
+            Read::Operands(name, place) => self.after_operand(ask, version, name, place, form_at(version, name, place), word),
+            Read::Version => self.only_if(is_natural(ask, 1, 2, word), Read::Whole),
+            Read::Head => self.only_if(is_kind(word), Read::Params),
+            Read::Params => self.after_mode(ask, mode_of(word)),
+            Read::RightMode => self.after_type(ask, version, word, Read::Params),
+            Read::Val => self.only_if(is_scalar(word), Read::Params),
+            Read::Registers => self.one_more(ask, 16, is_scalar(word), self.read),
+            Read::Whole => None,
+        }
+    }
+}
