@@ -107,7 +107,7 @@ def version_of(root: Path) -> str:
 def version_faults(root: Path) -> list[str]:
     """Returns what names another version than VERSION: the program's constant, and the newest section of CHANGELOG.md."""
     version, faults = version_of(root), []
-    places = {"crates/tw_command/src/help.rt": r'const VERSION: &str = "(.*)";', "CHANGELOG.md": r"(?m)^## ([0-9.]+)"}
+    places = {"crates/tw_cli/src/help.rt": r'const VERSION: &str = "(.*)";', "CHANGELOG.md": r"(?m)^## ([0-9.]+)"}
     for name, pattern in places.items():
         found = re.search(pattern, (root / name).read_text(encoding="utf-8"))
         if not found or found[1] != version:

@@ -28,7 +28,7 @@ def make_repository(root: Path) -> None:
         "VERSION": "0.5\n",
         "CHANGELOG.md": "# Changelog\n\n## 0.5 - unreleased\n",
         "crates.txt": "# comment\nlow: slab\ntw_main: low\ntw_embed staticlib: low\ntw_rows: low\nother:\n",
-        "crates/tw_command/src/help.rt": 'pub(crate) const VERSION: &str = "0.5";\n',
+        "crates/tw_cli/src/help.rt": 'pub(crate) const VERSION: &str = "0.5";\n',
         "crates/low/src/lib.rt": "pub fn one() -> u8 {\n    1\n}\n",
         "crates/low/proofs/Lib.antt": "mod one\n",
         "crates/tw_main/src/main.rt": "fn main() {}\n",

@@ -2,8 +2,8 @@
 use Rattle.std.specs.Prelude.{◌≡◌, ◌⊎◌, ◌==◌, ◌++◌, ℕ, List, [], ◌∷◌, codes, length, drop, nat_lt, if◌then◌else◌, IsUtf8}
 use Rattle.std.specs.Io.BufRead.{strip_last}
 use Rattle.std.specs.List.{slice_split}
-use Rattle.tw_command.specs.CommandLine.{asked_by_words, word_faults}
-use Rattle.tw_command.specs.InTurn.{turned}
+use Rattle.tw_cli.specs.CommandLine.{asked_by_words, word_faults}
+use Rattle.tw_cli.specs.InTurn.{turned}
 use Rattle.tw_replies.specs.Reply.{reply}
 use Rattle.tw_session.specs.Session.{AnswersWords}
 use Rattle.tw_session.specs.Status.{code_of}

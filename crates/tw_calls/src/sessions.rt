@@ -1,8 +1,8 @@
 //! Sessions.
 
 ghost use Rattle.std.specs.Prelude.{◌≡◌, IfOk, length};
-ghost use Rattle.tw_command.specs.CommandLine.{asked_by_words, word_faults};
-ghost use Rattle.tw_command.specs.InTurn.{turned};
+ghost use Rattle.tw_cli.specs.CommandLine.{asked_by_words, word_faults};
+ghost use Rattle.tw_cli.specs.InTurn.{turned};
 ghost use Rattle.tw_replies.specs.Reply.{reply};
 ghost use Rattle.tw_session.specs.Session.{AnswersWords};
 ghost use Rattle.tw_session.specs.Status.{code_of};

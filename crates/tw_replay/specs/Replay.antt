@@ -16,10 +16,10 @@ use Rattle.tw_code.specs.machine.Ending as machine
 use Rattle.tw_code.specs.machine.Machine.{run, step}
 use Rattle.tw_code.specs.machine.Opening.{opening}
 use Rattle.tw_code.specs.machine.State.{State}
-use Rattle.tw_command.specs.declared.command.Answer.{Answer}
-use Rattle.tw_command.specs.declared.command.Answer.TheVariants.{Numbers, Picture, Report}
-use Rattle.tw_command.specs.declared.command.ReplayOrder.{ReplayOrder}
-use Rattle.tw_command.specs.declared.shown.EventRange.{EventRange}
+use Rattle.tw_cli.specs.declared.command.Answer.{Answer}
+use Rattle.tw_cli.specs.declared.command.Answer.TheVariants.{Numbers, Picture, Report}
+use Rattle.tw_cli.specs.declared.command.ReplayOrder.{ReplayOrder}
+use Rattle.tw_cli.specs.declared.shown.EventRange.{EventRange}
 use Rattle.tw_machine.specs.PlainView.{PlainView}
 use Rattle.tw_machine.specs.declared.rejection.OpenError.{OpenError}
 use Rattle.tw_machine.specs.declared.rejection.OpenError.TheVariants.{MainShape}

@@ -11,7 +11,7 @@ ghost use Rattle.tw_replies.specs.Reply.{reply};
 
 use crate::replay::{close_of, stopped_reply};
 use std::alloc::{AllocError, Global};
-use tw_command::EventRange;
+use tw_cli::EventRange;
 use tw_machine::Plain;
 use tw_picture::{Settings, TimelineBuilder, timeline};
 use tw_replies::Reply;

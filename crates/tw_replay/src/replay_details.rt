@@ -18,7 +18,7 @@ ghost use Rattle.tw_replay.specs.Counted.{AreShort};
 use crate::opening::{inputs_refused_reply, opening_reply};
 use crate::stuck::put_stuck;
 use std::alloc::{AllocError, Global};
-use tw_command::{Answer, ReplayOrder};
+use tw_cli::{Answer, ReplayOrder};
 use tw_machine::{OpenError, OpenRefused};
 use tw_replies::{Close, Reply, SourceText};
 use tw_types::Event;

@@ -2,7 +2,7 @@
 use Rattle.std.proofs.Common.{◌≡◌, ◌≢◌, ◌++◌, ℕ, List, [], IsUtf8, inr, refl, sym}
 use Rattle.tw_replies.proofs.ReplyNames.{Assembly, Hex, AreFaultDetails, AreParseErrorDetails, NoProgram, Refused, RepliesBySource, SpellsNone, Spoken as Reply, StandsFor, Versioned, append-nil, name_details, no_program_line, reply}
 use Rattle.tw_asm.specs.declared.fault.AsmFault.{AsmFault}
-use Rattle.tw_command.specs.declared.command.Source.{Source}
+use Rattle.tw_cli.specs.declared.command.Source.{Source}
 use Rattle.tw_symbols.specs.declared.rejection.NameError.{NameError}
 use Rattle.tw_replies.specs.declared.program.NoProgram.TheVariants.{NotHex, NotUtf8, Bytes, Text, Named, NoMemory}
 

@@ -4,7 +4,7 @@ use Rattle.std.specs.Str.{bytes_eq}
 use Rattle.std.specs.Str.Lines.{lines}
 use Rattle.clap.specs.Words.{Text}
 use Rattle.tw_types.specs.declared.input.Input.{Input}
-use Rattle.tw_command.specs.InputWords.{AreSpelled, IsRefusedWord, RefusedWord}
+use Rattle.tw_cli.specs.InputWords.{AreSpelled, IsRefusedWord, RefusedWord}
 use Rattle.tw_replies.specs.Lines.{input_word_line}
 use Rattle.tw_replies.specs.Reply.{Reply, reply}
 use Rattle.tw_replies.specs.Text.{RepliesByUtf8}

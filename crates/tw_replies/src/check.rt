@@ -3,7 +3,7 @@
 ghost use Rattle.std.specs.Prelude.{◌≡◌, ◌++◌, ℕ, List, IfOk, OnOk, decimal};
 ghost use Rattle.tw_code.specs.accepting.WellTyped.{IsFirstRejection};
 ghost use Rattle.tw_replies.specs.Check.{AreProcedureLines, IsCheckText, IsChecked, IsRefused, IsToldByCheck, StandsBefore, kind_text, needs_line, procedure_line};
-ghost use Rattle.tw_command.specs.declared.command.Places.TheVariants.{Shown};
+ghost use Rattle.tw_cli.specs.declared.command.Places.TheVariants.{Shown};
 ghost use Rattle.tw_symbols.specs.Symbols.{name_at};
 ghost use Rattle.tw_replies.specs.Listing.{IsListing, IsRefusedListing};
 ghost use Rattle.tw_replies.specs.Reply.{reply};
@@ -17,7 +17,7 @@ use crate::reply::{Reply, refused_by};
 use crate::source::{SourceText, put_rejection_details, symbols_of};
 use crate::text_listing::{accepted_lines, refused_lines};
 use std::alloc::{AllocError, Global};
-use tw_command::{CheckOrder, Places};
+use tw_cli::{CheckOrder, Places};
 use tw_lexer::{put, put_numbered};
 use tw_symbols::Symbols;
 use tw_types::Kind;

@@ -3,8 +3,8 @@
 ghost use Rattle.std.specs.Prelude.{◌≡◌, ◌++◌, ◌∷◌, [], List, map, IfOk, OnOk};
 ghost use Rattle.std.specs.Str.Lines.{lines};
 ghost use Rattle.clap.specs.Words.{Text};
-ghost use Rattle.tw_command.specs.InputWords.{IsRefusedWord, RefusedWord, refused_word};
-ghost use Rattle.tw_command.specs.Order.{IsInputReason};
+ghost use Rattle.tw_cli.specs.InputWords.{IsRefusedWord, RefusedWord, refused_word};
+ghost use Rattle.tw_cli.specs.Order.{IsInputReason};
 ghost use Rattle.tw_replies.specs.Inputs.{TellsInputWord, before_inputs, after_inputs, words_in};
 ghost use Rattle.tw_replies.specs.Parts.{after_in, after_line, seen};
 ghost use Rattle.tw_replies.specs.Reply.{reply};
@@ -14,7 +14,7 @@ use crate::close::Close;
 use crate::lines::put_input_word_line;
 use crate::reply::Reply;
 use std::alloc::{AllocError, Global};
-use tw_command::NoOrder;
+use tw_cli::NoOrder;
 use tw_lexer::put;
 
 /// Where a line stands.

@@ -1,10 +1,10 @@
 -- What stands behind the report of a run.
 use Rattle.std.proofs.Common.{◌≡◌, ℕ, List, Some, refl, sym, subst}
 use Rattle.tw_run_report.proofs.RunNames.{Event, Procedure, State, circle}
-use Rattle.tw_command.specs.declared.command.Answer.{Answer}
-use Rattle.tw_command.specs.declared.command.Answer.TheVariants.{Numbers, Picture, Report}
-use Rattle.tw_command.specs.declared.command.RunOrder.{RunOrder}
-use Rattle.tw_command.specs.declared.shown.EventRange.{EventRange}
+use Rattle.tw_cli.specs.declared.command.Answer.{Answer}
+use Rattle.tw_cli.specs.declared.command.Answer.TheVariants.{Numbers, Picture, Report}
+use Rattle.tw_cli.specs.declared.command.RunOrder.{RunOrder}
+use Rattle.tw_cli.specs.declared.shown.EventRange.{EventRange}
 use Rattle.tw_pool.specs.declared.answer.Closing.{Closing}
 use Rattle.tw_pool.specs.declared.answer.Closing.TheVariants as closing
 use Rattle.tw_replay.specs.Circle.{TellsCircle}

@@ -9,10 +9,10 @@ use Rattle.tw_code.specs.machine.Pending.{circle}
 use Rattle.tw_code.specs.machine.State.{State}
 use Rattle.tw_pool.specs.declared.answer.Closing.{Closing}
 use Rattle.tw_pool.specs.declared.answer.Closing.TheVariants.{Quiet, Stuck, Stopped, Limit}
-use Rattle.tw_command.specs.declared.command.Answer.{Answer}
-use Rattle.tw_command.specs.declared.command.Answer.TheVariants.{Numbers, Picture, Report}
-use Rattle.tw_command.specs.declared.command.RunOrder.{RunOrder}
-use Rattle.tw_command.specs.declared.shown.EventRange.{EventRange}
+use Rattle.tw_cli.specs.declared.command.Answer.{Answer}
+use Rattle.tw_cli.specs.declared.command.Answer.TheVariants.{Numbers, Picture, Report}
+use Rattle.tw_cli.specs.declared.command.RunOrder.{RunOrder}
+use Rattle.tw_cli.specs.declared.shown.EventRange.{EventRange}
 use Rattle.tw_machine.specs.PlainView.{PlainView}
 use Rattle.tw_picture.specs.declared.drawing.Drawing.{Drawing}
 use Rattle.tw_machine.specs.Moments.{history}

@@ -12,7 +12,7 @@ ghost use Rattle.tw_replay.specs.Stuck.{CanTell, MayTell};
 
 use crate::ended::events_of;
 use std::alloc::{AllocError, Global};
-use tw_command::{Answer, RunOrder};
+use tw_cli::{Answer, RunOrder};
 use tw_pool::{Closing, History};
 use tw_replay::put_stuck;
 use tw_replies::SourceText;

@@ -2,9 +2,9 @@
 use Rattle.std.proofs.Common.{◌≡◌, ◌≢◌, ℕ, List, [], ◌∷◌, codes, Option, Some, None, IfOk, IfSome, Result, Ok, Err, OnErr, inl, inr, refl, sym, subst}
 use Rattle.std.specs.Io.KnownBytes.{Appends}
 use Rattle.clap.specs.Words.{Kinds, Text}
-use Rattle.tw_command.specs.CommandLine.{Asked, Assembles, Checks, Disassembles, Explains, IsExplained, IsRefusedInput, Replays, Runs}
-use Rattle.tw_command.proofs.InputTheorems.{never_refused, one_refused}
-use Rattle.tw_command.specs.InputWords.{RefusedWord}
+use Rattle.tw_cli.specs.CommandLine.{Asked, Assembles, Checks, Disassembles, Explains, IsExplained, IsRefusedInput, Replays, Runs}
+use Rattle.tw_cli.proofs.InputTheorems.{never_refused, one_refused}
+use Rattle.tw_cli.specs.InputWords.{RefusedWord}
 use Rattle.tw_replies.specs.Inputs.{TellsInputWord}
 use Rattle.tw_replies.specs.Reply.{Reply, reply}
 use Rattle.tw_session.specs.Session.{AnswersWords, MayAnswer, RefusesWords, TellsMeaning}

@@ -21,7 +21,7 @@ use Rattle.tw_pool.specs.Openings.{opened}
 use Rattle.tw_pool.specs.PoolView.{PoolView}
 use Rattle.tw_host.specs.Run.{Run, run_of}
 use Rattle.tw_in_turn.specs.InTurn.{ComesTo, IsOver}
-use Rattle.tw_command.specs.declared.command.RunOrder.{RunOrder}
+use Rattle.tw_cli.specs.declared.command.RunOrder.{RunOrder}
 use Rattle.tw_run_report.specs.Ends.{IsEndReport, end_report}
 use Rattle.tw_run_report.specs.Over.{IsRunOver}
 use Rattle.tw_run_report.specs.Run.{AreRunDetails, IsRunText, close_of, trace_text}

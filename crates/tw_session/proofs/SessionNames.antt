@@ -1,11 +1,11 @@
 -- Names of sessions, of replies and of runs, for the files here.
 pub use Rattle.std.proofs.lemmas.Result.{IfOk-weaker}
-pub use Rattle.tw_command.specs.CommandLine.{Asked}
-pub use Rattle.tw_command.specs.InTurn.{IsInTurn}
-pub use Rattle.tw_command.specs.declared.command.Order.{Order}
-pub use Rattle.tw_command.specs.declared.command.ProgramOrder.TheVariants.{Verified}
-pub use Rattle.tw_command.specs.declared.command.RunOrder.{RunOrder}
-pub use Rattle.tw_command.specs.declared.command.VerifiedOrder.TheVariants.{Run}
+pub use Rattle.tw_cli.specs.CommandLine.{Asked}
+pub use Rattle.tw_cli.specs.InTurn.{IsInTurn}
+pub use Rattle.tw_cli.specs.declared.command.Order.{Order}
+pub use Rattle.tw_cli.specs.declared.command.ProgramOrder.TheVariants.{Verified}
+pub use Rattle.tw_cli.specs.declared.command.RunOrder.{RunOrder}
+pub use Rattle.tw_cli.specs.declared.command.VerifiedOrder.TheVariants.{Run}
 pub use Rattle.tw_replies.specs.Program.{RepliesBySource, source_text}
 pub use Rattle.tw_replies.specs.Reply.{Reply, reply}
 pub use Rattle.tw_replies.specs.Source.{text_of}

@@ -1,7 +1,7 @@
 -- What the parts of a session come to before a program is run.
 use Rattle.std.specs.Prelude.{◌≡◌, ℕ, List, Option}
-use Rattle.tw_command.specs.InTurn.{IsProgramInTurn}
-use Rattle.tw_command.specs.declared.command.RunOrder.{RunOrder}
+use Rattle.tw_cli.specs.InTurn.{IsProgramInTurn}
+use Rattle.tw_cli.specs.declared.command.RunOrder.{RunOrder}
 use Rattle.tw_session.specs.declared.order.OrderAction.{OrderAction}
 use Rattle.tw_session.specs.declared.order.OrderAction.TheVariants as step
 use Rattle.tw_session.specs.declared.programs.ProgramAction.{ProgramAction}

@@ -1,8 +1,8 @@
 //! What `run` answers where the actors are in turn.
 
 ghost use Rattle.std.specs.Prelude.{◌≡◌, IfOk, map, string_bytes, true};
-ghost use Rattle.tw_command.specs.CommandLine.{asked_by_words, word_faults};
-ghost use Rattle.tw_command.specs.InTurn.{IsInTurn, turned};
+ghost use Rattle.tw_cli.specs.CommandLine.{asked_by_words, word_faults};
+ghost use Rattle.tw_cli.specs.InTurn.{IsInTurn, turned};
 ghost use Rattle.tw_code.specs.machine.Inputs.{AreInputsOf};
 ghost use Rattle.tw_in_turn.specs.InTurn.{IsLeft};
 ghost use Rattle.tw_pool.specs.Openings.{opened};
@@ -16,7 +16,7 @@ use crate::order::reply_in_turn;
 use crate::run::stop_reason;
 use crate::shell::unordered_reply;
 use std::alloc::{AllocError, Global};
-use tw_command::{Order, RunOrder, read_order};
+use tw_cli::{Order, RunOrder, read_order};
 use tw_in_turn::{InTurnResult, run_in_turn};
 use tw_pool::OpenError;
 use tw_replay::inputs_refused_reply;

@@ -2,11 +2,11 @@
 
 ghost use Rattle.std.specs.Prelude.{◌≡◌, ◌≤◌, IfOk, length, true};
 ghost use Rattle.std.specs.Str.Lines.{lines};
-ghost use Rattle.tw_command.specs.CommandLine.{run_with};
-ghost use Rattle.tw_command.specs.InTurn.{IsInTurn, IsProgramInTurn};
-ghost use Rattle.tw_command.specs.declared.command.InputsOrder.TheVariants.{ToRun};
-ghost use Rattle.tw_command.specs.declared.command.ProgramOrder.TheVariants as ordered;
-ghost use Rattle.tw_command.specs.declared.command.VerifiedOrder.TheVariants.{Run};
+ghost use Rattle.tw_cli.specs.CommandLine.{run_with};
+ghost use Rattle.tw_cli.specs.InTurn.{IsInTurn, IsProgramInTurn};
+ghost use Rattle.tw_cli.specs.declared.command.InputsOrder.TheVariants.{ToRun};
+ghost use Rattle.tw_cli.specs.declared.command.ProgramOrder.TheVariants as ordered;
+ghost use Rattle.tw_cli.specs.declared.command.VerifiedOrder.TheVariants.{Run};
 ghost use Rattle.tw_session.specs.ProgramAction.{Comes};
 ghost use Rattle.tw_replies.specs.Inputs.{RepliesByWords, before_inputs, after_inputs, words_in};
 ghost use Rattle.tw_replies.specs.Program.{RepliesBySource, source_text};
@@ -23,7 +23,7 @@ use std::alloc::{AllocError, Global};
 use std::sync::Wait;
 use std::thread::Threads;
 use std::time::Clock;
-use tw_command::{InputsOrder, Order, ProgramOrder, RunOptions, Source, VerifiedOrder, inputs_of};
+use tw_cli::{InputsOrder, Order, ProgramOrder, RunOptions, Source, VerifiedOrder, inputs_of};
 use tw_replay::{replay_inputs_reply, replay_reply};
 use tw_replies::{
     Close, ReadProgram, Reply, SourceText, assembled_reply, fixed_reply, input_parts,

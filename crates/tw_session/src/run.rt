@@ -13,7 +13,7 @@ use std::alloc::{AllocError, Global};
 use std::sync::Wait;
 use std::thread::Threads;
 use std::time::Clock;
-use tw_command::RunOrder;
+use tw_cli::RunOrder;
 use tw_host::Closed;
 use tw_pool::{Closing, OpenError};
 use tw_replay::inputs_refused_reply;

@@ -4,12 +4,12 @@ ghost use Rattle.std.specs.Prelude.{◌≡◌, ◌≢◌, [], codes, map, string
 ghost use Rattle.std.specs.Io.KnownBytes.{Keeps};
 ghost use Rattle.std.specs.List.{list_any};
 ghost use Rattle.std.specs.Str.{bytes_eq};
-ghost use Rattle.tw_command.specs.CommandLine.{word_faults};
+ghost use Rattle.tw_cli.specs.CommandLine.{word_faults};
 
 use crate::status::Status;
 use crate::streams::OutStream;
 use std::alloc::Global;
-use tw_command::complaint;
+use tw_cli::complaint;
 use tw_replies::Close;
 
 fn is_quiet_word(word: &String) -> bool

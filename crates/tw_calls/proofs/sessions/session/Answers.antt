@@ -1,6 +1,6 @@
 use Rattle.std.proofs.Common.{List, ℕ, inl, inr, refl, subst, sym}
-use Rattle.tw_command.specs.CommandLine.{asked_by_words, word_faults}
-use Rattle.tw_command.specs.InTurn.{turned}
+use Rattle.tw_cli.specs.CommandLine.{asked_by_words, word_faults}
+use Rattle.tw_cli.specs.InTurn.{turned}
 use Rattle.tw_replies.specs.Reply.{reply}
 use Rattle.tw_session.specs.Session.{AnswersWords}
 use Rattle.tw_replies.specs.declared.close.Close.TheVariants.{CommandLine}

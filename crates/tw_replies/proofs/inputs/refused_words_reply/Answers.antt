@@ -1,9 +1,9 @@
 use Rattle.std.proofs.Common.{List, ℕ, subst}
 use Rattle.std.proofs.lemmas.Result.{IfOk-weaker}
 use Rattle.clap.specs.Words.{Text}
-use Rattle.tw_command.specs.InputWords.{IsRefusedWord, RefusedWord, refused_word}
-use Rattle.tw_command.specs.Order.{IsInputReason}
-use Rattle.tw_command.specs.declared.command.NoOrder.{NoOrder}
+use Rattle.tw_cli.specs.InputWords.{IsRefusedWord, RefusedWord, refused_word}
+use Rattle.tw_cli.specs.Order.{IsInputReason}
+use Rattle.tw_cli.specs.declared.command.NoOrder.{NoOrder}
 use Rattle.tw_replies.specs.Inputs.{TellsInputWord}
 use Rattle.tw_replies.specs.Reply.{reply}
 use Rattle.tw_replies.specs.declared.reply.Reply.{Reply as MadeReply}

@@ -1,6 +1,6 @@
 use Rattle.std.proofs.Common.{◌++◌, ◌∙◌, ℕ, List, ap, append_assoc, subst, sym}
 use Rattle.tw_run_report.proofs.RunNames.{on_ok_weaker, text_of}
-use Rattle.tw_command.specs.declared.command.Answer.{Answer}
+use Rattle.tw_cli.specs.declared.command.Answer.{Answer}
 use Rattle.tw_run_report.specs.Run.{IsRunText, limit_details}
 use Rattle.tw_run_report.proofs.ended.put_told.Goals as goal
 

@@ -2,9 +2,9 @@ use Rattle.std.proofs.Common.{inl, map, string_bytes, subst, sym}
 use Rattle.tw_session.proofs.SessionNames.{AnswersWords, IfOk-weaker, IsInTurn, MayReply, Order, reply}
 use Rattle.clap.specs.Words.{Kinds}
 use Rattle.tw_replies.specs.declared.reply.Reply.{Reply as MadeReply}
-use Rattle.tw_command.specs.CommandLine.{asked_by_words, word_faults}
-use Rattle.tw_command.proofs.Turned.{asked_in_turn, is_in_turn, reason_in_turn}
-use Rattle.tw_command.specs.InTurn.{order_in_turn, turned}
+use Rattle.tw_cli.specs.CommandLine.{asked_by_words, word_faults}
+use Rattle.tw_cli.proofs.Turned.{asked_in_turn, is_in_turn, reason_in_turn}
+use Rattle.tw_cli.specs.InTurn.{order_in_turn, turned}
 use Rattle.tw_session.proofs.in_turn.answer_in_turn.Goals as goal
 
 pub order_reply-requires : goal.order_reply-requires

@@ -2,9 +2,9 @@ use Rattle.std.proofs.Common.{◌≡◌, ◌∙◌, List, Bor, ℕ, ap, inl, inr
 use Rattle.tw_session.proofs.SessionNames.{RepliesByProgram, RepliesBySource, Run, RunOrder, Verified, source_text}
 use Rattle.std.specs.Str.Lines.{lines}
 use Rattle.clap.specs.Words.{Text}
-use Rattle.tw_command.specs.CommandLine.{run_with}
-use Rattle.tw_command.specs.InputWords.{AreSpelled}
-use Rattle.tw_command.specs.Order.{IsInputReason}
+use Rattle.tw_cli.specs.CommandLine.{run_with}
+use Rattle.tw_cli.specs.InputWords.{AreSpelled}
+use Rattle.tw_cli.specs.Order.{IsInputReason}
 use Rattle.tw_replies.specs.Inputs.{before_inputs, after_inputs, words_in}
 use Rattle.tw_session.proofs.order.inputs_step.Goals as goal
 

@@ -1,8 +1,8 @@
 use Rattle.std.proofs.Common.{◌≡◌, ◌∙◌, List, ap, subst, sym, true, ℕ}
 use Rattle.tw_session.proofs.SessionNames.{IfOk-weaker, IsInTurn, Order, RepliesByInput, reply}
-use Rattle.tw_command.specs.declared.command.InputsOrder.{InputsOrder}
-use Rattle.tw_command.specs.declared.command.InputsOrder.TheVariants.{ToReplay, ToRun}
-use Rattle.tw_command.specs.declared.command.Order.TheVariants.{Inputs, Replay}
+use Rattle.tw_cli.specs.declared.command.InputsOrder.{InputsOrder}
+use Rattle.tw_cli.specs.declared.command.InputsOrder.TheVariants.{ToReplay, ToRun}
+use Rattle.tw_cli.specs.declared.command.Order.TheVariants.{Inputs, Replay}
 use Rattle.tw_session.specs.Session.{RepliesWithInputs}
 use Rattle.tw_session.proofs.Leading.{comes_on}
 use Rattle.tw_session.proofs.order.ordered_step.Goals as goal

@@ -1,8 +1,8 @@
 use Rattle.std.proofs.Common.{◌≡◌, List, ℕ, inl, subst, true}
 use Rattle.tw_session.proofs.SessionNames.{IfOk-weaker, RepliesByProgram, RepliesBySource, Reply, Run, Verified, source_text}
 use Rattle.std.specs.Str.Lines.{lines}
-use Rattle.tw_command.specs.CommandLine.{run_with}
-use Rattle.tw_command.specs.declared.command.InputsOrder.TheVariants.{ToRun}
+use Rattle.tw_cli.specs.CommandLine.{run_with}
+use Rattle.tw_cli.specs.declared.command.InputsOrder.TheVariants.{ToRun}
 use Rattle.tw_replies.specs.Inputs.{RepliesByWords, before_inputs, after_inputs, words_in}
 use Rattle.tw_session.specs.Session.{RepliesWithInputs}
 use Rattle.tw_session.proofs.Leading.{comes_on}

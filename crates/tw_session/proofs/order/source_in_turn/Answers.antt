@@ -1,6 +1,6 @@
 use Rattle.std.proofs.Common.{◌≡◌, List, ℕ, Option, inl, subst}
 use Rattle.tw_session.proofs.SessionNames.{ProgramAction, IfOk-weaker, Leads, RepliesByProgram, RepliesBySource, Run, RunOrder, Verified, reply, text_of, source_text}
-use Rattle.tw_command.specs.InTurn.{IsProgramInTurn}
+use Rattle.tw_cli.specs.InTurn.{IsProgramInTurn}
 use Rattle.tw_replies.specs.declared.reply.Reply.{Reply}
 use Rattle.tw_replies.proofs.Nones.{Tells, none_told}
 use Rattle.tw_session.proofs.order.source_in_turn.Goals as goal

@@ -1,5 +1,5 @@
 use Rattle.std.proofs.Common.{subst, sym}
-use Rattle.tw_command.specs.declared.command.VerifiedOrder.{VerifiedOrder}
+use Rattle.tw_cli.specs.declared.command.VerifiedOrder.{VerifiedOrder}
 use Rattle.tw_session.specs.Session.{RepliesByAccepted}
 use Rattle.tw_replies.specs.Source.{text_of}
 use Rattle.tw_session.proofs.programs.accepted_reply.Goals as goal

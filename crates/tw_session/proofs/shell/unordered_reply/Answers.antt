@@ -1,8 +1,8 @@
 use Rattle.std.proofs.Common.{ℕ, List, inl, inr, subst, sym}
 use Rattle.clap.specs.Words.{Kinds}
-use Rattle.tw_command.specs.InputWords.{refused_word}
-use Rattle.tw_command.specs.Order.{HasReason}
-use Rattle.tw_command.specs.declared.command.NoOrder.{NoOrder}
+use Rattle.tw_cli.specs.InputWords.{refused_word}
+use Rattle.tw_cli.specs.Order.{HasReason}
+use Rattle.tw_cli.specs.declared.command.NoOrder.{NoOrder}
 use Rattle.tw_replies.specs.Inputs.{TellsInputWord}
 use Rattle.tw_replies.specs.declared.reply.Reply.{Reply as MadeReply}
 use Rattle.tw_session.proofs.SessionNames.{AnswersWords, IfOk-weaker, reply}

@@ -1,0 +1,45 @@
+-- What is found among rows.
+use Rattle.std.proofs.Common.{◌≡◌, ◌==◌, ℕ, Bool, true, false, List, [], ◌∷◌, length, Result, Ok, Err, IfOk, IfSome, refl, sym, subst}
+use Rattle.std.specs.Prelude.{is_some, MatchOption, Option, Some, None}
+use Rattle.clap.specs.Words.{Text}
+use Rattle.clap.specs.declared.error.ErrorKind.TheVariants.{ValueValidation}
+use Rattle.tw_cli.specs.Explanations.{IsExplanation, IsTold, IsToldBy, is_number, meant, number_faults}
+use Rattle.std.specs.Option.{option_map}
+use Rattle.std.specs.List.{find, list_any}
+
+pub some_found : {X : Type 0} (p : X → Bool) (xs : List X) → is_some (find p xs) ≡ list_any p xs
+some_found p [] = refl
+some_found p (x ∷ xs) = by (p x) refl (some_found p xs)
+  where
+    by : (b : Bool) → p x ≡ b → is_some (find p xs) ≡ list_any p xs → is_some (find p (x ∷ xs)) ≡ list_any p (x ∷ xs)
+    by true e h = rw e refl
+    by false e h = rw e h
+
+pub found_passes : {X : Type 0} (p : X → Bool) (xs : List X) → IfSome (find p xs) (λ x. p x ≡ true)
+found_passes p [] = tt
+found_passes {X} p (x ∷ xs) = by (p x) refl (found_passes p xs)
+  where
+    by : (b : Bool) → p x ≡ b → IfSome (find p xs) (λ (y : X). p y ≡ true) → IfSome (find p (x ∷ xs)) (λ (y : X). p y ≡ true)
+    by true e h = rw e e
+    by false e h = rw e h
+
+none_some : {X : Type 0} {x : X} {Z : Type 0} → Some x ≡ None → Z
+none_some e = absurd cc
+
+-- a name and rows that are had of one thing are had together
+pub both_had : {B N R : Type 0} (name : B → N) (rows : B → R) (o : Option B) (n : N) (r : R) → Some n ≡ option_map name o → Some r ≡ option_map (λ (p : N × R). p.1) (option_map {U = N × R} (λ (b : B). (name b, rows b)) o)
+    → option_map {U = N × R} (λ (b : B). (name b, rows b)) o ≡ Some (n, r)
+both_had name rows None n r a b = none_some a
+both_had name rows (Some x) n r a b =
+    let p : name x ≡ n = cc in
+    let q : rows x ≡ r = cc in
+    rw (p, q) refl
+
+-- ---- what is told of a word after `explain`
+
+pub told_word : {V E : Type 0} (items : V → List ℕ) (word : Text) (r : Result (Option V) E) → (length word == 0) ≡ false
+    → IfOk r (λ told. MatchOption told (is_number (meant word) ≡ false) (λ text. (is_number (meant word) ≡ true) × IsExplanation (meant word) (items text)))
+    → IfOk r (λ told. MatchOption told (number_faults word ≡ ValueValidation ∷ []) (λ text. (number_faults word ≡ []) × IsTold word (items text)))
+told_word items word (Ok None) some h = rw (some, h) refl
+told_word items word (Ok (Some text)) some h = (rw (some, h.0) refl, subst (λ (b : Bool). IsToldBy b word (items text)) (sym some) h.1)
+told_word items word (Err e) some h = tt

@@ -1,0 +1,187 @@
+-- The number of an option, by what the reader of digits answers; and what is read of a flag.
+use Rattle.std.proofs.Common.{arith, ◌≡◌, ◌<◌, ◌∙◌, ◌&&◌, ℕ, Bool, true, false, List, [], ◌∷◌, length, get_or, inl, refl, sym, ap, cond, subst, Option, Some, None, codes, unwrap_or, inr}
+use Rattle.std.specs.Prelude.{nat_le, nat_lt, is_some, not, Result, Ok, Err}
+use Rattle.std.specs.Char.{digit_value}
+use Rattle.std.specs.Int.{IsInRange}
+use Rattle.std.specs.List.{list_all}
+use Rattle.std.specs.Option.{option_map_or}
+use Rattle.std.specs.Result.{result_ok}
+use Rattle.std.specs.Str.{bytes_eq}
+use Rattle.std.specs.Str.Parse.{AllDigits, ParsesBool, digits_value}
+use Rattle.std.proofs.lemmas.Bool.{leb-true, le-leb, ltb-true, lt-ltb}
+use Rattle.std.proofs.lemmas.List.Folds.{list_all_at}
+use Rattle.std.proofs.lemmas.Slice.Eq.{bytes_eq-Decides}
+use Rattle.clap.specs.ValueTests.{is_numeral}
+use Rattle.clap.specs.Words.{Kinds, ReadsOne, Row, Text, first_value, rows_of}
+use Rattle.clap.specs.declared.parser.matches.Found.{Found}
+use Rattle.clap.specs.Kinds.{or_else}
+use Rattle.clap.specs.Walk.{is_empty}
+use Rattle.clap.specs.declared.error.ErrorKind.{ErrorKind}
+use Rattle.clap.specs.declared.error.ErrorKind.TheVariants.{ArgumentConflict, ValueValidation}
+use Rattle.clap.proofs.WalkLemmas.{both, first_value-rows}
+use Rattle.tw_lexer.specs.Number.{IsRead, SpellsDigits}
+use Rattle.tw_lexer.specs.declared.numbers.TokenError.{TokenError}
+use Rattle.tw_lexer.specs.declared.numbers.TokenError.TheVariants.{Form, Limit}
+use Rattle.tw_types.specs.Layout.{ActorCounts}
+use Rattle.tw_cli.specs.Options.{HasActors, HasStretch, NumberOption, actor_options, engines, first_shown, inputs, is_given, last_shown, limit, number_in, number_of, number_options, option_faults, servers, stretch_options, workers}
+use Rattle.tw_cli.specs.Order.{HasReason, IsRequest}
+use Rattle.tw_cli.specs.CommandLine.{Asked, drawing_faults, given_words, input_faults, picture_faults, replay_faults, run_faults, stretch_faults}
+use Rattle.tw_cli.specs.declared.command.NoOrder.TheVariants.{Refused}
+use Rattle.tw_cli.specs.declared.shown.EventRange.{EventRange}
+
+-- ---- the digits
+
+digits_tested : (ds : List ℕ) → AllDigits 10 ds → list_all (λ d. nat_lt (digit_value d) 10) ds ≡ true
+digits_tested [] h = refl
+digits_tested (d ∷ ds) h = rw (lt-ltb (digit_value d) 10 h.0) (digits_tested ds h.1)
+
+digits_found : (ds : List ℕ) → list_all (λ d. nat_lt (digit_value d) 10) ds ≡ true → AllDigits 10 ds
+digits_found [] e = tt
+digits_found (d ∷ ds) e = let parts = both _ _ e in (ltb-true _ _ parts.0, digits_found ds parts.1)
+
+abbrev passes : ℕ → Text → Bool
+passes most text = is_numeral text && (nat_le 1 (digits_value 10 text) && nat_le (digits_value 10 text) most)
+
+passed : (most n : ℕ) (text : Text) → SpellsDigits n text → IsInRange 1 most n → passes most text ≡ true
+passed most n text h inside =
+    let value = h.value in
+    rw (lt-ltb _ _ h.digits.0, digits_tested text h.digits.1, value, le-leb _ _ inside.0, le-leb _ _ inside.1) refl
+
+spelled : (most : ℕ) (text : Text) → passes most text ≡ true → SpellsDigits (digits_value 10 text) text × IsInRange 1 most (digits_value 10 text)
+spelled most text e =
+    let parts = both _ _ e in
+    let digits = both _ _ parts.0 in
+    let range = both _ _ parts.1 in
+    (record { digits = (ltb-true _ _ digits.0, digits_found text digits.1); value = refl }, (leb-true _ _ range.0, leb-true _ _ range.1))
+
+-- ---- the word of an option
+
+read_number : (most n : ℕ) (text : Text) → SpellsDigits n text → IsInRange 1 most n → number_in most text ≡ Some n
+read_number most n text h inside =
+    let value = h.value in
+    ap (λ (b : Bool). cond b (Some (digits_value 10 text)) None) (passed most n text h inside) ∙ ap Some value
+
+no_number : (most : ℕ) (text : Text) (flaw : TokenError) → IsRead (λ n. SpellsDigits n text) (IsInRange 1 most) (Err flaw) → number_in most text ≡ None
+no_number most text flaw h = go (passes most text) refl flaw h
+  where
+    go : (b : Bool) → passes most text ≡ b → (f : TokenError) → IsRead (λ n. SpellsDigits n text) (IsInRange 1 most) (Err f) → cond (passes most text) (Some (digits_value 10 text)) None ≡ None
+    go false e f h = rw e refl
+    go true e Form h = let is = spelled most text e in absurd (h (digits_value 10 text) is.0)
+    go true e Limit (n, k, out) =
+        let is = spelled most text e in
+        let value = k.value in
+        absurd (out (rw (← value) is.1))
+
+-- what is read of the word is its number
+pub number_read : (most : ℕ) (text : Text) (read : Result ℕ TokenError) (o : Option ℕ) → IsRead (λ n. SpellsDigits n text) (IsInRange 1 most) read → o ≡ result_ok read → o ≡ number_in most text
+number_read most text (Ok n) o h e = e ∙ sym (read_number most n text h.0 h.1)
+number_read most text (Err flaw) o h e = e ∙ sym (no_number most text flaw h)
+
+-- ---- what clap found
+
+pub given : (f : Found) (o : NumberOption) (text : Text) → Some text ≡ first_value f o.name → number_of o (rows_of f) ≡ number_in o.most text
+given f o text e = ap (λ (t : Option Text). option_map_or (number_in o.most) t (Some o.default)) (sym (e ∙ first_value-rows f o.name))
+
+pub not_given : (f : Found) (o : NumberOption) → None ≡ first_value f o.name → number_of o (rows_of f) ≡ Some o.default
+not_given f o e = ap (λ (t : Option Text). option_map_or (number_in o.most) t (Some o.default)) (sym (e ∙ first_value-rows f o.name))
+
+-- ---- all options
+
+-- an option without a number is a fault
+pub one_refused : (options : List NumberOption) (rows : List Row) (i : ℕ) → i < length options → number_of (get_or options i engines) rows ≡ None → option_faults options rows ≡ ValueValidation ∷ []
+one_refused options rows i lt e = ap (λ (b : Bool). cond b [] (ValueValidation ∷ [])) (list_all_at (λ o. is_some (number_of o rows)) options i engines lt (ap is_some e))
+
+pub limit_refused : (rows : List Row) → None ≡ number_of limit rows → option_faults number_options rows ≡ ValueValidation ∷ []
+limit_refused rows e = one_refused number_options rows 3 (omega arith) (sym e)
+
+-- what is wrong with an actor's number is wrong with `run` too
+pub actors_refused : (rows : List Row) → option_faults actor_options rows ≡ ValueValidation ∷ [] → option_faults number_options rows ≡ ValueValidation ∷ []
+actors_refused rows e =
+    by (is_some (number_of engines rows)) (is_some (number_of servers rows)) (is_some (number_of workers rows)) (is_some (number_of limit rows) && (is_some (number_of first_shown rows) && (is_some (number_of last_shown rows) && true))) e
+  where
+    by : (e s w more : Bool) → cond (e && (s && (w && true))) [] (ValueValidation ∷ []) ≡ ValueValidation ∷ [] → cond (e && (s && (w && more))) [] (ValueValidation ∷ []) ≡ ValueValidation ∷ []
+    by true true true more e = cc
+    by true true false more e = refl
+    by true false w more e = refl
+    by false s w more e = refl
+
+-- so is what is wrong with the number of an event that is shown
+pub events_refused : (rows : List Row) → option_faults stretch_options rows ≡ ValueValidation ∷ [] → option_faults number_options rows ≡ ValueValidation ∷ []
+events_refused rows e =
+    by (is_some (number_of engines rows)) (is_some (number_of servers rows)) (is_some (number_of workers rows)) (is_some (number_of limit rows)) (is_some (number_of first_shown rows) && (is_some (number_of last_shown rows) && true)) e
+  where
+    by : (e s w l more : Bool) → cond more [] (ValueValidation ∷ []) ≡ ValueValidation ∷ [] → cond (e && (s && (w && (l && more)))) [] (ValueValidation ∷ []) ≡ ValueValidation ∷ []
+    by e s w l true h = cc
+    by true true true true false h = refl
+    by true true true false false h = refl
+    by true true false l false h = refl
+    by true false w l false h = refl
+    by false s w l false h = refl
+
+has_kind : (kind : ErrorKind) (kinds : Kinds) (asked : Asked) → (IsRequest kind → ⊥) → kinds ≡ kind ∷ [] → HasReason kinds asked Refused
+has_kind kind kinds asked other e = subst (λ (k : Kinds). HasReason k asked Refused) (sym e) (kind, inl refl, other)
+
+pub has_fault : (kinds : Kinds) (asked : Asked) → kinds ≡ ValueValidation ∷ [] → HasReason kinds asked Refused
+has_fault kinds asked e = has_kind ValueValidation kinds asked other e
+  where
+    other : IsRequest ValueValidation → ⊥
+    other (inl e) = cc
+    other (inr e) = cc
+
+pub has_conflict : (kinds : Kinds) (asked : Asked) → kinds ≡ ArgumentConflict ∷ [] → HasReason kinds asked Refused
+has_conflict kinds asked e = has_kind ArgumentConflict kinds asked other e
+  where
+    other : IsRequest ArgumentConflict → ⊥
+    other (inl e) = cc
+    other (inr e) = cc
+
+-- ---- a picture
+
+-- which ends before it begins
+pub events_backward : (rows : List Row) (s : EventRange) → HasStretch rows s → nat_lt s.to s.from ≡ true → stretch_faults rows ≡ ArgumentConflict ∷ []
+events_backward rows s h back = rw (h.0, h.1, back) refl
+
+-- what is wrong with it is wrong with `run`, where the options are right
+pub picture_refused : (rows : List Row) (layout : ActorCounts) (most : ℕ) (s : EventRange) → HasActors rows layout → Some most ≡ number_of limit rows → HasStretch rows s → picture_faults rows ≡ ArgumentConflict ∷ []
+    → run_faults rows ≡ ArgumentConflict ∷ []
+picture_refused rows layout most s actors is shown refused =
+    let fit : option_faults number_options rows ≡ [] = rw (actors.0, actors.1, actors.2, sym is, shown.0, shown.1) refl in
+    ap (λ (k : Kinds). or_else k (or_else (picture_faults rows) (input_faults rows))) fit
+    ∙ ap (λ (k : Kinds). or_else k (input_faults rows)) refused
+
+-- and with `picture`
+pub unnumbered_refused : (rows : List Row) → option_faults stretch_options rows ≡ ValueValidation ∷ [] → drawing_faults rows ≡ ValueValidation ∷ []
+unnumbered_refused rows e = ap (λ (k : Kinds). or_else k (or_else (stretch_faults rows) (replay_faults rows))) e
+
+pub backward_refused : (rows : List Row) (s : EventRange) → HasStretch rows s → stretch_faults rows ≡ ArgumentConflict ∷ [] → drawing_faults rows ≡ ArgumentConflict ∷ []
+backward_refused rows s shown refused =
+    let fit : option_faults stretch_options rows ≡ [] = rw (shown.0, shown.1) refl in
+    ap (λ (k : Kinds). or_else k (or_else (stretch_faults rows) (replay_faults rows))) fit ∙ ap (λ (k : Kinds). or_else k (replay_faults rows)) refused
+
+-- ---- the inputs
+
+-- where they are to be read and there are words
+pub both_refused : (rows : List Row) (asked : Asked) → is_given inputs rows ≡ true → not (is_empty (given_words rows)) ≡ true → HasReason (input_faults rows) asked Refused
+both_refused rows asked read given = has_conflict (input_faults rows) asked (rw (read, given) refl)
+
+-- what is wrong with an option is wrong with the command, and else what is wrong with the inputs
+pub run_refused : (rows : List Row) → option_faults number_options rows ≡ ValueValidation ∷ [] → run_faults rows ≡ ValueValidation ∷ []
+run_refused rows e = ap (λ (k : Kinds). or_else k (or_else (picture_faults rows) (input_faults rows))) e
+
+pub replay_refused : (rows : List Row) → option_faults actor_options rows ≡ ValueValidation ∷ [] → replay_faults rows ≡ ValueValidation ∷ []
+replay_refused rows e = ap (λ (k : Kinds). or_else k (input_faults rows)) e
+
+-- ---- a flag
+
+-- what is read of its text, where there is one, is whether it is given
+pub flag_read : (E : Type 0) (text : Option Text) (read : Option Bool) → (text ≡ None → read ≡ None)
+    → ((t : Text) → text ≡ Some t → ReadsOne (ParsesBool {E = E}) t read)
+    → unwrap_or read false ≡ option_map_or (λ t. bytes_eq t (codes "true")) text false
+flag_read E None read none is = ap (λ (r : Option Bool). unwrap_or r false) (none refl)
+flag_read E (Some t) (Some true) none is = rw (is t refl) refl
+flag_read E (Some t) (Some false) none is = rw (is t refl) refl
+flag_read E (Some t) None none is = go (bytes_eq t (codes "true")) refl
+  where
+    go : (b : Bool) → bytes_eq t (codes "true") ≡ b → false ≡ b
+    go true e = absurd ((is t refl).1.0 ((bytes_eq-Decides t (codes "true")).0 e))
+    go false e = refl

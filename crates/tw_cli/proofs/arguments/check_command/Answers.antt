@@ -1,0 +1,6 @@
+use Rattle.std.proofs.Common.{◌∙◌, ap₂}
+use Rattle.clap.specs.Words.{with_rule}
+use Rattle.tw_cli.proofs.arguments.check_command.Goals as goal
+
+pub returns-clause-app : goal.returns-clause-app
+returns-clause-app c = c.in_ok-whole.ensures.shape c.flag_arg.ensures.local ∙ ap₂ with_rule c.in_ok-reading.ensures.app c.flag_arg.ensures.rule

@@ -1,0 +1,18 @@
+use Rattle.std.proofs.Common.{◌≡◌, ◌∙◌, refl, sym, ap, map, codes, Some, None}
+use Rattle.std.proofs.lemmas.List.{length-map}
+use Rattle.std.specs.Prelude.{not}
+use Rattle.clap.specs.Words.{all_of, found_of, rows_of}
+use Rattle.clap.proofs.WalkLemmas.{raw_values-rows}
+use Rattle.tw_cli.proofs.found.has_words.Goals as goal
+
+pub returns-in-Some : goal.returns-in-Some
+returns-in-Some c =
+    let given : all_of (codes "input") (rows_of (found_of c.args.matches.now)) ≡ Some (map (λ v. v.now) c.in-Some.words.now) =
+    sym (c.in-Some.ensures ∙ raw_values-rows (found_of c.args.matches.now) (codes "input")) in
+    rw (given, length-map) (ap not c.is_empty.ensures)
+
+pub returns-in-None : goal.returns-in-None
+returns-in-None c =
+    let given : all_of (codes "input") (rows_of (found_of c.args.matches.now)) ≡ None =
+    sym (c.in-None.ensures ∙ raw_values-rows (found_of c.args.matches.now) (codes "input")) in
+    rw given refl

@@ -1,0 +1,24 @@
+use Rattle.clap.specs.Words.{found_of, rows_of}
+use Rattle.tw_cli.specs.CommandLine.{run_asked}
+use Rattle.tw_cli.proofs.Options.{actors_refused, events_refused, has_conflict, has_fault, limit_refused, picture_refused, run_refused}
+use Rattle.tw_cli.proofs.orders.run_options.Goals as goal
+
+pub returns-in_err-layout : goal.returns-in_err-layout
+returns-in_err-layout c =
+    let rows = rows_of (found_of c.args.matches.now) in
+    rw c.from_residual.ensures (has_fault _ (run_asked rows) (run_refused rows (actors_refused rows c.in_err-layout.ensures)))
+
+pub returns-in_err-limit : goal.returns-in_err-limit
+returns-in_err-limit c =
+    let rows = rows_of (found_of c.args.matches.now) in
+    rw c.from_residual-in_err-limit.ensures (has_fault _ (run_asked rows) (run_refused rows (limit_refused rows c.in_err-limit.ensures)))
+
+pub returns-in_err-stretch : goal.returns-in_err-stretch
+returns-in_err-stretch c =
+    let rows = rows_of (found_of c.args.matches.now) in
+    rw c.from_residual-in_err-stretch.ensures (has_fault _ (run_asked rows) (run_refused rows (events_refused rows c.in_err-stretch.ensures)))
+
+pub returns-in_default : goal.returns-in_default
+returns-in_default c =
+    let rows = rows_of (found_of c.args.matches.now) in
+    has_conflict _ (run_asked rows) (picture_refused rows c.in_ok-layout.layout c.in_ok-limit.limit c.in_ok-stretch.stretch c.in_ok-layout.ensures c.in_ok-limit.ensures c.in_ok-stretch.ensures c.in_default.ensures.refused)

@@ -1,0 +1,58 @@
+-- Orders whose runs are in turn.
+use Rattle.std.specs.Prelude.{◌≡◌, true}
+use Rattle.tw_cli.specs.CommandLine.{Asked, Assembles, Disassembles, Checks, Runs, Replays, Explains}
+use Rattle.tw_cli.specs.declared.command.InputsOrder.{InputsOrder}
+use Rattle.tw_cli.specs.declared.command.InputsOrder.TheVariants.{ToReplay, ToRun}
+use Rattle.tw_cli.specs.declared.command.Order.{Order}
+use Rattle.tw_cli.specs.declared.command.Order.TheVariants.{Assemble, Inputs, Program, Replay}
+use Rattle.tw_cli.specs.declared.command.ProgramOrder.{ProgramOrder}
+use Rattle.tw_cli.specs.declared.command.ProgramOrder.TheVariants.{Disassemble, Verified}
+use Rattle.tw_cli.specs.declared.command.VerifiedOrder.{VerifiedOrder}
+use Rattle.tw_cli.specs.declared.command.VerifiedOrder.TheVariants.{Check, Run}
+
+-- the same is asked for, but that a run is in turn
+abbrev pub turned : Asked → Asked
+turned (Assembles what) = Assembles what
+turned (Disassembles source listed) = Disassembles source listed
+turned (Checks source listed) = Checks source listed
+turned (Runs source answer layout most traced turns words) = Runs source answer layout most traced true words
+turned (Replays source answer layout words) = Replays source answer layout words
+turned (Explains number) = Explains number
+
+-- a run that is ordered is in turn
+abbrev pub IsVerifiedInTurn : VerifiedOrder → Type 0
+IsVerifiedInTurn (Check told) = Unit {0}
+IsVerifiedInTurn (Run run) = run.in_turn ≡ true
+
+abbrev pub IsProgramInTurn : ProgramOrder → Type 0
+IsProgramInTurn (Disassemble places) = Unit {0}
+IsProgramInTurn (Verified order) = IsVerifiedInTurn order
+
+abbrev pub IsInputsInTurn : InputsOrder → Type 0
+IsInputsInTurn (ToRun options) = options.in_turn ≡ true
+IsInputsInTurn (ToReplay options) = Unit {0}
+
+abbrev pub IsInTurn : Order → Type 0
+IsInTurn (Assemble what) = Unit {0}
+IsInTurn (Program source order) = IsProgramInTurn order
+IsInTurn (Replay source order) = Unit {0}
+IsInTurn (Inputs source order) = IsInputsInTurn order
+
+-- the order with its run in turn
+abbrev pub verified_in_turn : VerifiedOrder → VerifiedOrder
+verified_in_turn (Check told) = Check told
+verified_in_turn (Run run) = Run (record run { in_turn = true })
+
+abbrev pub program_in_turn : ProgramOrder → ProgramOrder
+program_in_turn (Disassemble places) = Disassemble places
+program_in_turn (Verified order) = Verified (verified_in_turn order)
+
+abbrev pub inputs_in_turn : InputsOrder → InputsOrder
+inputs_in_turn (ToRun options) = ToRun (record options { in_turn = true })
+inputs_in_turn (ToReplay options) = ToReplay options
+
+abbrev pub order_in_turn : Order → Order
+order_in_turn (Assemble what) = Assemble what
+order_in_turn (Program source order) = Program source (program_in_turn order)
+order_in_turn (Replay source order) = Replay source order
+order_in_turn (Inputs source order) = Inputs source (inputs_in_turn order)

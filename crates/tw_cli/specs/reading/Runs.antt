@@ -1,0 +1,16 @@
+-- What is found of a run's options.
+use Rattle.std.specs.Prelude.{◌≡◌, List, []}
+use Rattle.clap.specs.Words.{Row}
+use Rattle.tw_cli.specs.CommandLine.{picture_faults, run_answer}
+use Rattle.tw_cli.specs.Options.{given_actors, in_turn, is_given, limit, number_options, option_faults, told, trace}
+use Rattle.tw_cli.specs.declared.command.RunOptions.{RunOptions}
+
+-- each has its number, they can stand together, and these are they
+pub record IsRunBy (rows : List Row) (o : RunOptions) : Type 0 where
+  pub numbers : option_faults number_options rows ≡ []
+  pub picture : picture_faults rows ≡ []
+  pub answer : o.answer ≡ run_answer rows
+  pub layout : o.layout ≡ given_actors rows
+  pub limit : o.limit ≡ told limit rows
+  pub trace : o.trace ≡ is_given trace rows
+  pub turns : o.in_turn ≡ is_given in_turn rows

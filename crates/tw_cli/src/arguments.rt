@@ -1,0 +1,124 @@
+//! The commands' arguments and options, and the commands that take no inputs.
+
+ghost use Rattle.std.specs.Prelude.{◌≡◌, false, IfOk};
+ghost use Rattle.clap.specs.Words.{app_of, rule_of};
+ghost use Rattle.clap.specs.declared.Command.TheViews.{out-Command};
+ghost use Rattle.tw_cli.specs.CommandLine.{asm_line, check_line, explain_line, input_rule, plain_line, program_line};
+ghost use Rattle.tw_cli.specs.Options.{flag_rule, inputs, option_rule, places, text};
+ghost use Rattle.tw_cli.specs.Explanations.{number_rule};
+
+use crate::help::{
+    ASM, BOUNDS_HELP, CHECK, CommandHelp, EXPLAIN, INPUT_HELP, INPUTS_HELP, NAMES_HELP,
+    NUMBER_HELP, PLACES_HELP, PLAIN_HELP, TEXT_HELP,
+};
+use clap::{Arg, ArgAction, Command};
+use std::alloc::{AllocError, Global};
+
+/// A command without options.
+pub(crate) fn plain_command<'a>(alloc: Global, name: &'a str, help: &CommandHelp<'a>) -> Command<'a>
+    ensures app { app_of result ≡ plain_line name.entry.now }
+    ensures local { (out-Command result).has_globals ≡ false }
+{
+    Command::new(alloc, name)
+        .about(help.about)
+        .after_help(help.whole)
+}
+
+pub(crate) fn option_arg<'a>(alloc: Global, name: &'a str, help: &'a str) -> Arg<'a>
+    ensures rule { rule_of result ≡ option_rule name.entry.now }
+    ensures local { result.global ≡ false }
+{
+    Arg::new(alloc, name).long(name).help(help)
+}
+
+/// An option without a value.
+pub(crate) fn flag_arg<'a>(alloc: Global, name: &'a str, help: &'a str) -> Arg<'a>
+    ensures rule { rule_of result ≡ flag_rule name.entry.now }
+    ensures local { result.global ≡ false }
+{
+    option_arg(alloc, name, help).action(ArgAction::SetTrue)
+}
+
+/// The option that says how the program is written.
+pub(crate) fn text_arg<'a>(alloc: Global) -> Arg<'a>
+    ensures rule { rule_of result ≡ flag_rule text }
+    ensures local { result.global ≡ false }
+{
+    flag_arg(alloc, "text", TEXT_HELP)
+}
+
+/// The option that asks for the places of instructions.
+pub(crate) fn places_arg<'a>(alloc: Global) -> Arg<'a>
+    ensures rule { rule_of result ≡ flag_rule places }
+    ensures local { result.global ≡ false }
+{
+    flag_arg(alloc, "places", PLACES_HELP)
+}
+
+/// The option that says that the inputs are to be read.
+pub(crate) fn inputs_arg<'a>(alloc: Global) -> Arg<'a>
+    ensures rule { rule_of result ≡ flag_rule inputs }
+    ensures local { result.global ≡ false }
+{
+    flag_arg(alloc, "inputs", INPUTS_HELP)
+}
+
+pub(crate) fn number_arg<'a>(alloc: Global) -> Arg<'a>
+    ensures rule { rule_of result ≡ number_rule }
+    ensures local { result.global ≡ false }
+{
+    Arg::new(alloc, "number").help(NUMBER_HELP)
+}
+
+pub(crate) fn input_arg<'a>(alloc: Global) -> Arg<'a>
+    ensures rule { rule_of result ≡ input_rule }
+    ensures local { result.global ≡ false }
+{
+    Arg::new(alloc, "input").num_args(0..).help(INPUT_HELP)
+}
+
+/// A command that reads a program and writes something of it.
+pub(crate) fn program_command<'a>(
+    alloc: Global,
+    name: &'a str,
+    help: &CommandHelp<'a>,
+) -> Result<Command<'a>, AllocError>
+    ensures app { IfOk result (λ c. app_of c ≡ program_line name.entry.now) }
+    ensures local { IfOk result (λ c. (out-Command c).has_globals ≡ false) }
+{
+    let bare = plain_command(alloc, name, help);
+    let text = bare.arg(text_arg(alloc))?;
+    let whole = text.arg(places_arg(alloc))?;
+    Ok(whole)
+}
+
+/// Makes the command that verifies a program.
+pub(crate) fn check_command<'a>(alloc: Global) -> Result<Command<'a>, AllocError>
+    ensures app { IfOk result (λ c. app_of c ≡ check_line) }
+    ensures local { IfOk result (λ c. (out-Command c).has_globals ≡ false) }
+{
+    let reading = program_command(alloc, "check", &CHECK)?;
+    let whole = reading.arg(flag_arg(alloc, "bounds", BOUNDS_HELP))?;
+    Ok(whole)
+}
+
+/// The command that assembles.
+pub(crate) fn asm_command<'a>(alloc: Global) -> Result<Command<'a>, AllocError>
+    ensures app { IfOk result (λ c. app_of c ≡ asm_line) }
+    ensures local { IfOk result (λ c. (out-Command c).has_globals ≡ false) }
+{
+    let bare = plain_command(alloc, "asm", &ASM);
+    let names = bare.arg(flag_arg(alloc, "names", NAMES_HELP))?;
+    let whole = names.arg(flag_arg(alloc, "plain", PLAIN_HELP))?;
+    Ok(whole)
+}
+
+/// The command that explains a number.
+pub(crate) fn explain_command<'a>(alloc: Global) -> Result<Command<'a>, AllocError>
+    ensures app { IfOk result (λ c. app_of c ≡ explain_line) }
+    ensures local { IfOk result (λ c. (out-Command c).has_globals ≡ false) }
+{
+    let bare = plain_command(alloc, "explain", &EXPLAIN);
+    let whole = bare.arg(number_arg(alloc))?;
+    Ok(whole)
+}

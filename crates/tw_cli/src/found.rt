@@ -1,0 +1,189 @@
+//! What was found behind a command: its options, and the input words.
+
+ghost use Rattle.std.specs.Prelude.{◌≡◌, false, not, [], ◌∷◌, map, IfOk, IfErr, IfSome, MatchOption};
+ghost use Rattle.clap.specs.Walk.{is_empty};
+ghost use Rattle.clap.specs.Words.{found_of, rows_of};
+ghost use Rattle.clap.specs.declared.error.ErrorKind.TheVariants.{ValueValidation};
+ghost use Rattle.tw_cli.specs.CommandLine.{given_answer, given_words, input_faults, replay_asked, run_asked, words_told};
+ghost use Rattle.tw_cli.specs.declared.command.Answer.{Answer as Answers};
+ghost use Rattle.tw_cli.specs.InputWords.{AreSpelled};
+ghost use Rattle.tw_cli.specs.reading.Inputs.{HasInputs};
+ghost use Rattle.tw_cli.specs.Options.{HasActors, actor_options, given_assembling, given_check, checking, is_given, limit, number_of, option_faults, given_places, given_source};
+ghost use Rattle.std.specs.Int.{IsInRange};
+ghost use Rattle.tw_cli.specs.Order.{HasReason, IsInputReason};
+
+use crate::command::{Answer, Assembling, CheckOrder, NoOrder, Places, Source};
+use crate::input_diagnostics::refused_word;
+use crate::input_words::input_of;
+use crate::limit::EventLimit;
+use clap::ArgMatches;
+use std::alloc::Global;
+use tw_lexer::digits;
+use tw_types::{Input, Items, Layout};
+
+/// The number from 1 to `most` that an option has, or `default` where it isn't given.
+pub(crate) fn number_given(
+    matches: &ArgMatches<'_>,
+    name: &str,
+    most: u64,
+    default: u64,
+) -> Option<u64>
+    requires { IsInRange 1 most default }
+    ensures number { result
+        ≡ number_of (record { name = name.now; most = most; default = default }) (rows_of (found_of matches.now)) }
+    ensures range { IfSome result (IsInRange 1 most) }
+{
+    let Some(word) = matches.get_str(name) else {
+        return Some(default);
+    };
+    digits(word.as_bytes(), 1, most).ok()
+}
+
+/// The actors that the options tell.
+pub(crate) fn layout_given(matches: &ArgMatches<'_>) -> Option<Layout>
+    ensures { MatchOption result
+        (option_faults actor_options (rows_of (found_of matches.now)) ≡ ValueValidation ∷ [])
+        (HasActors (rows_of (found_of matches.now))) }
+{
+    let engines = number_given(matches, "engines", u64::from(Layout::MAX_ENGINES), 1)?;
+    let servers = number_given(matches, "servers", u64::from(Layout::MAX_SERVERS), 1)?;
+    let workers = number_given(matches, "workers", u64::from(Layout::MAX_WORKERS), 1)?;
+    Layout::new(engines as u8, servers as u8, workers as u8).ok()
+}
+
+/// The most events that the options tell.
+pub(crate) fn limit_given(matches: &ArgMatches<'_>) -> Option<EventLimit>
+    ensures { result ≡ number_of limit (rows_of (found_of matches.now)) }
+{
+    let events = number_given(matches, "limit", EventLimit::MAX as u64, 10_000)?;
+    EventLimit::new(events as usize)
+}
+
+/// Whether a flag is given. `get_flag` promises nothing where the text found is neither `true` nor `false`.
+pub(crate) fn flag_given(matches: &ArgMatches<'_>, name: &str) -> bool
+    ensures { result ≡ is_given name.now (rows_of (found_of matches.now)) }
+{
+    matches.get_one(name).unwrap_or(false)
+}
+
+/// How the program is written that is read.
+pub(crate) fn source_given(matches: &ArgMatches<'_>) -> Source
+    ensures { result ≡ given_source (rows_of (found_of matches.now)) }
+{
+    if flag_given(matches, "text") {
+        Source::Assembly
+    } else {
+        Source::Hex
+    }
+}
+
+/// Whether the places of instructions are listed.
+pub(crate) fn places_given(matches: &ArgMatches<'_>) -> Places
+    ensures { result ≡ given_places (rows_of (found_of matches.now)) }
+{
+    if flag_given(matches, "places") {
+        Places::Shown
+    } else {
+        Places::Hidden
+    }
+}
+
+/// Returns what a check tells besides the budgets.
+pub(crate) fn check_given(matches: &ArgMatches<'_>) -> CheckOrder
+    ensures { result ≡ given_check (rows_of (found_of matches.now)) }
+{
+    CheckOrder {
+        places: places_given(matches),
+        bounds: flag_given(matches, "bounds"),
+    }
+}
+
+/// Returns what a check tells without options.
+pub(crate) fn bare_check() -> CheckOrder
+    ensures { result ≡ checking Places.Hidden false }
+{
+    CheckOrder {
+        places: Places::Hidden,
+        bounds: false,
+    }
+}
+
+/// What is assembled, and what is written of it.
+pub(crate) fn assembling_given(matches: &ArgMatches<'_>) -> Assembling
+    ensures { result ≡ given_assembling (rows_of (found_of matches.now)) }
+{
+    if flag_given(matches, "plain") {
+        Assembling::Plain
+    } else if flag_given(matches, "names") {
+        Assembling::Names
+    } else {
+        Assembling::Text
+    }
+}
+
+/// What `replay` writes.
+pub(crate) fn answer_given(matches: &ArgMatches<'_>) -> Answer
+    ensures { result ≡ given_answer (rows_of (found_of matches.now)) }
+{
+    if flag_given(matches, "stats") {
+        Answer::Numbers
+    } else {
+        Answer::Report
+    }
+}
+
+/// The inputs that words spell, one each; or `NoOrder::InputWord`, or want of memory.
+pub fn inputs_of(alloc: Global, words: &[&str]) -> Result<Items<Input>, NoOrder>
+    ensures spelled { IfOk result (λ inputs. AreSpelled inputs (map (λ word. word.now) words.now)) }
+    ensures refused { IfErr result (IsInputReason (map (λ word. word.now) words.now)) }
+{
+    let mut inputs = Vec::new(alloc);
+    for (index, word) in words.iter().enumerate() {
+        match input_of(alloc, word)? {
+            Some(input) => inputs.push(input)?,
+            None => return Err(refused_word(alloc, index + 1, word)),
+        }
+    }
+    Ok(Items::from(inputs))
+}
+
+/// The inputs that the words behind `run`, `replay` or `picture` spell.
+fn inputs_in_words(alloc: Global, matches: &ArgMatches<'_>) -> Result<Items<Input>, NoOrder>
+    ensures spelled { IfOk result (λ inputs. AreSpelled inputs (given_words (rows_of (found_of matches.now)))) }
+    ensures refused { IfErr result (IsInputReason (given_words (rows_of (found_of matches.now)))) }
+{
+    match matches.get_strs("input") {
+        Some(words) => inputs_of(alloc, words),
+        None => inputs_of(alloc, &[]),
+    }
+}
+
+/// Whether there are such words.
+fn has_words(matches: &ArgMatches<'_>) -> bool
+    ensures { result ≡ not (is_empty (given_words (rows_of (found_of matches.now)))) }
+{
+    match matches.get_strs("input") {
+        Some(words) => !words.is_empty(),
+        None => false,
+    }
+}
+
+/// The inputs, where they don't stand in what is read.
+pub(crate) fn inputs_given(
+    alloc: Global,
+    matches: &ArgMatches<'_>,
+) -> Result<Option<Items<Input>>, NoOrder>
+    ensures taken { IfOk result (λ given. (input_faults (rows_of (found_of matches.now)) ≡ [])
+        × HasInputs (words_told (rows_of (found_of matches.now))) given) }
+    ensures run { IfErr result (HasReason (input_faults (rows_of (found_of matches.now))) (run_asked (rows_of (found_of matches.now)))) }
+    ensures replay { (answer : Answers) → IfErr result
+        (HasReason (input_faults (rows_of (found_of matches.now))) (replay_asked answer (rows_of (found_of matches.now)))) }
+{
+    if !flag_given(matches, "inputs") {
+        return Ok(Some(inputs_in_words(alloc, matches)?));
+    }
+    if has_words(matches) {
+        return Err(NoOrder::Refused);
+    }
+    Ok(None)
+}

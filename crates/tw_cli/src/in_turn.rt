@@ -1,0 +1,59 @@
+//! Orders whose runs are in turn.
+
+ghost use Rattle.std.specs.Prelude.{◌≡◌};
+ghost use Rattle.tw_cli.specs.InTurn.{inputs_in_turn, order_in_turn, program_in_turn, verified_in_turn};
+
+use crate::command::{InputsOrder, Order, ProgramOrder, VerifiedOrder};
+
+impl VerifiedOrder {
+    fn in_turn(self) -> VerifiedOrder
+        ensures { result ≡ verified_in_turn self }
+    {
+        match self {
+            VerifiedOrder::Check(order) => VerifiedOrder::Check(order),
+            VerifiedOrder::Run(mut run) => {
+                run.in_turn = true;
+                VerifiedOrder::Run(run)
+            }
+        }
+    }
+}
+
+impl ProgramOrder {
+    fn in_turn(self) -> ProgramOrder
+        ensures { result ≡ program_in_turn self }
+    {
+        match self {
+            ProgramOrder::Disassemble(places) => ProgramOrder::Disassemble(places),
+            ProgramOrder::Verified(order) => ProgramOrder::Verified(order.in_turn()),
+        }
+    }
+}
+
+impl InputsOrder {
+    fn in_turn(self) -> InputsOrder
+        ensures { result ≡ inputs_in_turn self }
+    {
+        match self {
+            InputsOrder::ToRun(mut options) => {
+                options.in_turn = true;
+                InputsOrder::ToRun(options)
+            }
+            InputsOrder::ToReplay(options) => InputsOrder::ToReplay(options),
+        }
+    }
+}
+
+impl Order {
+    /// The same order, but that a run is in turn.
+    pub fn in_turn(self) -> Order
+        ensures { result ≡ order_in_turn self }
+    {
+        match self {
+            Order::Assemble(what) => Order::Assemble(what),
+            Order::Program(source, order) => Order::Program(source, order.in_turn()),
+            Order::Replay(source, order) => Order::Replay(source, order),
+            Order::Inputs(source, order) => Order::Inputs(source, order.in_turn()),
+        }
+    }
+}

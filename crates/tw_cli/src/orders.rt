@@ -1,0 +1,191 @@
+//! The order that the words give.
+
+ghost use Rattle.std.specs.Prelude.{◌≡◌, [], map, IfOk, IfErr, MatchOption, string_bytes};
+ghost use Rattle.clap.specs.Words.{found_of, kind_of, rows_of, subcommand_rows_of};
+ghost use Rattle.tw_cli.specs.CommandLine.{Explains, IsAsked, asked_by_words, asked_of, drawing_faults, faults_behind, replay_asked, replay_faults, run_asked, run_faults, word_faults};
+ghost use Rattle.tw_cli.specs.declared.command.Answer.{Answer as Answers};
+ghost use Rattle.tw_cli.specs.declared.command.Order.TheVariants.{Program};
+ghost use Rattle.tw_cli.specs.declared.command.ProgramOrder.TheVariants.{Verified};
+ghost use Rattle.tw_cli.specs.reading.Runs.{IsRunBy};
+ghost use Rattle.tw_cli.specs.Options.{given_range};
+ghost use Rattle.tw_cli.specs.Explanations.{number_faults, number_word};
+ghost use Rattle.tw_cli.specs.Order.{HasReason, IsReason};
+ghost use Rattle.tw_cli.specs.declared.command.NoOrder.TheVariants.{Refused};
+
+use crate::command::{
+    Answer, InputsOrder, NoOrder, Order, ProgramOrder, ReplayOptions, RunOptions, Source,
+    VerifiedOrder, command,
+};
+use crate::explanations::explained;
+use crate::found::{
+    answer_given, assembling_given, bare_check, check_given, flag_given, inputs_given,
+    layout_given, limit_given, places_given, source_given,
+};
+use crate::shown::{event_range_given, run_answer};
+use clap::error::ErrorKind;
+use clap::{ArgMatches, Error};
+use std::alloc::Global;
+
+pub(crate) fn reason_of(alloc: Global, error: &Error) -> NoOrder
+    ensures { IsReason (kind_of error.now) result }
+{
+    match error.kind() {
+        ErrorKind::DisplayHelp | ErrorKind::DisplayVersion => match error.to_string(alloc) {
+            Ok(text) => NoOrder::Help(text),
+            Err(_) => NoOrder::NoMemory,
+        },
+        ErrorKind::OutOfMemory => NoOrder::NoMemory,
+        _ => NoOrder::Refused,
+    }
+}
+
+/// How a program is run, by what was found behind `run`.
+fn run_options(matches: &ArgMatches<'_>) -> Option<RunOptions>
+    ensures { MatchOption result
+        (HasReason (run_faults (rows_of (found_of matches.now))) (run_asked (rows_of (found_of matches.now))) Refused)
+        (IsRunBy (rows_of (found_of matches.now))) }
+{
+    let layout = layout_given(matches)?;
+    let limit = limit_given(matches)?;
+    let stretch = event_range_given(matches)?;
+    let Ok(answer) = run_answer(matches, stretch) else {
+        return None;
+    };
+    Some(RunOptions {
+        answer,
+        layout,
+        limit,
+        trace: flag_given(matches, "trace"),
+        in_turn: flag_given(matches, "in-turn"),
+    })
+}
+
+/// The order to run, by what was found behind `run`.
+fn run_order(alloc: Global, matches: &ArgMatches<'_>) -> Result<Order, NoOrder>
+    ensures taken { IfOk result (λ order. (run_faults (rows_of (found_of matches.now)) ≡ [])
+        × IsAsked (run_asked (rows_of (found_of matches.now))) order) }
+    ensures refused { IfErr result
+        (HasReason (run_faults (rows_of (found_of matches.now))) (run_asked (rows_of (found_of matches.now)))) }
+{
+    let Some(options) = run_options(matches) else {
+        return Err(NoOrder::Refused);
+    };
+    match inputs_given(alloc, matches)? {
+        Some(inputs) => Ok(Order::Program(
+            source_given(matches),
+            ProgramOrder::Verified(VerifiedOrder::Run(options.with_inputs(inputs))),
+        )),
+        None => Ok(Order::Inputs(source_given(matches), InputsOrder::ToRun(options))),
+    }
+}
+
+/// The order to replay and write this, by what was found behind the command.
+fn replay_order(alloc: Global, answer: Answer, matches: &ArgMatches<'_>) -> Result<Order, NoOrder>
+    ensures taken { IfOk result (λ order. (replay_faults (rows_of (found_of matches.now)) ≡ [])
+        × IsAsked (replay_asked answer (rows_of (found_of matches.now))) order) }
+    ensures refused { IfErr result
+        (HasReason (replay_faults (rows_of (found_of matches.now))) (replay_asked answer (rows_of (found_of matches.now)))) }
+{
+    let Some(layout) = layout_given(matches) else {
+        return Err(NoOrder::Refused);
+    };
+    let options = ReplayOptions { answer, layout };
+    match inputs_given(alloc, matches)? {
+        Some(inputs) => Ok(Order::Replay(source_given(matches), options.with_inputs(inputs))),
+        None => Ok(Order::Inputs(source_given(matches), InputsOrder::ToReplay(options))),
+    }
+}
+
+/// The order to draw a history, by what was found behind `picture`.
+fn picture_order(alloc: Global, matches: &ArgMatches<'_>) -> Result<Order, NoOrder>
+    ensures taken { IfOk result (λ order. (drawing_faults (rows_of (found_of matches.now)) ≡ [])
+        × IsAsked (replay_asked (Answers.Picture (given_range (rows_of (found_of matches.now)))) (rows_of (found_of matches.now))) order) }
+    ensures refused { IfErr result
+        (HasReason (drawing_faults (rows_of (found_of matches.now)))
+        (replay_asked (Answers.Picture (given_range (rows_of (found_of matches.now)))) (rows_of (found_of matches.now)))) }
+{
+    let Some(stretch) = event_range_given(matches) else {
+        return Err(NoOrder::Refused);
+    };
+    if stretch.is_reversed() {
+        return Err(NoOrder::Refused);
+    }
+    replay_order(alloc, Answer::Picture(stretch), matches)
+}
+
+fn explanation_of(alloc: Global, word: &str) -> NoOrder
+    ensures { HasReason (number_faults word.now) (Explains word.now) result }
+{
+    match explained(alloc, word) {
+        Ok(Some(text)) => NoOrder::Explanation(text),
+        Ok(None) => NoOrder::Refused,
+        Err(_) => NoOrder::NoMemory,
+    }
+}
+
+/// What is told of the number behind `explain`.
+fn explanation_given(alloc: Global, matches: &ArgMatches<'_>) -> NoOrder
+    ensures { HasReason (number_faults (number_word (rows_of (found_of matches.now)))) (Explains (number_word (rows_of (found_of matches.now)))) result }
+{
+    match matches.get_str("number") {
+        Some(word) => explanation_of(alloc, word),
+        None => explanation_of(alloc, ""),
+    }
+}
+
+/// No order: what is told of the number behind `explain`.
+fn explained_order(alloc: Global, matches: &ArgMatches<'_>) -> Result<Order, NoOrder>
+    ensures taken { IfOk result (λ order. (number_faults (number_word (rows_of (found_of matches.now))) ≡ [])
+        × IsAsked (Explains (number_word (rows_of (found_of matches.now)))) order) }
+    ensures refused { IfErr result
+        (HasReason (number_faults (number_word (rows_of (found_of matches.now)))) (Explains (number_word (rows_of (found_of matches.now))))) }
+{
+    Err(explanation_given(alloc, matches))
+}
+
+fn verified_order(source: Source, order: VerifiedOrder) -> Order
+    ensures { result ≡ Program source (Verified order) }
+{
+    Order::Program(source, ProgramOrder::Verified(order))
+}
+
+pub(crate) fn order_of(alloc: Global, matches: &ArgMatches<'_>) -> Result<Order, NoOrder>
+    ensures taken { IfOk result (λ order. (faults_behind (subcommand_rows_of matches.now) ≡ [])
+        × IsAsked (asked_of (subcommand_rows_of matches.now)) order) }
+    ensures refused { IfErr result
+        (HasReason (faults_behind (subcommand_rows_of matches.now)) (asked_of (subcommand_rows_of matches.now))) }
+{
+    match matches.subcommand() {
+        Some(("run", given)) => run_order(alloc, given),
+        Some(("replay", given)) => replay_order(alloc, answer_given(given), given),
+        Some(("picture", given)) => picture_order(alloc, given),
+        Some(("asm", given)) => Ok(Order::Assemble(assembling_given(given))),
+        Some(("disasm", given)) => Ok(Order::Program(
+            source_given(given),
+            ProgramOrder::Disassemble(places_given(given)),
+        )),
+        Some(("explain", given)) => explained_order(alloc, given),
+        Some((_, given)) => Ok(verified_order(
+            source_given(given),
+            VerifiedOrder::Check(check_given(given)),
+        )),
+        None => Ok(verified_order(Source::Hex, VerifiedOrder::Check(bare_check()))),
+    }
+}
+
+/// Reads the order from the program's words, without its own name.
+///
+/// What clap finds wrong goes first, then an option without a number in its range, then the first input word that spells
+/// no input. What a help text says, no clause tells; nor that memory was refused where that is answered.
+pub fn read_order(alloc: Global, words: &[String]) -> Result<Order, NoOrder>
+    ensures taken { IfOk result (λ order. (word_faults (map string_bytes words.now) ≡ [])
+        × IsAsked (asked_by_words (map string_bytes words.now)) order) }
+    ensures refused { IfErr result
+        (HasReason (word_faults (map string_bytes words.now)) (asked_by_words (map string_bytes words.now))) }
+{
+    let matches = match command(alloc)?.try_get_matches_from(words) {
+        Ok(matches) => matches,
+        Err(error) => return Err(reason_of(alloc, &error)),
+    };
+    order_of(alloc, &matches)
+}

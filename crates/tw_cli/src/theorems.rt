@@ -1,0 +1,130 @@
+//! What the reading of words says at some words.
+
+ghost use Rattle.std.specs.Prelude.{◌≡◌, ℕ, true, false, List, [], ◌∷◌, Some, None, codes};
+ghost use Rattle.clap.specs.declared.error.ErrorKind.TheVariants.{ArgumentConflict, DisplayHelp, DisplayVersion, InvalidSubcommand, InvalidValue, TooManyValues, UnknownArgument, ValueValidation};
+ghost use Rattle.tw_cli.specs.CommandLine.{Assembles, Checks, Disassembles, Explains, Replays, Runs, asked_by_words, word_faults};
+ghost use Rattle.tw_cli.specs.declared.command.Answer.TheVariants.{Numbers, Picture, Report};
+ghost use Rattle.tw_cli.specs.declared.command.Assembling.TheVariants.{Names, Plain, Text};
+ghost use Rattle.tw_cli.specs.declared.command.Places.TheVariants.{Hidden, Shown};
+ghost use Rattle.tw_cli.specs.declared.command.Source.TheVariants.{Assembly, Hex};
+ghost use Rattle.tw_cli.specs.Options.{actors, checking, stretch};
+ghost use Rattle.tw_cli.specs.Explanations.{meant};
+ghost use Rattle.tw_cli.specs.InputWords.{OneInput, OneRefusedWord};
+
+/// Each command is taken, and asks for what its name says, with the options and words behind it.
+pub fn commands_are_taken()
+    ensures asm { (word_faults (codes "asm" ∷ []) ≡ []) × (asked_by_words (codes "asm" ∷ []) ≡ Assembles Text) }
+    ensures names { (word_faults (codes "asm" ∷ codes "--names" ∷ []) ≡ []) × (asked_by_words (codes "asm" ∷ codes "--names" ∷ []) ≡ Assembles Names) }
+    ensures plain { (word_faults (codes "asm" ∷ codes "--names" ∷ codes "--plain" ∷ []) ≡ [])
+        × (asked_by_words (codes "asm" ∷ codes "--names" ∷ codes "--plain" ∷ []) ≡ Assembles Plain) }
+    ensures disasm { (word_faults (codes "disasm" ∷ []) ≡ []) × (asked_by_words (codes "disasm" ∷ []) ≡ Disassembles Hex Hidden) }
+    ensures check { (word_faults (codes "check" ∷ []) ≡ []) × (asked_by_words (codes "check" ∷ []) ≡ Checks Hex (checking Hidden false)) }
+    ensures bounds { (word_faults (codes "check" ∷ codes "--bounds" ∷ codes "--text" ∷ []) ≡ [])
+        × (asked_by_words (codes "check" ∷ codes "--bounds" ∷ codes "--text" ∷ []) ≡ Checks Assembly (checking Hidden true)) }
+    ensures run { (word_faults (codes "run" ∷ []) ≡ [])
+        × (asked_by_words (codes "run" ∷ []) ≡ Runs Hex Report (actors 1 1 1) 10000 false false (Some [])) }
+    ensures inputs { (word_faults (codes "run" ∷ codes "int:7" ∷ codes "text:a" ∷ []) ≡ [])
+        × (asked_by_words (codes "run" ∷ codes "int:7" ∷ codes "text:a" ∷ [])
+        ≡ Runs Hex Report (actors 1 1 1) 10000 false false (Some (codes "int:7" ∷ codes "text:a" ∷ []))) }
+    ensures first { (rest : List ℕ) → (word_faults (codes "run" ∷ (105 ∷ rest) ∷ []) ≡ [])
+        × (asked_by_words (codes "run" ∷ (105 ∷ rest) ∷ []) ≡ Runs Hex Report (actors 1 1 1) 10000 false false (Some ((105 ∷ rest) ∷ []))) }
+    ensures before { (word_faults (codes "run" ∷ codes "--workers" ∷ codes "16" ∷ codes "int:7" ∷ []) ≡ [])
+        × (asked_by_words (codes "run" ∷ codes "--workers" ∷ codes "16" ∷ codes "int:7" ∷ [])
+        ≡ Runs Hex Report (actors 1 1 16) 10000 false false (Some (codes "int:7" ∷ []))) }
+    ensures between { (word_faults (codes "run" ∷ codes "int:7" ∷ codes "--servers=3" ∷ codes "int:8" ∷ []) ≡ [])
+        × (asked_by_words (codes "run" ∷ codes "int:7" ∷ codes "--servers=3" ∷ codes "int:8" ∷ [])
+        ≡ Runs Hex Report (actors 1 3 1) 10000 false false (Some (codes "int:7" ∷ codes "int:8" ∷ []))) }
+    ensures behind { (word_faults (codes "run" ∷ codes "int:7" ∷ codes "--limit" ∷ codes "9" ∷ codes "--engines=2" ∷ [])
+        ≡ [])
+        × (asked_by_words (codes "run" ∷ codes "int:7" ∷ codes "--limit" ∷ codes "9" ∷ codes "--engines=2" ∷ [])
+        ≡ Runs Hex Report (actors 2 1 1) 9 false false (Some (codes "int:7" ∷ []))) }
+    ensures trace { (word_faults (codes "run" ∷ codes "--trace" ∷ codes "int:7" ∷ []) ≡ [])
+        × (asked_by_words (codes "run" ∷ codes "--trace" ∷ codes "int:7" ∷ [])
+        ≡ Runs Hex Report (actors 1 1 1) 10000 true false (Some (codes "int:7" ∷ []))) }
+    ensures in_turn { (word_faults (codes "run" ∷ codes "--in-turn" ∷ codes "int:7" ∷ []) ≡ [])
+        × (asked_by_words (codes "run" ∷ codes "--in-turn" ∷ codes "int:7" ∷ [])
+        ≡ Runs Hex Report (actors 1 1 1) 10000 false true (Some (codes "int:7" ∷ []))) }
+    ensures run_stats { (word_faults (codes "run" ∷ codes "--stats" ∷ codes "--trace" ∷ []) ≡ [])
+        × (asked_by_words (codes "run" ∷ codes "--stats" ∷ codes "--trace" ∷ []) ≡ Runs Hex Numbers (actors 1 1 1) 10000 true false (Some [])) }
+    ensures run_picture { (word_faults (codes "run" ∷ codes "--picture" ∷ codes "--in-turn" ∷ []) ≡ [])
+        × (asked_by_words (codes "run" ∷ codes "--picture" ∷ codes "--in-turn" ∷ []) ≡ Runs Hex (Picture (stretch 1 4294967295)) (actors 1 1 1) 10000 false true (Some [])) }
+    ensures run_stretch { (word_faults (codes "run" ∷ codes "--from=5" ∷ codes "--picture" ∷ codes "--to" ∷ codes "9" ∷ []) ≡ [])
+        × (asked_by_words (codes "run" ∷ codes "--from=5" ∷ codes "--picture" ∷ codes "--to" ∷ codes "9" ∷ [])
+        ≡ Runs Hex (Picture (stretch 5 9)) (actors 1 1 1) 10000 false false (Some [])) }
+    ensures quiet { (word_faults (codes "run" ∷ codes "--quiet" ∷ []) ≡ [])
+        × (asked_by_words (codes "run" ∷ codes "--quiet" ∷ []) ≡ asked_by_words (codes "run" ∷ [])) }
+    ensures last { (word_faults (codes "run" ∷ codes "int:7" ∷ codes "--limit" ∷ codes "100" ∷ codes "--trace" ∷ []) ≡ [])
+        × (asked_by_words (codes "run" ∷ codes "int:7" ∷ codes "--limit" ∷ codes "100" ∷ codes "--trace" ∷ [])
+        ≡ Runs Hex Report (actors 1 1 1) 100 true false (Some (codes "int:7" ∷ []))) }
+    ensures replay { (word_faults (codes "replay" ∷ codes "--workers" ∷ codes "2" ∷ codes "int:7" ∷ []) ≡ [])
+        × (asked_by_words (codes "replay" ∷ codes "--workers" ∷ codes "2" ∷ codes "int:7" ∷ [])
+        ≡ Replays Hex Report (actors 1 1 2) (Some (codes "int:7" ∷ []))) }
+    ensures picture { (word_faults (codes "picture" ∷ codes "--workers" ∷ codes "2" ∷ codes "int:7" ∷ []) ≡ [])
+        × (asked_by_words (codes "picture" ∷ codes "--workers" ∷ codes "2" ∷ codes "int:7" ∷ [])
+        ≡ Replays Hex (Picture (stretch 1 4294967295)) (actors 1 1 2) (Some (codes "int:7" ∷ []))) }
+    ensures picture_stretch { (word_faults (codes "picture" ∷ codes "--from" ∷ codes "3" ∷ codes "--to=3" ∷ []) ≡ [])
+        × (asked_by_words (codes "picture" ∷ codes "--from" ∷ codes "3" ∷ codes "--to=3" ∷ [])
+        ≡ Replays Hex (Picture (stretch 3 3)) (actors 1 1 1) (Some [])) }
+    ensures text { (word_faults (codes "check" ∷ codes "--text" ∷ []) ≡ [])
+        × (asked_by_words (codes "check" ∷ codes "--text" ∷ []) ≡ Checks Assembly (checking Hidden false)) }
+    ensures places { (word_faults (codes "check" ∷ codes "--places" ∷ codes "--text" ∷ []) ≡ [])
+        × (asked_by_words (codes "check" ∷ codes "--places" ∷ codes "--text" ∷ []) ≡ Checks Assembly (checking Shown false)) }
+    ensures disasm_places { (word_faults (codes "disasm" ∷ codes "--places" ∷ []) ≡ [])
+        × (asked_by_words (codes "disasm" ∷ codes "--places" ∷ []) ≡ Disassembles Hex Shown) }
+    ensures run_text { (word_faults (codes "run" ∷ codes "int:7" ∷ codes "--text" ∷ []) ≡ [])
+        × (asked_by_words (codes "run" ∷ codes "int:7" ∷ codes "--text" ∷ [])
+        ≡ Runs Assembly Report (actors 1 1 1) 10000 false false (Some (codes "int:7" ∷ []))) }
+    ensures replay_text { (word_faults (codes "replay" ∷ codes "--text" ∷ []) ≡ [])
+        × (asked_by_words (codes "replay" ∷ codes "--text" ∷ []) ≡ Replays Assembly Report (actors 1 1 1) (Some [])) }
+    ensures run_inputs { (word_faults (codes "run" ∷ codes "--inputs" ∷ codes "--text" ∷ []) ≡ [])
+        × (asked_by_words (codes "run" ∷ codes "--inputs" ∷ codes "--text" ∷ []) ≡ Runs Assembly Report (actors 1 1 1) 10000 false false None) }
+    ensures replay_stats { (word_faults (codes "replay" ∷ codes "--stats" ∷ []) ≡ [])
+        × (asked_by_words (codes "replay" ∷ codes "--stats" ∷ []) ≡ Replays Hex Numbers (actors 1 1 1) (Some [])) }
+    ensures replay_inputs { (word_faults (codes "replay" ∷ codes "--inputs" ∷ []) ≡ [])
+        × (asked_by_words (codes "replay" ∷ codes "--inputs" ∷ []) ≡ Replays Hex Report (actors 1 1 1) None) }
+    ensures explain { (word_faults (codes "explain" ∷ codes "V04" ∷ []) ≡ [])
+        × (asked_by_words (codes "explain" ∷ codes "V04" ∷ []) ≡ Explains (codes "V04")) }
+    ensures meant { (word_faults (codes "explain" ∷ codes "v4" ∷ []) ≡ []) × (meant (codes "v4") ≡ codes "V04") }
+    ensures numbers { (word_faults (codes "explain" ∷ []) ≡ []) × (asked_by_words (codes "explain" ∷ []) ≡ Explains []) }
+{}
+
+/// Words are refused that name no command, or come after `check`; so is an option that isn't known, comes twice, or has
+/// no number in its range, a flag with a value, inputs in two ways, and a number that isn't one to be explained.
+pub fn strangers_are_refused()
+    ensures command { word_faults (codes "walk" ∷ []) ≡ UnknownArgument ∷ InvalidSubcommand ∷ [] }
+    ensures help { word_faults (codes "run" ∷ codes "--help" ∷ []) ≡ DisplayHelp ∷ [] }
+    ensures version { word_faults (codes "--version" ∷ []) ≡ DisplayVersion ∷ [] }
+    ensures both_inputs { word_faults (codes "run" ∷ codes "--inputs" ∷ codes "int:7" ∷ []) ≡ ArgumentConflict ∷ [] }
+    ensures no_inputs { word_faults (codes "check" ∷ codes "--inputs" ∷ []) ≡ UnknownArgument ∷ [] }
+    ensures option { word_faults (codes "run" ∷ codes "--engine" ∷ []) ≡ UnknownArgument ∷ [] }
+    ensures input { word_faults (codes "check" ∷ codes "int:7" ∷ []) ≡ UnknownArgument ∷ [] }
+    ensures second { word_faults (codes "check" ∷ codes "--workers" ∷ codes "2" ∷ []) ≡ UnknownArgument ∷ [] }
+    ensures twice { word_faults (codes "run" ∷ codes "--limit=5" ∷ codes "--limit=5" ∷ []) ≡ ArgumentConflict ∷ [] }
+    ensures bare { word_faults (codes "run" ∷ codes "--limit" ∷ []) ≡ InvalidValue ∷ [] }
+    ensures none { word_faults (codes "run" ∷ codes "--workers" ∷ codes "0" ∷ []) ≡ ValueValidation ∷ [] }
+    ensures past { word_faults (codes "run" ∷ codes "--workers" ∷ codes "17" ∷ codes "7" ∷ []) ≡ ValueValidation ∷ [] }
+    ensures limit { word_faults (codes "replay" ∷ codes "--limit" ∷ codes "9" ∷ []) ≡ UnknownArgument ∷ [] }
+    ensures trace { word_faults (codes "replay" ∷ codes "--trace" ∷ []) ≡ UnknownArgument ∷ [] }
+    ensures picture_stats { word_faults (codes "picture" ∷ codes "--stats" ∷ []) ≡ UnknownArgument ∷ [] }
+    ensures traced_picture { word_faults (codes "run" ∷ codes "--picture" ∷ codes "--trace" ∷ []) ≡ ArgumentConflict ∷ [] }
+    ensures counted_picture { word_faults (codes "run" ∷ codes "--stats" ∷ codes "--picture" ∷ []) ≡ ArgumentConflict ∷ [] }
+    ensures stretch_alone { word_faults (codes "run" ∷ codes "--from" ∷ codes "1" ∷ []) ≡ ArgumentConflict ∷ [] }
+    ensures end_alone { word_faults (codes "run" ∷ codes "--to" ∷ codes "9" ∷ codes "--stats" ∷ []) ≡ ArgumentConflict ∷ [] }
+    ensures reversed { word_faults (codes "picture" ∷ codes "--from" ∷ codes "5" ∷ codes "--to" ∷ codes "4" ∷ []) ≡ ArgumentConflict ∷ [] }
+    ensures run_reversed { word_faults (codes "run" ∷ codes "--picture" ∷ codes "--to=1" ∷ codes "--from=2" ∷ []) ≡ ArgumentConflict ∷ [] }
+    ensures no_event { word_faults (codes "picture" ∷ codes "--from" ∷ codes "0" ∷ []) ≡ ValueValidation ∷ [] }
+    ensures past_event { word_faults (codes "run" ∷ codes "--picture" ∷ codes "--to" ∷ codes "4294967296" ∷ []) ≡ ValueValidation ∷ [] }
+    ensures replay_stretch { word_faults (codes "replay" ∷ codes "--from" ∷ codes "1" ∷ []) ≡ UnknownArgument ∷ [] }
+    ensures places { word_faults (codes "run" ∷ codes "--places" ∷ []) ≡ UnknownArgument ∷ [] }
+    ensures bounds { word_faults (codes "disasm" ∷ codes "--bounds" ∷ []) ≡ UnknownArgument ∷ [] }
+    ensures traces { word_faults (codes "run" ∷ codes "--trace" ∷ codes "--trace" ∷ []) ≡ ArgumentConflict ∷ [] }
+    ensures value { word_faults (codes "run" ∷ codes "--trace=true" ∷ []) ≡ TooManyValues ∷ [] }
+    ensures number { word_faults (codes "explain" ∷ codes "V19" ∷ []) ≡ ValueValidation ∷ [] }
+    ensures word { word_faults (codes "run" ∷ codes "--engines" ∷ codes "+1" ∷ []) ≡ ValueValidation ∷ [] }
+{}
+
+/// A word spells one input alone, and one input word alone is the first that spells none.
+pub fn words_spell_one_input()
+    ensures input { OneInput }
+    ensures refused { OneRefusedWord }
+{}
