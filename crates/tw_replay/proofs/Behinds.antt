@@ -14,9 +14,9 @@ use Rattle.tw_machine.specs.declared.rejection.OpenError.{OpenError}
 use Rattle.tw_machine.specs.declared.rejection.OpenError.TheVariants as opening
 use Rattle.tw_replay.specs.Opening.{AreOpeningDetails}
 use Rattle.tw_replay.specs.Replay.{ByOutcome, IsAnswer, IsNumbered, AreRejectionDetails, AreReportDetails, after_event, close_of, played, played_from}
-use Rattle.tw_replies.specs.declared.source.SourceText.{SourceText}
-use Rattle.tw_replies.specs.declared.close.Close.{Close}
-use Rattle.tw_replies.specs.declared.close.Close.TheVariants as close
+use Rattle.tw_program_output.specs.declared.source.SourceText.{SourceText}
+use Rattle.tw_program_output.specs.declared.close.Close.{Close}
+use Rattle.tw_program_output.specs.declared.close.Close.TheVariants as close
 
 -- ---- a program that isn't opened
 

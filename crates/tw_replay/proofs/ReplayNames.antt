@@ -13,20 +13,20 @@ pub use Rattle.tw_code.specs.format.Program.{Versioned}
 pub use Rattle.tw_code.specs.machine.Bounds.{AreBelow, opening_bound, size_of}
 pub use Rattle.tw_code.specs.machine.Machine.{run, step}
 pub use Rattle.tw_code.specs.machine.State.{Frame, State}
-pub use Rattle.tw_replies.specs.declared.close.Close.TheVariants.{Refused, Trapped}
-pub use Rattle.tw_replies.specs.declared.reply.Reply.{Reply}
+pub use Rattle.tw_program_output.specs.declared.close.Close.TheVariants.{Refused, Trapped}
+pub use Rattle.tw_program_output.specs.declared.reply.Reply.{Reply}
 pub use Rattle.tw_asm.specs.Origins.{ComesFrom, instr_at}
 pub use Rattle.tw_machine.specs.Opening.{IsTold, open_error_code, rejection_of}
 pub use Rattle.tw_machine.specs.PlainView.{PlainView}
 pub use Rattle.tw_symbols.specs.Expansion.{StandsFor}
 pub use Rattle.tw_replay.specs.Circle.{DoesRule, AreEndingDetails, IsMade, Start, TellRules, TellsCircle, TellsRule, reached_from, rule_line, rule_text}
 pub use Rattle.tw_replay.specs.Counted.{AreShort, IsCounting, IsShort}
-pub use Rattle.tw_replies.specs.Lines.{opening_line}
-pub use Rattle.tw_replies.specs.Program.{RepliesBySource, source_text}
+pub use Rattle.tw_program_output.specs.Lines.{opening_line}
+pub use Rattle.tw_program_output.specs.Program.{RepliesBySource, source_text}
 pub use Rattle.tw_replay.specs.Replay.{AreBudgets, AreKnownBudgets, IsAnswer, AreAnswerDetails, IsAnswered, IsCounted, IsNumbered, RepliesByHistory, RepliesByLines, close_of, opened, played, played_from, start_of, state_reply}
-pub use Rattle.tw_replies.specs.Reply.{Reply as Spoken, reply}
-pub use Rattle.tw_replies.specs.Source.{IsSource, IsSpelled, MayBeSource, plain_of, text_of}
+pub use Rattle.tw_program_output.specs.Reply.{Reply as Spoken, reply}
+pub use Rattle.tw_program_output.specs.Source.{IsSource, IsSpelled, MayBeSource, plain_of, text_of}
 pub use Rattle.tw_replay.specs.Stuck.{AreMade, ClosesBy, IsMadeSo, IsOpened, IsStartOf, IsUndrawn, IsUnmade, MayTell, rule_by, rule_done, rule_in}
-pub use Rattle.tw_replies.specs.Text.{IsLineOf, text_line}
+pub use Rattle.tw_program_output.specs.Text.{IsLineOf, text_line}
 pub use Rattle.tw_report.specs.Lines.{not_enabled_line, trap_line}
 pub use Rattle.tw_stats.specs.Kept.{IsComing, IsFirst, IsSmall, IsTally, rules_in}

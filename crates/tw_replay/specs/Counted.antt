@@ -10,7 +10,7 @@ use Rattle.tw_stats.specs.Kept.{IsTally}
 use Rattle.tw_replay.specs.declared.numbers.Counting.{Counting}
 use Rattle.tw_replay.specs.declared.numbers.Counting.TheVariants.{Made, Stopped}
 use Rattle.tw_replay.specs.Replay.{ByOutcome, played_from}
-use Rattle.tw_replies.specs.Reply.{reply}
+use Rattle.tw_program_output.specs.Reply.{reply}
 
 -- no event does more instructions than a task may
 abbrev pub IsShort : Event → Type 0

@@ -33,15 +33,15 @@ use Rattle.tw_picture.specs.Xml.{xml_text}
 use Rattle.tw_symbols.specs.Symbols.{AreSymbols}
 use Rattle.tw_report.specs.History.{AreParts, Tell, lines_in}
 use Rattle.tw_report.specs.Lines.{history_line, not_enabled_line, trap_line}
-use Rattle.tw_replies.specs.Lines.{opening_line}
+use Rattle.tw_program_output.specs.Lines.{opening_line}
 use Rattle.tw_report.specs.Report.{state_report}
 use Rattle.tw_stats.specs.Text.{AreNumbers}
 use Rattle.tw_replay.specs.Circle.{AreEndingDetails, Start, reached_from}
 use Rattle.tw_replay.specs.Opening.{AreOpeningDetails}
-use Rattle.tw_replies.specs.Reply.{Reply, reply}
-use Rattle.tw_replies.specs.Text.{RepliesByUtf8}
-use Rattle.tw_replies.specs.declared.close.Close.{Close}
-use Rattle.tw_replies.specs.declared.close.Close.TheVariants.{Success, Refused, Stuck, Trapped}
+use Rattle.tw_program_output.specs.Reply.{Reply, reply}
+use Rattle.tw_program_output.specs.Text.{RepliesByUtf8}
+use Rattle.tw_program_output.specs.declared.close.Close.{Close}
+use Rattle.tw_program_output.specs.declared.close.Close.TheVariants.{Success, Refused, Stuck, Trapped}
 
 -- ---- the events
 

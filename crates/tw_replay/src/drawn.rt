@@ -7,14 +7,14 @@ ghost use Rattle.tw_machine.specs.PlainView.{PlainView};
 ghost use Rattle.tw_picture.specs.History.{HasFew, IsOpening, IsTrail};
 ghost use Rattle.tw_replay.specs.Counted.{AreShort};
 ghost use Rattle.tw_replay.specs.Replay.{IsDrawn, IsPicture};
-ghost use Rattle.tw_replies.specs.Reply.{reply};
+ghost use Rattle.tw_program_output.specs.Reply.{reply};
 
 use crate::replay::{close_of, stopped_reply};
 use std::alloc::{AllocError, Global};
 use tw_cli::EventRange;
 use tw_machine::Plain;
 use tw_picture::{Settings, TimelineBuilder, timeline};
-use tw_replies::Reply;
+use tw_program_output::Reply;
 use tw_symbols::Symbols;
 use tw_types::Event;
 

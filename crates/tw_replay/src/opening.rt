@@ -6,16 +6,16 @@ ghost use Rattle.tw_code.specs.machine.Inputs.{has_fitting_inputs, input_params,
 ghost use Rattle.tw_code.specs.machine.Opening.{main_params};
 ghost use Rattle.tw_diagnostics.specs.Words.{type_text};
 ghost use Rattle.tw_replay.specs.Opening.{AreOpeningDetails, TellsInputs, TellsUnfit, count_line, excess_text, members_text, type_given, unfit_text};
-ghost use Rattle.tw_replies.specs.Lines.{opening_line};
-ghost use Rattle.tw_replies.specs.Reply.{reply};
-ghost use Rattle.tw_replies.specs.Source.{text_of};
+ghost use Rattle.tw_program_output.specs.Lines.{opening_line};
+ghost use Rattle.tw_program_output.specs.Reply.{reply};
+ghost use Rattle.tw_program_output.specs.Source.{text_of};
 
 use std::alloc::{AllocError, Global};
 use tw_code::{
     MAX_MEMBERS, Procedure, has_fitting_inputs, has_input_count, input_count, main_params, rises,
 };
 use tw_diagnostics::put_type;
-use tw_replies::{Close, Reply, SourceText, put_opening_line, refused_by};
+use tw_program_output::{Close, Reply, SourceText, put_opening_line, refused_by};
 use tw_report::{put, put_numbered};
 use tw_types::{AsValue, DataType, Input, Param};
 

@@ -6,11 +6,11 @@ ghost use Rattle.tw_code.specs.format.Program.{Versioned};
 ghost use Rattle.tw_code.specs.machine.Ending.{ending};
 ghost use Rattle.tw_code.specs.machine.State.{State};
 ghost use Rattle.tw_machine.specs.Opening.{open_error_code, rejection_of};
-ghost use Rattle.tw_replies.specs.Lines.{opening_line};
+ghost use Rattle.tw_program_output.specs.Lines.{opening_line};
 ghost use Rattle.tw_replay.specs.Circle.{AreEndingDetails, Start, reached_from};
 ghost use Rattle.tw_replay.specs.Replay.{ByOutcome, IsAnswer, AreAnswerDetails, IsAnswered, AreRejectionDetails, AreReportDetails, opened, start_of};
-ghost use Rattle.tw_replies.specs.Reply.{reply};
-ghost use Rattle.tw_replies.specs.Source.{MayBeSource, text_of};
+ghost use Rattle.tw_program_output.specs.Reply.{reply};
+ghost use Rattle.tw_program_output.specs.Source.{MayBeSource, text_of};
 ghost use Rattle.tw_replay.specs.Stuck.{CanTell, ClosesBy, IsStartOf, IsUndrawn, MayTell};
 ghost use Rattle.tw_symbols.specs.Symbols.{AreSymbols};
 ghost use Rattle.tw_replay.specs.Counted.{AreShort};
@@ -20,7 +20,7 @@ use crate::stuck::put_stuck;
 use std::alloc::{AllocError, Global};
 use tw_cli::{Answer, ReplayOrder};
 use tw_machine::{OpenError, OpenRefused};
-use tw_replies::{Close, Reply, SourceText};
+use tw_program_output::{Close, Reply, SourceText};
 use tw_types::Event;
 
 /// The reply where the program isn't opened.

@@ -24,8 +24,8 @@ use Rattle.tw_symbols.specs.Symbols.{AreSymbols}
 use Rattle.tw_stats.specs.Text.{AreNumbers}
 use Rattle.tw_report.specs.Events.{event_line}
 use Rattle.tw_run_report.specs.Ends.{end_report}
-use Rattle.tw_replies.specs.declared.close.Close.{Close}
-use Rattle.tw_replies.specs.declared.close.Close.TheVariants as close
+use Rattle.tw_program_output.specs.declared.close.Close.{Close}
+use Rattle.tw_program_output.specs.declared.close.Close.TheVariants as close
 use Rattle.tw_replay.specs.Circle.{Start, TellsCircle}
 use Rattle.tw_replay.specs.Replay.{AreBudgets}
 

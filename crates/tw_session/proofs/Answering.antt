@@ -5,12 +5,12 @@ use Rattle.clap.specs.Words.{Kinds, Text}
 use Rattle.tw_cli.specs.CommandLine.{Asked, Assembles, Checks, Disassembles, Explains, IsExplained, IsRefusedInput, Replays, Runs}
 use Rattle.tw_cli.proofs.InputTheorems.{never_refused, one_refused}
 use Rattle.tw_cli.specs.InputWords.{RefusedWord}
-use Rattle.tw_replies.specs.Inputs.{TellsInputWord}
-use Rattle.tw_replies.specs.Reply.{Reply, reply}
+use Rattle.tw_program_output.specs.Inputs.{TellsInputWord}
+use Rattle.tw_program_output.specs.Reply.{Reply, reply}
 use Rattle.tw_session.specs.Session.{AnswersWords, MayAnswer, RefusesWords, TellsMeaning}
 use Rattle.tw_session.specs.Status.{ComesOfReply}
-use Rattle.tw_replies.specs.declared.reply.Reply.{Reply as MadeReply}
-use Rattle.tw_replies.specs.declared.close.Close.{Close}
+use Rattle.tw_program_output.specs.declared.reply.Reply.{Reply as MadeReply}
+use Rattle.tw_program_output.specs.declared.close.Close.{Close}
 use Rattle.tw_session.specs.declared.status.Status.{Status}
 use Rattle.tw_session.specs.declared.status.Status.TheVariants.{Ended, NoMemory, ReadFailed, WriteFailed}
 

@@ -25,8 +25,8 @@ use Rattle.tw_cli.specs.declared.command.RunOrder.{RunOrder}
 use Rattle.tw_run_report.specs.Ends.{IsEndReport, end_report}
 use Rattle.tw_run_report.specs.Over.{IsRunOver}
 use Rattle.tw_run_report.specs.Run.{AreRunDetails, IsRunText, close_of, trace_text}
-use Rattle.tw_replies.specs.Reply.{reply}
-use Rattle.tw_replies.specs.declared.reply.Reply.{Reply as MadeReply}
+use Rattle.tw_program_output.specs.Reply.{reply}
+use Rattle.tw_program_output.specs.declared.reply.Reply.{Reply as MadeReply}
 use Rattle.tw_session.specs.Run.{EndsSo, IsOrdered, IsRun, RepliesByRun, run_as}
 
 -- by how the run has ended by itself, whether it was stopped, and whether there is room for no event

@@ -6,9 +6,9 @@ pub use Rattle.tw_cli.specs.declared.command.Order.{Order}
 pub use Rattle.tw_cli.specs.declared.command.ProgramOrder.TheVariants.{Verified}
 pub use Rattle.tw_cli.specs.declared.command.RunOrder.{RunOrder}
 pub use Rattle.tw_cli.specs.declared.command.VerifiedOrder.TheVariants.{Run}
-pub use Rattle.tw_replies.specs.Program.{RepliesBySource, source_text}
-pub use Rattle.tw_replies.specs.Reply.{Reply, reply}
-pub use Rattle.tw_replies.specs.Source.{text_of}
+pub use Rattle.tw_program_output.specs.Program.{RepliesBySource, source_text}
+pub use Rattle.tw_program_output.specs.Reply.{Reply, reply}
+pub use Rattle.tw_program_output.specs.Source.{text_of}
 pub use Rattle.tw_session.specs.ProgramAction.{Comes, Leads}
 pub use Rattle.tw_session.specs.Session.{AnswersWords, MayAnswer, MayReply, RepliesByInput, RepliesByProgram}
 pub use Rattle.tw_session.specs.declared.order.OrderAction.{OrderAction}

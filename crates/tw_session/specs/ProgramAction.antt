@@ -6,12 +6,12 @@ use Rattle.tw_session.specs.declared.order.OrderAction.{OrderAction}
 use Rattle.tw_session.specs.declared.order.OrderAction.TheVariants as step
 use Rattle.tw_session.specs.declared.programs.ProgramAction.{ProgramAction}
 use Rattle.tw_session.specs.declared.programs.ProgramAction.TheVariants as answered
-use Rattle.tw_replies.specs.Program.{RepliesBySource, source_text}
-use Rattle.tw_replies.specs.Reply.{Reply, reply}
+use Rattle.tw_program_output.specs.Program.{RepliesBySource, source_text}
+use Rattle.tw_program_output.specs.Reply.{Reply, reply}
 use Rattle.tw_session.specs.Run.{RepliesByOpening}
 use Rattle.tw_session.specs.Session.{RepliesByProgram}
-use Rattle.tw_replies.specs.Source.{MayBeSource, text_of}
-use Rattle.tw_replies.specs.declared.source.SourceText.{SourceText}
+use Rattle.tw_program_output.specs.Source.{MayBeSource, text_of}
+use Rattle.tw_program_output.specs.declared.source.SourceText.{SourceText}
 
 -- a reply that may be answered so; or the run of such an order, of a program that was read from this text if from one, whose replies may
 abbrev pub Leads : (RunOrder → Type 0) → Option SourceText → (Reply → Type 0) → ProgramAction → Type 0

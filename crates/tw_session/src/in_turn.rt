@@ -6,10 +6,10 @@ ghost use Rattle.tw_cli.specs.InTurn.{IsInTurn, turned};
 ghost use Rattle.tw_code.specs.machine.Inputs.{AreInputsOf};
 ghost use Rattle.tw_in_turn.specs.InTurn.{IsLeft};
 ghost use Rattle.tw_pool.specs.Openings.{opened};
-ghost use Rattle.tw_replies.specs.Reply.{reply};
+ghost use Rattle.tw_program_output.specs.Reply.{reply};
 ghost use Rattle.tw_session.specs.Run.{RepliesByOpening, RepliesByRun};
 ghost use Rattle.tw_session.specs.Session.{AnswersWords, MayReply};
-ghost use Rattle.tw_replies.specs.Source.{MayBeSource, text_of};
+ghost use Rattle.tw_program_output.specs.Source.{MayBeSource, text_of};
 
 use crate::input::looked_at;
 use crate::order::reply_in_turn;
@@ -19,8 +19,8 @@ use std::alloc::{AllocError, Global};
 use tw_cli::{Order, RunOrder, read_order};
 use tw_in_turn::{InTurnResult, run_in_turn};
 use tw_pool::OpenError;
+use tw_program_output::{Reply, SourceText};
 use tw_replay::inputs_refused_reply;
-use tw_replies::{Reply, SourceText};
 use tw_run_report::ended_reply;
 use tw_verify::Verified;
 

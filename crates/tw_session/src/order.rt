@@ -8,11 +8,11 @@ ghost use Rattle.tw_cli.specs.declared.command.InputsOrder.TheVariants.{ToRun};
 ghost use Rattle.tw_cli.specs.declared.command.ProgramOrder.TheVariants as ordered;
 ghost use Rattle.tw_cli.specs.declared.command.VerifiedOrder.TheVariants.{Run};
 ghost use Rattle.tw_session.specs.ProgramAction.{Comes};
-ghost use Rattle.tw_replies.specs.Inputs.{RepliesByWords, before_inputs, after_inputs, words_in};
-ghost use Rattle.tw_replies.specs.Program.{RepliesBySource, source_text};
-ghost use Rattle.tw_replies.specs.Reply.{reply};
+ghost use Rattle.tw_program_output.specs.Inputs.{RepliesByWords, before_inputs, after_inputs, words_in};
+ghost use Rattle.tw_program_output.specs.Program.{RepliesBySource, source_text};
+ghost use Rattle.tw_program_output.specs.Reply.{reply};
 ghost use Rattle.tw_session.specs.Run.{RepliesByOpening};
-ghost use Rattle.tw_replies.specs.Source.{MayBeSource, text_of};
+ghost use Rattle.tw_program_output.specs.Source.{MayBeSource, text_of};
 ghost use Rattle.tw_session.specs.Session.{MayReply, RepliesByInput, RepliesByProgram, RepliesWithInputs};
 
 use crate::in_turn::reply_single_threaded;
@@ -24,11 +24,11 @@ use std::sync::Wait;
 use std::thread::Threads;
 use std::time::Clock;
 use tw_cli::{InputsOrder, Order, ProgramOrder, RunOptions, Source, VerifiedOrder, inputs_of};
-use tw_replay::{replay_inputs_reply, replay_reply};
-use tw_replies::{
+use tw_program_output::{
     Close, ReadProgram, Reply, SourceText, assembled_reply, fixed_reply, input_parts,
     not_utf8_reply, parse_error_reply, read_program, refused_words_reply,
 };
+use tw_replay::{replay_inputs_reply, replay_reply};
 use tw_workers::Gate;
 
 /// A program that is to be read, and what is asked for of it.

@@ -5,13 +5,13 @@ ghost use Rattle.tw_session.specs.ProgramAction.{Leads};
 ghost use Rattle.tw_session.specs.Session.{RepliesByAccepted, RepliesByProgram, RepliesByVerified, places_of};
 ghost use Rattle.tw_cli.specs.declared.command.ProgramOrder.TheVariants as ordered;
 ghost use Rattle.tw_cli.specs.declared.command.VerifiedOrder.TheVariants.{Run};
-ghost use Rattle.tw_replies.specs.Source.{MayBeSource, text_of};
+ghost use Rattle.tw_program_output.specs.Source.{MayBeSource, text_of};
 ghost use Rattle.tw_code.specs.accepting.WellTyped.{IsAccepted};
 
 use std::alloc::{AllocError, Global};
 use tw_cli::{Places, ProgramOrder, RunOrder, VerifiedOrder};
 use tw_code::Program;
-use tw_replies::{Close, Reply, SourceText, checked_text, disassembled, rejection_reply};
+use tw_program_output::{Close, Reply, SourceText, checked_text, disassembled, rejection_reply};
 use tw_verify::{Verified, VerifyError, verify};
 
 /// An accepted program that is to be run, and how.

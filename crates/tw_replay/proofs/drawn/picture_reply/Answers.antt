@@ -1,7 +1,7 @@
 use Rattle.std.proofs.Common.{◌∙◌, ℕ, List, ap}
 use Rattle.tw_replay.specs.Replay.{close_of}
-use Rattle.tw_replies.specs.Reply.{reply}
-use Rattle.tw_replies.specs.declared.close.Close.{Close}
+use Rattle.tw_program_output.specs.Reply.{reply}
+use Rattle.tw_program_output.specs.declared.close.Close.{Close}
 use Rattle.tw_picture.specs.declared.places.Settings.{Settings}
 use Rattle.tw_picture.specs.Timeline.{picture_of}
 use Rattle.tw_picture.specs.Places.{between}

@@ -6,7 +6,7 @@ use Rattle.tw_cli.specs.InputWords.{AreSpelled}
 use Rattle.tw_cli.specs.Order.{IsInputReason}
 use Rattle.tw_cli.specs.declared.command.ReplayOrder.{ReplayOrder}
 use Rattle.tw_report.specs.History.{lines_in}
-use Rattle.tw_replies.specs.Inputs.{before_inputs, after_inputs, words_in}
+use Rattle.tw_program_output.specs.Inputs.{before_inputs, after_inputs, words_in}
 use Rattle.tw_replay.proofs.replay.inputs_reply.Goals as goal
 
 pub returns-in-Ok : goal.returns-in-Ok

@@ -1,6 +1,6 @@
 use Rattle.std.proofs.Common.{Option, refl, subst, sym}
 use Rattle.tw_replay.proofs.ReplayNames.{AreAnswerDetails, MayTell, on_ok_weaker, reached_from, text_of}
-use Rattle.tw_replies.specs.declared.source.SourceText.{SourceText}
+use Rattle.tw_program_output.specs.declared.source.SourceText.{SourceText}
 use Rattle.tw_replay.proofs.Behinds.{Adds}
 use Rattle.tw_replay.proofs.replay_details.put_answer_details.Goals as goal
 

@@ -1,6 +1,6 @@
 use Rattle.std.proofs.Common.{List, ℕ, subst}
 use Rattle.tw_session.proofs.SessionNames.{Comes, IfOk-weaker, IsInTurn, MayReply, RepliesByProgram, RepliesBySource, OrderAction, reply, source_text}
-use Rattle.tw_replies.specs.declared.reply.Reply.{Reply}
+use Rattle.tw_program_output.specs.declared.reply.Reply.{Reply}
 use Rattle.tw_session.proofs.order.reply_in_turn.Goals as goal
 
 pub source_in_turn-requires : goal.source_in_turn-requires

@@ -1,7 +1,7 @@
 use Rattle.std.proofs.Common.{◌≡◌, List, ℕ, Option, inl, rules, subst}
 use Rattle.tw_session.proofs.SessionNames.{ProgramAction, IfOk-weaker, Leads, RepliesByProgram, RepliesBySource, Run, RunOrder, Verified, reply, text_of, source_text}
-use Rattle.tw_replies.specs.declared.reply.Reply.{Reply}
-use Rattle.tw_replies.proofs.Nones.{Tells, none_told}
+use Rattle.tw_program_output.specs.declared.reply.Reply.{Reply}
+use Rattle.tw_program_output.proofs.Nones.{Tells, none_told}
 use Rattle.tw_session.proofs.order.source_reply.Goals as goal
 
 pub program_reply-requires : goal.program_reply-requires

@@ -5,9 +5,9 @@ use Rattle.tw_code.specs.declared.procedure.Procedure.{Procedure}
 use Rattle.tw_code.specs.format.Program.{Versioned}
 use Rattle.tw_cli.specs.declared.command.Places.{Places}
 use Rattle.tw_verify.specs.Rejection.{verify_error_code}
-use Rattle.tw_replies.specs.Check.{IsRefused}
+use Rattle.tw_program_output.specs.Check.{IsRefused}
 use Rattle.tw_session.specs.Session.{RepliesByAccepted, RepliesByVerified}
-use Rattle.tw_replies.specs.Source.{MayBeSource}
+use Rattle.tw_program_output.specs.Source.{MayBeSource}
 use Rattle.tw_session.proofs.Leading.{leads_on}
 use Rattle.tw_session.proofs.programs.verified_reply.Goals as goal
 

@@ -1,0 +1,67 @@
+-- Which line of a text is told.
+use Rattle.std.proofs.Common.{◌≡◌, ℕ, zero, suc, ◌+◌, ◌-◌, ◌<◌, List, [], ◌∷◌, length, Option, Some, None, MatchOption, refl, subst, ap, ◌∙◌, arith}
+use Rattle.tw_program_output.proofs.ReplyNames.{AreOrigins, ComesFrom, ArePlaceDetails, AreTextDetails, LinesSay, Procedure, ParserState, StandsFor, after_line, at_place, at_start, instr_at, length-append, lines}
+use Rattle.std.specs.List.{slice_get}
+use Rattle.tw_asm.specs.Statement.{Statement, Code, Head}
+use Rattle.tw_diagnostics.proofs.Heads.{front_no_procedure}
+use Rattle.tw_diagnostics.specs.LineRole.{HasNoHead, IsFirstHead}
+use Rattle.tw_symbols.proofs.LineByLine.{as_many}
+use Rattle.tw_verify.specs.declared.rejection.VerifyError.{VerifyError}
+use Rattle.tw_verify.specs.declared.rejection.VerifyError.TheVariants as rejection
+
+-- lines that say so many things are so many
+pub said_length : (number : ℕ) (s : ParserState) (ls : List (List ℕ)) (said : List (Option Statement)) → LinesSay number s ls said → length said ≡ length ls
+said_length number s [] [] h = refl
+said_length number s [] (x ∷ said) h = absurd h
+said_length number s (line ∷ ls) [] h = absurd h
+said_length number s (line ∷ ls) (x ∷ said) h = ap suc (said_length (number + 1) (after_line number x s) ls said h.1)
+
+none_past : {X : Type 0} (xs : List X) (k : ℕ) → slice_get xs k ≡ None → length xs < k + 1
+none_past [] k e = omega arith
+none_past (x ∷ xs) zero e = absurd cc
+none_past (x ∷ xs) (suc k) e = let h = none_past xs k e in omega (arith, h)
+
+-- the line is there
+pub line_there : (text plain : List ℕ) (procedure place number : ℕ) → StandsFor text plain → ComesFrom plain procedure place number → slice_get (lines text) (number - 1) ≡ None → ⊥
+line_there text plain procedure place number stands c none =
+    let past = none_past (lines text) (number - 1) none in
+    let all = said_length 1 at_start (lines plain) c.said c.say ∙ as_many text plain stands in
+    let long = ap length c.parts ∙ length-append c.before (Some (Code c.i) ∷ c.after) in
+    absurd (omega (arith, past, all, long, c.number_is))
+
+-- what stands at a place
+pub comes_from : (text : List ℕ) (program : List Procedure) (numbers : List (List ℕ)) (procedure place number : ℕ) → AreOrigins text program numbers → at_place numbers procedure place ≡ Some number
+    → ComesFrom text procedure place number
+comes_from text program numbers procedure place number o e =
+    subst (λ (x : Option ℕ). MatchOption x (instr_at program procedure place ≡ None) (ComesFrom text procedure place)) e (o procedure place)
+
+-- an instruction that is there comes from a line
+pub some_origin : (text : List ℕ) (program : List Procedure) (numbers : List (List ℕ)) (procedure place : ℕ) → AreOrigins text program numbers → (instr_at program procedure place ≡ None → ⊥)
+    → (number : ℕ) × ComesFrom text procedure place number
+some_origin text program numbers procedure place o there = by (at_place numbers procedure place) (o procedure place)
+  where
+    by : (x : Option ℕ) → MatchOption x (instr_at program procedure place ≡ None) (ComesFrom text procedure place) → (number : ℕ) × ComesFrom text procedure place number
+    by None h = absurd (there h)
+    by (Some number) h = (number, h)
+
+pub none_there : (program : List Procedure) (procedure place : ℕ) → program ≡ [] → (instr_at program procedure place ≡ None → ⊥) → ⊥
+none_there program procedure place none there = there (ap (λ (ps : List Procedure). instr_at ps procedure place) none)
+
+-- the line of the first head is there
+pub head_there : (text plain : List ℕ) (number : ℕ) → StandsFor text plain → IsFirstHead plain number → slice_get (lines text) (number - 1) ≡ None → ⊥
+head_there text plain number stands h none =
+    let past = none_past (lines text) (number - 1) none in
+    let all = said_length 1 at_start (lines plain) h.said h.say ∙ as_many text plain stands in
+    let long = ap length h.parts ∙ length-append h.before (Some (Head h.kind h.params) ∷ h.after) in
+    absurd (omega (arith, past, all, long, h.number_is))
+
+-- a line before an instruction begins a procedure
+pub some_head : (text : List ℕ) (procedure place number : ℕ) (c : ComesFrom text procedure place number) → HasNoHead c.said → ⊥
+some_head text procedure place number c none =
+    let zero' = front_no_procedure c.before (Some (Code c.i) ∷ c.after) (subst HasNoHead c.parts none) in
+    absurd (omega (arith, zero', c.procedure_is))
+
+pub other_behind : (text : List ℕ) (which : VerifyError) (program : List Procedure) (procedure place : ℕ) (more : List ℕ) → (which ≡ rejection.MainShape → ⊥) → ArePlaceDetails text which program procedure place more
+    → AreTextDetails text which program procedure place more
+other_behind text rejection.MainShape program procedure place more other h = absurd (other refl)
+other_behind text which program procedure place more other h = h

@@ -1,0 +1,14 @@
+use Rattle.std.proofs.lemmas.Result.{on_ok_weaker}
+use Rattle.tw_program_output.proofs.Sources.{other_behind}
+use Rattle.tw_program_output.proofs.source.put_text_details.Goals as goal
+
+pub returns-in-MainShape : goal.returns-in-MainShape
+returns-in-MainShape c = rw c.in-MainShape.is c.put_main_details.ensures
+
+pub returns-in_default : goal.returns-in_default
+returns-in_default c =
+    let refused = c.args.refused.now in
+    on_ok_weaker c.put_place_details.result
+    (λ told is.
+    let added = told is in
+    (added.0, other_behind c.args.source.now.text.now refused.no refused.program.procedures refused.procedure refused.place added.0 c.in_default.not-MainShape added.1, added.2)) c.put_place_details.ensures

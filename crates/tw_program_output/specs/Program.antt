@@ -1,0 +1,97 @@
+-- The program that is read: hex text of its bytes, or assembly text, with names or without; and what is assembled.
+use Rattle.std.specs.Prelude.{◌≡◌, ◌⊎◌, ◌++◌, ℕ, List, [], codes, IsUtf8, Option, Some, None, Ok, Err}
+use Rattle.std.specs.Result.{IsErr}
+use Rattle.hex.specs.Hex.{decode_of, encode_lower}
+use Rattle.tw_asm.specs.Answers.{HasFault}
+use Rattle.tw_asm.specs.Fault as asm
+use Rattle.tw_asm.specs.Spelling.{SpellsProgram}
+use Rattle.tw_binary.specs.Fault as fault
+use Rattle.tw_code.specs.format.Program.{Versioned}
+use Rattle.tw_binary.specs.Reading.{program_of}
+use Rattle.tw_binary.specs.Spelling.{spelling}
+use Rattle.tw_cli.specs.declared.command.Assembling.{Assembling}
+use Rattle.tw_cli.specs.declared.command.Assembling.TheVariants as assembling
+use Rattle.tw_cli.specs.declared.command.Source.{Source}
+use Rattle.tw_cli.specs.declared.command.Source.TheVariants.{Hex, Assembly}
+use Rattle.tw_asm.specs.declared.fault.FaultNo.{FaultNo}
+use Rattle.tw_symbols.specs.Answers.{told}
+use Rattle.tw_symbols.specs.Expansion.{IsFirstRejection, StandsFor}
+use Rattle.tw_program_output.specs.Lines.{asm_line, fault_line}
+use Rattle.tw_program_output.specs.Input.{digits_in}
+use Rattle.tw_program_output.specs.Names.{AreFaultDetails, RepliesByPlain, name_details, name_line}
+use Rattle.tw_program_output.specs.Reply.{Reply, reply}
+use Rattle.tw_program_output.specs.Text.{RepliesByUtf8}
+use Rattle.tw_program_output.specs.declared.program.NoProgram.{NoProgram}
+use Rattle.tw_program_output.specs.declared.program.NoProgram.TheVariants.{NotHex, NotUtf8, Bytes, Text, Named, NoMemory}
+use Rattle.tw_program_output.specs.declared.close.Close.TheVariants.{Refused, Success}
+
+-- the assembly text for which a text stands spells it
+abbrev pub SpellsText : List ℕ → Versioned → Type 0
+SpellsText text program = (plain : List ℕ) × StandsFor text plain × SpellsProgram program plain
+
+abbrev pub TextHasFault : List ℕ → FaultNo → ℕ → Type 0
+TextHasFault text which line = (plain : List ℕ) × StandsFor text plain × HasFault plain which line
+
+-- it is spelled
+abbrev pub Spells : Source → List ℕ → Versioned → Type 0
+Spells Hex input program = (bytes : List ℕ) × (decode_of (digits_in input) ≡ Ok bytes) × (program_of bytes ≡ Ok program)
+Spells Assembly input program = IsUtf8 input × SpellsText input program
+
+-- or none is, for this reason
+abbrev pub SpellsNone : Source → List ℕ → NoProgram → Type 0
+SpellsNone Hex input NotHex = IsErr (decode_of (digits_in input))
+SpellsNone Hex input (Bytes f) = (bytes : List ℕ) × (decode_of (digits_in input) ≡ Ok bytes) × (program_of bytes ≡ Err f)
+SpellsNone Hex input NotUtf8 = ⊥
+SpellsNone Hex input (Text f) = ⊥
+SpellsNone Hex input (Named f) = ⊥
+SpellsNone Hex input NoMemory = ⊥
+SpellsNone Assembly input NotHex = ⊥
+SpellsNone Assembly input (Bytes f) = ⊥
+SpellsNone Assembly input NotUtf8 = IsUtf8 input → ⊥
+SpellsNone Assembly input (Text f) = IsUtf8 input × TextHasFault input f.no f.line
+SpellsNone Assembly input (Named f) = IsUtf8 input × IsFirstRejection input (told f)
+SpellsNone Assembly input NoMemory = ⊥
+
+abbrev pub no_program_line : NoProgram → List ℕ
+no_program_line NotHex = codes "refused H01\n"
+no_program_line NotUtf8 = codes "refused H03\n"
+no_program_line (Bytes f) = fault_line (fault.fault_number f.no) f.offset
+no_program_line (Text f) = asm_line (asm.fault_number f.no) f.line
+no_program_line (Named f) = name_line f.no f.line
+no_program_line NoMemory = codes "memory\n"
+
+-- what stands behind that line: the line of a text that is refused, and why it is
+abbrev pub AreParseErrorDetails : List ℕ → NoProgram → List ℕ → Type 0
+AreParseErrorDetails input NotHex more = more ≡ []
+AreParseErrorDetails input NotUtf8 more = more ≡ []
+AreParseErrorDetails input (Bytes f) more = more ≡ []
+AreParseErrorDetails input (Text f) more = AreFaultDetails input f.no f.line more
+AreParseErrorDetails input (Named f) more = more ≡ name_details input f.no f.line f.word.now
+AreParseErrorDetails input NoMemory more = more ≡ []
+
+-- the program is answered so; or it is told why there is none
+abbrev pub RepliesBySource : Source → List ℕ → (Versioned → Reply → Type 0) → Reply → Type 0
+RepliesBySource source input Answers r =
+    ((program : Versioned) × Spells source input program × Answers program r)
+    ⊎ ((why : NoProgram) × (more : List ℕ) × SpellsNone source input why × AreParseErrorDetails input why more × (r ≡ reply (no_program_line why ++ more) Refused))
+
+-- the same of an assembly text whose bytes are asked for: it has no names, and no more is told than that line
+abbrev pub RepliesByText : List ℕ → (Versioned → Reply → Type 0) → Reply → Type 0
+RepliesByText input Answers r =
+    RepliesByUtf8 input (((program : Versioned) × SpellsProgram program input × Answers program r)
+    ⊎ ((which : FaultNo) × (line : ℕ) × HasFault input which line × (r ≡ reply (asm_line (asm.fault_number which) line) Refused))) r
+
+-- the text as it is written, where it was one
+abbrev pub source_text : Source → List ℕ → Option (List ℕ)
+source_text Hex input = None
+source_text Assembly input = Some input
+
+-- a program's bytes, in hex digits
+abbrev pub IsWritten : Versioned → Reply → Type 0
+IsWritten program r = r ≡ reply (encode_lower (spelling program) ++ codes "\n") Success
+
+-- what is assembled: the bytes of an assembly text, or of one that may have names, or the assembly text for which such a text stands
+abbrev pub RepliesByAssembling : Assembling → List ℕ → Reply → Type 0
+RepliesByAssembling assembling.Text input r = RepliesByText input IsWritten r
+RepliesByAssembling assembling.Names input r = RepliesBySource Assembly input IsWritten r
+RepliesByAssembling assembling.Plain input r = RepliesByPlain input r

@@ -1,0 +1,89 @@
+//! What is assembled.
+
+ghost use Rattle.std.specs.Prelude.{◌≡◌, IfOk};
+ghost use Rattle.tw_asm.specs.Fault.{fault_number};
+ghost use Rattle.tw_cli.specs.declared.command.Source.TheVariants.{Assembly};
+ghost use Rattle.tw_program_output.specs.Lines.{asm_line};
+ghost use Rattle.tw_program_output.specs.Program.{IsWritten, RepliesByAssembling, RepliesBySource, RepliesByText};
+ghost use Rattle.tw_program_output.specs.Reply.{reply};
+ghost use Rattle.tw_program_output.specs.declared.close.Close.TheVariants.{Refused};
+
+use crate::close::Close;
+use crate::lines::put_asm_line;
+use crate::names::plain_reply;
+use crate::program::{parse_error_reply, read_program};
+use crate::reply::{Reply, not_utf8_reply, refused_by};
+use std::alloc::{AllocError, Global};
+use tw_asm::{AsmFault, assemble};
+use tw_binary::encode;
+use tw_cli::{Assembling, Source};
+use tw_code::Program;
+use tw_lexer::put;
+
+/// A program as hex digits, in one line.
+fn hex_reply(alloc: Global, program: &Program) -> Result<Reply, AllocError>
+    ensures { IfOk result (λ r. IsWritten program.now (reply r.text.items r.close)) }
+{
+    let Ok(bytes) = encode(alloc, program) else {
+        return Err(AllocError);
+    };
+    let mut text = hex::encode(alloc, bytes)?.into_bytes();
+    put(&mut text, "\n")?;
+    Ok(Reply {
+        text,
+        close: Close::Success,
+    })
+}
+
+/// The line of a text's first fault.
+fn fault_reply(alloc: Global, fault: AsmFault) -> Result<Reply, AllocError>
+    ensures { IfOk result (λ r. reply r.text.items r.close ≡ reply (asm_line (fault_number fault.no) fault.line) Refused) }
+{
+    let mut text = Vec::new(alloc);
+    put_asm_line(alloc, &mut text, fault.no.number(), fault.line)?;
+    Ok(refused_by(text))
+}
+
+/// The program of an assembly text as hex digits, or the text's first fault.
+fn text_reply(alloc: Global, text: &str) -> Result<Reply, AllocError>
+    ensures { IfOk result (λ r. RepliesByText text.now IsWritten (reply r.text.items r.close)) }
+{
+    match assemble(alloc, text) {
+        Ok(program) => hex_reply(alloc, &program),
+        Err(fault) => match fault.no {
+            tw_asm::FaultNo::NoMemory => Err(AllocError),
+            _ => fault_reply(alloc, fault),
+        },
+    }
+}
+
+/// The same of what is to be text.
+fn written_reply(alloc: Global, input: &[u8]) -> Result<Reply, AllocError>
+    ensures { IfOk result (λ r. RepliesByText input.now IsWritten (reply r.text.items r.close)) }
+{
+    match str::from_utf8(input) {
+        Ok(text) => text_reply(alloc, text),
+        Err(_) => not_utf8_reply(alloc),
+    }
+}
+
+/// The program of a text that may have names as hex digits, or why there is none.
+fn named_reply(alloc: Global, input: &[u8]) -> Result<Reply, AllocError>
+    ensures { IfOk result (λ r. RepliesBySource Assembly input.now IsWritten (reply r.text.items r.close)) }
+{
+    match read_program(alloc, Source::Assembly, input) {
+        Ok(read) => hex_reply(alloc, &read.program),
+        Err(why) => parse_error_reply(alloc, input, why),
+    }
+}
+
+/// What is assembled, or why that can't be.
+pub fn assembled_reply(alloc: Global, what: Assembling, input: &[u8]) -> Result<Reply, AllocError>
+    ensures { IfOk result (λ r. RepliesByAssembling what input.now (reply r.text.items r.close)) }
+{
+    match what {
+        Assembling::Text => written_reply(alloc, input),
+        Assembling::Names => named_reply(alloc, input),
+        Assembling::Plain => plain_reply(alloc, input),
+    }
+}

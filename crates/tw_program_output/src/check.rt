@@ -1,0 +1,204 @@
+//! What `check` says of a program.
+
+ghost use Rattle.std.specs.Prelude.{◌≡◌, ◌++◌, ℕ, List, IfOk, OnOk, decimal};
+ghost use Rattle.tw_code.specs.accepting.WellTyped.{IsFirstRejection};
+ghost use Rattle.tw_program_output.specs.Check.{AreProcedureLines, IsCheckText, IsChecked, IsRefused, IsToldByCheck, StandsBefore, kind_text, needs_line, procedure_line};
+ghost use Rattle.tw_cli.specs.declared.command.Places.TheVariants.{Shown};
+ghost use Rattle.tw_symbols.specs.Symbols.{name_at};
+ghost use Rattle.tw_program_output.specs.Listing.{IsListing, IsRefusedListing};
+ghost use Rattle.tw_program_output.specs.Reply.{reply};
+ghost use Rattle.tw_program_output.specs.Source.{MayBeSource, text_of};
+ghost use Rattle.tw_verify.specs.Rejection.{verify_error_code};
+
+use crate::bounds::put_requested_bounds;
+use crate::lines::put_verify_line;
+use crate::listing::{refused_text, typed_text};
+use crate::reply::{Reply, refused_by};
+use crate::source::{SourceText, put_rejection_details, symbols_of};
+use crate::text_listing::{accepted_lines, refused_lines};
+use std::alloc::{AllocError, Global};
+use tw_cli::{CheckOrder, Places};
+use tw_lexer::{put, put_numbered};
+use tw_symbols::Symbols;
+use tw_types::Kind;
+use tw_verify::{Refused, Verified};
+
+fn put_kind(out: &mut Vec<u8>, kind: Kind) -> Result<(), AllocError>
+    ensures { OnOk result (out.new.items ≡ out.old.items ++ kind_text kind) }
+{
+    match kind {
+        Kind::Control => put(out, " control"),
+        Kind::Leaf => put(out, " leaf"),
+    }
+}
+
+/// Adds the line of a procedure.
+fn put_procedure_line(
+    alloc: Global,
+    out: &mut Vec<u8>,
+    names: &Symbols,
+    number: usize,
+    kind: Kind,
+    budget: u64,
+) -> Result<(), AllocError>
+    ensures { OnOk result (out.new.items ≡ out.old.items ++ procedure_line (name_at names.now number) number kind budget) }
+{
+    put_numbered(alloc, out, "proc ", number)?;
+    put_kind(out, kind)?;
+    put_numbered(alloc, out, " budget ", budget as usize)?;
+    names.put(out, number)?;
+    put(out, "\n")
+}
+
+/// Adds the lines of the procedures.
+fn put_procedure_lines(
+    alloc: Global,
+    out: &mut Vec<u8>,
+    names: &Symbols,
+    verified: &Verified,
+) -> Result<(), AllocError>
+    ensures { OnOk result ((lines : List ℕ) × AreProcedureLines names.now 0 verified.now.program lines × (out.new.items ≡ out.old.items ++ lines)) }
+{
+    for (number, procedure) in verified.program().procedures().iter().enumerate() {
+        let budget = verified.budget(number);
+        put_procedure_line(alloc, out, names, number, procedure.kind, budget)?;
+    }
+    Ok(())
+}
+
+/// Adds the line of what the targets need.
+fn put_needs(alloc: Global, out: &mut Vec<u8>, engines: u8, workers: u8) -> Result<(), AllocError>
+    ensures { OnOk result (out.new.items ≡ out.old.items ++ needs_line engines workers) }
+{
+    put_numbered(alloc, out, "needs engines ", usize::from(engines))?;
+    put_numbered(alloc, out, " workers ", usize::from(workers))?;
+    put(out, "\n")
+}
+
+/// The whole text of the check of an accepted program.
+fn check_text(alloc: Global, names: &Symbols, verified: &Verified) -> Result<Vec<u8>, AllocError>
+    ensures { IfOk result (λ text. IsCheckText names.now verified.now.program text.items) }
+{
+    let mut text = Vec::new(alloc);
+    put(&mut text, "accepted\n")?;
+    put_procedure_lines(alloc, &mut text, names, verified)?;
+    let (engines, workers) = verified.needs();
+    put_needs(alloc, &mut text, engines, workers)?;
+    Ok(text)
+}
+
+/// The listing of an accepted program: of its text's lines, where it was read from a text.
+fn accepted_listing(
+    alloc: Global,
+    source: &Option<SourceText<'_>>,
+    verified: &Verified,
+) -> Result<Vec<u8>, AllocError>
+    requires { MayBeSource source.now verified.now.program }
+    ensures { IfOk result (λ text. IsListing (text_of source.now) verified.now.program text.items) }
+{
+    match source {
+        Some(source) => accepted_lines(alloc, source, verified),
+        None => typed_text(alloc, verified),
+    }
+}
+
+/// The same of a refused program.
+fn refused_listing(
+    alloc: Global,
+    source: &Option<SourceText<'_>>,
+    refused: &Refused,
+) -> Result<Vec<u8>, AllocError>
+    requires { MayBeSource source.now refused.now.program.procedures }
+    ensures { IfOk result (λ text. IsRefusedListing (text_of source.now) refused.now.program.procedures (verify_error_code refused.now.no) refused.now.procedure text.items) }
+{
+    match source {
+        Some(source) => refused_lines(alloc, source, refused),
+        None => refused_text(alloc, refused),
+    }
+}
+
+/// Lists an accepted program, and tells what a check tells of it, with the names of its procedures.
+fn listed_text(
+    alloc: Global,
+    source: &Option<SourceText<'_>>,
+    verified: &Verified,
+) -> Result<Vec<u8>, AllocError>
+    requires { MayBeSource source.now verified.now.program }
+    ensures { IfOk result (λ text. IsChecked Shown (text_of source.now) verified.now.program text.items) }
+{
+    let mut text = accepted_listing(alloc, source, verified)?;
+    let names = symbols_of(alloc, source)?;
+    let told = check_text(alloc, &names, verified)?;
+    text.extend_from_slice(&told)?;
+    Ok(text)
+}
+
+/// Tells the budgets, after the listing if that is asked for.
+fn budgets_text(
+    alloc: Global,
+    source: &Option<SourceText<'_>>,
+    places: Places,
+    verified: &Verified,
+) -> Result<Vec<u8>, AllocError>
+    requires { MayBeSource source.now verified.now.program }
+    ensures { IfOk result (λ text. IsChecked places (text_of source.now) verified.now.program text.items) }
+{
+    match places {
+        Places::Hidden => check_text(alloc, &Symbols::none(alloc), verified),
+        Places::Shown => listed_text(alloc, source, verified),
+    }
+}
+
+/// Tells what a check says of an accepted program: its budgets, and what else is asked for.
+pub fn checked_text(
+    alloc: Global,
+    source: &Option<SourceText<'_>>,
+    order: CheckOrder,
+    verified: &Verified,
+) -> Result<Vec<u8>, AllocError>
+    requires { MayBeSource source.now verified.now.program }
+    ensures { IfOk result (λ text. IsToldByCheck order (text_of source.now) verified.now.program text.items) }
+{
+    let mut text = budgets_text(alloc, source, order.places, verified)?;
+    put_requested_bounds(alloc, &mut text, order.bounds, verified)?;
+    Ok(text)
+}
+
+/// What stands before a refusal.
+fn text_before(
+    alloc: Global,
+    source: &Option<SourceText<'_>>,
+    places: Places,
+    refused: &Refused,
+) -> Result<Vec<u8>, AllocError>
+    requires { MayBeSource source.now refused.now.program.procedures }
+    ensures { IfOk result (λ text. StandsBefore places (text_of source.now) refused.now.program.procedures (verify_error_code refused.now.no) refused.now.procedure text.items) }
+{
+    match places {
+        Places::Hidden => Ok(Vec::new(alloc)),
+        Places::Shown => refused_listing(alloc, source, refused),
+    }
+}
+
+/// The reply where a program isn't accepted.
+pub fn rejection_reply(
+    alloc: Global,
+    source: &Option<SourceText<'_>>,
+    places: Places,
+    refused: &Refused,
+) -> Result<Reply, AllocError>
+    requires source { MayBeSource source.now refused.now.program.procedures }
+    requires first { IsFirstRejection refused.now.program.procedures (verify_error_code refused.now.no) refused.now.procedure refused.now.place }
+    ensures { IfOk result (λ r. IsRefused places (text_of source.now) refused.now.program.procedures (reply r.text.items r.close)) }
+{
+    let mut text = text_before(alloc, source, places, refused)?;
+    put_verify_line(
+        alloc,
+        &mut text,
+        refused.no.number(),
+        refused.procedure,
+        refused.place,
+    )?;
+    put_rejection_details(alloc, &mut text, source, refused)?;
+    Ok(refused_by(text))
+}

@@ -1,0 +1,125 @@
+//! Inputs that stand in what is read, behind the program.
+
+ghost use Rattle.std.specs.Prelude.{◌≡◌, ◌++◌, ◌∷◌, [], List, map, IfOk, OnOk};
+ghost use Rattle.std.specs.Str.Lines.{lines};
+ghost use Rattle.clap.specs.Words.{Text};
+ghost use Rattle.tw_cli.specs.InputWords.{IsRefusedWord, RefusedWord, refused_word};
+ghost use Rattle.tw_cli.specs.Order.{IsInputReason};
+ghost use Rattle.tw_program_output.specs.Inputs.{TellsInputWord, before_inputs, after_inputs, words_in};
+ghost use Rattle.tw_program_output.specs.Parts.{after_in, after_line, seen};
+ghost use Rattle.tw_program_output.specs.Reply.{reply};
+ghost use Rattle.tw_program_output.specs.declared.inputs.Section.TheVariants as section;
+
+use crate::close::Close;
+use crate::lines::put_input_word_line;
+use crate::reply::Reply;
+use std::alloc::{AllocError, Global};
+use tw_cli::NoOrder;
+use tw_lexer::put;
+
+/// Where a line stands.
+#[derive(Clone, Copy)]
+pub enum Section {
+    Program,
+    Inputs,
+    /// Behind the inputs' line `end`.
+    Rest,
+}
+
+/// A program's text and the input words behind it, as far as their lines are read.
+#[derive(Drop)]
+pub struct InputParts<'a> {
+    pub section: Section,
+    pub program: Vec<u8>,
+    pub words: Vec<&'a str>,
+}
+
+fn put_program_line(program: &mut Vec<u8>, line: &str) -> Result<(), AllocError>
+    ensures { OnOk result (program.new.items ≡ program.old.items ++ (line.now ++ 10 ∷ [])) }
+{
+    put(program, line)?;
+    put(program, "\n")
+}
+
+fn take_program_line<'a>(
+    mut parts: InputParts<'a>,
+    line: &'a str,
+) -> Result<InputParts<'a>, AllocError>
+    requires { parts.section ≡ section.Program }
+    ensures { IfOk result (λ after. seen after ≡ after_in section.Program (seen parts.entry).program (seen parts.entry).words line.entry.now) }
+{
+    if line == "inputs" {
+        parts.section = Section::Inputs;
+        return Ok(parts);
+    }
+    put_program_line(&mut parts.program, line)?;
+    Ok(parts)
+}
+
+fn take_input_line<'a>(
+    mut parts: InputParts<'a>,
+    line: &'a str,
+) -> Result<InputParts<'a>, AllocError>
+    requires { parts.section ≡ section.Inputs }
+    ensures { IfOk result (λ after. seen after ≡ after_in section.Inputs (seen parts.entry).program (seen parts.entry).words line.entry.now) }
+{
+    if line == "end" {
+        parts.section = Section::Rest;
+        return Ok(parts);
+    }
+    if line.is_empty() {
+        return Ok(parts);
+    }
+    parts.words.push(line)?;
+    Ok(parts)
+}
+
+fn take_line<'a>(parts: InputParts<'a>, line: &'a str) -> Result<InputParts<'a>, AllocError>
+    ensures { IfOk result (λ after. seen after ≡ after_line (seen parts.entry) line.entry.now) }
+{
+    match parts.section {
+        Section::Program => take_program_line(parts, line),
+        Section::Inputs => take_input_line(parts, line),
+        Section::Rest => Ok(parts),
+    }
+}
+
+/// The lines of the program, and the input words behind them.
+pub fn input_parts<'a>(alloc: Global, text: &'a str) -> Result<InputParts<'a>, AllocError>
+    ensures program { IfOk result (λ p. p.program.items ≡ before_inputs (lines text.entry.now)) }
+    ensures words { IfOk result (λ p. map (λ word. word.now) p.words.items ≡ words_in (after_inputs (lines text.entry.now))) }
+{
+    let mut parts = InputParts {
+        section: Section::Program,
+        program: Vec::new(alloc),
+        words: Vec::new(alloc),
+    };
+    for line in text.lines() {
+        parts = take_line(parts, line)?;
+    }
+    Ok(parts)
+}
+
+/// Prints the number of the input word that spells no input, and the line that says why.
+pub fn input_word_reply(alloc: Global, number: usize, reason: &[u8]) -> Result<Reply, AllocError>
+    ensures { IfOk result (λ r. TellsInputWord (refused_word number reason.now) (reply r.text.items r.close)) }
+{
+    let mut text = Vec::new(alloc);
+    put_input_word_line(alloc, &mut text, number)?;
+    text.extend_from_slice(reason)?;
+    Ok(Reply {
+        text,
+        close: Close::CommandLine,
+    })
+}
+
+/// The reply where a word spells no input; the other reason that there is is want of memory.
+pub fn refused_words_reply(alloc: Global, why: NoOrder) -> Result<Reply, AllocError>
+    ensures { IfOk result (λ r. (words : List Text) → IsInputReason words why
+        → (refused : RefusedWord) × IsRefusedWord words refused × TellsInputWord refused (reply r.text.items r.close)) }
+{
+    match why {
+        NoOrder::InputWord(number, reason) => input_word_reply(alloc, number, reason.as_slice()),
+        _ => Err(AllocError),
+    }
+}

@@ -1,0 +1,217 @@
+//! What is told of texts with names, and of the assembly texts for which they stand.
+
+ghost use Rattle.std.specs.Prelude.{◌≡◌, ◌++◌, ◌-◌, ℕ, List, IfOk, OnOk, codes, decimal, option_map, slice_get};
+ghost use Rattle.std.specs.Str.Lines.{lines};
+ghost use Rattle.tw_diagnostics.specs.Diagnostics.{IsTextReason};
+ghost use Rattle.tw_symbols.specs.Answers.{told};
+ghost use Rattle.tw_symbols.specs.Expansion.{IsFirstRejection, StandsFor};
+ghost use Rattle.tw_program_output.specs.Names.{AreFaultDetails, RepliesByPlain, expected_words, fixed_diagnostic, is_same_line, kind_diagnostic, line_text, name_details, name_line, name_diagnostic, binding_words, written_text};
+ghost use Rattle.tw_lexer.specs.Shown.{shortened};
+ghost use Rattle.tw_program_output.specs.Reply.{reply};
+
+use crate::close::Close;
+use crate::reply::{Reply, fixed_reply, not_utf8_reply, refused_by};
+use std::alloc::{AllocError, Global};
+use tw_asm::AsmFault;
+use tw_diagnostics::put_text_diagnostic;
+use tw_lexer::{line_numbered, put, put_both, put_numbered, put_shortened};
+use tw_symbols::{Bank, Binding, Expected, NameError, NameNo, expanded_text};
+
+/// Adds the line of this number, shortened if it is long, where the text has one.
+fn put_line(out: &mut Vec<u8>, text: &str, number: usize) -> Result<(), AllocError>
+    ensures { OnOk result (out.new.items ≡ out.old.items ++ line_text (slice_get (lines text.now) (number - 1))) }
+{
+    match line_numbered(text, number) {
+        Some(line) => {
+            put_shortened(out, line.as_bytes())?;
+            put(out, "\n")
+        }
+        None => Ok(()),
+    }
+}
+
+/// Adds the line of a refusal.
+pub fn put_name_line(
+    alloc: Global,
+    out: &mut Vec<u8>,
+    rejection: NameError<'_>,
+) -> Result<(), AllocError>
+    ensures { OnOk result (out.new.items ≡ out.old.items ++ name_line rejection.entry.no rejection.entry.line) }
+{
+    let number = usize::from(rejection.no.number());
+    put_numbered(alloc, out, "refused N0", number)?;
+    put_numbered(alloc, out, " at line ", rejection.line)?;
+    put(out, "\n")
+}
+
+fn binding_words(binding: Binding) -> &'static str
+    ensures { result.now ≡ binding_words binding }
+{
+    match binding {
+        Binding::Constant(_) => "a constant",
+        Binding::Register(Bank::Value, _, _) => "a value register",
+        Binding::Register(Bank::Right, _, _) => "a right register",
+        Binding::Procedure(_) => "a procedure",
+    }
+}
+
+fn expected_words(asked: Expected) -> &'static str
+    ensures { result.now ≡ expected_words asked }
+{
+    match asked {
+        Expected::Value | Expected::ValueArgument => "a value register",
+        Expected::Right | Expected::RightArgument => "a right register",
+        Expected::Number => "a number",
+        Expected::Procedure => "a procedure",
+        Expected::Nothing => "no name",
+    }
+}
+
+/// Adds what a name means, and what is required in its place.
+fn put_kind(out: &mut Vec<u8>, binding: Binding, asked: Expected) -> Result<(), AllocError>
+    ensures { OnOk result (out.new.items ≡ out.old.items ++ kind_diagnostic binding asked) }
+{
+    put_both(out, "it is ", binding_words(binding))?;
+    put_both(out, ", ", expected_words(asked))?;
+    put(out, " is required")
+}
+
+fn fixed_diagnostic(no: NameNo) -> &'static str
+    ensures { result.now ≡ fixed_diagnostic no }
+{
+    match no {
+        NameNo::Form =>
+            "expected const NAME = NUMBER, let NAME = REGISTER, or NAME: with a mode or type behind it",
+        NameNo::NoName => "this can't be a name",
+        NameNo::Twice => "the name is taken",
+        NameNo::Listed => "its register has a name already",
+        NameNo::Unknown => "the name means nothing here",
+        NameNo::Limit => "it would be a register past the last",
+        NameNo::Kind(_, _) | NameNo::NoMemory => "",
+    }
+}
+
+/// Adds what is wrong with a word.
+fn put_diagnostic(out: &mut Vec<u8>, no: NameNo) -> Result<(), AllocError>
+    ensures { OnOk result (out.new.items ≡ out.old.items ++ name_diagnostic no) }
+{
+    match no {
+        NameNo::Kind(binding, asked) => put_kind(out, binding, asked),
+        _ => put(out, fixed_diagnostic(no)),
+    }
+}
+
+fn put_word_diagnostic(out: &mut Vec<u8>, word: &[u8], no: NameNo) -> Result<(), AllocError>
+    ensures { OnOk result (out.new.items ≡ out.old.items ++ (shortened word.now ++ (codes ": " ++ (name_diagnostic no ++ codes "\n")))) }
+{
+    put_shortened(out, word)?;
+    put(out, ": ")?;
+    put_diagnostic(out, no)?;
+    put(out, "\n")
+}
+
+/// Adds the line that is refused as it was written, and what is wrong with which word of it.
+pub fn put_name_details(
+    out: &mut Vec<u8>,
+    text: &str,
+    rejection: NameError<'_>,
+) -> Result<(), AllocError>
+    ensures { OnOk result (out.new.items ≡ out.old.items ++ name_details text.now rejection.entry.no rejection.entry.line rejection.entry.word.now) }
+{
+    put_line(out, text, rejection.line)?;
+    put_word_diagnostic(out, rejection.word, rejection.no)
+}
+
+fn is_same_line(line: Option<&str>, other: Option<&str>) -> bool
+    ensures { result ≡ is_same_line (option_map (λ line. line.now) line.entry) (option_map (λ line. line.now) other.entry) }
+{
+    match line {
+        None => false,
+        Some(line) => match other {
+            None => false,
+            Some(other) => line == other,
+        },
+    }
+}
+
+/// Adds the line as it was written, unless it is the one for which it stands.
+fn put_written(out: &mut Vec<u8>, text: &str, plain: &str, number: usize) -> Result<(), AllocError>
+    ensures { OnOk result (out.new.items ≡ out.old.items ++ written_text (slice_get (lines text.now) (number - 1)) (slice_get (lines plain.now) (number - 1))) }
+{
+    if is_same_line(line_numbered(text, number), line_numbered(plain, number)) {
+        return Ok(());
+    }
+    put_line(out, text, number)?;
+    put(out, "stands for: ")
+}
+
+/// Adds the line as it was written, and why the line is refused for which it stands.
+fn put_written_fault(
+    alloc: Global,
+    out: &mut Vec<u8>,
+    text: &str,
+    plain: &str,
+    fault: AsmFault,
+) -> Result<(), AllocError>
+    ensures { OnOk result ((reason : List ℕ) × IsTextReason plain.now fault.no fault.line reason
+        × (out.new.items ≡ out.old.items ++ (written_text (slice_get (lines text.now) (fault.line - 1)) (slice_get (lines plain.now) (fault.line - 1)) ++ reason))) }
+{
+    put_written(out, text, plain, fault.line)?;
+    put_text_diagnostic(alloc, out, plain, fault)
+}
+
+/// Adds the line at which what a text stands for is refused, as it was written where there are names, and why it is.
+pub fn put_fault_details(
+    alloc: Global,
+    out: &mut Vec<u8>,
+    text: &str,
+    fault: AsmFault,
+) -> Result<(), AllocError>
+    ensures { OnOk result ((plain : List ℕ) → StandsFor text.now plain → (more : List ℕ) × AreFaultDetails text.now fault.no fault.line more × (out.new.items ≡ out.old.items ++ more)) }
+{
+    match expanded_text(alloc, text) {
+        Ok(None) => put_text_diagnostic(alloc, out, text, fault),
+        Ok(Some(plain)) => put_written_fault(alloc, out, text, &plain, fault),
+        Err(rejection) => match rejection.no {
+            NameNo::NoMemory => Err(AllocError),
+            _ => Ok(()),
+        },
+    }
+}
+
+/// The reply where a text with names is refused.
+fn named_reply(alloc: Global, text: &str, rejection: NameError<'_>) -> Result<Reply, AllocError>
+    ensures { IfOk result (λ r. IsFirstRejection text.now (told rejection.entry) → RepliesByPlain text.now (reply r.text.items r.close)) }
+{
+    let mut out = Vec::new(alloc);
+    put_name_line(alloc, &mut out, rejection)?;
+    put_name_details(&mut out, text, rejection)?;
+    Ok(refused_by(out))
+}
+
+/// The assembly text for which a text stands.
+fn text_plain_reply(alloc: Global, text: &str) -> Result<Reply, AllocError>
+    ensures { IfOk result (λ r. RepliesByPlain text.now (reply r.text.items r.close)) }
+{
+    match expanded_text(alloc, text) {
+        Ok(Some(plain)) => Ok(Reply {
+            text: plain.into_bytes(),
+            close: Close::Success,
+        }),
+        Ok(None) => fixed_reply(alloc, text, Close::Success),
+        Err(rejection) => match rejection.no {
+            NameNo::NoMemory => Err(AllocError),
+            _ => named_reply(alloc, text, rejection),
+        },
+    }
+}
+
+/// The same of what is to be text.
+pub fn plain_reply(alloc: Global, input: &[u8]) -> Result<Reply, AllocError>
+    ensures { IfOk result (λ r. RepliesByPlain input.now (reply r.text.items r.close)) }
+{
+    match str::from_utf8(input) {
+        Ok(text) => text_plain_reply(alloc, text),
+        Err(_) => not_utf8_reply(alloc),
+    }
+}

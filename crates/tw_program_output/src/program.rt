@@ -1,0 +1,280 @@
+//! The program that is read.
+
+ghost use Rattle.std.specs.Prelude.{◌≡◌, ◌≢◌, ◌++◌, ℕ, List, Err, Ok, Some, IfErr, IfOk, IsUtf8, OnOk, string_bytes};
+ghost use Rattle.tw_asm.specs.Answers.{HasFault};
+ghost use Rattle.tw_asm.specs.Spelling.{SpellsProgram};
+ghost use Rattle.tw_asm.specs.declared.fault.AsmFault.{AsmFault as TextFault};
+ghost use Rattle.tw_cli.specs.declared.command.Source.TheVariants.{Assembly, Hex};
+ghost use Rattle.tw_cli.specs.declared.command.Source.{Source as ReadAs};
+ghost use Rattle.tw_asm.specs.Origins.{AreOrigins};
+ghost use Rattle.tw_symbols.specs.Expansion.{StandsFor};
+ghost use Rattle.tw_symbols.specs.declared.rejection.NameNo.TheVariants as no;
+ghost use Rattle.tw_program_output.specs.Names.{AreFaultDetails, name_details};
+ghost use Rattle.tw_program_output.specs.Program.{AreParseErrorDetails, Spells, SpellsNone, SpellsText, no_program_line, source_text};
+ghost use Rattle.tw_program_output.specs.Reply.{reply};
+ghost use Rattle.tw_program_output.specs.Source.{MayBeSource, text_of};
+ghost use Rattle.tw_binary.specs.declared.fault.Fault.{Fault as ByteFault};
+ghost use Rattle.tw_binary.specs.Reading.{program_of};
+ghost use Rattle.tw_program_output.specs.declared.program.NoProgram.TheVariants.{Bytes, Named, NoMemory, Text};
+ghost use Rattle.tw_program_output.specs.declared.close.Close.TheVariants.{Refused};
+
+use crate::digits::digits;
+use crate::lines::{put_asm_line, put_fault_line};
+use crate::names::{put_fault_details, put_name_details, put_name_line};
+use crate::reply::{Reply, refused_by};
+use crate::source::SourceText;
+use hex::FromHexError;
+use std::alloc::{AllocError, Global};
+use tw_asm::{AsmFault, LinedProgram, assemble_lined};
+use tw_binary::{Fault, FaultNo, decode};
+use tw_cli::Source;
+use tw_code::Program;
+use tw_lexer::put;
+use tw_symbols::{NameError, NameNo, expanded_text};
+
+/// A program, and the text from which it was read, if from one.
+#[derive(Drop)]
+pub struct ReadProgram<'a> {
+    pub program: Program,
+    pub source: Option<SourceText<'a>>,
+}
+
+/// Why there is no program.
+#[derive(Clone, Copy)]
+pub enum NoProgram<'a> {
+    NotHex,
+    NotUtf8,
+    Bytes(Fault),
+    /// The assembly text that is read, or for which what is read stands, has a fault.
+    Text(AsmFault),
+    /// What is read stands for none.
+    Named(NameError<'a>),
+    NoMemory,
+}
+
+impl From<AllocError> for NoProgram<'_> {
+    ghost from_gives = { λ _ e. e ≡ NoMemory };
+
+    fn from(_error: AllocError) -> Self {
+        NoProgram::NoMemory
+    }
+}
+
+/// The program that bytes spell.
+fn program_in_bytes<'a>(alloc: Global, bytes: &[u8]) -> Result<Program, NoProgram<'a>>
+    ensures spells { IfOk result (λ program. program_of bytes.now ≡ Ok program) }
+    ensures none { IfErr result (λ why. why ≢ NoMemory → (fault : ByteFault) × (why ≡ Bytes fault) × (program_of bytes.now ≡ Err fault)) }
+{
+    match decode(alloc, bytes) {
+        Ok(program) => Ok(program),
+        Err(fault) => match fault.no {
+            FaultNo::NoMemory => Err(NoProgram::NoMemory),
+            _ => Err(NoProgram::Bytes(fault)),
+        },
+    }
+}
+
+/// The program that hex text spells.
+fn program_in_hex<'a>(alloc: Global, input: &[u8]) -> Result<Program, NoProgram<'a>>
+    ensures spells { IfOk result (λ program. Spells Hex input.now program) }
+    ensures none { IfErr result (λ why. why ≢ NoMemory → SpellsNone Hex input.now why) }
+{
+    let text = input.to_vec(alloc)?;
+    match hex::decode(alloc, digits(text)) {
+        Ok(bytes) => program_in_bytes(alloc, &bytes),
+        Err(FromHexError::OutOfMemory) => Err(NoProgram::NoMemory),
+        Err(_) => Err(NoProgram::NotHex),
+    }
+}
+
+/// The program that an assembly text spells, with its lines.
+fn lined_program<'a>(alloc: Global, plain: &str) -> Result<LinedProgram, NoProgram<'a>>
+    ensures lined { IfOk result (λ lined. SpellsProgram lined.program plain.now × AreOrigins plain.now lined.program.procedures lined.lines.procedures) }
+    ensures none { IfErr result (λ why. why ≢ NoMemory → (fault : TextFault) × (why ≡ Text fault) × HasFault plain.now fault.no fault.line) }
+{
+    match assemble_lined(alloc, plain) {
+        Ok(lined) => Ok(lined),
+        Err(fault) => match fault.no {
+            tw_asm::FaultNo::NoMemory => Err(NoProgram::NoMemory),
+            _ => Err(NoProgram::Text(fault)),
+        },
+    }
+}
+
+/// The program of a text that stands for itself.
+fn program_of_itself<'a>(alloc: Global, text: &'a str) -> Result<ReadProgram<'a>, NoProgram<'a>>
+    requires { StandsFor text.now text.now }
+    ensures spells { IfOk result (λ read. SpellsText text.entry.now read.program) }
+    ensures source { IfOk result (λ read. MayBeSource read.source read.program.procedures) }
+    ensures text { IfOk result (λ read. text_of read.source ≡ Some text.entry.now) }
+    ensures none { IfErr result (λ why. why ≢ NoMemory → IsUtf8 text.entry.now → SpellsNone Assembly text.entry.now why) }
+{
+    match lined_program(alloc, text) {
+        Ok(lined) => Ok(ReadProgram {
+            program: lined.program,
+            source: Some(SourceText {
+                text,
+                plain: None,
+                lines: lined.lines,
+            }),
+        }),
+        Err(why) => Err(why),
+    }
+}
+
+/// The program of a text that stands for this one.
+fn program_of_plain<'a>(
+    alloc: Global,
+    text: &'a str,
+    plain: String,
+) -> Result<ReadProgram<'a>, NoProgram<'a>>
+    requires { StandsFor text.now (string_bytes plain) }
+    ensures spells { IfOk result (λ read. SpellsText text.entry.now read.program) }
+    ensures source { IfOk result (λ read. MayBeSource read.source read.program.procedures) }
+    ensures text { IfOk result (λ read. text_of read.source ≡ Some text.entry.now) }
+    ensures none { IfErr result (λ why. why ≢ NoMemory → IsUtf8 text.entry.now → SpellsNone Assembly text.entry.now why) }
+{
+    match lined_program(alloc, &plain) {
+        Ok(lined) => Ok(ReadProgram {
+            program: lined.program,
+            source: Some(SourceText {
+                text,
+                plain: Some(plain),
+                lines: lined.lines,
+            }),
+        }),
+        Err(why) => Err(why),
+    }
+}
+
+fn name_refused<'a>(rejection: NameError<'a>) -> NoProgram<'a>
+    ensures { (result ≢ NoMemory → (result ≡ Named rejection.entry) × (rejection.entry.no ≢ no.NoMemory)) }
+{
+    match rejection.no {
+        NameNo::NoMemory => NoProgram::NoMemory,
+        _ => NoProgram::Named(rejection),
+    }
+}
+
+/// The program that a text spells.
+fn program_of_text<'a>(alloc: Global, text: &'a str) -> Result<ReadProgram<'a>, NoProgram<'a>>
+    ensures spells { IfOk result (λ read. SpellsText text.entry.now read.program) }
+    ensures source { IfOk result (λ read. MayBeSource read.source read.program.procedures) }
+    ensures text { IfOk result (λ read. text_of read.source ≡ Some text.entry.now) }
+    ensures none { IfErr result (λ why. why ≢ NoMemory → IsUtf8 text.entry.now → SpellsNone Assembly text.entry.now why) }
+{
+    match expanded_text(alloc, text) {
+        Ok(None) => program_of_itself(alloc, text),
+        Ok(Some(plain)) => program_of_plain(alloc, text, plain),
+        Err(rejection) => Err(name_refused(rejection)),
+    }
+}
+
+/// The program that what is to be text spells.
+fn program_in_text<'a>(alloc: Global, input: &'a [u8]) -> Result<ReadProgram<'a>, NoProgram<'a>>
+    ensures spells { IfOk result (λ read. Spells Assembly input.entry.now read.program) }
+    ensures source { IfOk result (λ read. MayBeSource read.source read.program.procedures) }
+    ensures text { IfOk result (λ read. text_of read.source ≡ Some input.entry.now) }
+    ensures none { IfErr result (λ why. why ≢ NoMemory → SpellsNone Assembly input.entry.now why) }
+{
+    match str::from_utf8(input) {
+        Ok(text) => program_of_text(alloc, text),
+        Err(_) => Err(NoProgram::NotUtf8),
+    }
+}
+
+/// The program that is read, or why there is none.
+pub fn read_program<'a>(
+    alloc: Global,
+    source: Source,
+    input: &'a [u8],
+) -> Result<ReadProgram<'a>, NoProgram<'a>>
+    ensures spells { IfOk result (λ read. Spells source input.entry.now read.program) }
+    ensures source { IfOk result (λ read. MayBeSource read.source read.program.procedures) }
+    ensures text { IfOk result (λ read. text_of read.source ≡ source_text source input.entry.now) }
+    ensures none { IfErr result (λ why. why ≢ NoMemory → SpellsNone source input.entry.now why) }
+{
+    match source {
+        Source::Hex => {
+            let program = program_in_hex(alloc, input)?;
+            Ok(ReadProgram {
+                program,
+                source: None,
+            })
+        }
+        Source::Assembly => program_in_text(alloc, input),
+    }
+}
+
+fn put_no_program(alloc: Global, out: &mut Vec<u8>, why: NoProgram<'_>) -> Result<(), AllocError>
+    ensures { OnOk result ((why.entry ≢ NoMemory) × (out.new.items ≡ out.old.items ++ no_program_line why.entry)) }
+{
+    match why {
+        NoProgram::NotHex => put(out, "refused H01\n"),
+        NoProgram::NotUtf8 => put(out, "refused H03\n"),
+        NoProgram::Bytes(fault) => put_fault_line(alloc, out, fault.no.number(), fault.offset),
+        NoProgram::Text(fault) => put_asm_line(alloc, out, fault.no.number(), fault.line),
+        NoProgram::Named(rejection) => put_name_line(alloc, out, rejection),
+        NoProgram::NoMemory => Err(AllocError),
+    }
+}
+
+/// Adds the line at which what is to be a text is refused, and why it is.
+fn put_fault_diagnostic(
+    alloc: Global,
+    out: &mut Vec<u8>,
+    input: &[u8],
+    fault: AsmFault,
+) -> Result<(), AllocError>
+    ensures { OnOk result (IsUtf8 input.now → (plain : List ℕ) → StandsFor input.now plain → (more : List ℕ) × AreFaultDetails input.now fault.no fault.line more × (out.new.items ≡ out.old.items ++ more)) }
+{
+    match str::from_utf8(input) {
+        Ok(text) => put_fault_details(alloc, out, text, fault),
+        Err(_) => Ok(()),
+    }
+}
+
+/// Adds the line of what is to be a text with names that is refused, and why it is.
+fn put_rejection_diagnostic(
+    out: &mut Vec<u8>,
+    input: &[u8],
+    rejection: NameError<'_>,
+) -> Result<(), AllocError>
+    ensures { OnOk result (IsUtf8 input.now → out.new.items ≡ out.old.items ++ name_details input.now rejection.entry.no rejection.entry.line rejection.entry.word.now) }
+{
+    match str::from_utf8(input) {
+        Ok(text) => put_name_details(out, text, rejection),
+        Err(_) => Ok(()),
+    }
+}
+
+/// Adds what stands behind the line that tells why there is no program.
+fn put_parse_error_details(
+    alloc: Global,
+    out: &mut Vec<u8>,
+    input: &[u8],
+    why: NoProgram<'_>,
+) -> Result<(), AllocError>
+    ensures { OnOk result ((source : ReadAs) → SpellsNone source input.now why.entry → (more : List ℕ) × AreParseErrorDetails input.now why.entry more × (out.new.items ≡ out.old.items ++ more)) }
+{
+    match why {
+        NoProgram::Text(fault) => put_fault_diagnostic(alloc, out, input, fault),
+        NoProgram::Named(rejection) => put_rejection_diagnostic(out, input, rejection),
+        _ => Ok(()),
+    }
+}
+
+/// The reply where what was read spells no program, with the reason where it is a text.
+pub fn parse_error_reply(
+    alloc: Global,
+    input: &[u8],
+    why: NoProgram<'_>,
+) -> Result<Reply, AllocError>
+    ensures { IfOk result (λ r. (why.entry ≢ NoMemory) × ((source : ReadAs) → SpellsNone source input.now why.entry
+        → (more : List ℕ) × AreParseErrorDetails input.now why.entry more × (reply r.text.items r.close ≡ reply (no_program_line why.entry ++ more) Refused))) }
+{
+    let mut text = Vec::new(alloc);
+    put_no_program(alloc, &mut text, why)?;
+    put_parse_error_details(alloc, &mut text, input, why)?;
+    Ok(refused_by(text))
+}

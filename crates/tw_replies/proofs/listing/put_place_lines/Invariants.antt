@@ -1,7 +1,0 @@
-use Rattle.std.proofs.Common.{◌≡◌, ◌++◌, drop}
-use Rattle.tw_replies.specs.Listing.{place_lines}
-use Rattle.tw_replies.proofs.listing.put_place_lines.Given as goal
-
--- with the lines of what is left, there are all
-abbrev pub invariant-loop-place : goal.invariant-loop-place
-invariant-loop-place l = l.out.items ++ place_lines l.labels l.typings l.place (drop l.place l.code) ≡ l.fn.out.items ++ place_lines l.labels l.typings 0 l.code

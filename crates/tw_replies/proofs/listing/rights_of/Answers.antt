@@ -1,9 +1,0 @@
-use Rattle.tw_replies.proofs.Listings.{one_right}
-use Rattle.tw_replies.proofs.listing.rights_of.Goals as goal
-
-pub loop-register-init : goal.loop-register-init
-loop-register-init c = c.new-text.ensures.items
-
-pub loop-register-preserved : goal.loop-register-preserved
-loop-register-preserved c =
-    one_right c.args.typing.now c.loop-register.register c.right_at.result c.loop-register.text.items c.put_right_column.new.out.items c.loop-register.invariant c.right_at.ensures c.in_ok-put_right_column.ensures

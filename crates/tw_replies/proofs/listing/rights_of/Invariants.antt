@@ -1,6 +1,0 @@
-use Rattle.std.proofs.Common.{◌≡◌}
-use Rattle.tw_replies.specs.Listing.{rights_below}
-use Rattle.tw_replies.proofs.listing.rights_of.Given as goal
-
-abbrev pub invariant-loop-register : goal.invariant-loop-register
-invariant-loop-register l = l.text.items ≡ rights_below l.typing l.register
