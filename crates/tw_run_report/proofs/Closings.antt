@@ -7,11 +7,11 @@ use Rattle.tw_cli.specs.declared.command.RunOrder.{RunOrder}
 use Rattle.tw_cli.specs.declared.shown.EventRange.{EventRange}
 use Rattle.tw_pool.specs.declared.answer.Closing.{Closing}
 use Rattle.tw_pool.specs.declared.answer.Closing.TheVariants as closing
-use Rattle.tw_replay.specs.Circle.{TellsCircle}
-use Rattle.tw_replay.proofs.Behinds.{Adds, nothing_added}
+use Rattle.tw_replay_output.specs.Circle.{TellsCircle}
+use Rattle.tw_replay_output.proofs.Behinds.{Adds, nothing_added}
 use Rattle.tw_run_report.specs.Run.{AreClosingDetails, AreRunDetails}
 use Rattle.tw_run_report.specs.Run as run
-use Rattle.tw_replay.specs.Stuck.{IsUndrawn}
+use Rattle.tw_replay_output.specs.Stuck.{IsUndrawn}
 
 pub closing_stuck : (text : List ℕ) (program : List Procedure) (order : RunOrder) (events : List Event) (s : State) (c : Closing) (rules : ℕ) (old new : List ℕ) → c ≡ closing.Stuck rules
     → Adds (TellsCircle text (run.start_of program order) events (circle program s)) old new → Adds (AreClosingDetails text program order events s c) old new

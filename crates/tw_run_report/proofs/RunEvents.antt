@@ -25,7 +25,7 @@ use Rattle.tw_picture.specs.History.{IsDrawing}
 use Rattle.tw_stats.specs.declared.stats_builder.StatsBuilder.{StatsBuilder}
 use Rattle.tw_stats.specs.Kept.{IsTally}
 use Rattle.tw_stats.specs.Text.{AreNumbers}
-use Rattle.tw_replay.specs.Replay.{ByOutcome}
+use Rattle.tw_replay_output.specs.Replay.{ByOutcome}
 
 -- ---- the events of a history
 

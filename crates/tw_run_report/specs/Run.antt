@@ -26,8 +26,8 @@ use Rattle.tw_report.specs.Events.{event_line}
 use Rattle.tw_run_report.specs.Ends.{end_report}
 use Rattle.tw_program_output.specs.declared.close.Close.{Close}
 use Rattle.tw_program_output.specs.declared.close.Close.TheVariants as close
-use Rattle.tw_replay.specs.Circle.{Start, TellsCircle}
-use Rattle.tw_replay.specs.Replay.{AreBudgets}
+use Rattle.tw_replay_output.specs.Circle.{Start, TellsCircle}
+use Rattle.tw_replay_output.specs.Replay.{AreBudgets}
 
 -- its events, where they are asked for
 abbrev pub trace_text : Bool → List Event → List ℕ

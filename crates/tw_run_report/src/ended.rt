@@ -22,7 +22,7 @@ use tw_code::Program;
 use tw_machine::Plain;
 use tw_pool::{Closing, Final, History};
 use tw_program_output::{Close, Reply, SourceText, symbols_of};
-use tw_replay::{Counting, budgets_of, count, draw, put_bytes};
+use tw_replay_output::{Counting, budgets_of, count, draw, put_bytes};
 use tw_report::{put, put_event_line, put_numbered};
 use tw_types::Event;
 use tw_verify::Verified;

@@ -5,17 +5,17 @@ ghost use Rattle.tw_types.specs.Outcome.{Went};
 ghost use Rattle.tw_code.specs.declared.procedure.Procedure.{Procedure as Section};
 ghost use Rattle.tw_code.specs.machine.Pending.{circle};
 ghost use Rattle.tw_code.specs.machine.State.{State};
-ghost use Rattle.tw_replay.specs.Circle.{TellsCircle, reached_from};
+ghost use Rattle.tw_replay_output.specs.Circle.{TellsCircle, reached_from};
 ghost use Rattle.tw_run_report.specs.Run.{AreClosingDetails, AreRunDetails, start_of};
 ghost use Rattle.tw_program_output.specs.Source.{text_of};
-ghost use Rattle.tw_replay.specs.Stuck.{CanTell, MayTell};
+ghost use Rattle.tw_replay_output.specs.Stuck.{CanTell, MayTell};
 
 use crate::ended::events_of;
 use std::alloc::{AllocError, Global};
 use tw_cli::{Answer, RunOrder};
 use tw_pool::{Closing, History};
 use tw_program_output::SourceText;
-use tw_replay::put_stuck;
+use tw_replay_output::put_stuck;
 
 /// Adds the lines of the circle of rules in which a run is stuck.
 fn put_circle_details(

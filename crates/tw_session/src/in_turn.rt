@@ -20,7 +20,7 @@ use tw_cli::{Order, RunOrder, read_order};
 use tw_in_turn::{InTurnResult, run_in_turn};
 use tw_pool::OpenError;
 use tw_program_output::{Reply, SourceText};
-use tw_replay::inputs_refused_reply;
+use tw_replay_output::inputs_refused_reply;
 use tw_run_report::ended_reply;
 use tw_verify::Verified;
 

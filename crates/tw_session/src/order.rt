@@ -28,7 +28,7 @@ use tw_program_output::{
     Close, ReadProgram, Reply, SourceText, assembled_reply, fixed_reply, input_parts,
     not_utf8_reply, parse_error_reply, read_program, refused_words_reply,
 };
-use tw_replay::{replay_inputs_reply, replay_reply};
+use tw_replay_output::{replay_inputs_reply, replay_reply};
 use tw_workers::Gate;
 
 /// A program that is to be read, and what is asked for of it.

@@ -3,7 +3,7 @@ use Rattle.tw_run_report.proofs.RunNames.{IsProgram, start_of, typings_of}
 use Rattle.tw_program_output.specs.Reply.{reply}
 use Rattle.tw_run_report.specs.Run.{trace_text}
 use Rattle.tw_program_output.specs.declared.close.Close.{Close}
-use Rattle.tw_replay.proofs.Behinds.{may_tell}
+use Rattle.tw_replay_output.proofs.Behinds.{may_tell}
 use Rattle.tw_run_report.proofs.RunEvents.{opens, run_short}
 use Rattle.tw_run_report.proofs.ended.ended_reply.Goals as goal
 

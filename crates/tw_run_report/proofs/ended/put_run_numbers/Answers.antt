@@ -4,8 +4,8 @@ use Rattle.tw_machine.specs.Moments.{history}
 use Rattle.tw_stats.specs.Kept.{IsFirst, IsTally}
 use Rattle.tw_stats.specs.Text.{AreNumbers}
 use Rattle.tw_stats.proofs.Openings.{first_is}
-use Rattle.tw_replay.specs.Counted.{IsCounting}
-use Rattle.tw_replay.specs.declared.numbers.Counting.{Counting}
+use Rattle.tw_replay_output.specs.Counted.{IsCounting}
+use Rattle.tw_replay_output.specs.declared.numbers.Counting.{Counting}
 use Rattle.tw_run_report.proofs.RunEvents.{begun, goes_by, numbers_there, opens, run_short}
 use Rattle.tw_run_report.proofs.ended.put_run_numbers.Goals as goal
 

@@ -3,7 +3,7 @@ use Rattle.tw_run_report.proofs.RunNames.{AreShort, Event, IsProgram, PlainView,
 use Rattle.tw_picture.specs.History.{IsDrawing, IsOpening}
 use Rattle.tw_picture.specs.declared.drawing.Drawing.{Drawing}
 use Rattle.tw_picture.proofs.History.{opening_is}
-use Rattle.tw_replay.specs.Replay.{IsPicture, played_from}
+use Rattle.tw_replay_output.specs.Replay.{IsPicture, played_from}
 use Rattle.tw_program_output.specs.Reply.{Reply, reply}
 use Rattle.tw_run_report.proofs.RunEvents.{begun, goes_by, opens, other_version, run_short}
 use Rattle.tw_run_report.proofs.ended.put_run_picture.Goals as goal

@@ -1,7 +1,7 @@
 use Rattle.std.proofs.Common.{◌≡◌, ◌++◌, ◌∙◌, List, refl, subst, sym, ℕ}
 use Rattle.tw_run_report.proofs.RunNames.{Event, Went, circle, on_ok_weaker, start_of}
-use Rattle.tw_replay.specs.Circle.{TellsCircle, reached_from}
-use Rattle.tw_replay.specs.Stuck.{CanTell}
+use Rattle.tw_replay_output.specs.Circle.{TellsCircle, reached_from}
+use Rattle.tw_replay_output.specs.Stuck.{CanTell}
 use Rattle.tw_run_report.proofs.run_details.put_circle_details.Goals as goal
 
 pub returns : goal.returns

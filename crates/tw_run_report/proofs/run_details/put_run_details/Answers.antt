@@ -1,9 +1,9 @@
 use Rattle.std.proofs.Common.{Option, subst, sym}
 use Rattle.tw_run_report.proofs.RunNames.{on_ok_weaker, start_of, text_of}
 use Rattle.tw_run_report.specs.Run.{AreRunDetails}
-use Rattle.tw_replay.specs.Stuck.{MayTell}
+use Rattle.tw_replay_output.specs.Stuck.{MayTell}
 use Rattle.tw_program_output.specs.declared.source.SourceText.{SourceText}
-use Rattle.tw_replay.proofs.Behinds.{Adds, undrawn}
+use Rattle.tw_replay_output.proofs.Behinds.{Adds, undrawn}
 use Rattle.tw_run_report.proofs.Closings.{run_drawn, run_told}
 use Rattle.tw_run_report.proofs.run_details.put_run_details.Goals as goal
 

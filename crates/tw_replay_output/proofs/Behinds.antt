@@ -1,0 +1,126 @@
+-- What stands behind replies about programs that were read from a text.
+use Rattle.std.proofs.Common.{◌≡◌, ◌≢◌, ◌≤◌, ◌++◌, ◌∙◌, ℕ, suc, List, [], ◌∷◌, length, Option, Some, None, refl, sym, ap, subst}
+use Rattle.tw_replay_output.proofs.ReplayNames.{◌>>=◌, AreShort, ClosesBy, Event, Input, AreEndingDetails, IsUndrawn, MayBeSource, MayTell, NotEnabled, Outcome, PlainView, Procedure, Spoken as Reply, Start, State, TellsCircle, Trap, Went, append-nil, open_error_code, opening_line, rejection_of, reply}
+use Rattle.tw_types.specs.declared.ending.Ending.{Ending}
+use Rattle.tw_types.specs.declared.ending.Ending.TheVariants.{Quiet, Stuck}
+use Rattle.tw_types.specs.Layout.{ActorCounts}
+use Rattle.tw_code.specs.machine.Ending.{ending}
+use Rattle.tw_code.specs.machine.Machine.{run, step}
+use Rattle.tw_code.specs.machine.Pending.{circle}
+use Rattle.tw_cli.specs.declared.command.Answer.{Answer}
+use Rattle.tw_cli.specs.declared.command.Answer.TheVariants.{Numbers, Picture, Report}
+use Rattle.tw_cli.specs.declared.shown.EventRange.{EventRange}
+use Rattle.tw_machine.specs.declared.rejection.OpenError.{OpenError}
+use Rattle.tw_machine.specs.declared.rejection.OpenError.TheVariants as opening
+use Rattle.tw_replay_output.specs.Opening.{AreOpeningDetails}
+use Rattle.tw_replay_output.specs.Replay.{ByOutcome, IsAnswer, IsNumbered, AreRejectionDetails, AreReportDetails, after_event, close_of, played, played_from}
+use Rattle.tw_program_output.specs.declared.source.SourceText.{SourceText}
+use Rattle.tw_program_output.specs.declared.close.Close.{Close}
+use Rattle.tw_program_output.specs.declared.close.Close.TheVariants as close
+
+-- ---- a program that isn't opened
+
+-- behind this refusal
+abbrev pub IsUnopened : Option (List ℕ) → List Procedure → List Input → OpenError → Reply → Type 0
+IsUnopened text program inputs why r = (more : List ℕ) × AreRejectionDetails text program inputs why more × (r ≡ reply (opening_line (open_error_code why) ++ more) close.Refused)
+
+pub main_refused : (text : Option (List ℕ)) (program : List Procedure) (inputs : List Input) (why : OpenError) (number : ℕ) (r : Reply) → why ≡ opening.MainShape → number ≡ open_error_code why
+    → r ≡ reply (opening_line number) close.Refused → (why ≢ opening.NoMemory) × IsUnopened text program inputs why r
+main_refused text program inputs opening.MainShape number r is at h =
+    ((λ e. absurd cc), ([], refl, h ∙ ap (λ (n : ℕ). reply (opening_line n) close.Refused) at ∙ ap (λ (t : List ℕ). reply t close.Refused) (sym (append-nil (opening_line (open_error_code opening.MainShape))))))
+main_refused text program inputs opening.InputCount number r is at h = absurd cc
+main_refused text program inputs opening.InputType number r is at h = absurd cc
+main_refused text program inputs opening.NoMemory number r is at h = absurd cc
+
+pub inputs_refused : (text : Option (List ℕ)) (program : List Procedure) (inputs : List Input) (why : OpenError) (number : ℕ) (r : Reply) → (why ≡ opening.MainShape → ⊥) → (why ≡ opening.NoMemory → ⊥) → number ≡ open_error_code why
+    → ((more : List ℕ) × AreOpeningDetails text program inputs more × (r ≡ reply (opening_line number ++ more) close.Refused)) → (why ≢ opening.NoMemory) × IsUnopened text program inputs why r
+inputs_refused text program inputs opening.MainShape number r main memory at h = absurd (main refl)
+inputs_refused text program inputs opening.NoMemory number r main memory at h = absurd (memory refl)
+inputs_refused text program inputs opening.InputCount number r main memory at (more, told, is) = (memory, (more, told, is ∙ ap (λ (n : ℕ). reply (opening_line n ++ more) close.Refused) at))
+inputs_refused text program inputs opening.InputType number r main memory at (more, told, is) = (memory, (more, told, is ∙ ap (λ (n : ℕ). reply (opening_line n ++ more) close.Refused) at))
+
+-- ---- how a replay closes
+
+refused_unstuck : close.Refused ≡ close.Stuck → ⊥
+refused_unstuck e = absurd cc
+
+trapped_unstuck : close.Trapped ≡ close.Stuck → ⊥
+trapped_unstuck e = absurd cc
+
+success_unstuck : close.Success ≡ close.Stuck → ⊥
+success_unstuck e = absurd cc
+
+outcome_closes : (program : List Procedure) (layout : ActorCounts) (number : ℕ) (events : List Event) → ((next : State) → ClosesBy (run program layout events next) (played program layout (suc number) events next).close) → (o : Outcome State)
+    → ClosesBy (o >>= λ next. run program layout events next) (after_event number o (λ next. played program layout (suc number) events next)).close
+outcome_closes program layout number events more (Went next) = more next
+outcome_closes program layout number events more NotEnabled = refused_unstuck
+outcome_closes program layout number events more (Trap cause) = trapped_unstuck
+
+played_closes : (program : List Procedure) (layout : ActorCounts) (number : ℕ) (events : List Event) (s : State) → ClosesBy (run program layout events s) (played program layout number events s).close
+unfolding run played
+played_closes program layout number [] s = refl
+played_closes program layout number (event ∷ events) s = outcome_closes program layout number events (λ next. played_closes program layout (suc number) events next) (step program layout event s)
+
+counted_closes : (names : List (List ℕ)) (first : PlainView) (events : List Event) (o : Outcome State) (r : Reply) → ClosesBy o (played_from first events).close → ByOutcome o (λ s. IsNumbered names first events s r) (r ≡ played_from first events) → ClosesBy o r.close
+counted_closes names first events (Went s) r before h = ap (λ (x : Reply). x.close) h.4
+counted_closes names first events NotEnabled r before h = λ e. before (sym (ap (λ (x : Reply). x.close) h) ∙ e)
+counted_closes names first events (Trap cause) r before h = λ e. before (sym (ap (λ (x : Reply). x.close) h) ∙ e)
+
+pub answer_closes : (names : List (List ℕ)) (answer : Answer) (first : PlainView) (events : List Event) (r : Reply) → IsAnswer names answer first events r → IsUndrawn answer → ClosesBy (run first.program first.layout events first.state) r.close
+answer_closes names Report first events r h other =
+    subst (λ (c : Close). ClosesBy (run first.program first.layout events first.state) c) (sym (ap (λ (x : Reply). x.close) h)) (played_closes first.program first.layout 1 events first.state)
+answer_closes names Numbers first events r h other =
+    counted_closes names first events (run first.program first.layout events first.state) r (played_closes first.program first.layout 1 events first.state) h
+answer_closes names (Picture shown) first events r h other = absurd other
+
+-- ---- behind a replay
+
+abbrev pub Adds : (List ℕ → Type 0) → List ℕ → List ℕ → Type 0
+Adds Tells old new = (more : List ℕ) × Tells more × (new ≡ old ++ more)
+
+pub nothing_added : (Tells : List ℕ → Type 0) (old : List ℕ) → Tells [] → Adds Tells old old
+nothing_added Tells old h = ([], h, sym (append-nil old))
+
+-- by the ending of the state
+ended_stuck : (text : List ℕ) (start : Start) (events : List Event) (s : State) (e : Option Ending) (old new : List ℕ) → close_of e ≡ close.Stuck → Adds (TellsCircle text start events (circle start.program s)) old new
+    → Adds (AreEndingDetails text start events s e) old new
+ended_stuck text start events s None old new is told = absurd (success_unstuck is)
+ended_stuck text start events s (Some Quiet) old new is told = absurd (success_unstuck is)
+ended_stuck text start events s (Some (Stuck rules)) old new is told = told
+
+ended_else : (text : List ℕ) (start : Start) (events : List Event) (s : State) (e : Option Ending) → (close_of e ≡ close.Stuck → ⊥) → AreEndingDetails text start events s e []
+ended_else text start events s None other = refl
+ended_else text start events s (Some Quiet) other = refl
+ended_else text start events s (Some (Stuck rules)) other = absurd (other refl)
+
+abbrev pub TellsEnding : List ℕ → Start → List Event → Outcome State → List ℕ → Type 0
+TellsEnding text start events o more = ByOutcome o (λ s. AreEndingDetails text start events s (ending s) more) (more ≡ [])
+
+pub stuck_behind : (text : List ℕ) (start : Start) (events : List Event) (o : Outcome State) (c : Close) (old new : List ℕ) → c ≡ close.Stuck → ClosesBy o c
+    → ((s : State) → o ≡ Went s → Adds (TellsCircle text start events (circle start.program s)) old new) → Adds (TellsEnding text start events o) old new
+stuck_behind text start events (Went s) c old new is closes told = ended_stuck text start events s (ending s) old new (sym closes ∙ is) (told s refl)
+stuck_behind text start events NotEnabled c old new is closes told = absurd (closes is)
+stuck_behind text start events (Trap cause) c old new is closes told = absurd (closes is)
+
+pub else_behind : (text : List ℕ) (start : Start) (events : List Event) (o : Outcome State) (c : Close) (old : List ℕ) → (c ≡ close.Stuck → ⊥) → ClosesBy o c → Adds (TellsEnding text start events o) old old
+else_behind text start events (Went s) c old other closes = nothing_added (TellsEnding text start events (Went s)) old (ended_else text start events s (ending s) (λ e. other (closes ∙ e)))
+else_behind text start events NotEnabled c old other closes = nothing_added (TellsEnding text start events NotEnabled) old refl
+else_behind text start events (Trap cause) c old other closes = nothing_added (TellsEnding text start events (Trap cause)) old refl
+
+pub undrawn : (answer : Answer) → ((shown : EventRange) → answer ≡ Picture shown → ⊥) → IsUndrawn answer
+undrawn Report other = tt
+undrawn Numbers other = tt
+undrawn (Picture shown) other = other shown refl
+
+pub picture_behind : (answer : Answer) (shown : EventRange) (text : List ℕ) (start : Start) (events : List Event) (o : Outcome State) (old : List ℕ) → answer ≡ Picture shown → Adds (AreReportDetails answer text start events o) old old
+picture_behind answer shown text start events o old is = nothing_added (AreReportDetails answer text start events o) old (subst (λ (a : Answer). AreReportDetails a text start events o []) (sym is) refl)
+
+pub report_behind : (answer : Answer) (text : List ℕ) (start : Start) (events : List Event) (o : Outcome State) (old new : List ℕ) → IsUndrawn answer → Adds (TellsEnding text start events o) old new
+    → Adds (AreReportDetails answer text start events o) old new
+report_behind Report text start events o old new other h = h
+report_behind Numbers text start events o old new other h = h
+report_behind (Picture shown) text start events o old new other h = absurd other
+
+pub may_tell : (source : Option SourceText) (start : Start) (events : List Event) → MayBeSource source start.program → rejection_of start.program start.inputs ≡ None → length events ≤ 16777217 → AreShort events → MayTell source start events
+may_tell None start events is opens few short = tt
+may_tell (Some source) start events is opens few short = record { source_is = is; opens = opens; few = few; short = short }

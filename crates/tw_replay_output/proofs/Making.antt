@@ -1,0 +1,298 @@
+-- Which events made rules, and the numbers of these.
+use Rattle.std.proofs.Common.{◌≡◌, ◌↔◌, ◌+◌, ◌<◌, ◌≤◌, ◌⊎◌, inl, inr, Bool, true, false, ℕ, zero, suc, List, [], ◌∷◌, ◌++◌, length, get_or, take, Option, Some, None, refl, sym, ap, subst, ◌∙◌, append_assoc, arith}
+use Rattle.std.proofs.lemmas.Option.{same_Some}
+use Rattle.tw_replay_output.proofs.ReplayNames.{AreMade, ComesFrom, DoesRule, Event, Frame, Input, IsLineOf, IsMade, IsMadeSo, IsOpened, IsSpelled, IsStartOf, IsTrue, IsUnmade, Outcome, PlainView, Procedure, StandsFor, Start, State, TellRules, TellsRule, Versioned, Went, append-nil, instr_at, length-append, option_map, option_to_list, reached_from, rejection_of, rule_by, rule_done, rule_in, rule_line, rules_in, slice_get, take_more}
+use Rattle.std.specs.FinMap.{get}
+use Rattle.tw_types.specs.declared.actor.Actor.{Actor}
+use Rattle.tw_types.specs.declared.event.Event.TheVariants.{Take, Local, Call, End, Ask, Deliver, Release}
+use Rattle.tw_types.specs.declared.pending.Link.{Link}
+use Rattle.tw_types.specs.Layout.{ActorCounts}
+use Rattle.tw_asm.specs.Spelling.{SpellsProgram}
+use Rattle.tw_asm.proofs.Unique.{spells_once}
+use Rattle.tw_code.specs.declared.instr.Action.{Action}
+use Rattle.tw_code.specs.declared.instr.Instr.{Instr}
+use Rattle.tw_code.specs.declared.instr.Instr.TheVariants as instr
+use Rattle.tw_code.specs.machine.Due.{instr_here}
+use Rattle.tw_code.specs.machine.Machine.{run, step}
+use Rattle.tw_code.specs.machine.Opening.{opening}
+use Rattle.tw_stats.specs.declared.dependency.Dependency.TheVariants.{Datum}
+use Rattle.tw_stats.specs.Waits.{made_at, made_by, made_in}
+use Rattle.tw_stats.proofs.Nexts.{step_more}
+use Rattle.tw_replay_output.specs.declared.stuck.Made.{Made}
+use Rattle.tw_symbols.specs.Symbols.{name_at}
+use Rattle.tw_report.proofs.HistoryReading.{never}
+
+none_some : {A : Type 0} {Z : Type 0} (x : A) → None ≡ Some x → Z
+none_some x e = absurd cc
+
+went_is : (s t : State) → Went s ≡ Went t → s ≡ t
+went_is s t e = cc
+
+-- ---- an event that does a RULE
+
+rule_here : (f : Frame) (o : Option Instr) (m : Made) → rule_by f o ≡ Some m → (action : Action) × (o ≡ Some (instr.Rule action)) × (f.procedure ≡ m.procedure) × (f.position.place ≡ m.place) × (action.procedure ≡ m.runs)
+rule_here f None m e = none_some m e
+rule_here f (Some (instr.Local i)) m e = none_some m e
+rule_here f (Some (instr.Data i)) m e = none_some m e
+rule_here f (Some (instr.Rule action)) m e =
+    let is = same_Some (record { procedure = f.procedure; place = f.position.place; runs = action.procedure }) m e in
+    (action, refl, ap (λ (x : Made). x.procedure) is, ap (λ (x : Made). x.place) is, ap (λ (x : Made). x.runs) is)
+rule_here f (Some (instr.Put action)) m e = none_some m e
+rule_here f (Some instr.Ret) m e = none_some m e
+
+does_in : (program : List Procedure) (s : State) (actor : Actor) (frame : Option Frame) (m : Made) → get s.frames actor ≡ frame → rule_in program frame ≡ Some m
+    → (action : Action) × DoesRule program s (Call actor) m.procedure m.place action × (action.procedure ≡ m.runs)
+does_in program s actor None m runs e = none_some m e
+does_in program s actor (Some f) m runs e =
+    let h = rule_here f (instr_here program f) m e in
+    (h.0, record { actor = actor; is = refl; frame = f; runs = runs; procedure_is = h.2; place_is = h.3; does = h.1 }, h.4)
+
+pub does : (program : List Procedure) (event : Event) (s : State) (m : Made) → rule_done program event s ≡ Some m → (action : Action) × DoesRule program s event m.procedure m.place action × (action.procedure ≡ m.runs)
+does program (Take actor) s m e = none_some m e
+does program (Local actor n) s m e = none_some m e
+does program (Call actor) s m e = does_in program s actor (get s.frames actor) m refl e
+does program (End actor) s m e = none_some m e
+does program (Ask engine rule parameter) s m e = none_some m e
+does program (Deliver server datum rule parameter) s m e = none_some m e
+does program (Release engine rule) s m e = none_some m e
+
+-- and what it makes
+pub done_so : (program : List Procedure) (event : Event) (s : State) (procedure place : ℕ) (action : Action) → DoesRule program s event procedure place action → (m : Made) × (rule_done program event s ≡ Some m)
+done_so program event s procedure place action d =
+    let m : Made = record { procedure = d.frame.procedure; place = d.frame.position.place; runs = action.procedure } in (
+      m,
+      ap (λ (e : Event). rule_done program e s) d.is
+          ∙ ap (λ (f : Option Frame). rule_in program f) d.runs
+          ∙ ap (λ (i : Option Instr). rule_by d.frame i) d.does,
+    )
+
+-- ---- the number of the next rule
+
+data_rules : (id : Option ℕ) → rules_in (option_map Datum id) ≡ 0
+data_rules None = refl
+data_rules (Some id) = refl
+
+rules_by : (s : State) (f : Frame) (o : Option Instr) → rules_in (made_by s f o) ≡ length (option_to_list (rule_by f o))
+rules_by s f None = refl
+rules_by s f (Some (instr.Local i)) = refl
+rules_by s f (Some (instr.Data i)) = data_rules _
+rules_by s f (Some (instr.Rule action)) = refl
+rules_by s f (Some (instr.Put action)) = refl
+rules_by s f (Some instr.Ret) = refl
+
+rules_here : (program : List Procedure) (s : State) (frame : Option Frame) → rules_in (made_in program s frame) ≡ length (option_to_list (rule_in program frame))
+rules_here program s None = refl
+rules_here program s (Some f) = rules_by s f (instr_here program f)
+
+rules_done : (program : List Procedure) (event : Event) (s : State) → rules_in (made_at program event s) ≡ length (option_to_list (rule_done program event s))
+rules_done program (Take actor) s = refl
+rules_done program (Local actor n) s = refl
+rules_done program (Call actor) s = rules_here program s (get s.frames actor)
+rules_done program (End actor) s = refl
+rules_done program (Ask engine rule parameter) s = refl
+rules_done program (Deliver server datum rule parameter) s = refl
+rules_done program (Release engine rule) s = refl
+
+pub next_on : (start : Start) (event : Event) (s t : State) (made next : List Made) → step start.program start.layout event s ≡ Went t → s.next_rule ≡ length made + 1 → next ≡ made ++ option_to_list (rule_done start.program event s)
+    → t.next_rule ≡ length next + 1
+next_on start event s t made next went before is =
+    let more = step_more start.program start.layout event s t went in
+    let count = rules_done start.program event s in
+    let long : length next ≡ length made + length (option_to_list (rule_done start.program event s)) = ap length is ∙ length-append made (option_to_list (rule_done start.program event s)) in
+    omega (arith, more.rule, count, long, before)
+
+-- ---- one event more
+
+first_same : {A : Type 0} (x y : A) (xs ys : List A) → x ∷ xs ≡ y ∷ ys → x ≡ y
+first_same x y xs ys e = cc
+
+rest_same : {A : Type 0} (x y : A) (xs ys : List A) → x ∷ xs ≡ y ∷ ys → xs ≡ ys
+rest_same x y xs ys e = cc
+
+none_there : {A : Type 0} (before : List A) (y : A) (after : List A) → [] ≡ before ++ (y ∷ after) → ⊥
+none_there [] y after e = absurd cc
+none_there (b ∷ before) y after e = absurd cc
+
+-- the last of a list, or one before it
+abbrev IsSplit : {A : Type 0} → List A → A → List A → A → List A → Type 0
+IsSplit {A} xs x before y after = ((before ≡ xs) × (y ≡ x)) ⊎ ((rest : List A) × (after ≡ rest ++ x ∷ []) × (xs ≡ before ++ (y ∷ rest)))
+
+split_end : {A : Type 0} (xs : List A) (x : A) (before : List A) (y : A) (after : List A) → xs ++ x ∷ [] ≡ before ++ (y ∷ after) → IsSplit xs x before y after
+split_end [] x [] y after e = inl (refl, sym (first_same x y [] after e))
+split_end [] x (b ∷ before) y after e = absurd (none_there before y after (rest_same x b [] (before ++ (y ∷ after)) e))
+split_end {A} (z ∷ xs) x [] y after e = inr (xs, sym (rest_same z y (xs ++ x ∷ []) after e), ap (λ (a : A). a ∷ xs) (first_same z y (xs ++ x ∷ []) after e))
+split_end {A} (z ∷ xs) x (b ∷ before) y after e = by (split_end xs x before y after (rest_same z b (xs ++ x ∷ []) (before ++ (y ∷ after)) e))
+  where
+    same : z ≡ b
+    same = first_same z b (xs ++ x ∷ []) (before ++ (y ∷ after)) e
+
+    by : IsSplit xs x before y after → IsSplit (z ∷ xs) x (b ∷ before) y after
+    by (inl (all, last)) = inl (ap (λ (bs : List A). b ∷ bs) all ∙ ap (λ (a : A). a ∷ xs) (sym same), last)
+    by (inr (rest, cut, is)) = inr (rest, cut, ap (λ (zs : List A). z ∷ zs) is ∙ ap (λ (a : A). a ∷ (before ++ (y ∷ rest))) same)
+
+made_on : (start : Start) (events : List Event) (event : Event) (rule procedure place : ℕ) (action : Action) → IsMade start events rule procedure place action → IsMade start (events ++ event ∷ []) rule procedure place action
+made_on start events event rule procedure place action h = record {
+  before = h.before;
+  event = h.event;
+  after = h.after ++ event ∷ [];
+  parts = ap (λ (es : List Event). es ++ event ∷ []) h.parts ∙ append_assoc h.before (h.event ∷ h.after) (event ∷ []);
+  at = h.at;
+  leads = h.leads;
+  number = h.number;
+  does = h.does;
+}
+
+-- what is made with one event more was made before, or by it
+made_back : (start : Start) (events : List Event) (event : Event) (s : State) (rule procedure place : ℕ) (action : Action) → reached_from start events ≡ Went s → IsMade start (events ++ event ∷ []) rule procedure place action
+    → IsMade start events rule procedure place action ⊎ ((s.next_rule ≡ rule) × DoesRule start.program s event procedure place action)
+made_back start events event s rule procedure place action leads h = by (split_end events event h.before h.event h.after h.parts)
+  where
+    by : ((h.before ≡ events) × (h.event ≡ event)) ⊎ ((rest : List Event) × (h.after ≡ rest ++ event ∷ []) × (events ≡ h.before ++ (h.event ∷ rest)))
+        → IsMade start events rule procedure place action ⊎ ((s.next_rule ≡ rule) × DoesRule start.program s event procedure place action)
+    by (inl (all, last)) =
+        let here : h.at ≡ s = went_is h.at s (sym h.leads ∙ ap (reached_from start) all ∙ leads) in
+        inr (
+          sym (ap (λ (t : State). t.next_rule) here) ∙ h.number,
+          subst (λ (t : State). DoesRule start.program t event procedure place action) here (subst (λ (e : Event). DoesRule start.program h.at e procedure place action) last h.does),
+        )
+    by (inr (rest, cut, is)) = inl (record { before = h.before; event = h.event; after = rest; parts = is; at = h.at; leads = h.leads; number = h.number; does = h.does })
+
+at_end : {A : Type 0} (xs : List A) (x y : A) (k : ℕ) → slice_get (xs ++ x ∷ []) k ≡ Some y → (slice_get xs k ≡ Some y) ⊎ ((k ≡ length xs) × (x ≡ y))
+at_end [] x y zero e = inr (refl, same_Some x y e)
+at_end [] x y (suc k) e = none_some y e
+at_end (z ∷ xs) x y zero e = inl e
+at_end {A} (z ∷ xs) x y (suc k) e = by (at_end xs x y k e)
+  where
+    by : (slice_get xs k ≡ Some y) ⊎ ((k ≡ length xs) × (x ≡ y)) → (slice_get xs k ≡ Some y) ⊎ ((suc k ≡ suc (length xs)) × (x ≡ y))
+    by (inl h) = inl h
+    by (inr (at, is)) = inr (ap suc at, is)
+
+pub made_first : (start : Start) (made : List Made) → made ≡ [] → AreMade start [] made
+made_first start made is = record { each = λ k m e. none_some m (ap (λ (ms : List Made). slice_get ms k) (sym is) ∙ e); all = λ rule procedure place action h. absurd (none_there h.before h.event h.after h.parts) }
+
+more_made : (start : Start) (events : List Event) (event : Event) (s : State) (made : List Made) (o : Option Made) → reached_from start events ≡ Went s → s.next_rule ≡ length made + 1 → rule_done start.program event s ≡ o → AreMade start events made
+    → AreMade start (events ++ event ∷ []) (made ++ option_to_list o)
+more_made start events event s made None leads next is before = subst (AreMade start (events ++ event ∷ [])) (sym (append-nil made)) (record {
+  each = λ k m e. let h = before.each k m e in (h.0, made_on start events event (k + 1) m.procedure m.place h.0 h.1, h.2);
+  all = λ rule procedure place action h. by rule procedure place action (made_back start events event s rule procedure place action leads h);
+})
+  where
+    by : (rule procedure place : ℕ) (action : Action) → IsMade start events rule procedure place action ⊎ ((s.next_rule ≡ rule) × DoesRule start.program s event procedure place action) → (1 ≤ rule) × (rule ≤ length made)
+    by rule procedure place action (inl h) = before.all rule procedure place action h
+    by rule procedure place action (inr (number, d)) = let m = done_so start.program event s procedure place action d in none_some m.0 (sym is ∙ m.1)
+more_made start events event s made (Some m) leads next is before = record {
+  each = λ k x e. each_by k x (at_end made m x k e);
+  all = λ rule procedure place action h. by rule procedure place action (made_back start events event s rule procedure place action leads h);
+}
+  where
+    long : length (made ++ m ∷ []) ≡ length made + 1
+    long = length-append made (m ∷ [])
+
+    each_by : (k : ℕ) (x : Made) → (slice_get made k ≡ Some x) ⊎ ((k ≡ length made) × (m ≡ x)) → IsMadeSo start (events ++ event ∷ []) (k + 1) x
+    each_by k x (inl e) = let h = before.each k x e in (h.0, made_on start events event (k + 1) x.procedure x.place h.0 h.1, h.2)
+    each_by k x (inr (at, same)) =
+        let d = does start.program event s m is in
+        let number : s.next_rule ≡ k + 1 = omega (arith, next, at) in
+        subst (IsMadeSo start (events ++ event ∷ []) (k + 1)) same
+        (d.0, record { before = events; event = event; after = []; parts = refl; at = s; leads = leads; number = number; does = d.1 }, d.2)
+
+    by : (rule procedure place : ℕ) (action : Action) → IsMade start events rule procedure place action ⊎ ((s.next_rule ≡ rule) × DoesRule start.program s event procedure place action)
+        → (1 ≤ rule) × (rule ≤ length (made ++ m ∷ []))
+    by rule procedure place action (inl h) = let b = before.all rule procedure place action h in (b.0, omega (arith, b.1, long))
+    by rule procedure place action (inr (number, d)) = (omega (arith, number, next), omega (arith, number, next, long))
+
+pub all_more : (start : Start) (events : List Event) (event : Event) (s : State) (made next : List Made) → reached_from start events ≡ Went s → s.next_rule ≡ length made + 1 → next ≡ made ++ option_to_list (rule_done start.program event s)
+    → AreMade start events made → AreMade start (events ++ event ∷ []) next
+all_more start events event s made next leads count is before = subst (AreMade start (events ++ event ∷ [])) (sym is) (more_made start events event s made (rule_done start.program event s) leads count refl before)
+
+-- an opening has made no rule
+pub no_rule_yet : (start : Start) (s : State) → s ≡ opening start.program start.inputs → s.next_rule ≡ 1
+unfolding opening
+no_rule_yet start s is = ap (λ (t : State). t.next_rule) is
+
+-- ---- the line of a rule
+
+-- what is told of a made rule stands in the program
+pub there : (start : Start) (events : List Event) (rule : ℕ) (m : Made) → IsMadeSo start events rule m → instr_at start.program m.procedure m.place ≡ None → ⊥
+there start events rule m (action, made, runs) none =
+    let d = made.does in
+    let here : instr_at start.program m.procedure m.place ≡ Some (instr.Rule action) =
+    sym (ap (λ (n : ℕ). instr_at start.program n m.place) d.procedure_is) ∙ sym (ap (λ (k : ℕ). instr_at start.program d.frame.procedure k) d.place_is) ∙ d.does in
+    none_some (instr.Rule action) (sym none ∙ here)
+
+-- a line is added that tells of rules
+abbrev pub AddsDiagnostic : (List ℕ → Type 0) → List ℕ → List ℕ → Type 0
+AddsDiagnostic Tells old new = (more : List ℕ) × Tells more × (new ≡ old ++ more)
+
+pub rule_told : (names : List (List ℕ)) (text plain : List ℕ) (start : Start) (events : List Event) (rule : ℕ) (m : Made) (number : ℕ) (line old new : List ℕ) → StandsFor text plain → IsMadeSo start events rule m
+    → ComesFrom plain m.procedure m.place number → IsLineOf text number line
+    → new ≡ old ++ rule_line rule m.runs (name_at names m.runs) number line → AddsDiagnostic (TellsRule names text start events rule) old new
+rule_told names text plain start events rule m number line old new stands (action, made, runs) comes is added = (
+  rule_line rule action.procedure (name_at names action.procedure) number line,
+  inl (plain, m.procedure, m.place, number, action, line, made, stands, comes, is, refl),
+  added ∙ ap (λ (n : ℕ). old ++ rule_line rule n (name_at names n) number line) (sym runs),
+)
+
+pub none_told : (names : List (List ℕ)) (text : List ℕ) (start : Start) (events : List Event) (rule : ℕ) (old : List ℕ) → IsUnmade start events rule → AddsDiagnostic (TellsRule names text start events rule) old old
+none_told names text start events rule old unmade = ([], inr (unmade, refl), sym (append-nil old))
+
+rules_more : (names : List (List ℕ)) (text : List ℕ) (start : Start) (events : List Event) (links : List Link) (l : Link) (more line : List ℕ) → TellRules names text start events links more → TellsRule names text start events l.rule line
+    → TellRules names text start events (links ++ l ∷ []) (more ++ line)
+rules_more names text start events [] l more line none own = (line, [], own, refl, ap (λ (t : List ℕ). t ++ line) none ∙ sym (append-nil line))
+rules_more names text start events (k ∷ links) l more line (first, others, is, rest, whole) own =
+    (first, others ++ line, is, rules_more names text start events links l others line rest own, ap (λ (t : List ℕ). t ++ line) whole ∙ append_assoc first others line)
+
+-- the lines of so many rules of a circle, and of one more
+pub rule_more : (names : List (List ℕ)) (text : List ℕ) (start : Start) (events : List Event) (links next : List Link) (l : Link) (old now new : List ℕ) → next ≡ links ++ l ∷ [] → AddsDiagnostic (TellRules names text start events links) old now
+    → AddsDiagnostic (TellsRule names text start events l.rule) now new → AddsDiagnostic (TellRules names text start events next) old new
+rule_more names text start events links next l old now new is (more, told, before) (line, own, added) = (
+  more ++ line,
+  subst (λ (ls : List Link). TellRules names text start events ls (more ++ line)) (sym is) (rules_more names text start events links l more line told own),
+  added ∙ ap (λ (t : List ℕ). t ++ line) before ∙ append_assoc old more line,
+)
+
+-- ---- from where the machine stands first
+
+pub from_there : (start : Start) (first : PlainView) (events : List Event) → IsOpened start first → run first.program first.layout events first.state ≡ reached_from start events
+from_there start first events h =
+    ap (λ (ps : List Procedure). run ps first.layout events first.state) h.program
+    ∙ ap (λ (a : ActorCounts). run start.program a events first.state) h.layout
+    ∙ ap (λ (s : State). run start.program start.layout events s) h.state
+
+pub opened_so : (start : Start) (program : Versioned) (inputs : List Input) (layout : ActorCounts) (first : PlainView) → IsStartOf start inputs layout → start.program ≡ program.procedures
+    → first ≡ record { version = program.version; program = program.procedures; layout = layout; state = opening program.procedures inputs } → IsOpened start first
+opened_so start program inputs layout first (given, at) same is = record {
+  program = ap (λ (v : PlainView). v.program) is ∙ sym same;
+  layout = ap (λ (v : PlainView). v.layout) is ∙ sym at;
+  state = ap (λ (v : PlainView). v.state) is ∙ ap (λ (ps : List Procedure). opening ps inputs) (sym same) ∙ ap (λ (xs : List Input). opening start.program xs) (sym given);
+}
+
+-- the program that is assembled once more
+pub same_program : (text : List ℕ) (program : Versioned) (sections : List Procedure) → SpellsProgram program text → IsSpelled text sections → sections ≡ program.procedures
+same_program text program sections spells (version, spelled) = ap (λ (p : Versioned). p.procedures) (spells_once text (record { version = version; procedures = sections }) program spelled spells)
+
+-- it is opened, if the same is known of what it was started with
+pub opens_so : (start : Start) (program : Versioned) (inputs : List Input) (layout : ActorCounts) → IsStartOf start inputs layout → start.program ≡ program.procedures → rejection_of start.program start.inputs ≡ None → rejection_of program.procedures inputs ≡ None
+opens_so start program inputs layout (given, at) same none = sym (ap (λ (ps : List Procedure). rejection_of ps inputs) same) ∙ sym (ap (rejection_of start.program) given) ∙ none
+
+pub one_taken : {X : Type 0} (xs : List X) (i : ℕ) (x : X) → i < length xs → x ≡ get_or xs i x → take (i + 1) xs ≡ take i xs ++ x ∷ []
+one_taken xs i x inside is = take_more xs i x inside ∙ ap (λ y. take i xs ++ y ∷ []) (sym is)
+
+-- the same event from where the machine was opened
+pub steps_there : (start : Start) (first : PlainView) (event : Event) (s t : State) → IsOpened start first → step first.program first.layout event s ≡ Went t → step start.program start.layout event s ≡ Went t
+steps_there start first event s t h went = sym (ap (λ (ps : List Procedure). step ps first.layout event s) h.program ∙ ap (λ (a : ActorCounts). step start.program a event s) h.layout) ∙ went
+
+-- before the first event no rule was made
+pub first_next : (start : Start) (s : State) (made : List Made) → s ≡ opening start.program start.inputs → made ≡ [] → s.next_rule ≡ length made + 1
+first_next start s made is none = no_rule_yet start s is ∙ ap (λ (ms : List Made). length ms + 1) (sym none)
+
+pub run_none : (program : List Procedure) (layout : ActorCounts) (s : State) → run program layout [] s ≡ Went s
+unfolding run
+run_none program layout s = refl
+
+pub not_within : {P : Type 0} (b : Bool) → (IsTrue b ↔ P) → b ≡ false → P → ⊥
+not_within true h e p = never (sym e)
+not_within false h e p = never (h.1 p)
+
+pub same_state : (o : Outcome State) (s t : State) → o ≡ Went s → o ≡ Went t → s ≡ t
+same_state o s t e f = went_is s t (sym e ∙ f)

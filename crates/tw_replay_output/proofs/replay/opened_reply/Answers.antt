@@ -1,0 +1,40 @@
+use Rattle.std.proofs.Common.{◌≡◌, List, None, ap, subst, sym}
+use Rattle.tw_replay_output.proofs.ReplayNames.{AreKnownBudgets, IfOk-weaker, Input, IsAnswer, IsAnswered, IsFirst, IsTold, PlainView, Reply, Versioned, rejection_of, reply, text_of}
+use Rattle.tw_picture.specs.History.{IsOpening}
+use Rattle.tw_picture.proofs.History.{opening_is}
+use Rattle.tw_stats.proofs.Openings.{first_is}
+use Rattle.tw_replay_output.proofs.Behinds.{IsUnopened}
+use Rattle.tw_replay_output.proofs.Playing.{opened_answer, opened_is, refused_answer}
+use Rattle.tw_replay_output.proofs.replay.opened_reply.Goals as goal
+
+pub answer_of-requires-clause-opening : goal.answer_of-requires-clause-opening
+answer_of-requires-clause-opening c = subst IsOpening (sym (ap (λ (v : PlainView). v.state) c.in-Ok.ensures.opened)) (opening_is c.args.program.procedures c.as_slice.result.now)
+
+pub answer_of-requires-clause-numbers : goal.answer_of-requires-clause-numbers
+answer_of-requires-clause-numbers c = subst IsFirst (sym (ap (λ (v : PlainView). v.state) c.in-Ok.ensures.opened)) (first_is c.args.program.procedures c.as_slice.result.now)
+
+pub answer_of-requires-clause-known : goal.answer_of-requires-clause-known
+answer_of-requires-clause-known c = λ is. subst (λ (v : PlainView). AreKnownBudgets v.program c.args.budgets.now) (sym c.in-Ok.ensures.opened) (c.requires.known is)
+
+pub returns-in_ok-told-in-Ok : goal.returns-in_ok-told-in-Ok
+returns-in_ok-told-in-Ok c =
+    let order = c.args.order.now in
+    let program = c.args.program in
+    let events = c.args.events.now in
+    let text = text_of c.args.source.now in
+    let told = reply c.in_ok-told-in-Ok.told.text.items c.in_ok-told-in-Ok.told.close in
+    let none : rejection_of program.procedures order.inputs ≡ None = subst (λ (given : List Input). rejection_of program.procedures given ≡ None) c.as_slice.ensures c.in-Ok.ensures.asked in
+    let here = opened_is order program c.as_slice.result.now c.in-Ok.plain c.as_slice.ensures c.in-Ok.ensures.opened in
+    let is = subst (λ (v : PlainView). IsAnswer c.in_ok-names.names order.answer v events told) here c.in_ok-told-in-Ok.ensures in
+    IfOk-weaker _ _ _ (λ (r : Reply) h. opened_answer text order program events (reply r.text.items r.close) none (h program c.requires.source none c.requires.few c.requires.sizes c.in_ok-names.names c.in_ok-names.ensures is)) c.details_reply.ensures
+
+pub returns-in-Err : goal.returns-in-Err
+returns-in-Err c =
+    let order = c.args.order.now in
+    let program = c.args.program in
+    let text = text_of c.args.source.now in
+    let why = c.in-Err.refused.no in
+    let asked = subst (λ (given : List Input). IsTold (rejection_of program.procedures given) why) c.as_slice.ensures c.in-Err.ensures.asked in
+    IfOk-weaker _ _ _
+    (λ (r : Reply) h. refused_answer text program.procedures order.inputs (rejection_of program.procedures order.inputs) why (IsAnswered text order program c.args.events.now (reply r.text.items r.close)) (reply r.text.items r.close) asked h.0
+    (subst (λ (p : Versioned). IsUnopened text p.procedures order.inputs why (reply r.text.items r.close)) c.in-Err.ensures.back h.1)) c.unopened_reply.ensures

@@ -1,0 +1,172 @@
+-- What `replay` and `picture` answer: the events of a history, one after the other, on the reference machine.
+use Rattle.std.specs.Prelude.{◌≡◌, ◌⊎◌, ◌++◌, ℕ, suc, List, [], ◌∷◌, Option, Some, None, Ok, Err}
+use Rattle.tw_types.specs.declared.ending.Ending.{Ending}
+use Rattle.tw_types.specs.declared.ending.Ending.TheVariants as ending
+use Rattle.tw_types.specs.declared.event.Event.{Event}
+use Rattle.tw_types.specs.declared.input.Input.{Input}
+use Rattle.tw_types.specs.Cause.{cause_number}
+use Rattle.tw_types.specs.Layout.{ActorCounts}
+use Rattle.tw_types.specs.Outcome.{Outcome, Went, NotEnabled, Trap}
+use Rattle.tw_code.specs.declared.procedure.Procedure.{Procedure}
+use Rattle.tw_code.specs.format.Program.{Versioned}
+use Rattle.tw_code.specs.accepting.Flow.{flows}
+use Rattle.tw_code.specs.accepting.Walk.{IsBudget}
+use Rattle.tw_code.specs.accepting.WellTyped.{IsAccepted}
+use Rattle.tw_code.specs.machine.Ending as machine
+use Rattle.tw_code.specs.machine.Machine.{run, step}
+use Rattle.tw_code.specs.machine.Opening.{opening}
+use Rattle.tw_code.specs.machine.State.{State}
+use Rattle.tw_cli.specs.declared.command.Answer.{Answer}
+use Rattle.tw_cli.specs.declared.command.Answer.TheVariants.{Numbers, Picture, Report}
+use Rattle.tw_cli.specs.declared.command.ReplayOrder.{ReplayOrder}
+use Rattle.tw_cli.specs.declared.shown.EventRange.{EventRange}
+use Rattle.tw_machine.specs.PlainView.{PlainView}
+use Rattle.tw_machine.specs.declared.rejection.OpenError.{OpenError}
+use Rattle.tw_machine.specs.declared.rejection.OpenError.TheVariants.{MainShape}
+use Rattle.tw_machine.specs.Opening.{open_error_code, rejection_of}
+use Rattle.tw_picture.specs.declared.drawing.Drawing.{Drawing}
+use Rattle.tw_machine.specs.Moments.{history}
+use Rattle.tw_picture.specs.History.{IsDrawing}
+use Rattle.tw_picture.specs.Timeline.{picture_of}
+use Rattle.tw_picture.specs.Places.{between}
+use Rattle.tw_picture.specs.Xml.{xml_text}
+use Rattle.tw_symbols.specs.Symbols.{AreSymbols}
+use Rattle.tw_report.specs.History.{AreParts, Tell, lines_in}
+use Rattle.tw_report.specs.Lines.{history_line, not_enabled_line, trap_line}
+use Rattle.tw_program_output.specs.Lines.{opening_line}
+use Rattle.tw_report.specs.Report.{state_report}
+use Rattle.tw_stats.specs.Text.{AreNumbers}
+use Rattle.tw_replay_output.specs.Circle.{AreEndingDetails, Start, reached_from}
+use Rattle.tw_replay_output.specs.Opening.{AreOpeningDetails}
+use Rattle.tw_program_output.specs.Reply.{Reply, reply}
+use Rattle.tw_program_output.specs.Text.{RepliesByUtf8}
+use Rattle.tw_program_output.specs.declared.close.Close.{Close}
+use Rattle.tw_program_output.specs.declared.close.Close.TheVariants.{Success, Refused, Stuck, Trapped}
+
+-- ---- the events
+
+-- a state that is still running is no failure
+abbrev pub close_of : Option Ending → Close
+close_of None = Success
+close_of (Some ending.Quiet) = Success
+close_of (Some (ending.Stuck rules)) = Stuck
+
+-- the report of the state that was reached
+abbrev pub state_reply : List Procedure → State → Reply
+state_reply program s = reply (state_report program s) (close_of (machine.ending s))
+
+-- what follows an event of this number: its own reply where it didn't go
+abbrev pub after_event : ℕ → Outcome State → (State → Reply) → Reply
+after_event number (Went s) next = next s
+after_event number NotEnabled next = reply (not_enabled_line number) Refused
+after_event number (Trap cause) next = reply (trap_line (cause_number cause) number) Trapped
+
+-- the events from this number on, up to the first that doesn't go
+unfoldable pub played : List Procedure → ActorCounts → ℕ → List Event → State → Reply
+played program layout number [] s = state_reply program s
+played program layout number (event ∷ events) s = after_event number (step program layout event s) (λ next. played program layout (suc number) events next)
+
+-- from this machine on
+abbrev pub played_from : PlainView → List Event → Reply
+played_from first events = played first.program first.layout 1 events first.state
+
+-- ---- the picture
+
+-- the drawing of the events that lead to a state, as one text that shows some of them; the procedures have these names
+abbrev pub IsPicture : List (List ℕ) → EventRange → PlainView → List Event → State → Reply → Type 0
+IsPicture names shown first events s r =
+    (d : Drawing) × IsDrawing names first events s d × (r ≡ reply (xml_text (picture_of d (between shown.from shown.to))) (close_of (machine.ending s)))
+
+-- one thing where events go, and another where one doesn't
+abbrev pub ByOutcome : Outcome State → (State → Type 0) → Type 0 → Type 0
+ByOutcome (Went s) goes stops = goes s
+ByOutcome NotEnabled goes stops = stops
+ByOutcome (Trap cause) goes stops = stops
+
+-- their picture, or what `replay` answers
+abbrev pub IsDrawn : List (List ℕ) → EventRange → PlainView → List Event → Reply → Type 0
+IsDrawn names shown first events r = ByOutcome (run first.program first.layout events first.state) (λ s. IsPicture names shown first events s r) (r ≡ played_from first events)
+
+-- ---- the numbers
+
+-- the budgets of the procedures, one each
+abbrev pub AreBudgets : List Procedure → List ℕ → Type 0
+AreBudgets [] [] = Unit {0}
+AreBudgets [] (budget ∷ budgets) = ⊥
+AreBudgets (p ∷ program) [] = ⊥
+AreBudgets (p ∷ program) (budget ∷ budgets) = IsBudget (flows p.code) budget × AreBudgets program budgets
+
+-- those of a program that is accepted; of no other one are they known
+abbrev pub AreKnownBudgets : List Procedure → List ℕ → Type 0
+AreKnownBudgets program budgets = (IsAccepted program × AreBudgets program budgets) ⊎ ((IsAccepted program → ⊥) × (budgets ≡ []))
+
+-- the report of the state to which the events lead, and behind it their numbers
+abbrev pub IsNumbered : List (List ℕ) → PlainView → List Event → State → Reply → Type 0
+IsNumbered names first events s r =
+    (budgets : List ℕ) × (text : List ℕ) × AreKnownBudgets first.program budgets × AreNumbers names first.program first.layout budgets (history first events) text
+    × (r ≡ reply (state_report first.program s ++ text) (close_of (machine.ending s)))
+
+-- that, or what `replay` answers
+abbrev pub IsCounted : List (List ℕ) → PlainView → List Event → Reply → Type 0
+IsCounted names first events r = ByOutcome (run first.program first.layout events first.state) (λ s. IsNumbered names first events s r) (r ≡ played_from first events)
+
+-- ---- an answer
+
+-- where the procedures have these names
+abbrev pub IsAnswer : List (List ℕ) → Answer → PlainView → List Event → Reply → Type 0
+IsAnswer names Report first events r = r ≡ played_from first events
+IsAnswer names Numbers first events r = IsCounted names first events r
+IsAnswer names (Picture shown) first events r = IsDrawn names shown first events r
+
+-- ---- what stands behind it, where the program was read from a text
+
+-- behind a report and the numbers, not behind a picture
+abbrev pub AreReportDetails : Answer → List ℕ → Start → List Event → Outcome State → List ℕ → Type 0
+AreReportDetails (Picture shown) text start events o more = more ≡ []
+AreReportDetails answer text start events o more = ByOutcome o (λ s. AreEndingDetails text start events s (machine.ending s) more) (more ≡ [])
+
+abbrev pub AreAnswerDetails : Option (List ℕ) → Answer → Start → List Event → List ℕ → Type 0
+AreAnswerDetails None answer start events more = more ≡ []
+AreAnswerDetails (Some text) answer start events more = AreReportDetails answer text start events (reached_from start events) more
+
+-- ---- the program and its inputs
+
+-- a refusal of the inputs tells of them; where main has not its shape nothing is said of them
+abbrev pub AreRejectionDetails : Option (List ℕ) → List Procedure → List Input → OpenError → List ℕ → Type 0
+AreRejectionDetails text program inputs MainShape more = more ≡ []
+AreRejectionDetails text program inputs why more = AreOpeningDetails text program inputs more
+
+-- the program isn't opened
+abbrev pub OpensOr : Option (List ℕ) → List Procedure → List Input → Option OpenError → Type 0 → Reply → Type 0
+OpensOr text program inputs None Answers r = Answers
+OpensOr text program inputs (Some why) Answers r = (more : List ℕ) × AreRejectionDetails text program inputs why more × (r ≡ reply (opening_line (open_error_code why) ++ more) Refused)
+
+abbrev pub start_of : ReplayOrder → Versioned → Start
+start_of order program = record { program = program.procedures; inputs = order.inputs; layout = order.layout }
+
+-- from the opening, if the program is opened
+abbrev pub opened : ReplayOrder → Versioned → PlainView
+opened order program = record { version = program.version; program = program.procedures; layout = order.layout; state = opening program.procedures order.inputs }
+
+-- the answer, with the names that the text gives, and what stands behind it
+abbrev pub IsAnswered : Option (List ℕ) → ReplayOrder → Versioned → List Event → Reply → Type 0
+IsAnswered text order program events r =
+    (names : List (List ℕ)) × (told : Reply) × (more : List ℕ) × AreSymbols text names × IsAnswer names order.answer (opened order program) events told × AreAnswerDetails text order.answer (start_of order program) events more
+    × (r ≡ reply (told.text ++ more) told.close)
+
+abbrev pub IsReplayed : Option (List ℕ) → ReplayOrder → Versioned → List Event → Reply → Type 0
+IsReplayed text order program events r =
+    OpensOr text program.procedures order.inputs (rejection_of program.procedures order.inputs) (IsAnswered text order program events r) r
+
+-- ---- what is read
+
+-- the lines tell a history, or have a first line that isn't known
+abbrev pub RepliesByLines : Option (List ℕ) → ReplayOrder → List (List ℕ) → Versioned → Reply → Type 0
+RepliesByLines text order lines program r =
+    ((events : List Event) × Tell lines (Ok events) × IsReplayed text order program events r)
+    ⊎ ((line : ℕ) × Tell lines (Err line) × (r ≡ reply (history_line line) Refused))
+
+-- The part behind the line `events` must be UTF-8; what stands before it, and the history's lines, are answered so.
+abbrev pub RepliesByHistory : List ℕ → (List ℕ → List (List ℕ) → Reply → Type 0) → Reply → Type 0
+RepliesByHistory input Answers r =
+    (before : List ℕ) × (after : List ℕ) × AreParts input before after × RepliesByUtf8 after (Answers before (lines_in after) r) r

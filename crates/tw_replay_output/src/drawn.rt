@@ -1,0 +1,61 @@
+//! What `picture` answers.
+
+ghost use Rattle.std.specs.Prelude.{◌≡◌, ◌≤◌, List, IfOk, length};
+ghost use Rattle.tw_types.specs.declared.event.Event.{Event as AnEvent};
+ghost use Rattle.tw_code.specs.machine.Bounds.{AreBelow, opening_bound};
+ghost use Rattle.tw_machine.specs.PlainView.{PlainView};
+ghost use Rattle.tw_picture.specs.History.{HasFew, IsOpening, IsTrail};
+ghost use Rattle.tw_replay_output.specs.Counted.{AreShort};
+ghost use Rattle.tw_replay_output.specs.Replay.{IsDrawn, IsPicture};
+ghost use Rattle.tw_program_output.specs.Reply.{reply};
+
+use crate::replay::{close_of, stopped_reply};
+use std::alloc::{AllocError, Global};
+use tw_cli::EventRange;
+use tw_machine::Plain;
+use tw_picture::{Settings, TimelineBuilder, timeline};
+use tw_program_output::Reply;
+use tw_symbols::Symbols;
+use tw_types::Event;
+
+/// The picture of these of the events that led to where the machine stands.
+fn picture_reply(
+    alloc: Global,
+    shown: EventRange,
+    names: Symbols,
+    plain: &Plain,
+    timeline_builder: TimelineBuilder,
+) -> Result<Reply, AllocError>
+    requires { HasFew timeline_builder }
+    ensures { IfOk result (λ r. (first : PlainView) (events : List AnEvent) → plain.now ≡ record first { state = plain.now.state } → IsTrail first events plain.now.state timeline_builder → IsPicture names shown first events plain.now.state (reply r.text.items r.close)) }
+{
+    let close = close_of(plain.ending());
+    let drawing = timeline_builder.drawing(alloc, plain, names)?;
+    let text = timeline(alloc, &drawing, Settings::between(shown.from, shown.to))?;
+    Ok(Reply { text, close })
+}
+
+/// Makes the events and draws these of them, or tells the first that doesn't go.
+pub fn draw(
+    alloc: Global,
+    shown: EventRange,
+    names: Symbols,
+    first: Plain,
+    events: &[Event],
+) -> Result<Reply, AllocError>
+    requires opening { IsOpening first.state }
+    requires below { AreBelow opening_bound first.state }
+    requires sizes { AreShort events.now }
+    requires few { length events.now ≤ 16777217 }
+    ensures { IfOk result (λ r. IsDrawn names shown first events.now (reply r.text.items r.close)) }
+{
+    let mut plain = first;
+    let mut timeline_builder = TimelineBuilder::new(alloc);
+    for (index, event) in events.iter().enumerate() {
+        match plain.step(alloc, *event) {
+            Ok(()) => timeline_builder.add_event(&plain, *event)?,
+            Err(stopped) => return stopped_reply(alloc, stopped, index + 1),
+        }
+    }
+    picture_reply(alloc, shown, names, &plain, timeline_builder)
+}

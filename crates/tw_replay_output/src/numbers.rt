@@ -1,0 +1,163 @@
+//! What `replay --stats` answers, and what `run --stats` does of its events.
+
+ghost use Rattle.std.specs.Prelude.{◌≡◌, ◌≤◌, ◌++◌, List, IfOk, OnOk, length};
+ghost use Rattle.tw_types.specs.declared.event.Event.{Event as AnEvent};
+ghost use Rattle.tw_types.specs.Outcome.{Outcome};
+ghost use Rattle.tw_code.specs.machine.Bounds.{AreBelow, opening_bound};
+ghost use Rattle.tw_code.specs.machine.State.{State};
+ghost use Rattle.tw_instr.specs.Attempts.{IsStopped};
+ghost use Rattle.tw_machine.specs.PlainView.{PlainView};
+ghost use Rattle.tw_stats.specs.Kept.{IsFirst, IsTally};
+ghost use Rattle.tw_replay_output.specs.Counted.{AreShort, IsCounting};
+ghost use Rattle.tw_replay_output.specs.Replay.{AreBudgets, AreKnownBudgets, ByOutcome, IsCounted, IsNumbered, after_event};
+ghost use Rattle.tw_program_output.specs.Reply.{Reply as AReply, reply};
+ghost use Rattle.tw_program_output.specs.declared.reply.Reply.{Reply as Told};
+
+use crate::replay::{close_of, stopped_reply};
+use std::alloc::{AllocError, Global};
+use tw_code::Program;
+use tw_machine::{Plain, Stopped};
+use tw_program_output::Reply;
+use tw_report::report_state;
+use tw_stats::StatsBuilder;
+use tw_symbols::Symbols;
+use tw_types::Event;
+use tw_verify::{Verified, VerifyError, verify};
+
+/// A program, and the budgets of its procedures where it is accepted.
+#[derive(Drop)]
+pub struct Budgeted {
+    pub program: Program,
+    pub budgets: Vec<u64>,
+}
+
+/// The machine behind events that were made, and their statistics.
+#[derive(Drop)]
+pub struct Counted {
+    pub plain: Plain,
+    pub stats_builder: StatsBuilder,
+}
+
+/// What comes of events that are counted: all were made; or one doesn't go, and this is told.
+#[derive(Drop)]
+pub enum Counting {
+    Made(Counted),
+    Stopped(Reply),
+}
+
+/// The budgets of the procedures, one each.
+pub fn budgets_of(alloc: Global, verified: &Verified) -> Result<Vec<u64>, AllocError>
+    ensures { IfOk result (λ budgets. AreBudgets verified.now.program budgets.items) }
+{
+    let mut budgets = Vec::new(alloc);
+    for number in 0..verified.program().procedures().len() {
+        budgets.push(verified.budget(number))?;
+    }
+    Ok(budgets)
+}
+
+/// Looks whether a program is accepted.
+pub fn with_budgets(alloc: Global, program: Program) -> Result<Budgeted, AllocError>
+    ensures program { IfOk result (λ b. b.program ≡ program) }
+    ensures budgets { IfOk result (λ b. AreKnownBudgets program.procedures b.budgets.items) }
+{
+    match verify(alloc, program) {
+        Ok(verified) => {
+            let budgets = budgets_of(alloc, &verified)?;
+            Ok(Budgeted {
+                program: verified.into_program(),
+                budgets,
+            })
+        }
+        Err(refused) => match refused.no {
+            VerifyError::NoMemory => Err(AllocError),
+            _ => Ok(Budgeted {
+                program: refused.program,
+                budgets: Vec::new(alloc),
+            }),
+        },
+    }
+}
+
+pub fn put_bytes(out: &mut Vec<u8>, bytes: &[u8]) -> Result<(), AllocError>
+    ensures { OnOk result (out.new.items ≡ out.old.items ++ bytes.now) }
+{
+    out.extend_from_slice(bytes)
+}
+
+/// The report of where the machine stands, and the numbers of the events that led there.
+fn numbers_reply(
+    alloc: Global,
+    plain: &Plain,
+    stats_builder: &StatsBuilder,
+    names: &Symbols,
+    budgets: &[u64],
+) -> Result<Reply, AllocError>
+    requires { AreKnownBudgets plain.now.program budgets.now }
+    ensures { IfOk result (λ r. (first : PlainView) (events : List AnEvent) → plain.now ≡ record first { state = plain.now.state } → IsTally first events plain.now.state stats_builder.now → IsNumbered names.now first events plain.now.state (reply r.text.items r.close)) }
+{
+    let close = close_of(plain.ending());
+    let mut text = report_state(alloc, plain)?;
+    let numbers = stats_builder.text(alloc, plain, names, budgets)?;
+    put_bytes(&mut text, &numbers)?;
+    Ok(Reply { text, close })
+}
+
+/// What comes of events of which the one of this number is stopped so.
+fn stopped_counting(alloc: Global, stopped: Stopped, event: usize) -> Result<Counting, AllocError>
+    ensures { IfOk result (λ c. (r : Told) × (c ≡ Counting.Stopped r)
+        × ((o : Outcome State) (next : State → AReply) → IsStopped o stopped → ByOutcome o (λ s. ⊥) (reply r.text.items r.close ≡ after_event event o next))) }
+{
+    let reply = stopped_reply(alloc, stopped, event)?;
+    Ok(Counting::Stopped(reply))
+}
+
+/// Makes the events and counts them, up to the first that doesn't go.
+pub fn count(alloc: Global, first: Plain, events: &[Event]) -> Result<Counting, AllocError>
+    requires opening { IsFirst first.state }
+    requires below { AreBelow opening_bound first.state }
+    requires sizes { AreShort events.now }
+    requires few { length events.now ≤ 16777217 }
+    ensures { IfOk result (IsCounting first events.now) }
+{
+    let mut plain = first;
+    let mut stats_builder = StatsBuilder::new(alloc);
+    for (index, event) in events.iter().enumerate() {
+        let pre_state = stats_builder.pre_state(&plain, event);
+        match plain.step(alloc, *event) {
+            Ok(()) => stats_builder.count_event(&plain, event, &pre_state)?,
+            Err(stopped) => return stopped_counting(alloc, stopped, index + 1),
+        }
+    }
+    Ok(Counting::Made(Counted {
+        plain,
+        stats_builder,
+    }))
+}
+
+/// The report and the numbers, or what is told of the first event that doesn't go.
+pub fn counted_reply(
+    alloc: Global,
+    first: Plain,
+    events: &[Event],
+    names: &Symbols,
+    budgets: &[u64],
+) -> Result<Reply, AllocError>
+    requires known { AreKnownBudgets first.program budgets.now }
+    requires opening { IsFirst first.state }
+    requires below { AreBelow opening_bound first.state }
+    requires sizes { AreShort events.now }
+    requires few { length events.now ≤ 16777217 }
+    ensures { IfOk result (λ r. IsCounted names.now first events.now (reply r.text.items r.close)) }
+{
+    match count(alloc, first, events)? {
+        Counting::Made(counted) => numbers_reply(
+            alloc,
+            &counted.plain,
+            &counted.stats_builder,
+            names,
+            budgets,
+        ),
+        Counting::Stopped(reply) => Ok(reply),
+    }
+}

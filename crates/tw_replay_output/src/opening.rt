@@ -1,0 +1,228 @@
+//! Why a program isn't opened with these inputs.
+
+ghost use Rattle.std.specs.Prelude.{◌≡◌, ◌<◌, ◌+◌, ◌++◌, ℕ, List, IfOk, MatchOption, OnOk, Some, codes, decimal, false, length, slice_get, take, true};
+ghost use Rattle.tw_types.specs.Given.{given_by, members_by};
+ghost use Rattle.tw_code.specs.machine.Inputs.{has_fitting_inputs, input_params, rises};
+ghost use Rattle.tw_code.specs.machine.Opening.{main_params};
+ghost use Rattle.tw_diagnostics.specs.Words.{type_text};
+ghost use Rattle.tw_replay_output.specs.Opening.{AreOpeningDetails, TellsInputs, TellsUnfit, count_line, excess_text, members_text, type_given, unfit_text};
+ghost use Rattle.tw_program_output.specs.Lines.{opening_line};
+ghost use Rattle.tw_program_output.specs.Reply.{reply};
+ghost use Rattle.tw_program_output.specs.Source.{text_of};
+
+use std::alloc::{AllocError, Global};
+use tw_code::{
+    MAX_MEMBERS, Procedure, has_fitting_inputs, has_input_count, input_count, main_params, rises,
+};
+use tw_diagnostics::put_type;
+use tw_program_output::{Close, Reply, SourceText, put_opening_line, refused_by};
+use tw_report::{put, put_numbered};
+use tw_types::{AsValue, DataType, Input, Param};
+
+/// The parameter of the input behind so many.
+fn input_param(program: &[Procedure], index: usize) -> Option<Param>
+    ensures { result ≡ slice_get (input_params (main_params program.now)) index }
+{
+    let params = main_params(program);
+    let mut left = index;
+    for param in params {
+        if !param.mode.is_write() {
+            if left == 0 {
+                return Some(*param);
+            }
+            left -= 1;
+        }
+    }
+    None
+}
+
+fn put_counts(
+    alloc: Global,
+    out: &mut Vec<u8>,
+    given: usize,
+    asked: usize,
+) -> Result<(), AllocError>
+    ensures { OnOk result (out.new.items ≡ out.old.items ++ (codes "inputs given: " ++ (decimal given ++ (codes ", asked: " ++ (decimal asked ++ codes "\n"))))) }
+{
+    put_numbered(alloc, out, "inputs given: ", given)?;
+    put_numbered(alloc, out, ", asked: ", asked)?;
+    put(out, "\n")
+}
+
+fn put_count_line(
+    alloc: Global,
+    out: &mut Vec<u8>,
+    program: &[Procedure],
+    inputs: &[Input],
+) -> Result<(), AllocError>
+    ensures { OnOk result (out.new.items ≡ out.old.items ++ count_line program.now inputs.now) }
+{
+    put_counts(alloc, out, inputs.len(), input_count(main_params(program)))
+}
+
+/// The type of an input; always one.
+fn type_given(input: &Input) -> Option<DataType>
+    ensures { result ≡ Some (type_given (given_by input.now)) }
+{
+    match input {
+        Input::Int(_) => Some(DataType::int()),
+        Input::Text(_) => Some(DataType::text()),
+        Input::Ints(_) => DataType::int().cont(),
+        Input::Texts(_) => DataType::text().cont(),
+        Input::IntsByText(_) => DataType::int().tcont(),
+        Input::TextsByText(_) => DataType::text().tcont(),
+    }
+}
+
+/// The limit past which members are.
+fn members_text<K: AsValue, V: AsValue>(members: &[(K, V)]) -> &'static str
+    ensures { result.now ≡ members_text (members_by K.value V.value members.now) }
+{
+    if members.len() > MAX_MEMBERS {
+        " has more than 1000 members\n"
+    } else if rises(members) {
+        " has a text of more than 4096 bytes\n"
+    } else {
+        " has subscripts that don't rise\n"
+    }
+}
+
+/// The limit past which an input is that has its parameter's type.
+fn excess_text(input: &Input) -> &'static str
+    ensures { result.now ≡ excess_text (given_by input.now) }
+{
+    match input {
+        Input::Int(_) | Input::Text(_) => " is a text of more than 4096 bytes\n",
+        Input::Ints(members) => members_text(members.as_slice()),
+        Input::Texts(members) => members_text(members.as_slice()),
+        Input::IntsByText(members) => members_text(members.as_slice()),
+        Input::TextsByText(members) => members_text(members.as_slice()),
+    }
+}
+
+/// What type an input is, and which one was asked.
+fn put_types(out: &mut Vec<u8>, given: DataType, asked: DataType) -> Result<(), AllocError>
+    ensures { OnOk result (out.new.items ≡ out.old.items ++ (codes " is " ++ (type_text given ++ (codes ", asked: " ++ (type_text asked ++ codes "\n"))))) }
+{
+    put(out, " is ")?;
+    put_type(out, given)?;
+    put(out, ", asked: ")?;
+    put_type(out, asked)?;
+    put(out, "\n")
+}
+
+/// Why an input isn't what its parameter asks.
+fn put_unfit_text(out: &mut Vec<u8>, asked: DataType, input: &Input) -> Result<(), AllocError>
+    ensures { OnOk result (out.new.items ≡ out.old.items ++ unfit_text asked (given_by input.now)) }
+{
+    match type_given(input) {
+        Some(given) => {
+            if asked == given {
+                put(out, excess_text(input))
+            } else {
+                put_types(out, given, asked)
+            }
+        }
+        None => Ok(()),
+    }
+}
+
+/// How many inputs stand before the first that its parameter can't be given, if there is one.
+fn first_unfit(program: &[Procedure], inputs: &[Input]) -> Option<usize>
+    ensures { MatchOption result
+        (has_fitting_inputs program.now inputs.now ≡ true)
+        (λ index. (index < length inputs.now) × (has_fitting_inputs program.now (take index inputs.now) ≡ true)
+        × (has_fitting_inputs program.now (take (index + 1) inputs.now) ≡ false)) }
+{
+    for index in 0..inputs.len() {
+        if !has_fitting_inputs(program, &inputs[..index + 1]) {
+            return Some(index);
+        }
+    }
+    None
+}
+
+/// Tells the first input that its parameter can't be given.
+fn put_unfit(
+    alloc: Global,
+    out: &mut Vec<u8>,
+    program: &[Procedure],
+    inputs: &[Input],
+) -> Result<(), AllocError>
+    ensures { OnOk result (has_fitting_inputs program.now inputs.now ≡ false
+        → (text : List ℕ) × TellsUnfit program.now inputs.now text × (out.new.items ≡ out.old.items ++ text)) }
+{
+    let Some(index) = first_unfit(program, inputs) else {
+        return Ok(());
+    };
+    let Some(param) = input_param(program, index) else {
+        return Ok(());
+    };
+    let Some(input) = inputs.get(index) else {
+        return Ok(());
+    };
+    put_numbered(alloc, out, "input ", index + 1)?;
+    put_unfit_text(out, param.ty, input)
+}
+
+/// Tells why these inputs aren't those that main takes, if they aren't.
+fn put_inputs_diagnostic(
+    alloc: Global,
+    out: &mut Vec<u8>,
+    program: &[Procedure],
+    inputs: &[Input],
+) -> Result<(), AllocError>
+    ensures { OnOk result ((text : List ℕ) × TellsInputs program.now inputs.now text × (out.new.items ≡ out.old.items ++ text)) }
+{
+    if !has_input_count(program, inputs) {
+        put_count_line(alloc, out, program, inputs)
+    } else if has_fitting_inputs(program, inputs) {
+        Ok(())
+    } else {
+        put_unfit(alloc, out, program, inputs)
+    }
+}
+
+/// Adds what stands behind the refusal of an opening.
+fn put_opening_details(
+    alloc: Global,
+    out: &mut Vec<u8>,
+    source: &Option<SourceText<'_>>,
+    program: &[Procedure],
+    inputs: &[Input],
+) -> Result<(), AllocError>
+    ensures { OnOk result ((more : List ℕ) × AreOpeningDetails (text_of source.now) program.now inputs.now more × (out.new.items ≡ out.old.items ++ more)) }
+{
+    match source {
+        Some(_) => put_inputs_diagnostic(alloc, out, program, inputs),
+        None => Ok(()),
+    }
+}
+
+/// The reply where a program isn't opened, and nothing is said of its inputs.
+pub fn opening_reply(alloc: Global, number: u8) -> Result<Reply, AllocError>
+    requires { number < 100 }
+    ensures { IfOk result (λ r. reply r.text.items r.close ≡ reply (opening_line number) Close.Refused) }
+{
+    let mut text = Vec::new(alloc);
+    put_opening_line(&mut text, number)?;
+    Ok(refused_by(text))
+}
+
+/// The reply where a program isn't opened with these inputs.
+pub fn inputs_refused_reply(
+    alloc: Global,
+    source: &Option<SourceText<'_>>,
+    number: u8,
+    program: &[Procedure],
+    inputs: &[Input],
+) -> Result<Reply, AllocError>
+    requires { number < 100 }
+    ensures { IfOk result (λ r. (more : List ℕ) × AreOpeningDetails (text_of source.now) program.now inputs.now more
+        × (reply r.text.items r.close ≡ reply (opening_line number ++ more) Close.Refused)) }
+{
+    let mut text = Vec::new(alloc);
+    put_opening_line(&mut text, number)?;
+    put_opening_details(alloc, &mut text, source, program, inputs)?;
+    Ok(refused_by(text))
+}
