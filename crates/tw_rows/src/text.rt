@@ -5,7 +5,7 @@ use std::alloc::Global;
 use std::fmt::{Debug, Display};
 use tw_pool::Final;
 use tw_report::{put_event_line, put_numbered};
-use tw_run_report::report;
+use tw_run_output::report;
 use tw_types::Event;
 
 /// A text that grows. Where memory runs out it is lost, which is asked once, at its end: so whoever adds to it has no case for that.

@@ -22,9 +22,9 @@ use Rattle.tw_pool.specs.PoolView.{PoolView}
 use Rattle.tw_host.specs.Run.{Run, run_of}
 use Rattle.tw_in_turn.specs.InTurn.{ComesTo, IsOver}
 use Rattle.tw_cli.specs.declared.command.RunOrder.{RunOrder}
-use Rattle.tw_run_report.specs.Ends.{IsEndReport, end_report}
-use Rattle.tw_run_report.specs.Over.{IsRunOver}
-use Rattle.tw_run_report.specs.Run.{AreRunDetails, IsRunText, close_of, trace_text}
+use Rattle.tw_run_output.specs.Ends.{IsEndReport, end_report}
+use Rattle.tw_run_output.specs.Over.{IsRunOver}
+use Rattle.tw_run_output.specs.Run.{AreRunDetails, IsRunText, close_of, trace_text}
 use Rattle.tw_program_output.specs.Reply.{reply}
 use Rattle.tw_program_output.specs.declared.reply.Reply.{Reply as MadeReply}
 use Rattle.tw_session.specs.Run.{EndsSo, IsOrdered, IsRun, RepliesByRun, run_as}

@@ -21,7 +21,7 @@ use tw_in_turn::{InTurnResult, run_in_turn};
 use tw_pool::OpenError;
 use tw_program_output::{Reply, SourceText};
 use tw_replay_output::inputs_refused_reply;
-use tw_run_report::ended_reply;
+use tw_run_output::ended_reply;
 use tw_verify::Verified;
 
 /// The reply to what is left of a run.

@@ -18,7 +18,7 @@ use tw_host::Closed;
 use tw_pool::{Closing, OpenError};
 use tw_program_output::{Close, Reply, SourceText, fixed_reply};
 use tw_replay_output::inputs_refused_reply;
-use tw_run_report::ended_reply;
+use tw_run_output::ended_reply;
 use tw_verify::Verified;
 use tw_workers::{Gate, run};
 

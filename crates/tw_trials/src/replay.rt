@@ -7,7 +7,7 @@ use std::alloc::{AllocError, Global};
 use tw_machine::Plain;
 use tw_pool::{Closing, Final, History};
 use tw_report::{put_report, report_state};
-use tw_run_report::report;
+use tw_run_output::report;
 use tw_types::Event;
 
 /// Returns whether an event executes at most a thousand million instructions.

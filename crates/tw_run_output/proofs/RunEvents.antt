@@ -1,0 +1,90 @@
+-- The events of a run: one after the other as they are read from its history, and that none does more than a task may.
+use Rattle.std.proofs.Common.{◌≡◌, ◌≤◌, ◌+◌, ◌++◌, ◌∙◌, ℕ, List, [], ◌∷◌, length, take, Option, Some, None, refl, sym, ap, subst}
+use Rattle.tw_run_output.proofs.RunNames.{AreShort, Event, IsProgram, PlainView, Procedure, State, Went, begins, reached, rejection_of}
+use Rattle.std.specs.Prelude.{slice_get}
+use Rattle.std.proofs.lemmas.List.{take_all, take_more}
+use Rattle.std.proofs.lemmas.Option.{get_or_from_slice_get, slice_get_within}
+use Rattle.tw_types.specs.declared.input.Input.{Input}
+use Rattle.tw_types.specs.Layout.{ActorCounts}
+use Rattle.tw_types.specs.Outcome.{Outcome}
+use Rattle.tw_types.proofs.Outcomes.{went_first}
+use Rattle.tw_code.specs.accepting.WellTyped.{IsAccepted}
+use Rattle.tw_code.specs.format.Program.{Versioned}
+use Rattle.tw_code.specs.machine.Holders.{Typings}
+use Rattle.tw_code.specs.machine.Inputs.{AreInputsOf}
+use Rattle.tw_code.specs.machine.Machine.{run, step}
+use Rattle.tw_cli.specs.declared.command.RunOrder.{RunOrder}
+use Rattle.tw_soundness.specs.Invariant.{IsHeld}
+use Rattle.tw_soundness.specs.NoTrap.{AreRight}
+use Rattle.tw_soundness.proofs.Along.{event_small}
+use Rattle.tw_soundness.proofs.Safe.{kept_by, opened_held}
+use Rattle.tw_machine.specs.Moments.{history}
+use Rattle.tw_code.specs.declared.version.Version.{Version}
+use Rattle.tw_picture.specs.declared.drawing.Drawing.{Drawing}
+use Rattle.tw_picture.specs.History.{IsDrawing}
+use Rattle.tw_stats.specs.declared.stats_builder.StatsBuilder.{StatsBuilder}
+use Rattle.tw_stats.specs.Kept.{IsTally}
+use Rattle.tw_stats.specs.Text.{AreNumbers}
+use Rattle.tw_replay_output.specs.Replay.{ByOutcome}
+
+-- ---- the events of a history
+
+pub event_more : (history : List Event) (i : ℕ) (e : Event) (old new : List Event) → old ≡ take i history → slice_get history i ≡ Some e → new ≡ old ++ e ∷ [] → new ≡ take (i + 1) history
+event_more history i e old new has at added =
+    let longer = take_more history i e (slice_get_within history i e at) ∙ ap (λ (x : Event). take i history ++ x ∷ []) (get_or_from_slice_get history i e e at) in
+    added ∙ ap (λ (es : List Event). es ++ e ∷ []) has ∙ sym longer
+
+pub all_events : (history : List Event) (i : ℕ) (now : List Event) → length history ≤ i → now ≡ take i history → now ≡ history
+all_events history i now all has = has ∙ take_all i history all
+
+-- ---- where it begins
+
+-- an accepted program with the inputs that main takes is opened
+pub opens : (program : List Procedure) (inputs : List Input) → IsAccepted program → AreInputsOf program inputs → rejection_of program inputs ≡ None
+opens program inputs accepted given = rw (accepted.main, given.count, given.fit) refl
+
+-- ---- its events
+
+along : (program : List Procedure) (typings : Typings) → IsProgram program → AreRight program typings → (layout : ActorCounts) (events : List Event) (s t : State) → IsHeld program typings s → run program layout events s ≡ Went t → AreShort events
+unfolding run
+along program typings is are layout [] s t held e = tt
+along program typings is are layout (event ∷ events) s t held e =
+    let one = went_first (step program layout event s) (run program layout events) t e in
+    (event_small program typings is are layout event s one.0 held one.1, along program typings is are layout events one.0 t (kept_by program typings layout event s one.0 is are held one.1) one.2)
+
+pub run_short : (program : List Procedure) (typings : Typings) → IsProgram program → AreRight program typings → (inputs : List Input) (layout : ActorCounts) (events : List Event) (t : State)
+    → AreInputsOf program inputs → reached program inputs layout events ≡ Went t → AreShort events
+run_short program typings is are inputs layout events t given e = along program typings is are layout events _ t (opened_held program typings is are inputs given) e
+
+-- ---- what is known where they go
+
+pub goes_by : (o : Outcome State) (s : State) (goes : State → Type 0) (stops : Type 0) → o ≡ Went s → ByOutcome o goes stops → goes s
+goes_by o s goes stops is h = subst (λ (p : Outcome State). ByOutcome p goes stops) is h
+
+-- ---- the machine at the beginning
+
+pub begun : (program : Versioned) (sections : List Procedure) (order : RunOrder) (first : PlainView) → program.procedures ≡ sections → first ≡ begins program.version program.procedures order → first ≡ begins program.version sections order
+begun program sections order first same is = is ∙ ap (λ (ps : List Procedure). begins program.version ps order) same
+
+-- the numbers of the events that were read are those of the run's
+pub numbers_there : (names : List (List ℕ)) (first begin : PlainView) (read events : List Event) (plain : PlainView) (t : StatsBuilder) (budgets text : List ℕ) → first ≡ begin → read ≡ events → plain ≡ record first { state = plain.state } → IsTally first read plain.state t
+    → ((v : PlainView) (es : List Event) → plain ≡ record v { state = plain.state } → IsTally v es plain.state t → AreNumbers names v.program v.layout budgets (history v es) text) → AreNumbers names begin.program begin.layout budgets (history begin events) text
+numbers_there names first begin read events plain t budgets text same all stays stats_builder tells =
+    subst (λ (v : PlainView). AreNumbers names v.program v.layout budgets (history v events) text) same
+    (subst (λ (es : List Event). AreNumbers names first.program first.layout budgets (history first es) text) all (tells first read stays stats_builder))
+
+-- what is drawn doesn't depend on the version of the format
+pub other_version : (names : List (List ℕ)) (v w : Version) (program : List Procedure) (order : RunOrder) (events : List Event) (s : State) (d : Drawing) → IsDrawing names (begins v program order) events s d
+    → IsDrawing names (begins w program order) events s d
+other_version names v w program order events s d h = record {
+  layout = h.layout;
+  names_are = h.names_are;
+  count = h.count;
+  marks = h.marks;
+  bars = h.bars;
+  threads = h.threads;
+  closing = h.closing;
+  waits = h.waits;
+  arrows = h.arrows;
+  rules = h.rules;
+}

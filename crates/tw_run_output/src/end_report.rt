@@ -1,0 +1,41 @@
+//! The report of the end of a run on the pool, and the circle where it is stuck.
+
+ghost use Rattle.std.specs.Prelude.{◌≡◌, IfOk, option_map};
+ghost use Rattle.tw_run_output.specs.Ends.{IsEndCircle, IsEndReport, has_ended};
+
+use crate::closing_text::closing_text;
+use crate::finished_run::FinishedRun;
+use std::alloc::{AllocError, Global};
+use tw_pool::{Closing, Final};
+use tw_report::{circle_of, put_report};
+use tw_types::Link;
+
+fn has_ended(closing: Option<Closing>) -> bool
+    ensures { result ≡ has_ended closing }
+{
+    match closing {
+        Some(Closing::Quiet | Closing::Stuck(_)) => true,
+        Some(Closing::Stopped | Closing::Limit) | None => false,
+    }
+}
+
+/// The circle of rules that wait for one another, where a run is stuck.
+pub fn circle(alloc: Global, left: &Final) -> Result<Option<Vec<Link>>, AllocError>
+    ensures { IfOk result (λ found. IsEndCircle left.now (option_map (λ v. v.items) found)) }
+{
+    if !has_ended(left.closing()) {
+        return Ok(None);
+    }
+    let rules = left.pending(alloc)?;
+    circle_of(alloc, &rules)
+}
+
+/// The report of the end of a run.
+pub fn report(alloc: Global, left: &Final) -> Result<Vec<u8>, AllocError>
+    ensures { IfOk result (λ text. IsEndReport left.now text.items) }
+{
+    let mut text = Vec::new(alloc);
+    let closing = closing_text(alloc, left.closing(), circle(alloc, left)?)?;
+    put_report(alloc, &mut text, &FinishedRun { of: left }, &closing)?;
+    Ok(text)
+}

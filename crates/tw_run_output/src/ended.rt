@@ -1,0 +1,242 @@
+//! What is written of a run that is over.
+
+ghost use Rattle.std.specs.Prelude.{◌≡◌, ◌++◌, ℕ, List, None, IfOk, OnOk, codes, decimal};
+ghost use Rattle.tw_types.specs.Outcome.{Went};
+ghost use Rattle.tw_code.specs.machine.Bounds.{AreBelow, opening_bound};
+ghost use Rattle.tw_code.specs.machine.Inputs.{AreInputsOf};
+ghost use Rattle.tw_code.specs.machine.Opening.{reached};
+ghost use Rattle.tw_code.specs.machine.State.{State as MachineState};
+ghost use Rattle.tw_machine.specs.Opening.{rejection_of};
+ghost use Rattle.tw_run_output.specs.Ends.{IsEndReport};
+ghost use Rattle.tw_run_output.specs.Over.{Goes, IsRunOver};
+ghost use Rattle.tw_program_output.specs.Reply.{reply};
+ghost use Rattle.tw_run_output.specs.Run.{AreRunNumbers, AreRunDetails, IsRunPicture, IsRunText, begins, close_of, limit_details, trace_text};
+ghost use Rattle.tw_symbols.specs.Symbols.{AreSymbols};
+ghost use Rattle.tw_program_output.specs.Source.{MayBeSource, text_of};
+
+use crate::end_report::report;
+use crate::run_details::put_run_details;
+use std::alloc::{AllocError, Global};
+use tw_cli::{Answer, EventRange, RunOrder};
+use tw_code::Program;
+use tw_machine::Plain;
+use tw_pool::{Closing, Final, History};
+use tw_program_output::{Close, Reply, SourceText, symbols_of};
+use tw_replay_output::{Counting, budgets_of, count, draw, put_bytes};
+use tw_report::{put, put_event_line, put_numbered};
+use tw_types::Event;
+use tw_verify::Verified;
+
+/// How a session ends whose run has ended so. No run of a session is stopped, but other callers of `report` may tell of one.
+fn close_of(closing: Closing) -> Close
+    ensures { result ≡ close_of closing }
+{
+    match closing {
+        Closing::Quiet => Close::Success,
+        Closing::Stuck(_) => Close::Stuck,
+        Closing::Limit => Close::Limit,
+        Closing::Stopped => Close::Refused,
+    }
+}
+
+/// The events of a history, in their order.
+pub fn events_of(alloc: Global, history: &History) -> Result<Vec<Event>, AllocError>
+    ensures { IfOk result (λ events. events.items ≡ history.now.events) }
+{
+    let mut events = Vec::new(alloc);
+    for index in 0..history.len() {
+        events.push(history.event(index))?;
+    }
+    Ok(events)
+}
+
+/// Adds the lines of the events, where they are asked for.
+fn put_trace(
+    alloc: Global,
+    out: &mut Vec<u8>,
+    asked: bool,
+    history: &History,
+) -> Result<(), AllocError>
+    ensures { OnOk result (out.new.items ≡ out.old.items ++ trace_text asked history.now.events) }
+{
+    if !asked {
+        return Ok(());
+    }
+    put(out, "events\n")?;
+    for index in 0..history.len() {
+        put_event_line(alloc, out, &history.event(index))?;
+    }
+    put(out, "end\n")
+}
+
+fn put_limit_line(alloc: Global, out: &mut Vec<u8>, events: usize) -> Result<(), AllocError>
+    ensures { OnOk result (out.new.items ≡ out.old.items ++ (codes "events " ++ (decimal events ++ codes "; --limit takes up to 1000000\n"))) }
+{
+    put_numbered(alloc, out, "events ", events)?;
+    put(out, "; --limit takes up to 1000000\n")
+}
+
+/// Adds what stands behind `limit`, where the program was read from a text.
+fn put_limit(
+    alloc: Global,
+    out: &mut Vec<u8>,
+    source: &Option<SourceText<'_>>,
+    order: &RunOrder,
+    closing: Closing,
+) -> Result<(), AllocError>
+    ensures { OnOk result (out.new.items ≡ out.old.items ++ limit_details (text_of source.now) order.now closing) }
+{
+    match source {
+        Some(_) => match closing {
+            Closing::Limit => put_limit_line(alloc, out, order.limit.events()),
+            Closing::Quiet | Closing::Stuck(_) | Closing::Stopped => Ok(()),
+        },
+        None => Ok(()),
+    }
+}
+
+/// The reference machine where a run begins.
+fn first_machine(alloc: Global, order: &RunOrder, program: Program) -> Result<Plain, AllocError>
+    requires { rejection_of program.procedures order.now.inputs ≡ None }
+    ensures first { IfOk result (λ plain. plain ≡ begins program.version program.procedures order.now) }
+    ensures below { IfOk result (λ plain. AreBelow opening_bound plain.state) }
+{
+    match Plain::open(alloc, program, order.inputs.as_slice(), order.layout) {
+        Ok(plain) => Ok(plain),
+        Err(_) => Err(AllocError),
+    }
+}
+
+/// Adds the numbers of the events.
+fn put_run_numbers(
+    alloc: Global,
+    out: &mut Vec<u8>,
+    source: &Option<SourceText<'_>>,
+    order: &RunOrder,
+    verified: Verified,
+    history: &History,
+) -> Result<(), AllocError>
+    requires inputs { AreInputsOf verified.program order.now.inputs }
+    requires goes { Goes verified.program order.now history.now.events }
+    ensures { OnOk result ((names : List (List ℕ)) × (numbers : List ℕ) × AreSymbols (text_of source.now) names × AreRunNumbers names verified.program order.now history.now.events numbers × (out.new.items ≡ out.old.items ++ numbers)) }
+{
+    // For their clauses alone: what holds of an accepted program's procedures, and how many events a run may have.
+    let _procedures = verified.program().procedures();
+    let _most = order.limit.events();
+    let budgets = budgets_of(alloc, &verified)?;
+    let names = symbols_of(alloc, source)?;
+    let events = events_of(alloc, history)?;
+    let first = first_machine(alloc, order, verified.into_program())?;
+    match count(alloc, first, &events)? {
+        Counting::Made(counted) => {
+            let numbers = counted
+                .stats_builder
+                .text(alloc, &counted.plain, &names, &budgets)?;
+            put_bytes(out, &numbers)
+        }
+        Counting::Stopped(_) => unreachable!(),
+    }
+}
+
+/// Adds the picture of these of the events.
+fn put_run_picture(
+    alloc: Global,
+    out: &mut Vec<u8>,
+    source: &Option<SourceText<'_>>,
+    shown: EventRange,
+    order: &RunOrder,
+    verified: Verified,
+    history: &History,
+) -> Result<(), AllocError>
+    requires inputs { AreInputsOf verified.program order.now.inputs }
+    requires goes { Goes verified.program order.now history.now.events }
+    ensures { OnOk result ((s : MachineState) → reached verified.program order.now.inputs order.now.layout history.now.events ≡ Went s
+        → (names : List (List ℕ)) × (picture : List ℕ) × AreSymbols (text_of source.now) names × IsRunPicture names shown verified.program order.now history.now.events s picture × (out.new.items ≡ out.old.items ++ picture)) }
+{
+    // For their clauses alone: what holds of an accepted program's procedures, and how many events a run may have.
+    let _procedures = verified.program().procedures();
+    let _most = order.limit.events();
+    let events = events_of(alloc, history)?;
+    let names = symbols_of(alloc, source)?;
+    let first = first_machine(alloc, order, verified.into_program())?;
+    let drawn = draw(alloc, shown, names, first, &events)?;
+    put_bytes(out, &drawn.text)
+}
+
+/// Adds the report.
+fn put_run_report(
+    alloc: Global,
+    out: &mut Vec<u8>,
+    source: &Option<SourceText<'_>>,
+    order: &RunOrder,
+    outcome: &Final,
+    closing: Closing,
+) -> Result<(), AllocError>
+    ensures { OnOk result ((told : List ℕ) × IsEndReport outcome.now told
+        × (out.new.items ≡ out.old.items ++ (told ++ limit_details (text_of source.now) order.now closing))) }
+{
+    let told = report(alloc, outcome)?;
+    put_bytes(out, &told)?;
+    put_limit(alloc, out, source, order, closing)
+}
+
+/// Adds what is asked for.
+fn put_told(
+    alloc: Global,
+    out: &mut Vec<u8>,
+    source: &Option<SourceText<'_>>,
+    order: &RunOrder,
+    verified: Verified,
+    outcome: &Final,
+    history: &History,
+    closing: Closing,
+) -> Result<(), AllocError>
+    requires inputs { AreInputsOf verified.program order.now.inputs }
+    requires over { IsRunOver verified.program order.now outcome.now history.now.events closing }
+    ensures { OnOk result ((over : IsRunOver verified.program order.now outcome.now history.now.events closing)
+        → (told : List ℕ) × IsRunText order.now.answer (text_of source.now) verified.program order.now history.now.events over.state closing told × (out.new.items ≡ out.old.items ++ told)) }
+{
+    match order.answer {
+        Answer::Report => put_run_report(alloc, out, source, order, outcome, closing),
+        Answer::Numbers => {
+            put_run_report(alloc, out, source, order, outcome, closing)?;
+            put_run_numbers(alloc, out, source, order, verified, history)
+        }
+        Answer::Picture(shown) => {
+            put_run_picture(alloc, out, source, shown, order, verified, history)
+        }
+    }
+}
+
+/// The reply where a run is over.
+pub fn ended_reply(
+    alloc: Global,
+    source: &Option<SourceText<'_>>,
+    order: &RunOrder,
+    verified: Verified,
+    outcome: &Final,
+    history: &History,
+    closing: Closing,
+) -> Result<Reply, AllocError>
+    requires inputs { AreInputsOf verified.program order.now.inputs }
+    requires over { IsRunOver verified.program order.now outcome.now history.now.events closing }
+    requires source { MayBeSource source.now verified.program }
+    ensures { IfOk result (λ r. (over : IsRunOver verified.program order.now outcome.now history.now.events closing) → (told : List ℕ) × (more : List ℕ)
+        × IsRunText order.now.answer (text_of source.now) verified.program order.now history.now.events over.state closing told
+        × AreRunDetails order.now.answer (text_of source.now) verified.program order.now history.now.events over.state closing more
+        × (reply r.text.items r.close ≡ reply (trace_text order.now.trace history.now.events ++ (told ++ more)) (close_of closing))) }
+{
+    // For their clauses alone: what holds of an accepted program's procedures, and how many events a run may have.
+    let _procedures = verified.program().procedures();
+    let _most = order.limit.events();
+    let mut text = Vec::new(alloc);
+    put_trace(alloc, &mut text, order.trace, history)?;
+    put_told(
+        alloc, &mut text, source, order, verified, outcome, history, closing,
+    )?;
+    put_run_details(alloc, &mut text, source, order, history, closing)?;
+    Ok(Reply {
+        text,
+        close: close_of(closing),
+    })
+}
