@@ -14,9 +14,9 @@ use Rattle.tw_instr.specs.Attempts.{IsStopped}
 use Rattle.tw_instr.specs.declared.stopped.Stopped.{Stopped}
 use Rattle.tw_machine.specs.declared.rejection.OpenError.{OpenError}
 use Rattle.tw_machine.specs.declared.rejection.OpenError.TheVariants.{NoMemory}
-use Rattle.tw_picture.specs.declared.timeline_builder.TimelineBuilder.{TimelineBuilder}
-use Rattle.tw_picture.specs.History.{HasFew, IsTrail}
-use Rattle.tw_picture.proofs.History.{trail_length}
+use Rattle.tw_timeline.specs.declared.timeline_builder.TimelineBuilder.{TimelineBuilder}
+use Rattle.tw_timeline.specs.History.{HasFew, IsTrail}
+use Rattle.tw_timeline.proofs.History.{trail_length}
 use Rattle.tw_report.specs.Events.{IsEvent}
 use Rattle.tw_replay_output.specs.Replay.{ByOutcome, IsAnswered, IsPicture, IsReplayed, OpensOr, after_event, opened, played, played_from, state_reply}
 use Rattle.tw_replay_output.proofs.Behinds.{IsUnopened}

@@ -24,12 +24,12 @@ use Rattle.tw_machine.specs.PlainView.{PlainView}
 use Rattle.tw_machine.specs.declared.rejection.OpenError.{OpenError}
 use Rattle.tw_machine.specs.declared.rejection.OpenError.TheVariants.{MainShape}
 use Rattle.tw_machine.specs.Opening.{open_error_code, rejection_of}
-use Rattle.tw_picture.specs.declared.drawing.Drawing.{Drawing}
+use Rattle.tw_timeline.specs.declared.drawing.Drawing.{Drawing}
 use Rattle.tw_machine.specs.Moments.{history}
-use Rattle.tw_picture.specs.History.{IsDrawing}
-use Rattle.tw_picture.specs.Timeline.{picture_of}
-use Rattle.tw_picture.specs.Places.{between}
-use Rattle.tw_picture.specs.Xml.{xml_text}
+use Rattle.tw_timeline.specs.History.{IsDrawing}
+use Rattle.tw_timeline.specs.Timeline.{picture_of}
+use Rattle.tw_timeline.specs.Places.{between}
+use Rattle.tw_timeline.specs.Xml.{xml_text}
 use Rattle.tw_symbols.specs.Symbols.{AreSymbols}
 use Rattle.tw_report.specs.History.{AreParts, Tell, lines_in}
 use Rattle.tw_report.specs.Lines.{history_line, not_enabled_line, trap_line}

@@ -4,7 +4,7 @@ ghost use Rattle.std.specs.Prelude.{◌≡◌, ◌≤◌, List, IfOk, length};
 ghost use Rattle.tw_types.specs.declared.event.Event.{Event as AnEvent};
 ghost use Rattle.tw_code.specs.machine.Bounds.{AreBelow, opening_bound};
 ghost use Rattle.tw_machine.specs.PlainView.{PlainView};
-ghost use Rattle.tw_picture.specs.History.{HasFew, IsOpening, IsTrail};
+ghost use Rattle.tw_timeline.specs.History.{HasFew, IsOpening, IsTrail};
 ghost use Rattle.tw_replay_output.specs.Counted.{AreShort};
 ghost use Rattle.tw_replay_output.specs.Replay.{IsDrawn, IsPicture};
 ghost use Rattle.tw_program_output.specs.Reply.{reply};
@@ -13,9 +13,9 @@ use crate::replay::{close_of, stopped_reply};
 use std::alloc::{AllocError, Global};
 use tw_cli::EventRange;
 use tw_machine::Plain;
-use tw_picture::{Settings, TimelineBuilder, timeline};
 use tw_program_output::Reply;
 use tw_symbols::Symbols;
+use tw_timeline::{Settings, TimelineBuilder, timeline};
 use tw_types::Event;
 
 /// The picture of these of the events that led to where the machine stands.

@@ -4,7 +4,7 @@ ghost use Rattle.std.specs.Prelude.{◌≡◌, ◌≤◌, IfOk, length};
 ghost use Rattle.tw_code.specs.machine.Bounds.{AreBelow, opening_bound};
 ghost use Rattle.tw_code.specs.machine.State.{State};
 ghost use Rattle.tw_instr.specs.Attempts.{IsStopped};
-ghost use Rattle.tw_picture.specs.History.{IsOpening};
+ghost use Rattle.tw_timeline.specs.History.{IsOpening};
 ghost use Rattle.tw_report.specs.History.{lines_in};
 ghost use Rattle.tw_report.specs.Lines.{history_line, not_enabled_line, trap_line};
 ghost use Rattle.tw_types.specs.Cause.{cause_number};

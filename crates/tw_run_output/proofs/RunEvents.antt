@@ -20,8 +20,8 @@ use Rattle.tw_soundness.proofs.Along.{event_small}
 use Rattle.tw_soundness.proofs.Safe.{kept_by, opened_held}
 use Rattle.tw_machine.specs.Moments.{history}
 use Rattle.tw_code.specs.declared.version.Version.{Version}
-use Rattle.tw_picture.specs.declared.drawing.Drawing.{Drawing}
-use Rattle.tw_picture.specs.History.{IsDrawing}
+use Rattle.tw_timeline.specs.declared.drawing.Drawing.{Drawing}
+use Rattle.tw_timeline.specs.History.{IsDrawing}
 use Rattle.tw_stats.specs.declared.stats_builder.StatsBuilder.{StatsBuilder}
 use Rattle.tw_stats.specs.Kept.{IsTally}
 use Rattle.tw_stats.specs.Text.{AreNumbers}

@@ -14,12 +14,12 @@ use Rattle.tw_cli.specs.declared.command.Answer.TheVariants.{Numbers, Picture, R
 use Rattle.tw_cli.specs.declared.command.RunOrder.{RunOrder}
 use Rattle.tw_cli.specs.declared.shown.EventRange.{EventRange}
 use Rattle.tw_machine.specs.PlainView.{PlainView}
-use Rattle.tw_picture.specs.declared.drawing.Drawing.{Drawing}
+use Rattle.tw_timeline.specs.declared.drawing.Drawing.{Drawing}
 use Rattle.tw_machine.specs.Moments.{history}
-use Rattle.tw_picture.specs.History.{IsDrawing}
-use Rattle.tw_picture.specs.Timeline.{picture_of}
-use Rattle.tw_picture.specs.Places.{between}
-use Rattle.tw_picture.specs.Xml.{xml_text}
+use Rattle.tw_timeline.specs.History.{IsDrawing}
+use Rattle.tw_timeline.specs.Timeline.{picture_of}
+use Rattle.tw_timeline.specs.Places.{between}
+use Rattle.tw_timeline.specs.Xml.{xml_text}
 use Rattle.tw_symbols.specs.Symbols.{AreSymbols}
 use Rattle.tw_stats.specs.Text.{AreNumbers}
 use Rattle.tw_report.specs.Events.{event_line}

@@ -6,7 +6,7 @@ use Rattle.tw_code.specs.machine.Bounds.{opening_bound, size_of}
 use Rattle.tw_code.specs.machine.Machine.{run, step}
 use Rattle.tw_code.proofs.Growth.{below_more}
 use Rattle.tw_machine.specs.PlainView.{PlainView}
-use Rattle.tw_picture.specs.History.{IsTrail}
+use Rattle.tw_timeline.specs.History.{IsTrail}
 use Rattle.tw_replay_output.specs.Replay.{IsDrawn, IsPicture, played_from}
 use Rattle.tw_program_output.specs.Reply.{reply}
 use Rattle.tw_program_output.specs.declared.reply.Reply.{Reply}

@@ -1,7 +1,7 @@
 use Rattle.std.proofs.Common.{◌≡◌, ◌+◌, ◌*◌, drop, take}
 use Rattle.tw_code.specs.machine.Bounds.{AreBelow, opening_bound}
 use Rattle.tw_code.specs.machine.Machine.{run}
-use Rattle.tw_picture.specs.History.{IsTrail}
+use Rattle.tw_timeline.specs.History.{IsTrail}
 use Rattle.tw_replay_output.specs.Replay.{played}
 use Rattle.tw_replay_output.proofs.drawn.draw.Given as goal
 

@@ -2,10 +2,10 @@ use Rattle.std.proofs.Common.{◌∙◌, ℕ, List, ap}
 use Rattle.tw_replay_output.specs.Replay.{close_of}
 use Rattle.tw_program_output.specs.Reply.{reply}
 use Rattle.tw_program_output.specs.declared.close.Close.{Close}
-use Rattle.tw_picture.specs.declared.places.Settings.{Settings}
-use Rattle.tw_picture.specs.Timeline.{picture_of}
-use Rattle.tw_picture.specs.Places.{between}
-use Rattle.tw_picture.specs.Xml.{xml_text}
+use Rattle.tw_timeline.specs.declared.places.Settings.{Settings}
+use Rattle.tw_timeline.specs.Timeline.{picture_of}
+use Rattle.tw_timeline.specs.Places.{between}
+use Rattle.tw_timeline.specs.Xml.{xml_text}
 use Rattle.tw_replay_output.proofs.drawn.picture_reply.Goals as goal
 
 pub returns : goal.returns

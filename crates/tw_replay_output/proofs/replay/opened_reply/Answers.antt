@@ -1,7 +1,7 @@
 use Rattle.std.proofs.Common.{◌≡◌, List, None, ap, subst, sym}
 use Rattle.tw_replay_output.proofs.ReplayNames.{AreKnownBudgets, IfOk-weaker, Input, IsAnswer, IsAnswered, IsFirst, IsTold, PlainView, Reply, Versioned, rejection_of, reply, text_of}
-use Rattle.tw_picture.specs.History.{IsOpening}
-use Rattle.tw_picture.proofs.History.{opening_is}
+use Rattle.tw_timeline.specs.History.{IsOpening}
+use Rattle.tw_timeline.proofs.History.{opening_is}
 use Rattle.tw_stats.proofs.Openings.{first_is}
 use Rattle.tw_replay_output.proofs.Behinds.{IsUnopened}
 use Rattle.tw_replay_output.proofs.Playing.{opened_answer, opened_is, refused_answer}

@@ -1,8 +1,8 @@
 use Rattle.std.proofs.Common.{◌≡◌, ◌≤◌, ◌++◌, ◌∙◌, ℕ, List, None, ap, arith, length, subst, sym}
 use Rattle.tw_run_output.proofs.RunNames.{AreShort, Event, IsProgram, PlainView, Procedure, Went, begins, on_ok_weaker, reached, rejection_of, run, typings_of}
-use Rattle.tw_picture.specs.History.{IsDrawing, IsOpening}
-use Rattle.tw_picture.specs.declared.drawing.Drawing.{Drawing}
-use Rattle.tw_picture.proofs.History.{opening_is}
+use Rattle.tw_timeline.specs.History.{IsDrawing, IsOpening}
+use Rattle.tw_timeline.specs.declared.drawing.Drawing.{Drawing}
+use Rattle.tw_timeline.proofs.History.{opening_is}
 use Rattle.tw_replay_output.specs.Replay.{IsPicture, played_from}
 use Rattle.tw_program_output.specs.Reply.{Reply, reply}
 use Rattle.tw_run_output.proofs.RunEvents.{begun, goes_by, opens, other_version, run_short}

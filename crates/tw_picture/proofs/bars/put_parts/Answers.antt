@@ -1,6 +1,0 @@
-use Rattle.tw_picture.proofs.Forests.{behind}
-use Rattle.tw_picture.proofs.bars.put_parts.Goals as goal
-
-pub returns : goal.returns
-returns c =
-    behind c.put_bar_label.result _ _ _ _ _ _ _ (cc) c.in_ok-put_bar_box.ensures (cc) c.put_bar_label.ensures

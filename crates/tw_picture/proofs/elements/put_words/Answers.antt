@@ -1,6 +1,0 @@
-use Rattle.std.proofs.Common.{refl}
-use Rattle.tw_picture.proofs.Forests.{around, words_text}
-use Rattle.tw_picture.proofs.elements.put_words.Goals as goal
-
-pub returns : goal.returns
-returns c = around c.put_close.result _ _ _ _ _ _ _ _ _ refl c.in_ok-put_open.ensures c.in_ok-put_text.ensures (words_text _ _ _) c.put_close.ensures

@@ -1,6 +1,0 @@
-use Rattle.tw_picture.proofs.Forests.{behind}
-use Rattle.tw_picture.proofs.heading.put_kind.Goals as goal
-
-pub returns : goal.returns
-returns c =
-    behind c.put_words.result _ _ _ _ _ _ _ (cc) c.in_ok-put_plain.ensures (cc) c.put_words.ensures

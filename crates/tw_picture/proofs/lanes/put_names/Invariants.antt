@@ -1,7 +1,0 @@
-use Rattle.std.proofs.Common.{◌≡◌, ◌++◌}
-use Rattle.tw_picture.specs.Shapes.{name_again}
-use Rattle.tw_picture.specs.Xml.{below, xml_text}
-use Rattle.tw_picture.proofs.lanes.put_names.Given as goal
-
-abbrev pub invariant-loop-place : goal.invariant-loop-place
-invariant-loop-place l = l.out.items ≡ l.fn.out.items ++ xml_text (below (name_again l.top l.name) l.place)

@@ -1,6 +1,0 @@
-use Rattle.tw_picture.proofs.Forests.{behind}
-use Rattle.tw_picture.proofs.links.put_wait.Goals as goal
-
-pub returns : goal.returns
-returns c =
-    behind c.put_wait_arrow.result _ _ _ _ _ _ _ (cc) c.in_ok-put_wait_box.ensures (cc) c.put_wait_arrow.ensures

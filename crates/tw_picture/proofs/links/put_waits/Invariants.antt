@@ -1,8 +1,0 @@
-use Rattle.std.proofs.Common.{◌≡◌, ◌++◌, take}
-use Rattle.std.specs.List.{flat_map}
-use Rattle.tw_picture.specs.Shapes.{wait_shape}
-use Rattle.tw_picture.specs.Xml.{xml_text}
-use Rattle.tw_picture.proofs.links.put_waits.Given as goal
-
-abbrev pub invariant-loop-wait : goal.invariant-loop-wait
-invariant-loop-wait l = l.out.items ≡ l.fn.out.items ++ flat_map (λ x. xml_text (wait_shape l.layout x)) (take l.wait-index l.waits)

@@ -1,7 +1,0 @@
-use Rattle.tw_picture.proofs.Forests.{around, both_added, element_text}
-use Rattle.tw_picture.proofs.page.put_drawn.Goals as goal
-
-pub returns : goal.returns
-returns c =
-    around c.put_close.result _ _ _ _ _ _ _ _ _ (cc) c.in_ok-put_open.ensures (both_added _ _ _ _ _ c.in_ok-put_ground.ensures c.in_ok-put_things.ensures) (element_text _ _ _)
-    c.put_close.ensures

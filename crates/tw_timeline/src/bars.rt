@@ -1,0 +1,281 @@
+//! Tasks, as they are drawn.
+
+ghost use Rattle.std.specs.Prelude.{◌≡◌, ◌++◌, codes, decimal, IfOk, OnOk};
+ghost use Rattle.tw_timeline.specs.Shapes.{bar_shape, bar_box, bar_class, bar_label, bar_parts, bar_title, bar_width, end_in, events_text, first_fitting, fits, full_text, has_bar, label_text, labelled, name_or};
+ghost use Rattle.tw_symbols.specs.Symbols.{name_at};
+ghost use Rattle.tw_timeline.specs.Xml.{all, xml_text};
+
+use crate::attributes::{Attribute, Key, Name, Word, fixed, number};
+use crate::drawing::Bar;
+use crate::elements::{numbered, put_titled, put_words};
+use crate::marks::rectangle;
+use crate::places::{View, lane_top};
+use std::alloc::{AllocError, Global};
+use tw_report::{put, put_numbered};
+use tw_symbols::Symbols;
+use tw_types::Layout;
+
+/// A text's row of attributes: where its first letter stands.
+pub fn labelled(class: Word, x: usize, y: usize) -> [Attribute; 3]
+    ensures { result ≡ labelled class x y }
+{
+    [
+        fixed(Key::Class, class),
+        number(Key::X, x),
+        number(Key::Y, y),
+    ]
+}
+
+/// Adds two numbers, each behind words.
+fn put_two(
+    alloc: Global,
+    out: &mut Vec<u8>,
+    first: (&str, usize),
+    second: (&str, usize),
+) -> Result<(), AllocError>
+    ensures { OnOk result (out.new.items ≡ out.old.items ++ (first.entry.0.now ++ (decimal first.entry.1 ++ (second.entry.0.now ++ decimal second.entry.1)))) }
+{
+    put_numbered(alloc, out, first.0, first.1)?;
+    put_numbered(alloc, out, second.0, second.1)
+}
+
+/// Adds a number between words.
+fn put_within(
+    alloc: Global,
+    out: &mut Vec<u8>,
+    before: &str,
+    number: usize,
+    behind: &str,
+) -> Result<(), AllocError>
+    ensures { OnOk result (out.new.items ≡ out.old.items ++ (before.now ++ (decimal number ++ behind.now))) }
+{
+    put_numbered(alloc, out, before, number)?;
+    put(out, behind)
+}
+
+/// Adds the events of a bar; an open one has no last.
+fn put_events(
+    alloc: Global,
+    out: &mut Vec<u8>,
+    from: u32,
+    to: Option<u32>,
+) -> Result<(), AllocError>
+    ensures { OnOk result (out.new.items ≡ out.old.items ++ events_text from to) }
+{
+    match to {
+        None => put_within(alloc, out, ", from event ", from as usize, " on"),
+        Some(to) => put_two(
+            alloc,
+            out,
+            (", events ", from as usize),
+            (" to ", to as usize),
+        ),
+    }
+}
+
+/// What a bar shows at the pointer: its task, its procedure and its events.
+fn bar_title(alloc: Global, names: &Symbols, bar: &Bar) -> Result<Vec<u8>, AllocError>
+    ensures { IfOk result (λ title. title.items ≡ bar_title names.now bar.now) }
+{
+    let mut title = Vec::new(alloc);
+    let task = bar.task.number() as usize;
+    put_two(
+        alloc,
+        &mut title,
+        ("task ", task),
+        (" of procedure ", usize::from(bar.procedure)),
+    )?;
+    names.put(&mut title, usize::from(bar.procedure))?;
+    put_events(alloc, &mut title, bar.from, bar.to)?;
+    Ok(title)
+}
+
+/// Whether there is room for a text: seven units for a letter.
+fn fits(text: &[u8], width: usize) -> bool
+    ensures { result ≡ fits text.now width }
+{
+    text.len() <= width / 7
+}
+
+/// Returns a procedure's name, or its number if it has none.
+fn name_or_number(alloc: Global, names: &Symbols, number: u8) -> Result<Vec<u8>, AllocError>
+    ensures { IfOk result (λ text. text.items ≡ name_or (name_at names.now number) number) }
+{
+    let name = names.procedure(usize::from(number));
+    if name.is_empty() {
+        numbered(alloc, "p", u64::from(number))
+    } else {
+        name.to_vec(alloc)
+    }
+}
+
+fn full_text(alloc: Global, task: u64, procedure: &[u8]) -> Result<Vec<u8>, AllocError>
+    ensures { IfOk result (λ text. text.items ≡ full_text task procedure.now) }
+{
+    let mut text = numbered(alloc, "t", task)?;
+    put(&mut text, " ")?;
+    text.extend_from_slice(procedure)?;
+    Ok(text)
+}
+
+/// Returns the first of three texts for which there is room, or nothing.
+fn first_fitting<'a>(a: &'a [u8], b: &'a [u8], c: &'a [u8], width: usize) -> &'a [u8]
+    ensures { result.now ≡ first_fitting a.entry.now b.entry.now c.entry.now width }
+{
+    if fits(a, width) {
+        a
+    } else if fits(b, width) {
+        b
+    } else if fits(c, width) {
+        c
+    } else {
+        &[]
+    }
+}
+
+/// Returns the words at a bar: its task and its procedure where there is room for both, or its procedure, or nothing.
+fn label_text(
+    alloc: Global,
+    names: &Symbols,
+    bar: &Bar,
+    width: usize,
+) -> Result<Vec<u8>, AllocError>
+    ensures { IfOk result (λ text. text.items ≡ label_text names.now bar.now width) }
+{
+    let number = numbered(alloc, "p", u64::from(bar.procedure))?;
+    let procedure = name_or_number(alloc, names, bar.procedure)?;
+    let full = full_text(alloc, bar.task.number(), &procedure)?;
+    first_fitting(&full, &procedure, &number, width).to_vec(alloc)
+}
+
+/// The last event of a bar that is shown; an open one has no last.
+fn end_in(view: View, to: Option<u32>) -> u32
+    ensures { result ≡ end_in view to }
+{
+    match to {
+        None => view.last(),
+        Some(to) => to.min(view.last()),
+    }
+}
+
+/// From the beginning of a bar's first event to the end of its last, or a little past the events that are shown.
+fn bar_width(view: View, bar: &Bar) -> usize
+    ensures { result ≡ bar_width view bar.now }
+{
+    let bar = *bar;
+    view.right_of(bar.to).saturating_sub(view.left_of(bar.from))
+}
+
+/// Whether a bar is drawn: it is shown, and where there are too many events for a mark each, it is long.
+fn has_bar(view: View, bar: &Bar) -> bool
+    ensures { result ≡ has_bar view bar.now }
+{
+    let bar = *bar;
+    let least = if view.is_coarse() { 24 } else { 0 };
+    bar.from <= view.last()
+        && view.first() <= end_in(view, bar.to)
+        && least <= bar_width(view, &bar)
+}
+
+fn bar_class(bar: &Bar) -> Word
+    ensures { result ≡ bar_class bar.now.to }
+{
+    match bar.to {
+        None => Word::Open,
+        Some(_) => Word::Bar,
+    }
+}
+
+fn put_bar_box(
+    alloc: Global,
+    out: &mut Vec<u8>,
+    names: &Symbols,
+    layout: Layout,
+    view: View,
+    bar: &Bar,
+) -> Result<(), AllocError>
+    ensures { OnOk result (out.new.items ≡ out.old.items ++ xml_text (bar_box names.now layout view bar.now)) }
+{
+    let title = bar_title(alloc, names, bar)?;
+    let top = lane_top(layout, bar.actor) + 16;
+    let row = rectangle(
+        bar_class(bar),
+        view.left_of(bar.from),
+        top,
+        bar_width(view, bar),
+        18,
+    );
+    put_titled(alloc, out, Name::Rectangle, &row, &title)
+}
+
+/// Adds the words at a bar.
+fn put_bar_label(
+    alloc: Global,
+    out: &mut Vec<u8>,
+    names: &Symbols,
+    layout: Layout,
+    view: View,
+    bar: &Bar,
+) -> Result<(), AllocError>
+    ensures { OnOk result (out.new.items ≡ out.old.items ++ xml_text (bar_label names.now layout view bar.now)) }
+{
+    let text = label_text(alloc, names, bar, bar_width(view, bar))?;
+    if text.is_empty() {
+        return Ok(());
+    }
+    let row = labelled(
+        Word::Label,
+        view.left_of(bar.from) + 1,
+        lane_top(layout, bar.actor) + 12,
+    );
+    put_words(alloc, out, Name::Text, &row, &text)
+}
+
+fn put_parts(
+    alloc: Global,
+    out: &mut Vec<u8>,
+    names: &Symbols,
+    layout: Layout,
+    view: View,
+    bar: &Bar,
+) -> Result<(), AllocError>
+    ensures { OnOk result (out.new.items ≡ out.old.items ++ xml_text (bar_parts names.now layout view bar.now)) }
+{
+    put_bar_box(alloc, out, names, layout, view, bar)?;
+    put_bar_label(alloc, out, names, layout, view, bar)
+}
+
+/// Adds a bar, if it is drawn.
+fn put_bar(
+    alloc: Global,
+    out: &mut Vec<u8>,
+    names: &Symbols,
+    layout: Layout,
+    view: View,
+    bar: &Bar,
+) -> Result<(), AllocError>
+    ensures { OnOk result (out.new.items ≡ out.old.items ++ xml_text (bar_shape names.now layout view bar.now)) }
+{
+    if has_bar(view, bar) {
+        put_parts(alloc, out, names, layout, view, bar)
+    } else {
+        Ok(())
+    }
+}
+
+/// Adds a bar for each task that is shown.
+pub fn put_bars(
+    alloc: Global,
+    out: &mut Vec<u8>,
+    names: &Symbols,
+    layout: Layout,
+    view: View,
+    bars: &[Bar],
+) -> Result<(), AllocError>
+    ensures { OnOk result (out.new.items ≡ out.old.items ++ xml_text (all (bar_shape names.now layout view) bars.now)) }
+{
+    for bar in bars {
+        put_bar(alloc, out, names, layout, view, bar)?;
+    }
+    Ok(())
+}

@@ -1,0 +1,151 @@
+//! Columns, where there are too many events for a mark each.
+
+ghost use Rattle.std.specs.Prelude.{◌≡◌, ◌++◌, ◌-◌, ◌<◌, ◌^◌, ◌≤◌, length, IfOk, OnOk};
+ghost use Rattle.tw_timeline.specs.Timeline.{all_columns, lane_columns};
+ghost use Rattle.tw_timeline.specs.Shapes.{column, column_box, column_height, column_of, column_title, count_in, marks_in};
+ghost use Rattle.tw_timeline.specs.Xml.{below, xml_text};
+
+use crate::attributes::{Name, Word};
+use crate::drawing::Mark;
+use crate::elements::put_titled;
+use crate::marks::rectangle;
+use crate::places::{View, lane_count, lane_of};
+use std::alloc::{AllocError, Global};
+use tw_machine::actor_of;
+use tw_report::put_numbered;
+use tw_types::Layout;
+
+/// The marks from one number up to another, which is the first left out.
+fn marks_in(marks: &[Mark], from: usize, to: usize) -> &[Mark]
+    ensures { result.now ≡ marks_in marks.now from to }
+{
+    let behind = &marks[from.saturating_sub(1).min(marks.len())..];
+    &behind[..to.saturating_sub(from).min(behind.len())]
+}
+
+/// How many marks stand in a lane.
+fn count_in(layout: Layout, lane: usize, marks: &[Mark]) -> usize
+    ensures value { result ≡ count_in layout lane marks.now }
+    ensures few { result ≤ length marks.now }
+{
+    let mut count = 0;
+    for mark in marks {
+        if lane_of(layout, actor_of(&mark.event)) == lane {
+            count += 1;
+        }
+    }
+    count
+}
+
+/// All of the height for half of the events.
+fn column_height(count: usize, events: usize) -> usize
+    requires few { count ≤ events }
+    requires bounded { events < 2 ^ 58 }
+    ensures value { result ≡ column_height count events }
+    ensures small { result ≤ 18 }
+{
+    (36 * count / events.max(1)).clamp(1, 18)
+}
+
+/// The events of a column, and how many of them are the actor's.
+fn column_title(alloc: Global, from: usize, to: usize, count: usize) -> Result<Vec<u8>, AllocError>
+    ensures { IfOk result (λ title. title.items ≡ column_title from to count) }
+{
+    let mut title = Vec::new(alloc);
+    put_numbered(alloc, &mut title, "events ", from)?;
+    put_numbered(alloc, &mut title, " to ", to.saturating_sub(1))?;
+    put_numbered(alloc, &mut title, ": ", count)?;
+    Ok(title)
+}
+
+fn put_column_box(
+    alloc: Global,
+    out: &mut Vec<u8>,
+    place: (usize, usize),
+    height: usize,
+    title: &[u8],
+) -> Result<(), AllocError>
+    requires lane { place.0 < 1000 }
+    requires column { place.1 < 6554 }
+    ensures { OnOk result (out.new.items ≡ out.old.items ++ xml_text (column_box place.0 place.1 height title.now)) }
+{
+    let (lane, column) = place;
+    let top = (60 + 44 * lane + 34).saturating_sub(height);
+    let row = rectangle(Word::Column, 90 + 10 * column, top, 10, height);
+    put_titled(alloc, out, Name::Rectangle, &row, title)
+}
+
+/// Adds one column of a lane, of the events from one number up to another, if there are any of the actor.
+fn put_column_of(
+    alloc: Global,
+    out: &mut Vec<u8>,
+    layout: Layout,
+    place: (usize, usize),
+    range: (usize, usize),
+    there: &[Mark],
+) -> Result<(), AllocError>
+    requires lane { place.0 < 1000 }
+    requires column { place.1 < 6554 }
+    ensures { OnOk result (out.new.items ≡ out.old.items ++ xml_text (column_of layout place.0 place.1 range.0 range.1 there.now)) }
+{
+    let count = count_in(layout, place.0, there);
+    if count == 0 {
+        return Ok(());
+    }
+    let height = column_height(count, there.len());
+    let title = column_title(alloc, range.0, range.1, count)?;
+    put_column_box(alloc, out, place, height, &title)
+}
+
+/// Adds one column of a lane.
+fn put_column(
+    alloc: Global,
+    out: &mut Vec<u8>,
+    layout: Layout,
+    view: View,
+    marks: &[Mark],
+    place: (usize, usize),
+) -> Result<(), AllocError>
+    requires lane { place.0 < 1000 }
+    requires column { place.1 < 6554 }
+    ensures { OnOk result (out.new.items ≡ out.old.items ++ xml_text (column layout view marks.now place.0 place.1)) }
+{
+    let from = view.column_start(place.1);
+    let to = view.column_start(place.1 + 1);
+    let there = marks_in(marks, from, to);
+    put_column_of(alloc, out, layout, place, (from, to), there)
+}
+
+/// Adds the columns of a lane.
+fn put_lane_columns(
+    alloc: Global,
+    out: &mut Vec<u8>,
+    layout: Layout,
+    view: View,
+    marks: &[Mark],
+    lane: usize,
+) -> Result<(), AllocError>
+    requires { lane < 1000 }
+    ensures { OnOk result (out.new.items ≡ out.old.items ++ xml_text (lane_columns layout view marks.now lane)) }
+{
+    for column in 0..view.column_count() {
+        put_column(alloc, out, layout, view, marks, (lane, column))?;
+    }
+    Ok(())
+}
+
+/// Adds the columns of all lanes.
+pub fn put_columns(
+    alloc: Global,
+    out: &mut Vec<u8>,
+    layout: Layout,
+    view: View,
+    marks: &[Mark],
+) -> Result<(), AllocError>
+    ensures { OnOk result (out.new.items ≡ out.old.items ++ xml_text (all_columns layout view marks.now)) }
+{
+    for lane in 0..lane_count(layout) {
+        put_lane_columns(alloc, out, layout, view, marks, lane)?;
+    }
+    Ok(())
+}

@@ -1,0 +1,184 @@
+//! What stands above the lanes, and how all looks.
+
+ghost use Rattle.std.specs.Prelude.{◌≡◌, ◌++◌, ◌<◌, IfOk, OnOk};
+ghost use Rattle.tw_timeline.specs.Timeline.{first_kinds, head_row, heading, key_of, kind, kinds, lines, looks, marker, meaning, none_text, shown_line, shown_text, some_text, tip, tip_row};
+ghost use Rattle.tw_timeline.specs.Xml.{xml_text};
+
+use crate::attributes::{Attribute, Key, Kind, Name, Word, fixed, number};
+use crate::bars::labelled;
+use crate::drawing::Drawing;
+use crate::elements::{numbered, put_close, put_open, put_plain, put_words};
+use crate::marks::rectangle;
+use crate::places::View;
+use std::alloc::{AllocError, Global};
+use tw_report::{put, put_numbered};
+
+fn looks() -> &'static str
+    ensures { result.now ≡ looks }
+{
+    "svg{background:white;font:12px monospace}.lane{fill:#f3f5f8;stroke:#d5dae0}.actor{fill:#222;font-weight:bold}.again{fill:#8a94a0;font-size:8px}.tick{stroke:#d5dae0}.number{fill:#667;font-size:10px}.thread{fill:none;stroke:#7a9;stroke-width:1.5}.thin{fill:none;stroke:#7a9;stroke-width:.6;opacity:.6}.bar{fill:#cfe0f5;stroke:#4a78b0}.open{fill:#e4edf8;stroke:#4a78b0;stroke-dasharray:4 3}.label{fill:#124;font-size:11px}.column{fill:#2f5d94;opacity:.75}.take{fill:#4a78b0}.local{fill:#98a2ae}.call{fill:#e08a1e}.end{fill:#1d3557}.ask{fill:#8e44ad}.deliver{fill:#16a085}.release{fill:#c0392b}.closing{fill:#222;font-size:14px;font-weight:bold}.rule{fill:#fbe3e0;stroke:#c0392b}.wait{fill:none;stroke:#c0392b;stroke-width:1.5;marker-end:url(#tip)}"
+}
+
+fn tip_row() -> [Attribute; 6]
+    ensures { result ≡ tip_row }
+{
+    [
+        fixed(Key::Identity, Word::Tip),
+        number(Key::TipX, 8),
+        number(Key::TipY, 4),
+        number(Key::TipWidth, 8),
+        number(Key::TipHeight, 8),
+        fixed(Key::TipTurns, Word::Auto),
+    ]
+}
+
+fn head_row() -> [Attribute; 2]
+    ensures { result ≡ head_row }
+{
+    [
+        fixed(Key::Class, Word::Event(Kind::Release)),
+        fixed(Key::Route, Word::Arrowhead),
+    ]
+}
+
+fn put_marker(alloc: Global, out: &mut Vec<u8>) -> Result<(), AllocError>
+    ensures { OnOk result (out.new.items ≡ out.old.items ++ xml_text marker) }
+{
+    put_open(alloc, out, Name::Marker, &tip_row())?;
+    put_plain(alloc, out, Name::Path, &head_row())?;
+    put_close(out, Name::Marker)
+}
+
+/// Adds the tip of an arrow.
+fn put_tip(alloc: Global, out: &mut Vec<u8>) -> Result<(), AllocError>
+    ensures { OnOk result (out.new.items ≡ out.old.items ++ xml_text tip) }
+{
+    put_open(alloc, out, Name::Definitions, &[])?;
+    put_marker(alloc, out)?;
+    put_close(out, Name::Definitions)
+}
+
+/// Adds a kind of event with its colour.
+fn put_kind(alloc: Global, out: &mut Vec<u8>, event: Kind, x: usize) -> Result<(), AllocError>
+    requires { x < 1000 }
+    ensures { OnOk result (out.new.items ≡ out.old.items ++ xml_text (kind event x)) }
+{
+    put_plain(
+        alloc,
+        out,
+        Name::Rectangle,
+        &rectangle(Word::Event(event), x, 12, 12, 12),
+    )?;
+    put_words(
+        alloc,
+        out,
+        Name::Text,
+        &labelled(Word::Label, x + 18, 22),
+        event.text().as_bytes(),
+    )
+}
+
+fn put_first_kinds(alloc: Global, out: &mut Vec<u8>) -> Result<(), AllocError>
+    ensures { OnOk result (out.new.items ≡ out.old.items ++ xml_text first_kinds) }
+{
+    put_kind(alloc, out, Kind::Take, 240)?;
+    put_kind(alloc, out, Kind::Local, 320)?;
+    put_kind(alloc, out, Kind::Call, 410)?;
+    put_kind(alloc, out, Kind::End, 490)
+}
+
+fn put_kinds(alloc: Global, out: &mut Vec<u8>) -> Result<(), AllocError>
+    ensures { OnOk result (out.new.items ≡ out.old.items ++ xml_text kinds) }
+{
+    put_first_kinds(alloc, out)?;
+    put_kind(alloc, out, Kind::Ask, 560)?;
+    put_kind(alloc, out, Kind::Deliver, 630)?;
+    put_kind(alloc, out, Kind::Release, 730)
+}
+
+/// Adds what a column means.
+fn put_meaning(alloc: Global, out: &mut Vec<u8>) -> Result<(), AllocError>
+    ensures { OnOk result (out.new.items ≡ out.old.items ++ xml_text meaning) }
+{
+    let row = labelled(Word::Label, 240, 22);
+    let words =
+        b"how many of the events in a column are the actor's: all of its height for half of them";
+    put_words(alloc, out, Name::Text, &row, words)
+}
+
+/// Adds what the colours mean, or what a column means.
+fn put_key(alloc: Global, out: &mut Vec<u8>, view: View) -> Result<(), AllocError>
+    ensures { OnOk result (out.new.items ≡ out.old.items ++ xml_text (key_of view)) }
+{
+    if view.is_coarse() {
+        put_meaning(alloc, out)
+    } else {
+        put_kinds(alloc, out)
+    }
+}
+
+fn some_text(alloc: Global, view: View, events: u32) -> Result<Vec<u8>, AllocError>
+    ensures { IfOk result (λ text. text.items ≡ some_text view events) }
+{
+    let mut text = numbered(alloc, "events ", u64::from(view.first()))?;
+    put_numbered(alloc, &mut text, " to ", view.last() as usize)?;
+    put_numbered(alloc, &mut text, " of ", events as usize)?;
+    put(&mut text, ": order of events, not duration")?;
+    Ok(text)
+}
+
+fn none_text(alloc: Global, events: u32) -> Result<Vec<u8>, AllocError>
+    ensures { IfOk result (λ text. text.items ≡ none_text events) }
+{
+    let mut text = numbered(alloc, "none of ", u64::from(events))?;
+    put(&mut text, " events")?;
+    Ok(text)
+}
+
+/// Says which events are shown of so many, and that a timeline has no durations.
+fn shown_text(alloc: Global, view: View, events: u32) -> Result<Vec<u8>, AllocError>
+    ensures { IfOk result (λ text. text.items ≡ shown_text view events) }
+{
+    if view.shows_none() {
+        none_text(alloc, events)
+    } else {
+        some_text(alloc, view, events)
+    }
+}
+
+fn put_shown(alloc: Global, out: &mut Vec<u8>, view: View, events: u32) -> Result<(), AllocError>
+    ensures { OnOk result (out.new.items ≡ out.old.items ++ xml_text (shown_line view events)) }
+{
+    let text = shown_text(alloc, view, events)?;
+    let row = labelled(Word::Number, 10, 42);
+    put_words(alloc, out, Name::Text, &row, &text)
+}
+
+/// Adds the line that closes the report, and which events are shown.
+fn put_lines(
+    alloc: Global,
+    out: &mut Vec<u8>,
+    view: View,
+    drawing: &Drawing,
+) -> Result<(), AllocError>
+    ensures { OnOk result (out.new.items ≡ out.old.items ++ xml_text (lines view drawing.now)) }
+{
+    let row = labelled(Word::Closing, 10, 24);
+    put_words(alloc, out, Name::Text, &row, &drawing.closing)?;
+    put_shown(alloc, out, view, drawing.events)
+}
+
+/// Adds the looks, what stands above the lanes, and what the colours mean.
+pub fn put_heading(
+    alloc: Global,
+    out: &mut Vec<u8>,
+    view: View,
+    drawing: &Drawing,
+) -> Result<(), AllocError>
+    ensures { OnOk result (out.new.items ≡ out.old.items ++ xml_text (heading view drawing.now)) }
+{
+    put_words(alloc, out, Name::Style, &[], looks().as_bytes())?;
+    put_tip(alloc, out)?;
+    put_lines(alloc, out, view, drawing)?;
+    put_key(alloc, out, view)
+}

@@ -1,0 +1,146 @@
+//! A circle of rules that wait for one another, as it is drawn.
+
+ghost use Rattle.std.specs.Prelude.{◌≡◌, ◌++◌, ◌<◌, ◌^◌, OnOk};
+ghost use Rattle.tw_timeline.specs.Shapes.{arrow, arrow_height, back, box_left, forward, wait_shape, wait_arrow, wait_box};
+ghost use Rattle.tw_timeline.specs.Xml.{all, xml_text};
+
+use crate::attributes::{Name, Point, Value, Word};
+use crate::bars::labelled;
+use crate::drawing::Wait;
+use crate::elements::{numbered, put_plain, put_words};
+use crate::marks::{rectangle, way_row};
+use crate::places::bottom;
+use std::alloc::{AllocError, Global};
+use tw_types::Layout;
+
+/// Where the box of a place in the circle begins.
+fn box_left(place: u32) -> usize
+    ensures value { result ≡ box_left place }
+    ensures small { result < 2 ^ 41 }
+{
+    90 + 220 * (place as usize)
+}
+
+/// Adds the rule that waits, as a box.
+fn put_wait_box(
+    alloc: Global,
+    out: &mut Vec<u8>,
+    layout: Layout,
+    wait: &Wait,
+) -> Result<(), AllocError>
+    ensures { OnOk result (out.new.items ≡ out.old.items ++ xml_text (wait_box layout wait.now)) }
+{
+    let text = numbered(alloc, "rule ", wait.link.rule.number())?;
+    let left = box_left(wait.from);
+    let top = bottom(layout) + 30;
+    put_plain(
+        alloc,
+        out,
+        Name::Rectangle,
+        &rectangle(Word::Rule, left, top, 110, 30),
+    )?;
+    put_words(
+        alloc,
+        out,
+        Name::Text,
+        &labelled(Word::RuleName, left + 12, top + 20),
+        &text,
+    )
+}
+
+/// From a box to one on its right.
+fn forward(left: usize, next: usize, top: usize) -> Value
+    requires left { left < 2 ^ 41 }
+    requires top { top < 200000 }
+    ensures { result ≡ forward left next top }
+{
+    let from = Point {
+        x: left + 110,
+        y: top + 15,
+    };
+    let to = Point {
+        x: next,
+        y: top + 15,
+    };
+    Value::Curve(from, to)
+}
+
+/// From a box to one that isn't on its right, or to itself.
+fn back(left: usize, next: usize, top: usize) -> Value
+    requires left { left < 2 ^ 41 }
+    requires next { next < 2 ^ 41 }
+    requires top { top < 200000 }
+    ensures { result ≡ back left next top }
+{
+    let from = Point {
+        x: left + 80,
+        y: top + 30,
+    };
+    let to = Point {
+        x: next + 30,
+        y: top + 30,
+    };
+    Value::Under(from, to, top + 56)
+}
+
+fn arrow(left: usize, next: usize, top: usize) -> Value
+    requires left { left < 2 ^ 41 }
+    requires next { next < 2 ^ 41 }
+    requires top { top < 200000 }
+    ensures { result ≡ arrow left next top }
+{
+    if left < next {
+        forward(left, next, top)
+    } else {
+        back(left, next, top)
+    }
+}
+
+/// Where the datum's name stands.
+fn arrow_height(left: usize, next: usize, top: usize) -> usize
+    requires top { top < 200000 }
+    ensures { result ≡ arrow_height left next top }
+{
+    if left < next { top + 10 } else { top + 50 }
+}
+
+/// Adds the arrow from a rule to the one that may write the datum, with the datum beside it.
+fn put_wait_arrow(
+    alloc: Global,
+    out: &mut Vec<u8>,
+    layout: Layout,
+    wait: &Wait,
+) -> Result<(), AllocError>
+    ensures { OnOk result (out.new.items ≡ out.old.items ++ xml_text (wait_arrow layout wait.now)) }
+{
+    let text = numbered(alloc, "datum ", wait.link.datum.number())?;
+    let left = box_left(wait.from);
+    let next = box_left(wait.to);
+    let top = bottom(layout) + 30;
+    let row = way_row(Word::Wait, arrow(left, next, top));
+    put_plain(alloc, out, Name::Path, &row)?;
+    let place = labelled(Word::Number, left + 120, arrow_height(left, next, top));
+    put_words(alloc, out, Name::Text, &place, &text)
+}
+
+fn put_wait(alloc: Global, out: &mut Vec<u8>, layout: Layout, wait: &Wait) -> Result<(), AllocError>
+    ensures { OnOk result (out.new.items ≡ out.old.items ++ xml_text (wait_shape layout wait.now)) }
+{
+    put_wait_box(alloc, out, layout, wait)?;
+    put_wait_arrow(alloc, out, layout, wait)
+}
+
+/// Adds a box and an arrow for each rule.
+pub fn put_waits(
+    alloc: Global,
+    out: &mut Vec<u8>,
+    layout: Layout,
+    waits: &[Wait],
+) -> Result<(), AllocError>
+    ensures { OnOk result (out.new.items ≡ out.old.items ++ xml_text (all (wait_shape layout) waits.now)) }
+{
+    for wait in waits {
+        put_wait(alloc, out, layout, wait)?;
+    }
+    Ok(())
+}

@@ -1,0 +1,110 @@
+//! Events, as they are drawn.
+
+ghost use Rattle.std.specs.Prelude.{◌≡◌, ◌++◌, IfOk, OnOk};
+ghost use Rattle.tw_timeline.specs.Shapes.{kind_of, mark_box, mark_shape, mark_title, rectangle, way_row};
+ghost use Rattle.tw_timeline.specs.Xml.{all, xml_text};
+
+use crate::attributes::{Attribute, Key, Kind, Name, Value, Word, fixed, number, route};
+use crate::drawing::Mark;
+use crate::elements::put_titled;
+use crate::places::{View, lane_top};
+use std::alloc::{AllocError, Global};
+use tw_machine::actor_of;
+use tw_report::{put, put_event_line, put_numbered};
+use tw_types::{Event, Layout};
+
+/// A rectangle's row of attributes.
+pub fn rectangle(class: Word, x: usize, y: usize, width: usize, height: usize) -> [Attribute; 5]
+    ensures { result ≡ rectangle class x y width height }
+{
+    [
+        fixed(Key::Class, class),
+        number(Key::X, x),
+        number(Key::Y, y),
+        number(Key::Width, width),
+        number(Key::Height, height),
+    ]
+}
+
+/// A way of these looks.
+pub fn way_row(class: Word, way: Value) -> [Attribute; 2]
+    ensures { result ≡ way_row class way }
+{
+    [fixed(Key::Class, class), route(way)]
+}
+
+fn kind_of(event: &Event) -> Kind
+    ensures { result ≡ kind_of event.now }
+{
+    match event {
+        Event::Take(_) => Kind::Take,
+        Event::Local(_, _) => Kind::Local,
+        Event::Call(_) => Kind::Call,
+        Event::End(_) => Kind::End,
+        Event::Ask(_, _, _) => Kind::Ask,
+        Event::Deliver(_, _, _, _) => Kind::Deliver,
+        Event::Release(_, _) => Kind::Release,
+    }
+}
+
+/// The number and the line of an event.
+fn mark_title(alloc: Global, mark: &Mark) -> Result<Vec<u8>, AllocError>
+    ensures { IfOk result (λ title. title.items ≡ mark_title mark.now) }
+{
+    let mut title = Vec::new(alloc);
+    put_numbered(alloc, &mut title, "event ", mark.number as usize)?;
+    put(&mut title, ": ")?;
+    put_event_line(alloc, &mut title, &mark.event)?;
+    Ok(title)
+}
+
+/// Adds the mark of an event.
+fn put_box(
+    alloc: Global,
+    out: &mut Vec<u8>,
+    layout: Layout,
+    view: View,
+    mark: &Mark,
+) -> Result<(), AllocError>
+    ensures { OnOk result (out.new.items ≡ out.old.items ++ xml_text (mark_box layout view mark.now)) }
+{
+    let title = mark_title(alloc, mark)?;
+    let x = view.across(mark.number as usize) + view.mark_inset();
+    let y = lane_top(layout, actor_of(&mark.event)) + 19;
+    let class = Word::Event(kind_of(&mark.event));
+    let row = rectangle(class, x, y, view.mark_width(), 12);
+    put_titled(alloc, out, Name::Rectangle, &row, &title)
+}
+
+/// Adds the mark of an event that is shown.
+fn put_mark(
+    alloc: Global,
+    out: &mut Vec<u8>,
+    layout: Layout,
+    view: View,
+    mark: &Mark,
+) -> Result<(), AllocError>
+    ensures { OnOk result (out.new.items ≡ out.old.items ++ xml_text (mark_shape layout view mark.now)) }
+{
+    if view.is_shown(mark.number) {
+        put_box(alloc, out, layout, view, mark)
+    } else {
+        Ok(())
+    }
+}
+
+/// Adds a mark for each event that is shown.
+pub fn put_marks(
+    alloc: Global,
+    out: &mut Vec<u8>,
+    layout: Layout,
+    view: View,
+    marks: &[Mark],
+) -> Result<(), AllocError>
+    ensures { OnOk result (out.new.items ≡ out.old.items ++ xml_text (all (mark_shape layout view) marks.now)) }
+{
+    for mark in marks {
+        put_mark(alloc, out, layout, view, mark)?;
+    }
+    Ok(())
+}

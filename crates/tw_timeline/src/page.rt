@@ -1,0 +1,133 @@
+//! The whole picture.
+
+ghost use Rattle.std.specs.Prelude.{◌≡◌, ◌++◌, ◌<◌, ◌^◌, IfOk, OnOk};
+ghost use Rattle.tw_timeline.specs.Timeline.{drawn, events_of, ground, height_of, picture_of, sized, things, width_of};
+ghost use Rattle.tw_timeline.specs.Xml.{xml_text};
+
+use crate::attributes::{Attribute, Key, Name, Value, Word, fixed, number};
+use crate::bars::put_bars;
+use crate::columns::put_columns;
+use crate::drawing::Drawing;
+use crate::elements::{put_close, put_open};
+use crate::heading::put_heading;
+use crate::lanes::{put_lanes, put_ticks};
+use crate::links::put_waits;
+use crate::marks::put_marks;
+use crate::places::{Settings, View, bottom};
+use crate::threads::put_threads;
+use std::alloc::{AllocError, Global};
+
+/// As wide as the events and the circle, but no less than the heading.
+fn width_of(drawing: &Drawing, view: View) -> usize
+    ensures value { result ≡ width_of drawing.now view }
+    ensures small { result < 2 ^ 51 }
+{
+    let rules = drawing.rules;
+    let events = view.across(view.last() as usize + 1) + 70;
+    840usize.max(events).max(220 * (rules as usize) + 90)
+}
+
+fn height_of(drawing: &Drawing) -> usize
+    ensures { result ≡ height_of drawing.now }
+{
+    if drawing.rules == 0 {
+        bottom(drawing.layout) + 16
+    } else {
+        bottom(drawing.layout) + 106
+    }
+}
+
+fn sized(width: usize, height: usize) -> [Attribute; 4]
+    ensures { result ≡ sized width height }
+{
+    [
+        fixed(Key::Namespace, Word::Svg),
+        number(Key::Width, width),
+        number(Key::Height, height),
+        Attribute {
+            key: Key::ViewBox,
+            value: Value::Frame(width, height),
+        },
+    ]
+}
+
+/// Adds what stands behind the bars.
+fn put_ground(
+    alloc: Global,
+    out: &mut Vec<u8>,
+    drawing: &Drawing,
+    view: View,
+) -> Result<(), AllocError>
+    ensures { OnOk result (out.new.items ≡ out.old.items ++ xml_text (ground drawing.now view)) }
+{
+    put_heading(alloc, out, view, drawing)?;
+    put_lanes(alloc, out, drawing.layout, width_of(drawing, view))?;
+    put_ticks(alloc, out, drawing.layout, view, &drawing.marks)?;
+    put_threads(alloc, out, drawing.layout, view, &drawing.threads)
+}
+
+/// Adds the marks, or columns where these would be too many.
+fn put_events(
+    alloc: Global,
+    out: &mut Vec<u8>,
+    drawing: &Drawing,
+    view: View,
+) -> Result<(), AllocError>
+    ensures { OnOk result (out.new.items ≡ out.old.items ++ xml_text (events_of drawing.now view)) }
+{
+    if view.is_coarse() {
+        put_columns(alloc, out, drawing.layout, view, &drawing.marks)
+    } else {
+        put_marks(alloc, out, drawing.layout, view, &drawing.marks)
+    }
+}
+
+/// Adds the bars, the events and the circle of rules.
+fn put_things(
+    alloc: Global,
+    out: &mut Vec<u8>,
+    drawing: &Drawing,
+    view: View,
+) -> Result<(), AllocError>
+    ensures { OnOk result (out.new.items ≡ out.old.items ++ xml_text (things drawing.now view)) }
+{
+    put_bars(
+        alloc,
+        out,
+        &drawing.names,
+        drawing.layout,
+        view,
+        &drawing.bars,
+    )?;
+    put_events(alloc, out, drawing, view)?;
+    put_waits(alloc, out, drawing.layout, &drawing.waits)
+}
+
+fn put_drawn(
+    alloc: Global,
+    out: &mut Vec<u8>,
+    drawing: &Drawing,
+    view: View,
+) -> Result<(), AllocError>
+    ensures { OnOk result (out.new.items ≡ out.old.items ++ xml_text (drawn drawing.now view)) }
+{
+    let size = sized(width_of(drawing, view), height_of(drawing));
+    put_open(alloc, out, Name::Picture, &size)?;
+    put_ground(alloc, out, drawing, view)?;
+    put_things(alloc, out, drawing, view)?;
+    put_close(out, Name::Picture)
+}
+
+/// What the settings show of a drawing, as one SVG text.
+pub fn timeline(alloc: Global, drawing: &Drawing, settings: Settings) -> Result<Vec<u8>, AllocError>
+    ensures { IfOk result (λ text. text.items ≡ xml_text (picture_of drawing.now settings)) }
+{
+    let mut text = Vec::new(alloc);
+    put_drawn(
+        alloc,
+        &mut text,
+        drawing,
+        View::of(settings, drawing.events),
+    )?;
+    Ok(text)
+}
