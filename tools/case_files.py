@@ -1,4 +1,4 @@
-"""Reads and writes the files of cases/, and expands each case to the line that crates/tw_rows plays.
+"""Reads and writes the files of cases/, and expands each case to the line that crates/tw_cases plays.
 
 CONTRIBUTING.md, "Cases", has the format. A file is a list of blocks of text:
 
@@ -88,7 +88,7 @@ class Case:
 
     @property
     def row(self) -> str:
-        """Returns the line that crates/tw_rows plays."""
+        """Returns the line that crates/tw_cases plays."""
         return row_of(self.name, self.kind, self.given, self.wanted)
 
 

@@ -1,4 +1,4 @@
-"""Runs cases by the program of crates/tw_rows, on several processors, and shows what differs.
+"""Runs cases by the program of crates/tw_cases, on several processors, and shows what differs.
 
 The program reads lines, and prints a line for each case that differs. After each case it is sent a line that it complains of, so that
 its complaint says that the case is done.

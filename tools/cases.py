@@ -1,11 +1,11 @@
 #!/usr/bin/env python3
 """The cases of cases/: runs them, lists them, and makes what CI reads of them.
 
-cases.py --check                    says whether crates/tw_rows has what cases/ gives
-cases.py --make                     writes crates/tw_rows/stdin and stdout
+cases.py --check                    says whether crates/tw_cases has what cases/ gives
+cases.py --make                     writes crates/tw_cases/stdin and stdout
 cases.py --compare FILE             says which cases FILE, an older stdin, has otherwise or besides
 cases.py --list [PATTERN..]         lists cases with their places
-cases.py --run PROGRAM KIND [--update] [PATTERN..]    runs cases by a program of crates/tw_rows; `./tw test` calls it
+cases.py --run PROGRAM KIND [--update] [PATTERN..]    runs cases by a program of crates/tw_cases; `./tw test` calls it
 
 A pattern is a case's name, a part of a name or of a file's (as names/errors), or has `*`, `?` or `[` and is the whole of one.
 """
@@ -25,7 +25,7 @@ from case_runs import Progress, Result, Runner, Times, run_all, shown_failure
 
 ROOT = Path(__file__).resolve().parent.parent
 CASES = ROOT / "cases"
-ROWS = ROOT / "crates" / "tw_rows"
+ROWS = ROOT / "crates" / "tw_cases"
 HEAD = "# Made of cases/ by tools/cases.py --make: edit those files, not this one."
 # Columns of what is shown of a failed case: at least, and where there is no terminal.
 NARROW, WIDE = 80, 160
@@ -37,7 +37,7 @@ LONG = "long_"
 
 
 def stdin_of(book: Book) -> str:
-    """Returns the lines that the program of crates/tw_rows reads: each case, after the bytes that it names."""
+    """Returns the lines that the program of crates/tw_cases reads: each case, after the bytes that it names."""
     lines = [HEAD]
     done: set[str] = set()
     topic = ""
@@ -64,14 +64,14 @@ def faults_of(book: Book) -> list[str]:
 
 
 def stale_files(book: Book) -> list[str]:
-    """Returns the files of crates/tw_rows that aren't what cases/ gives."""
+    """Returns the files of crates/tw_cases that aren't what cases/ gives."""
     made = {"stdin": stdin_of(book), "stdout": stdout_of(book)}
-    return [f"crates/tw_rows/{name}" for name, text in made.items() if not (ROWS / name).exists() or (ROWS / name).read_text(encoding="utf-8") != text]
+    return [f"crates/tw_cases/{name}" for name, text in made.items() if not (ROWS / name).exists() or (ROWS / name).read_text(encoding="utf-8") != text]
 
 
 def check(book: Book) -> int:
     faults = faults_of(book) + [f"{name} isn't what cases/ gives; tools/cases.py --make writes it" for name in stale_files(book)]
-    print("\n".join(faults) or f"{len(book.cases)} cases, and crates/tw_rows has them")
+    print("\n".join(faults) or f"{len(book.cases)} cases, and crates/tw_cases has them")
     return 1 if faults else 0
 
 

@@ -72,7 +72,7 @@ fill() {
     rm -rf "$system/work"
     mkdir -p "$system/work"
     cp -R "$root/dist/." "$root/examples" "$root/embed" "$root/README.md" "$system/work"
-    cp "$root/crates/tw_rows/data/sum_3.twn" "$system/work/sum.twn"
+    cp "$root/crates/tw_cases/data/sum_3.twn" "$system/work/sum.twn"
 }
 
 # README's lines for Python, as a text for doctest.

@@ -33,7 +33,7 @@ from typing import Any, Iterable, Mapping
 
 ROOT = Path(__file__).resolve().parent.parent
 # The crates that something is built of, with the file in release/.
-PROGRAMS = {"tw_main": "tw", "tw_rows": "tw_rows"}
+PROGRAMS = {"tw_main": "tw", "tw_cases": "tw_cases"}
 LIBRARY = "tw_embed"
 LIBRARIES = ("libyuglemit.so", "libyuglemit.a")
 PAGE = "index.html"

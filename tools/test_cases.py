@@ -17,7 +17,7 @@ import case_files
 import case_runs
 import cases
 
-# A program in place of that of crates/tw_rows: it prints what a case is given in place of its expected output, and ends at `dies`.
+# A program in place of that of crates/tw_cases: it prints what a case is given in place of its expected output, and ends at `dies`.
 PROGRAM = """
 import sys
 
@@ -265,7 +265,7 @@ class Running(unittest.TestCase):
     def test_what_ci_reads_is_made(self) -> None:
         book = self.write("# W.\na | layout | 1 | 1\n")
         with mock.patch.multiple(cases, ROWS=self.room), contextlib.redirect_stdout(io.StringIO()):
-            self.assertEqual(cases.stale_files(book), ["crates/tw_rows/stdin", "crates/tw_rows/stdout"])
+            self.assertEqual(cases.stale_files(book), ["crates/tw_cases/stdin", "crates/tw_cases/stdout"])
             self.assertEqual(cases.check(book), 1)
             self.assertEqual(cases.make(book), 0)
             self.assertEqual(cases.stale_files(book), [])

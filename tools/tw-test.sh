@@ -1,5 +1,5 @@
 # shellcheck shell=sh disable=SC2154
-# `./tw test [PATTERN..]`: runs the cases of cases/ by the program of crates/tw_rows. The script tw reads this file.
+# `./tw test [PATTERN..]`: runs the cases of cases/ by the program of crates/tw_cases. The script tw reads this file.
 
 test_usage() {
     cat <<'TEXT'
@@ -26,8 +26,8 @@ has_python() {
 run_as_in_ci() {
     [ $# = 0 ] || { say "./tw test takes arguments only with Python 3.10 or newer"; exit 70; }
     need_room
-    (cd "$root/crates/tw_rows/data" && exec "$program" <../stdin) >"$room/out"
-    diff "$root/crates/tw_rows/stdout" "$room/out" >"$room/diff"
+    (cd "$root/crates/tw_cases/data" && exec "$program" <../stdin) >"$room/out"
+    diff "$root/crates/tw_cases/stdout" "$room/out" >"$room/diff"
     differs=$?
     cat "$room/diff" >&2
     echo "$(sed -n 's/ cases as wanted$//p' "$room/out") passed, $(grep -c '^>.*: wanted ' "$room/diff") failed"
@@ -43,7 +43,7 @@ test_command() {
     esac
     # shellcheck source=tools/tw-pick.sh
     . "$root/tools/tw-pick.sh"
-    pick tw_rows
+    pick tw_cases
     say_kind
     if has_python; then
         exec python3 -B "$root/tools/cases.py" --run "$program" "$kind" "$@"

@@ -67,7 +67,7 @@ BREAKS = (
 def cases() -> str:
     """The lines of the cases that turn or run a host, and the names that they use."""
     kept = []
-    for line in (ROOT / "crates/tw_rows/stdin").read_text().splitlines():
+    for line in (ROOT / "crates/tw_cases/stdin").read_text().splitlines():
         fields = line.split("|")
         if line.startswith("let ") or (len(fields) > 2 and not line.startswith(("#", "long_")) and fields[1].strip().startswith(KINDS)):
             kept.append(line)
@@ -87,7 +87,7 @@ def copy_to(folder: Path) -> None:
 def played(folder: Path, given: str, wanted: int) -> tuple[bool, str]:
     """Whether all cases come to what is wanted, and what is told otherwise."""
     run = subprocess.run(
-        ["rt", "try", "--seconds", str(SECONDS)], cwd=folder / "crates/tw_rows", input=given.encode(), stdout=subprocess.PIPE, stderr=subprocess.STDOUT, check=False
+        ["rt", "try", "--seconds", str(SECONDS)], cwd=folder / "crates/tw_cases", input=given.encode(), stdout=subprocess.PIPE, stderr=subprocess.STDOUT, check=False
     )
     lines = run.stdout.decode(errors="replace").splitlines()
     good = f"{wanted} cases as wanted" in lines

@@ -1,4 +1,4 @@
-//! The calls of the library for programs in other languages, with their contracts: `tw_embed` exports them, and `tw_rows` plays cases on
+//! The calls of the library for programs in other languages, with their contracts: `tw_embed` exports them, and `tw_cases` plays cases on
 //! them.
 //!
 //! * `session`: what the command `tw` writes with these arguments and this input, and its status; a run is in turn.

@@ -1,7 +1,7 @@
 use Rattle.std.proofs.Common.{◌+◌, ◌*◌, ◌≤◌, arith}
 use Rattle.tw_code.specs.machine.Bounds.{size_of, opening_bound}
 use Rattle.tw_code.proofs.Growth.{below_more}
-use Rattle.tw_rows.proofs.play.play.Goals as goal
+use Rattle.tw_cases.proofs.play.play.Goals as goal
 
 pub loop-event-preserved : goal.loop-event-preserved
 loop-event-preserved c =

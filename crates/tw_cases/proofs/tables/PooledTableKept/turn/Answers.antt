@@ -1,7 +1,7 @@
 use Rattle.std.proofs.Common.{sym, subst}
 use Rattle.tw_host.specs.Tells.{IsAnswerOf, IsDoneOf}
 use Rattle.tw_host.proofs.Owning.{is_answer_of}
-use Rattle.tw_rows.proofs.tables.PooledTableKept.turn.Goals as goal
+use Rattle.tw_cases.proofs.tables.PooledTableKept.turn.Goals as goal
 
 pub answer_of-requires : goal.answer_of-requires
 answer_of-requires g c =

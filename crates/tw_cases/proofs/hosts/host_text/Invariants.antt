@@ -1,4 +1,4 @@
-use Rattle.tw_rows.proofs.hosts.host_text.Given as goal
+use Rattle.tw_cases.proofs.hosts.host_text.Given as goal
 
 abbrev pub ghosts-run_host-N-Ledger : goal.ghosts-run_host-N-Ledger
 ghosts-run_host-N-Ledger g a = record { name = a.blank.name; parts = a.blank.parts }

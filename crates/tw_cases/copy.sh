@@ -2,7 +2,7 @@
 # Brings data/ up to date with examples/ and with what README.md and docs/ show: each `$ ./tw ..` in a block of code, and
 # what stands below it. The gate plays data/ and reads nothing outside of it, so run this after an edit of those.
 cd "$(dirname "$0")/../.." || exit 1
-data=crates/tw_rows/data
+data=crates/tw_cases/data
 
 # A file's name behind a command as what the script `tw` makes of it.
 as_input() {

@@ -1,4 +1,4 @@
-use Rattle.tw_rows.proofs.drives.drives_text.Given as goal
+use Rattle.tw_cases.proofs.drives.drives_text.Given as goal
 
 abbrev pub ghosts-driven_by-N-Ledger : goal.ghosts-driven_by-N-Ledger
 ghosts-driven_by-N-Ledger g a = record { name = a.blank.name; parts = a.blank.parts }

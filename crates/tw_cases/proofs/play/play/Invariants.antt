@@ -1,6 +1,6 @@
 use Rattle.std.proofs.Common.{◌+◌, ◌*◌}
 use Rattle.tw_code.specs.machine.Bounds.{AreBelow, opening_bound}
-use Rattle.tw_rows.proofs.play.play.Given as goal
+use Rattle.tw_cases.proofs.play.play.Given as goal
 
 -- each event makes numbers and counts larger by at most its size
 abbrev pub invariant-loop-event : goal.invariant-loop-event
