@@ -159,9 +159,9 @@ def copy_committed(root: Path, tree: Path, with_checks: bool) -> None:
         return
     for folder in tree.glob("crates/*/must-fail"):
         shutil.rmtree(folder)
-    shutil.rmtree(tree / "crates/tw_trials", ignore_errors=True)
+    shutil.rmtree(tree / "crates/tw_fuzz", ignore_errors=True)
     lines = (tree / "crates.txt").read_text(encoding="utf-8").splitlines(keepends=True)
-    (tree / "crates.txt").write_text("".join(line for line in lines if not line.startswith("tw_trials")), encoding="utf-8")
+    (tree / "crates.txt").write_text("".join(line for line in lines if not line.startswith("tw_fuzz")), encoding="utf-8")
 
 
 def run_ci(tree: Path, log: Path) -> str:

@@ -4,7 +4,7 @@ use Rattle.tw_code.specs.format.Program.{IsProgram}
 use Rattle.tw_verify.specs.Typed.{typings_of}
 use Rattle.tw_frame.specs.Jobs.{FrameView, MayStand}
 use Rattle.tw_frame.proofs.Beginning.{may_begin, may_start_alone}
-use Rattle.tw_trials.proofs.jobs.stretch_of.Goals as goal
+use Rattle.tw_fuzz.proofs.jobs.stretch_of.Goals as goal
 
 pub start-requires : goal.start-requires
 start-requires c = may_start_alone c.args.verified.now.program c.program.ensures.accepted c.new-2.result c.new-2.ensures

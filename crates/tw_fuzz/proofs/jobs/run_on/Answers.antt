@@ -1,7 +1,7 @@
 use Rattle.std.proofs.Common.{sym, subst}
 use Rattle.tw_frame.specs.Jobs.{FrameView, JobView, MayStand}
 use Rattle.tw_frame.proofs.Lending.{may_go_on}
-use Rattle.tw_trials.proofs.jobs.run_on.Goals as goal
+use Rattle.tw_fuzz.proofs.jobs.run_on.Goals as goal
 
 pub lend-requires-clause-stands : goal.lend-requires-clause-stands
 lend-requires-clause-stands c =

@@ -1,7 +1,7 @@
 use Rattle.std.proofs.Common.{◌+◌, ◌*◌, ◌≤◌, arith}
 use Rattle.tw_code.specs.machine.Bounds.{opening_bound, size_of}
 use Rattle.tw_code.proofs.Growth.{below_more}
-use Rattle.tw_trials.proofs.replay.goes.Goals as goal
+use Rattle.tw_fuzz.proofs.replay.goes.Goals as goal
 
 pub step-requires-clause-small : goal.step-requires-clause-small
 step-requires-clause-small c = below_more _ _ _ (omega arith) c.requires.low

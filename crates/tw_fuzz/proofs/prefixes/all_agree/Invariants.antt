@@ -1,6 +1,6 @@
 use Rattle.std.proofs.Common.{◌+◌, ◌*◌}
 use Rattle.tw_code.specs.machine.Bounds.{AreBelow, opening_bound}
-use Rattle.tw_trials.proofs.prefixes.all_agree.Given as goal
+use Rattle.tw_fuzz.proofs.prefixes.all_agree.Given as goal
 
 -- each event makes numbers and counts larger by at most its size
 abbrev pub invariant-loop-index : goal.invariant-loop-index

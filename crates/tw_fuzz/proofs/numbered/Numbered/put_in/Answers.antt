@@ -1,7 +1,7 @@
 use Rattle.std.proofs.Common.{◌≤◌, is_none, ap, ◌∙◌, arith}
 use Rattle.std.specs.FinMap.{get}
-use Rattle.tw_trials.proofs.Fresh.{fresh_put}
-use Rattle.tw_trials.proofs.numbered.Numbered.put_in.Goals as goal
+use Rattle.tw_fuzz.proofs.Fresh.{fresh_put}
+use Rattle.tw_fuzz.proofs.numbered.Numbered.put_in.Goals as goal
 
 pub invariant_of-self : goal.invariant_of-self
 invariant_of-self c = record {

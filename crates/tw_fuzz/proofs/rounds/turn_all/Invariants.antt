@@ -1,6 +1,6 @@
 use Rattle.std.proofs.Common.{◌≡◌, All}
 use Rattle.tw_host.specs.Tells.{IsDoneOf}
-use Rattle.tw_trials.proofs.rounds.turn_all.Given as goal
+use Rattle.tw_fuzz.proofs.rounds.turn_all.Given as goal
 
 abbrev pub invariant-loop-place : goal.invariant-loop-place
 invariant-loop-place l = All (λ d. IsDoneOf l.fn.pool.program d) l.kept.items
