@@ -13,8 +13,9 @@ use crate::parkers::Parkers;
 use crate::progress::RunProgress;
 use crate::seat::{Seat, seat_memory, seats_of};
 use crate::sleepers::Sleepers;
-use crossbeam_utils::{Backoff, CachePadded};
+use crossbeam_utils::CachePadded;
 use std::alloc::Global;
+use std::hint;
 use std::sync::ledger::Blank;
 use std::sync::{Mutex, MutexGuard, Wait};
 use tw_frame::Done;
@@ -22,17 +23,28 @@ use tw_pool::{Events, OpenError, Pool, Turn};
 use tw_types::{Input, Layout};
 use tw_verify::Verified;
 
-/// How often a thread tries to take the lock before it sleeps.
-const TRIES: u32 = 256;
+/// How often a thread tries to take the lock before it sleeps: for some 50,000 pauses of the processor, or 10 to 30 full batches.
+const TRIES: u32 = 100;
 
-/// Takes a lock that is held for short times: spins and yields first, so that its holder seldom has to wake a thread.
+/// The greatest number of pauses between two tries, as a power of two.
+const LONGEST_PAUSE: u32 = 9;
+
+/// Pauses after a try to take the lock, twice as long as after the one before. Never yields the processor, since on a busy machine
+/// that costs a time slice.
+fn pause_after(tries: u32) {
+    for _ in 0..1u32 << tries.min(LONGEST_PAUSE) {
+        hint::spin_loop();
+    }
+}
+
+/// Takes a lock that is held for short times. Spins first, since a lock that is passed to a sleeping thread is idle until that thread
+/// runs. Tries seldom, so that the holder may take the lock again and the data stay in its processor's cache.
 fn locked_soon<'b, T, R: Wait>(lock: &'b Mutex<T>, rt: &R) -> MutexGuard<'b, T> {
-    let backoff = Backoff::new();
-    for _ in 0..TRIES {
+    for tries in 0..TRIES {
         if let Some(guard) = lock.try_lock() {
             return guard;
         }
-        backoff.snooze();
+        pause_after(tries);
     }
     lock.lock(rt)
 }

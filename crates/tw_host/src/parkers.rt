@@ -7,7 +7,7 @@ use std::sync::atomic::{AtomicU64, Ordering};
 use std::time::Duration;
 use tw_types::Layout;
 
-/// How often a thread checks for its unpark before it parks. It spins seven times, each time twice as long, and then yields.
+/// How often a thread checks for its unpark before it parks. It spins in between, seven times twice as long as before.
 const MOST_LOOKS: u32 = 32;
 
 /// The longest park, in milliseconds. A lost wake delays a run by no more than this.
@@ -50,15 +50,15 @@ impl Parker {
         self.state.load(Ordering::SeqCst) == NOTIFIED && self.exchange(NOTIFIED, EMPTY)
     }
 
-    /// Spins and yields, and then parks, until there is an unpark. It may also return without a reason, and does so after the longest
-    /// park.
+    /// Spins and then parks, until there is an unpark. It may also return without a reason, and does so after the longest park. Never
+    /// yields the processor, since on a busy machine that costs a time slice.
     fn park(&self, rt: &impl Wait) {
         let backoff = Backoff::new();
         for _ in 0..MOST_LOOKS {
             if self.take() {
                 return;
             }
-            backoff.snooze();
+            backoff.spin();
         }
         if self.exchange(EMPTY, PARKED) {
             let longest = Duration::from_millis(LONGEST);

@@ -1,5 +1,5 @@
 use Rattle.std.proofs.Common.{[], refl, sym, ◌∙◌, inr, arith, append-nil}
-use Rattle.tw_host.proofs.host.Host.batch.Goals as goal
+use Rattle.tw_host.proofs.host.Host.hold.Goals as goal
 
 pub returns-then-is_err-clause-told : goal.returns-then-is_err-clause-told
 returns-then-is_err-clause-told g c = record {
