@@ -5,3 +5,4 @@ mod Moving
 mod Opening
 mod Rounding
 mod Same
+mod Stops

@@ -3,5 +3,7 @@
 pub mod Bounded
 pub mod InTurn
 pub mod Same
+-- Runs that are stopped.
+pub mod Stopping
 -- Definitions for private functions: what is kept from step to step (Rounds).
 pub mod Rounds

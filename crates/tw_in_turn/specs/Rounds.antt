@@ -1,5 +1,5 @@
 -- The results that are kept from step to step of a run in one thread.
-use Rattle.std.specs.Prelude.{◌≡◌, ◌≢◌, ◌<◌, ◌≤◌, ◌+◌, ◌*◌, ◌⊎◌, ℕ, false, List, [], length, get_or, Option, Some, None}
+use Rattle.std.specs.Prelude.{◌≡◌, ◌≢◌, ◌<◌, ◌≤◌, ◌+◌, ◌*◌, ◌⊎◌, ℕ, Bool, true, false, List, [], length, get_or, Option, Some, None}
 use Rattle.std.specs.FinMap.{get}
 use Rattle.tw_types.specs.declared.actor.Actor.{Actor}
 use Rattle.tw_types.specs.declared.event.Event.{Event}
@@ -14,13 +14,26 @@ use Rattle.tw_pool.specs.PoolView.{PoolView, HasState}
 use Rattle.tw_pool.specs.Turns.{closing_at}
 use Rattle.tw_host.specs.Tells.{IsDoneOf}
 use Rattle.tw_in_turn.specs.declared.rounds.End.{End}
-use Rattle.tw_in_turn.specs.declared.rounds.End.TheVariants.{Over, NoMemory}
+use Rattle.tw_in_turn.specs.declared.rounds.End.TheVariants.{Over, NoMemory, Stopped}
+use Rattle.tw_in_turn.specs.Stopping.{IsSomeAfter}
 use Rattle.tw_in_turn.specs.InTurn.{ComesTo, GoesOn, Has, IsAfter, IsMove, IsOver, IsRefused}
 
--- holds for the reason why no step follows this result
+-- holds for the reason why no step follows this result; a stop is no result of a step
 abbrev pub Ends : End → Turn → Type 0
 Ends Over answer = IsOver answer
 Ends NoMemory answer = IsRefused answer
+Ends Stopped answer = ⊥
+
+-- holds for the reason why no step follows those that lead to this pool
+abbrev pub EndsAt : PoolView → End → PoolView → Type 0
+EndsAt first Over p = ComesTo first IsOver p
+EndsAt first NoMemory p = ComesTo first IsRefused p
+EndsAt first Stopped p = IsSomeAfter first p
+
+-- only with a stop flag a run is stopped
+abbrev pub MayStop : Bool → Option End → Type 0
+MayStop has_flag None = Unit {0}
+MayStop has_flag (Some end) = end ≡ Stopped → has_flag ≡ true
 
 -- an actor keeps a result for its step, and it is of the program that is run
 pub record Keeps (p : PoolView) (actor : Actor) (given : Option DoneView) : Type 0 where
@@ -77,7 +90,7 @@ pub record GoesAround (old new : PoolView) (kept : List (Option DoneView)) : Typ
 abbrev pub ComesAround : PoolView → PoolView → List (Option DoneView) → Option End → Type 0
 ComesAround old new kept None = GoesAround old new kept
 ComesAround old new kept (Some end) =
-    (first : PoolView) (rounds : ℕ) → first.layout ≡ old.layout → IsAfter first (rounds * actor_count old.layout) old → ComesTo first (Ends end) new
+    (first : PoolView) (rounds : ℕ) → first.layout ≡ old.layout → IsAfter first (rounds * actor_count old.layout) old → EndsAt first end new
 
 -- a pool before its first event, with this number of actors
 pub record IsOpened (p : PoolView) (count : ℕ) : Type 0 where

@@ -5,5 +5,5 @@ mod rounds;
 mod run;
 mod theorems;
 
-pub use run::{InTurnResult, run_in_turn};
+pub use run::{InTurnResult, StoppableResult, run_in_turn, run_until};
 pub use theorems::{ends_below_limit, one_run};

@@ -1,11 +1,11 @@
 //! Scheduling steps, round by round.
 
-ghost use Rattle.std.specs.Prelude.{◌≡◌, ◌≤◌, true};
+ghost use Rattle.std.specs.Prelude.{◌≡◌, ◌≤◌, is_some, true};
 ghost use Rattle.tw_types.specs.Actor.{is_in};
-ghost use Rattle.tw_in_turn.specs.InTurn.{ComesTo};
-ghost use Rattle.tw_in_turn.specs.Rounds.{AreKept, ComesAround, Ends, IsGrown, IsTurned, Keeps, MayTurn};
+ghost use Rattle.tw_in_turn.specs.Rounds.{AreKept, ComesAround, EndsAt, IsGrown, IsTurned, Keeps, MayStop, MayTurn};
 
 use std::alloc::Global;
+use std::sync::atomic::{AtomicU32, Ordering};
 use tw_frame::Done;
 use tw_pool::{History, Pool, Turn};
 use tw_types::Actor;
@@ -17,6 +17,18 @@ pub(crate) enum End {
     Over,
     /// An allocation failed.
     NoMemory,
+    /// The stop flag is raised.
+    Stopped,
+}
+
+/// Returns whether there is a stop flag that is raised.
+fn is_raised(stop: Option<&AtomicU32>) -> bool
+    ensures { result ≡ true → is_some stop.entry ≡ true }
+{
+    match stop {
+        Some(flag) => flag.load(Ordering::SeqCst) != 0,
+        None => false,
+    }
 }
 
 /// Makes one step of an actor, with its kept `Done`. Runs a job that it is issued at once, and keeps the `Done` for its next step.
@@ -48,15 +60,24 @@ fn turn_one<'a>(
     }
 }
 
-/// Makes one step for each actor, in their order.
-fn turn_round<'a>(alloc: Global, pool: &mut Pool<'a>, kept: &mut [Option<Done<'a>>]) -> Option<End>
+/// Makes one step for each actor, in their order. Looks at the stop flag before each.
+fn turn_round<'a>(
+    alloc: Global,
+    pool: &mut Pool<'a>,
+    kept: &mut [Option<Done<'a>>],
+    stop: Option<&AtomicU32>,
+) -> Option<End>
     requires may { MayTurn pool.old }
     requires kept { AreKept pool.old kept.old }
     ensures round { ComesAround pool.old pool.new kept.new result }
     ensures grown { IsGrown pool.old pool.new }
+    ensures flag { MayStop (is_some stop.entry) result }
 {
     let layout = pool.layout();
     for index in 0..layout.actor_count() {
+        if is_raised(stop) {
+            return Some(End::Stopped);
+        }
         let actor = layout.actor_at(index);
         if let Some(end) = turn_one(alloc, pool, actor, &mut kept[index]) {
             return Some(end);
@@ -65,16 +86,22 @@ fn turn_round<'a>(alloc: Global, pool: &mut Pool<'a>, kept: &mut [Option<Done<'a
     None
 }
 
-/// Makes rounds until the run is over or an allocation fails. Each round that isn't the last makes an event.
-pub(crate) fn turn_all<'a>(alloc: Global, pool: &mut Pool<'a>, kept: &mut [Option<Done<'a>>]) -> End
+/// Makes rounds until the run is over, an allocation fails or the stop flag is raised. Each round that isn't the last makes an event.
+pub(crate) fn turn_all<'a>(
+    alloc: Global,
+    pool: &mut Pool<'a>,
+    kept: &mut [Option<Done<'a>>],
+    stop: Option<&AtomicU32>,
+) -> End
     requires may { MayTurn pool.old }
     requires few { pool.old.limit ≤ 1000000 }
     requires kept { AreKept pool.old kept.old }
-    ensures ends { ComesTo pool.old (Ends result) pool.new }
+    ensures ends { EndsAt pool.old result pool.new }
     ensures grown { IsGrown pool.old pool.new }
+    ensures flag { result ≡ End.Stopped → is_some stop.entry ≡ true }
 {
     for _round in 0..History::MOST_EVENTS + 1 {
-        if let Some(end) = turn_round(alloc, pool, kept) {
+        if let Some(end) = turn_round(alloc, pool, kept, stop) {
             return end;
         }
     }

@@ -1,13 +1,15 @@
 //! A whole run in one thread.
 
-ghost use Rattle.std.specs.Prelude.{IfErr, IfOk};
+ghost use Rattle.std.specs.Prelude.{◌≡◌, IfErr, IfOk, is_some, true};
 ghost use Rattle.tw_pool.specs.Openings.{IsRejection, MayOpen, opened};
 ghost use Rattle.tw_pool.specs.PoolView.{PoolView};
-ghost use Rattle.tw_in_turn.specs.InTurn.{ComesTo, IsLeft};
-ghost use Rattle.tw_in_turn.specs.Rounds.{AreKept, Ends, IsGrown, IsOpened};
+ghost use Rattle.tw_in_turn.specs.InTurn.{IsLeft};
+ghost use Rattle.tw_in_turn.specs.Stopping.{IsLeftOrStopped, IsStopped};
+ghost use Rattle.tw_in_turn.specs.Rounds.{AreKept, IsOpened};
 
 use crate::rounds::{End, turn_all};
 use std::alloc::{AllocError, Global};
+use std::sync::atomic::AtomicU32;
 use tw_frame::Done;
 use tw_pool::{Final, History, OpenError, Pool};
 use tw_types::{Input, Layout};
@@ -22,6 +24,15 @@ pub enum InTurnResult {
     NoMemory { outcome: Final, history: History },
 }
 
+/// A finished run that another thread could stop.
+#[derive(Drop)]
+pub enum StoppableResult {
+    /// It ended without being stopped.
+    Ended(InTurnResult),
+    /// The stop flag was raised before its end.
+    Stopped { outcome: Final, history: History },
+}
+
 /// Returns the kept results before a run: none for each actor.
 fn nothing_kept<'a>(alloc: Global, count: usize) -> Result<Vec<Option<Done<'a>>>, AllocError>
     ensures { (p : PoolView) → IsOpened p count → IfOk result (λ kept. AreKept p kept.items) }
@@ -34,7 +45,35 @@ fn nothing_kept<'a>(alloc: Global, count: usize) -> Result<Vec<Option<Done<'a>>>
 }
 
 /// Runs a program in this thread: engines, then servers, then workers make one step each, again and again, until the run is
-/// over.
+/// over, or until another thread has stored a number other than 0 in the stop flag.
+pub fn run_until(
+    alloc: Global,
+    verified: &Verified,
+    inputs: &[Input],
+    layout: Layout,
+    limit: usize,
+    stop: Option<&AtomicU32>,
+) -> Result<StoppableResult, OpenError>
+    ensures allowed { IfOk result (λ _. MayOpen verified.now.program inputs.now layout limit) }
+    ensures left { IfOk result (IsLeftOrStopped (opened verified.now inputs.now layout limit)) }
+    ensures refused { IfErr result (IsRejection verified.now.program inputs.now layout limit) }
+    ensures flag { IfOk result (λ left. IsStopped left → is_some stop.entry ≡ true) }
+{
+    let mut pool = Pool::open(alloc, verified, inputs, layout, limit)?;
+    let Ok(mut kept) = nothing_kept(alloc, layout.actor_count()) else {
+        let (_outcome, _history) = pool.shut();
+        return Err(OpenError::NoMemory);
+    };
+    let end = turn_all(alloc, &mut pool, kept.as_mut_slice(), stop);
+    let (outcome, history) = pool.shut();
+    match end {
+        End::Over => Ok(StoppableResult::Ended(InTurnResult::Over { outcome, history })),
+        End::NoMemory => Ok(StoppableResult::Ended(InTurnResult::NoMemory { outcome, history })),
+        End::Stopped => Ok(StoppableResult::Stopped { outcome, history }),
+    }
+}
+
+/// Like `run_until`, without a stop flag.
 pub fn run_in_turn(
     alloc: Global,
     verified: &Verified,
@@ -46,15 +85,9 @@ pub fn run_in_turn(
     ensures left { IfOk result (IsLeft (opened verified.now inputs.now layout limit)) }
     ensures refused { IfErr result (IsRejection verified.now.program inputs.now layout limit) }
 {
-    let mut pool = Pool::open(alloc, verified, inputs, layout, limit)?;
-    let Ok(mut kept) = nothing_kept(alloc, layout.actor_count()) else {
-        let (_outcome, _history) = pool.shut();
-        return Err(OpenError::NoMemory);
-    };
-    let end = turn_all(alloc, &mut pool, kept.as_mut_slice());
-    let (outcome, history) = pool.shut();
-    match end {
-        End::Over => Ok(InTurnResult::Over { outcome, history }),
-        End::NoMemory => Ok(InTurnResult::NoMemory { outcome, history }),
+    match run_until(alloc, verified, inputs, layout, limit, None) {
+        Ok(StoppableResult::Ended(left)) => Ok(left),
+        Ok(StoppableResult::Stopped { .. }) => unreachable!(),
+        Err(why) => Err(why),
     }
 }

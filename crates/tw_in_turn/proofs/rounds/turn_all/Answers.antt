@@ -49,3 +49,6 @@ loop-round-preserved c =
 
 pub unreachable-requires : goal.unreachable-requires
 unreachable-requires c = omega (arith, c.loop-round.invariant.many, c.loop-round-test.false, c.loop-round.invariant.grown.within, c.requires.few)
+
+pub returns-in-Some-clause-flag : goal.returns-in-Some-clause-flag
+returns-in-Some-clause-flag c = c.in-Some.ensures.flag

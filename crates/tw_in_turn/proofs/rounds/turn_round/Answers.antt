@@ -1,4 +1,4 @@
-use Rattle.std.proofs.Common.{◌≡◌, ◌≢◌, ◌<◌, ◌∙◌, Option, ap, arith, get_or, subst, sym}
+use Rattle.std.proofs.Common.{◌≡◌, ◌≢◌, ◌<◌, ◌+◌, ◌*◌, ◌∙◌, Option, ap, arith, get_or, subst, sym}
 use Rattle.tw_types.specs.declared.actor.Actor.{Actor}
 use Rattle.tw_types.specs.Actor.{actor_at, actor_count}
 use Rattle.tw_types.specs.Layout.{ActorCounts}
@@ -7,6 +7,7 @@ use Rattle.tw_in_turn.specs.InTurn.{IsMove}
 use Rattle.tw_in_turn.specs.Rounds.{Ends, IsTurned, Keeps}
 use Rattle.tw_in_turn.specs.declared.rounds.End.{End}
 use Rattle.tw_in_turn.proofs.Rounding as rounding
+use Rattle.tw_in_turn.proofs.Stops.{ends_at}
 use Rattle.tw_in_turn.proofs.rounds.turn_round.Goals as goal
 
 pub turn_one-requires-clause-keeps : goal.turn_one-requires-clause-keeps
@@ -37,7 +38,8 @@ returns-in-Some-clause-round c = λ start rounds is after.
     let actor_is : c.actor_at-actor.result ≡ actor_at first.layout index = c.actor_at-actor.ensures.is ∙ ap (λ (l : ActorCounts). actor_at l index) c.layout-layout.ensures in
     let actor_now : c.actor_at-actor.result ≡ actor_at now.layout index = actor_is ∙ ap (λ (l : ActorCounts). actor_at l index) (sym same) in
     let t = c.in-Some.ensures in
-    rounding.the_last start now c.turn_one.new.pool first.layout rounds index t.answer (Ends c.in-Some.end) is low (inv.after start rounds is after) (subst (λ (a : Actor). IsMove now a t.answer c.turn_one.new.pool) actor_is t.move) t.comes
+    ends_at start c.in-Some.end c.turn_one.new.pool
+    (rounding.the_last start now c.turn_one.new.pool first.layout rounds index t.answer (Ends c.in-Some.end) is low (inv.after start rounds is after) (subst (λ (a : Actor). IsMove now a t.answer c.turn_one.new.pool) actor_is t.move) t.comes)
 
 pub loop-index-preserved : goal.loop-index-preserved
 loop-index-preserved c =
@@ -78,3 +80,10 @@ returns-clause-round c =
       kept_is = inv.kept_is;
       after = λ start rounds is after. rounding.whole_round start now rounds (actor_count first.layout) index end (inv.after start rounds is after);
     }
+
+pub returns-then-is_raised-clause-round : goal.returns-then-is_raised-clause-round
+returns-then-is_raised-clause-round c = λ start rounds is after.
+    (rounds * actor_count c.args.pool.now.layout + c.loop-index.index, c.loop-index.invariant.after start rounds is after)
+
+pub returns-in-Some-clause-flag : goal.returns-in-Some-clause-flag
+returns-in-Some-clause-flag c = λ e. absurd (subst (λ (end : End). Ends end c.in-Some.ensures.answer) e c.in-Some.ensures.comes)

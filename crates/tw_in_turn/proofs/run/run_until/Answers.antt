@@ -3,9 +3,10 @@ use Rattle.tw_frame.specs.Jobs.{DoneView}
 use Rattle.tw_pool.specs.Openings.{opened}
 use Rattle.tw_pool.specs.PoolView.{PoolView}
 use Rattle.tw_in_turn.specs.InTurn.{ComesTo, IsRefused}
+use Rattle.tw_in_turn.specs.Stopping.{IsSomeAfter}
 use Rattle.tw_in_turn.specs.Rounds.{AreKept}
 use Rattle.tw_in_turn.proofs.Leaving.{left_in, left_over}
-use Rattle.tw_in_turn.proofs.run.run_in_turn.Goals as goal
+use Rattle.tw_in_turn.proofs.run.run_until.Goals as goal
 
 pub turn_all-end-requires-clause-kept : goal.turn_all-end-requires-clause-kept
 turn_all-end-requires-clause-kept c =
@@ -20,11 +21,20 @@ returns-in-Over-clause-left c =
     let p = c.turn_all-end.new.pool in
     left_over c.in_ok-pool.pool (opened c.args.verified.now c.args.inputs.now c.args.layout c.args.limit) p c.shut-outcome-2.result.0 c.shut-outcome-2.result.1 c.in_ok-pool.ensures.opened refl c.in-Over.ensures.ends c.turn_all-end.ensures.grown c.shut-outcome-2.ensures.left c.shut-outcome-2.ensures.ends_well
 
+pub returns-in-NoMemory-clause-left : goal.returns-in-NoMemory-clause-left
+returns-in-NoMemory-clause-left c =
+    let p = c.turn_all-end.new.pool in
+    let first = opened c.args.verified.now c.args.inputs.now c.args.layout c.args.limit in (
+      p,
+      subst (λ (q : PoolView). ComesTo q IsRefused p) c.in_ok-pool.ensures.opened c.in-NoMemory.ensures.ends,
+      left_in c.in_ok-pool.pool first p c.shut-outcome-2.result.0 c.shut-outcome-2.result.1 c.in_ok-pool.ensures.opened c.turn_all-end.ensures.grown c.shut-outcome-2.ensures.left c.shut-outcome-2.ensures.ends_well,
+    )
+
 pub returns-clause-left : goal.returns-clause-left
 returns-clause-left c =
     let p = c.turn_all-end.new.pool in
     let first = opened c.args.verified.now c.args.inputs.now c.args.layout c.args.limit in (
       p,
-      subst (λ (q : PoolView). ComesTo q IsRefused p) c.in_ok-pool.ensures.opened c.in-NoMemory.ensures.ends,
+      subst (λ (q : PoolView). IsSomeAfter q p) c.in_ok-pool.ensures.opened c.in-Stopped.ensures.ends,
       left_in c.in_ok-pool.pool first p c.shut-outcome-2.result.0 c.shut-outcome-2.result.1 c.in_ok-pool.ensures.opened c.turn_all-end.ensures.grown c.shut-outcome-2.ensures.left c.shut-outcome-2.ensures.ends_well,
     )
