@@ -1,4 +1,4 @@
--- Statements of the same words differ in skips alone.
+-- Statements of the same words differ only in skips.
 use Rattle.std.proofs.Common.{◌≡◌, ℕ, List, [], ◌∷◌, ◌++◌, codes, refl, sym, ap, subst, ◌∙◌}
 use Rattle.tw_asm.proofs.AsmNames.{Bare, Code, Goals, Head, Label, OfVersion, Registers, ParserState, SpellParts, Spells, SpellsDigits, Statement, Version, Word, after, append_cancel_right, statement_parts, version_parts}
 use Rattle.tw_lexer.proofs.Numerals.{one_size}
@@ -13,7 +13,7 @@ AreAlike (Label name) (Label other) = name ≡ other
 AreAlike (Code i) (Code j) = Unit {0}
 AreAlike s t = ⊥
 
--- the words of a version's line
+-- the words of the version's line
 version_words : (G : Goals) (n : ℕ) (words : List Word) → SpellParts G (version_parts n) words → (digits : List ℕ) × SpellsDigits n digits × (words ≡ Bare (codes "version") ∷ Bare digits ∷ [])
 version_words G n words (first, others, cut, is, (second, none, rest, (digits, spells, has), nothing)) =
     (digits, spells, cut ∙ (ap (λ (ws : List Word). ws ++ others) is ∙ ap (λ (ws : List Word). Bare (codes "version") ∷ ws) (rest ∙ (ap (λ (ws : List Word). ws ++ none) has ∙ ap (λ (ws : List Word). Bare digits ∷ ws) nothing))))

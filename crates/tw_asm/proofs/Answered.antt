@@ -1,4 +1,4 @@
--- What is read answers which words spell which statements.
+-- The words of a line are read as a statement that they denote, or they denote none.
 use Rattle.std.proofs.Common.{◌≡◌, ℕ, List, [], ◌∷◌, ◌++◌, map, codes, Option, Some, None, Result, Ok, Err, true, refl, sym, ap, subst, ◌∙◌}
 use Rattle.tw_asm.proofs.AsmNames.{AllByRecursion, AnyName, AnyShortName, Bare, Code, TokenError, Form, Goals, HasForm, HasInstr, Head, Instr, IsInLimits, IsName, IsRead, Label, Limit, Line, LineContent, Name, Natural, NoName, OfVersion, OnlyName, Opcode, Part, Read, Registers, SpellParts, Spells, Statement, Version, Word, as_is, before_colon, code_read, draft_in, flat_map, has_opcode, instr_parts, kind_word, label_in, line_in, opcode_in, param_parts, register_part, statement_parts}
 use Rattle.tw_lexer.proofs.Colons.{before}
@@ -14,7 +14,7 @@ abbrev pub Judged : Version → Result Read TokenError → List Word → Type 0
 Judged version (Ok read) ws = IsRead version read ws
 Judged version (Err flaw) ws = IsFlawed version flaw ws
 
--- the first word of what is spelled
+-- the first word of a statement is its name
 pub first_is : (G : Goals) (name : List ℕ) (parts : List Part) (w : Word) (ws : List Word) → SpellParts G (Name name ∷ parts) (w ∷ ws) → (w ≡ Bare name) × SpellParts G parts ws
 first_is G name parts w ws (first, others, cut, h, rest) =
     let whole : w ∷ ws ≡ Bare name ∷ others = cut ∙ ap (λ (vs : List Word). vs ++ others) h in
@@ -28,7 +28,7 @@ first_is G name parts w ws (first, others, cut, h, rest) =
 
 -- ---- instructions
 
--- a statement that begins with an instruction's name is made of it and of operands that its line has
+-- holds if the statement is made of this opcode, and of operands that its line has
 abbrev IsCode : (version : Version) (G : Goals) → Opcode → List Word → Statement → Type 0
 IsCode version G o ws statement =
     (x : LineContent (line_of version o)) × (statement ≡ Code (instr_of version o x)) × SpellParts G (parts_of (line_of version o) x) ws × Had (line_of version o) x
@@ -65,7 +65,7 @@ module _ (version : Version) (G : Goals) where
           subst (λ (q : Opcode). (x : LineContent (line_of version p)) → SpellParts G (parts_of (line_of version p) x) ws → Had (line_of version p) x → IsCode version G q ws (Code (instr_of version p x))) same
           (λ x s had. (x, refl, s, had))
 
-  -- a word that no instruction of the version bears is no first word of one
+  -- a word that isn't the name of an instruction in this version isn't the first word of one
   other_first : (o : Opcode) (word name : List ℕ) (parts : List Part) (ws : List Word) → opcode_in version word ≡ Some o → opcode_in version name ≡ None → SpellParts G (Name name ∷ parts) (Bare word ∷ ws) → ⊥
   other_first o word name parts ws is none h = none_some o (sym none ∙ (sym (ap (opcode_in version) (bare_is word name (first_is G name parts (Bare word) ws h).0)) ∙ is))
 
@@ -92,7 +92,7 @@ any_is_name skip name h = h
 short_is_name : (skip : ℕ) (name : List ℕ) → AnyShortName skip name → IsName name
 short_is_name skip name h = h.0
 
--- the whole line of an instruction
+-- the name and the operands denote the instruction
 with_name : (version : Version) (G : Goals) (o : Opcode) (x : LineContent (line_of version o)) (word : List ℕ) (ws : List Word) → word ≡ word_of o → HasInstr version (instr_of version o x)
     → SpellParts G (parts_of (line_of version o) x) ws → Spells version G (Code (instr_of version o x)) (Bare word ∷ ws)
 with_name version G o x word ws is had h =
@@ -159,7 +159,7 @@ module _ (version : Version) (o : Opcode) (word : List ℕ) (ws : List Word) (is
           let y = found AnyShortName short_is_name line ws c.0 c.3 c.2 in
           h.1 y.0 y.1 (y.2 (λ _ _ k. k.1) (within_back version o c.0 (subst IsInLimits c.1 limits)))
 
-  -- a line that begins with an instruction's name
+  -- a line that begins with the name of an instruction
   pub code_answered : AllByRecursion IsFine ws → Judged version (as_is code_read (draft_in version o ws)) (Bare word ∷ ws)
   code_answered fine =
       subst (λ (r : Result (Instr × Option (List ℕ)) TokenError). Judged version (as_is code_read r) (Bare word ∷ ws)) (sym (draft_is version o ws)) (code_judged (line_in line ws) (line_read line ws fine))

@@ -1,4 +1,4 @@
--- Names of statements, of their words and of what is known of them, for the files here.
+-- Reexports names of statements, their words and lemmas on them, for the files here.
 pub use Rattle.std.proofs.lemmas.Bool.{cases_lt, eqb-true, ltb-true}
 pub use Rattle.std.proofs.lemmas.Bool.Decides.{Decides-and, Decides-eqb, Decides-or, nat_tests}
 pub use Rattle.std.proofs.lemmas.List.{append-nil, append_cancel_left, append_cancel_right, get_or_default, length-append, length-map, map-append, map-id, take_all}

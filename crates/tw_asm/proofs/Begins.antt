@@ -1,10 +1,10 @@
--- What the first word of a line lets expect.
+-- The statement that the first word of a line begins.
 use Rattle.std.proofs.Common.{◌≡◌, ℕ, List, ◌∷◌, refl, subst}
 use Rattle.tw_asm.proofs.AsmNames.{Bare, Begins, Code, First, Goals, Head, IsExpected, IsFirstWord, IsLine, Label, MayBegin, OfVersion, Registers, ParserState, Spells, Statement, Version, Word}
 use Rattle.tw_asm.proofs.Once.{begins, first_word, expected_of, expected}
 use Rattle.tw_asm.specs.reading.Expected.{expectation}
 
--- what the first word of a statement lets expect
+-- the kind of a statement, as its first word shows it
 expectation_is : (statement : Statement) → expected_of statement ≡ expectation statement
 expectation_is (OfVersion number) = refl
 expectation_is (Head kind params) = refl

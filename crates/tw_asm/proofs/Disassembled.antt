@@ -1,4 +1,4 @@
--- The text of a program spells it.
+-- The text of a program denotes it.
 use Rattle.std.proofs.Common.{◌≡◌, ◌≢◌, ◌==◌, ◌≤◌, ◌<◌, ℕ, zero, suc, ◌+◌, Bool, true, false, List, [], ◌∷◌, ◌++◌, length, get_or, map, codes, Option, Some, None, refl, sym, ap, subst, ◌∙◌, append_assoc, append-nil, arith}
 use Rattle.std.specs.Prelude.{IsUtf8, decimal, slice_index_or}
 use Rattle.tw_asm.proofs.AsmNames.{AllByRecursion, AllPairs, AreCode, Bare, Code, Contains, Goals, GoesTo, HaveWords, Head, Instr, IsInstrOf, IsLine, IsProcedure, IsProcedureOf, IsVersioned, Label, OfVersion, One, Placed, Procedure, Registers, SpellProcedures, SpellsProcedure, SpellsProgram, SpellsVersion, Statement, Two, Version, Versioned, Word, code_lines, concat, disassembly, eqb-true, flat_map, goal_word, join_with_byte, label_at, label_line, label_places, line_of, lines, nat_tests, option_and_then, procedure_lines, skip_of, version_line}
@@ -16,7 +16,7 @@ use Rattle.tw_asm.proofs.Versions.{had, had_params, number_within}
 
 -- ---- texts of lines
 
--- a text of lines that have words, one after the other, in UTF-8
+-- a text of lines that have words, one line after another, in UTF-8
 record IsWritten (text : List ℕ) (words : List (List Word)) : Type 0 where
   pub each_line : List (List ℕ)
   pub parts : text ≡ concat (map with_line_feed each_line)
@@ -24,7 +24,7 @@ record IsWritten (text : List ℕ) (words : List (List Word)) : Type 0 where
   pub have : HaveWords each_line words
   pub utf8 : IsUtf8 text
 
--- it may stand before any such text
+-- holds if the text is allowed before any such text
 abbrev Writes : List ℕ → List (List Word) → Type 0
 Writes text words = (rest : List ℕ) (others : List (List Word)) → IsWritten rest others → IsWritten (text ++ rest) (words ++ others)
 
@@ -63,12 +63,12 @@ abbrev here : ℕ → Option ℕ → List Placed
 here place None = []
 here place (Some number) = placed number place ∷ []
 
--- the labels from a place on
+-- returns the labels from a place on
 abbrev placed_from : List ℕ → ℕ → List Instr → List Placed
 placed_from labels place [] = here place (label_at labels place)
 placed_from labels place (i ∷ others) = here place (label_at labels place) ++ placed_from labels (place + 1) others
 
--- no name stands twice
+-- holds if no name occurs twice
 abbrev AreApart : List Placed → Type 0
 AreApart [] = Unit {0}
 AreApart (l ∷ ls) = AllByRecursion (λ m. l.name ≢ m.name) ls × AreApart ls
@@ -134,14 +134,14 @@ module _ (labels : List ℕ) where
 
 -- ---- code
 
--- code that is written as this text
+-- the text of code, with the words that denote it
 record IsWrittenCode (version : Version) (all : List Placed) (place : ℕ) (labels : List Placed) (code : List Instr) (text : List ℕ) : Type 0 where
   pub words : List (List Word)
   pub are : AreCode version all place labels code words
   pub writes : Writes text words
 
 module _ (version : Version) (labels : List ℕ) (few : AreNumbered labels) (all : List Placed) (stand : (goal number : ℕ) → label_at labels goal ≡ Some number → Contains all (placed number goal)) where
-  -- a label before code
+  -- the line of a label before code
   with_label : (place : ℕ) (label : Option ℕ) (others : List Placed) (code : List Instr) (text : List ℕ) → label_at labels place ≡ label → IsWrittenCode version all place others code text → IsWrittenCode version all place (here place label ++ others) code (label_line label ++ text)
   with_label place None others code text e w = w
   with_label place (Some number) others code text e w =
@@ -235,7 +235,7 @@ written_procedures version (p ∷ procedures) h wide =
       writes = writes_both (procedure_lines p) (flat_map procedure_lines procedures) first.words others.words first.writes others.writes;
     }
 
--- the version's line
+-- the text of the version's line
 record IsFrontWritten (version : Version) (text : List ℕ) : Type 0 where
   pub words : List (List Word)
   pub spells : SpellsVersion version words

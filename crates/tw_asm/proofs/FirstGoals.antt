@@ -1,4 +1,4 @@
--- The first goal that isn't found is the first fault of its text.
+-- The first goal that can't be resolved is the first fault of its text.
 use Rattle.std.proofs.Common.{◌≡◌, ℕ, zero, suc, ◌+◌, ◌<◌, ◌≤◌, List, [], ◌∷◌, ◌++◌, length, map, take, drop, Option, Some, None, inl, inr, refl, sym, subst, ap, ◌∙◌, arith}
 use Rattle.tw_asm.proofs.AsmNames.{AllByRecursion, AnyShortName, AsmFault, Code, Contains, FaultNo, GoalFault, HasSections, Head, Instr, IsFirstGoalFault, IsLine, IsRead, IsWhole, Label, LineRead, LineSays, LinesRead, LinesSay, MayStand, NamesLabel, OfVersion, Placed, Progress, Read, Registers, Section, ParserState, Statement, Version, Word, after, after_line, at_start, flat_map, labels_ahead, line_once, line_step, lines, map-append, not_forward, outset, situation_from, situation_of, slice_get, slice_index_or, unknown}
 use Rattle.std.proofs.lemmas.List.Elements.{Contains-append_cases, Contains-append_left, Contains-append_right}
@@ -62,9 +62,9 @@ ahead_above place [] = tt
 ahead_above place (None ∷ others) = ahead_above place others
 ahead_above place (Some read ∷ others) = above_by read.statement place (ahead place others) (ahead (place + 1) others) (ahead_above place others) (ahead_above (place + 1) others)
 
--- ---- labels behind
+-- ---- labels before a line
 
--- these are the situation's labels, none past the place
+-- these are the labels of the state, none after the place
 pub record Behind (labels : List Placed) (place : ℕ) (s : ParserState) : Type 0 where
   pub names : map (λ label. label.name) labels ≡ s.labels
   pub low : AllByRecursion (λ label. label.place ≤ place) labels
@@ -83,7 +83,7 @@ behind_more number (Label name) labels place s b = record {
 }
 behind_more number (Code i) labels place s b = record { names = b.names; low = higher place (place + 1) labels (omega arith) b.low }
 
--- a name behind isn't ahead
+-- a name before the line isn't after it
 label_again : (s : ParserState) (other : List ℕ) (said : List (Option Statement)) (name : List ℕ) → (Contains s.labels other → ⊥) → (Contains (s.labels ++ (other ∷ [])) name → Contains (labels_ahead said) name → ⊥)
     → Contains s.labels name → (k : ℕ) → k < suc (length (labels_ahead said)) → slice_index_or (other ∷ labels_ahead said) k name ≡ name → ⊥
 label_again s other said name new others c zero low e = new (subst (Contains s.labels) (sym e) c)
@@ -116,7 +116,7 @@ reads_say number s [] (read ∷ others) r = absurd r
 reads_say number s (line ∷ more) [] r = absurd r
 reads_say number s (line ∷ more) (read ∷ others) r = (line_says s line read r.0, reads_say (number + 1) (after_line number (statement_of read) s) more others r.1)
 
--- ---- a goal that isn't found
+-- ---- a goal that can't be resolved
 
 no_goal_fault : (s : ParserState) (labels : List Placed) (place : ℕ) (others : List (Option Read)) (line : List ℕ) (name : List ℕ) (words : List Word) (which : FaultNo) → Behind labels place s
     → IsLine words line → NamesLabel s.version name words → IsNoGoal (labels ++ ahead (place + 1) others) place name which → GoalFault s (labels_ahead (said_by others)) line which
@@ -134,7 +134,7 @@ no_goal_fault s labels place others line name words which b l n (inr u) =
       | inr c ↦ absurd (omega (arith, u.1.2, all_of (λ (label : Placed). place + 1 ≤ label.place) (ahead (place + 1) others) (record { name = name; place = u.1.0 }) (ahead_above (place + 1) others) c))
     ]))
 
--- the numbers of lines, over plain numbers
+-- inequalities on line numbers
 at_first : (at number : ℕ) → at ≡ number → at ≤ number
 at_first at number e = omega arith
 
@@ -153,7 +153,7 @@ same_later at number k e = omega arith
 one_on : (k : ℕ) → suc k + 1 ≡ suc (k + 1)
 one_on k = omega arith
 
--- where the first goal that isn't found stands
+-- the line of the first goal that can't be resolved
 pub record Located (number : ℕ) (s : ParserState) (ls : List (List ℕ)) (said : List (Option Statement)) (f : AsmFault) : Type 0 where
   pub index : ℕ
   pub at_is : f.line ≡ number + index
@@ -205,7 +205,7 @@ located number s labels place (line ∷ more) (Some read ∷ others) f r b u =
     located_at number s labels place line more others f read.statement read.goal r.0.0.0 b r.0.0.1 r.0.0.2
     (λ v. located (number + 1) (after number read.statement s) (labels_after read.statement place labels) (place_after read.statement place) more others f r.1 (behind_more number read.statement labels place s b) v) u
 
--- ---- no goal before it has a fault
+-- ---- goals before it have no fault
 
 found_no_fault : (s : ParserState) (labels : List Placed) (place skip : ℕ) (number : ℕ) (more : List (List ℕ)) (others : List (Option Read)) (ahead_said : List (List ℕ)) (line : List ℕ) (name : List ℕ) (words : List Word) (which : FaultNo) → Behind labels place s
     → IsLine words line → NamesLabel s.version name words → StandsAt (labels ++ ahead (place + 1) others) name (place + 1 + skip) → ahead_said ≡ labels_ahead (said_by others)
@@ -223,7 +223,7 @@ found_no_fault s labels place skip number more others ahead_said line name words
       | inr c ↦ once (subst (Contains s.labels) (sym e) behind) (subst (λ (x : List (List ℕ)). Contains x name) (names_ahead (place + 1) others) (name_in (ahead (place + 1) others) name (place + 1 + skip) c))
     ]
 
--- the line of a fault names a label
+-- the line of a fault that names a label
 record AtName (version : Version) (line : List ℕ) : Type 0 where
   name : List ℕ
   words : List Word

@@ -1,4 +1,4 @@
--- What a first word lets expect.
+-- The kind of statement that a first word begins.
 use Rattle.std.proofs.Common.{◌≡◌, ◌≢◌, ℕ, pos, Bool, true, false, List, [], ◌∷◌, ◌++◌, codes, Option, Some, None, sym, ap, subst, ◌∙◌, refl}
 use Rattle.tw_asm.proofs.AsmNames.{◌↔◌, Int, IsInstrWord, IsLabelWord, IsName, IsTrue, Name, Opcode, Part, Version, append_cancel_right, flat_map, further, is_name, is_some, operand_parts, row, scalar_type, word_of}
 use Rattle.tw_asm.proofs.Lined.{Had, parts_of}

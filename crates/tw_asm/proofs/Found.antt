@@ -7,7 +7,7 @@ use Rattle.tw_asm.proofs.Stages.{body_head, body_start, head_body, head_start, p
 
 -- ---- labels and goals line by line
 
--- what a statement adds to the labels ahead
+-- returns the labels from a statement on; `same` are the later ones if the place is the same after it, `next` if it is the next one
 abbrev pub ahead_by : Statement → ℕ → List Placed → List Placed → List Placed
 ahead_by (OfVersion version) place same next = same
 ahead_by (Head kind params) place same next = []
@@ -15,7 +15,7 @@ ahead_by (Registers registers) place same next = same
 ahead_by (Label name) place same next = record { name = name; place = place } ∷ same
 ahead_by (Code i) place same next = next
 
--- the labels among these lines, up to the next head, from a place on
+-- returns the labels of these lines, up to the next head, from a place on
 abbrev pub ahead : ℕ → List (Option Read) → List Placed
 ahead place [] = []
 ahead place (None ∷ others) = ahead place others
@@ -42,7 +42,7 @@ goal_here (Registers registers) goal number labels place = []
 goal_here (Label name) goal number labels place = []
 goal_here (Code i) goal number labels place = record { labels = labels; place = place; draft = record { instr = i; goal = goal; number = number } } ∷ []
 
--- the goals of lines from this number on, behind these labels, at this place
+-- returns the goals of lines, the first with this number and at this place, after these labels
 abbrev pub goals_from : ℕ → List Placed → ℕ → List (Option Read) → List Goal
 goals_from number labels place [] = []
 goals_from number labels place (None ∷ others) = goals_from (number + 1) labels place others
@@ -50,7 +50,7 @@ goals_from number labels place (Some read ∷ others) =
     goal_here read.statement read.goal number (labels ++ ahead place (Some read ∷ others)) place
     ++ goals_from (number + 1) (labels_after read.statement place labels) (place_after read.statement place) others
 
--- ---- they are those of the sections
+-- ---- they are the goals of the sections
 
 goals_more : (labels : List Placed) (place : ℕ) (drafts : List Drafted) (d : Drafted) → goals_in labels place (drafts ++ (d ∷ [])) ≡ goals_in labels place drafts ++ (record { labels = labels; place = place + length drafts; draft = d } ∷ [])
 goals_more labels place [] d =
@@ -61,7 +61,7 @@ goals_more labels place (x ∷ drafts) d =
     ap (λ (gs : List Goal). record { labels = labels; place = place; draft = x } ∷ gs) (goals_more labels (place + 1) drafts d)
     ∙ ap (λ (k : ℕ). record { labels = labels; place = place; draft = x } ∷ (goals_in labels (place + 1) drafts ++ (record { labels = labels; place = k; draft = d } ∷ []))) e
 
--- the goals of the last section so far, with these labels ahead
+-- returns the goals of the last section so far, which has these labels after it
 abbrev open_goals : Place → List Placed → List Goal
 open_goals place labels = goals_in (labels_at place ++ labels) 0 (drafts_at place)
 
@@ -73,14 +73,14 @@ ended_goals sections (Within section) =
     flat_map-append section_goals sections (section ∷ [])
     ∙ ap (λ (gs : List Goal). flat_map section_goals sections ++ gs) (append-nil (section_goals section) ∙ ap (λ (ls : List Placed). goals_in ls 0 section.drafts) (sym (append-nil section.labels)))
 
--- the goals once these lines are read
+-- returns the goals when these lines are read
 abbrev pub all_goals : Progress → List Goal
 all_goals p = flat_map section_goals (ended p.sections p.place)
 
 abbrev pub goals_by : ℕ → Progress → List (Option Read) → List Goal
 goals_by number p reads = flat_map section_goals p.sections ++ (open_goals p.place (ahead (length (drafts_at p.place)) reads) ++ goals_from number (labels_at p.place) (length (drafts_at p.place)) reads)
 
--- one line on, the same goals
+-- reading one line doesn't change all goals
 goals_step : (number : ℕ) (statement : Statement) (goal : Option (List ℕ)) (version : Version) (sections : List Section) (head_line : ℕ) (place : Place) (others : List (Option Read)) → MayStand statement (situation_of (progress version sections head_line place))
     → goals_by (number + 1) (step number statement goal (progress version sections head_line place)) others ≡ goals_by number (progress version sections head_line place) (Some (record { statement = statement; goal = goal }) ∷ others)
 goals_step number (OfVersion n) goal version sections head_line AtStart others m = refl

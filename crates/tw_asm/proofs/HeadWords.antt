@@ -1,4 +1,4 @@
--- Procedures' heads: what is read answers which words spell which statements.
+-- Procedures' heads: the words are read as a statement that they denote, or they denote none.
 use Rattle.std.proofs.Common.{◌≡◌, ℕ, List, [], ◌∷◌, ◌++◌, length, map, codes, None, Result, Ok, Err, refl, sym, ap, subst, ◌∙◌}
 use Rattle.tw_asm.proofs.AsmNames.{AllByRecursion, AnyName, AnyShortName, Bare, Closed, Code, TokenError, Form, Goals, HasParam, Head, IsInLimits, IsList, IsParam, IsTypeOfMode, IsTypeUnderOf, Kind, Label, Limit, Mode, Name, Natural, NestedScalar, NoName, OfVersion, Param, Ref, Registers, SpellParts, Spells, Statement, Two, Val, Version, Word, Write, as_is, both, flat_map, is_scalar, kind_word, mode_word, param_parts, register_part}
 use Rattle.tw_asm.proofs.Answered.{Judged, first_is, none_some, proc_is_none}

@@ -21,7 +21,7 @@ found_at : (name key : List ℕ) (p q : ℕ) (rest : Option ℕ) (ls : List Plac
 found_at name key p q rest ls true t later e = (0, omega arith, label_is name key p q ((bytes_eq-Decides name key).0 t) e)
 found_at name key p q rest ls false t later e = shift (record { name = key; place = p }) (record { name = name; place = q }) ls (later e)
 
--- what is found is a label
+-- a result of a search is a label
 pub label_found : (name : List ℕ) (es : List (Bor (List ℕ) × ℕ)) (q : ℕ) → found_in name es ≡ Some q → Contains (map seen_label es) (record { name = name; place = q })
 label_found name [] q e = none_some q e
 label_found name (x ∷ es) q e = found_at name x.0.now x.1 q (found_in name es) (map seen_label es) (bytes_eq name x.0.now) refl (λ f. label_found name es q f) e
@@ -53,7 +53,7 @@ pub name_absent : (name : List ℕ) (es : List (Bor (List ℕ) × ℕ)) → fals
 name_absent name [] e c = absurd (omega (arith, c.1))
 name_absent name (x ∷ es) e c = absent_at name x.0.now x.1 (found_in name es) (map (λ (label : Placed). label.name) (map seen_label es)) (bytes_eq name x.0.now) refl (λ f d. name_absent name es f d) e c.0 c.1 c.2
 
--- the entries after a label that is new
+-- the entries after a new label is added
 pub added_is : (name : Bor (List ℕ)) (place : ℕ) (es fs : List (Bor (List ℕ) × ℕ)) → fs ≡ es ++ (name, place) ∷ [] → map seen_label fs ≡ map seen_label es ++ (record { name = name.now; place = place } ∷ [])
 added_is name place es fs e = ap (map seen_label) e ∙ map-append seen_label es ((name, place) ∷ [])
 

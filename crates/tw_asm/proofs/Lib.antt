@@ -1,5 +1,6 @@
 pub mod Alike
 pub mod Begins
+pub mod Blank
 pub mod Disassembled
 pub mod FirstGoals
 pub mod Found

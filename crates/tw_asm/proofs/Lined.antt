@@ -1,4 +1,4 @@
--- The readings of lines, whatever the instruction.
+-- Reading the operands of a line, whatever the instruction.
 use Rattle.std.proofs.Common.{◌≡◌, ℕ, ◌≤◌, List, [], ◌∷◌, ◌++◌, length, map, codes, Option, Some, None, inl, inr, refl, sym, ap, subst, ◌∙◌, arith, append-nil}
 use Rattle.tw_asm.proofs.AsmNames.{AllByRecursion, Bare, Goals, HasType, IsList, IsName, IsRegister, IsSkip, IsTypeOf, Natural, NoName, OnlyName, Part, Skip, SpellParts, SpellsPart, SpellsWith, Two, TypeOf, Word, at_label, further, natural_in}
 use Rattle.tw_asm.proofs.Names.{HasGoal, MayGoal, goal_read, no_letter}
@@ -56,7 +56,7 @@ parts_of args x = map Natural x
 parts_of (more o l) x = part_of o x.0 ∷ parts_of l x.1
 parts_of never x = []
 
--- the limits but for names
+-- holds if the parts are within the limits, except names
 abbrev pub MayParts : (l : Line) → LineContent l → Type 0
 MayParts nothing x = Unit {0}
 MayParts goal x = IsSkip x.skip × Unit {0}
@@ -65,7 +65,7 @@ MayParts args x = IsList 0 8 IsRegister x × Unit {0}
 MayParts (more o l) x = May o x.0 × MayParts l x.1
 MayParts never x = Unit {0}
 
--- what is read as a type, the version has
+-- holds if the version has the types that are read
 abbrev pub Had : (l : Line) → LineContent l → Type 0
 Had nothing x = Unit {0}
 Had goal x = Unit {0} × Unit {0}
@@ -87,7 +87,7 @@ abbrev pub goals_by : Option (List ℕ) → Goals
 goals_by None = NoName
 goals_by (Some name) = OnlyName name
 
--- what is no skip is spelled alike with all goals
+-- words of a part that is no skip denote it with all goals
 plain : (o : Operand) (c : Content o) (G H : Goals) (ws : List Word) → SpellsPart G (part_of o c) ws → SpellsPart H (part_of o c) ws
 plain value c G H ws h = h
 plain right c G H ws h = h
@@ -116,7 +116,7 @@ goal_up : (w : Word) (skip : ℕ) (label : Option (List ℕ)) → HasGoal w skip
 goal_up w skip None h = (w ∷ [], [], refl, inl h, refl)
 goal_up w skip (Some name) (z, is_name, e) = (w ∷ [], [], refl, inr (name, (z, refl), ap (λ (v : Word). v ∷ []) e), refl)
 
--- a line that is read is spelled
+-- the words that are read denote the parts
 pub spelled : (l : Line) (ws : List Word) (x : LineContent l) → HasLine l ws x → SpellParts (goals_by (label_in l x)) (parts_of l x) ws
 spelled nothing [] x h = refl
 spelled nothing (w ∷ ws) x h = absurd h
@@ -129,7 +129,7 @@ spelled (more o l) [] x h = absurd h
 spelled (more o l) (w ∷ ws) x h = (w ∷ [], ws, refl, plain o x.0 NoName (goals_by (label_in l x.1)) (w ∷ []) h.0, spelled l ws x.1 h.1)
 spelled never ws x h = absurd h
 
--- ---- and back
+-- ---- the converse
 
 module _ (G : Goals) (names : (skip : ℕ) (name : List ℕ) → G skip name → IsName name) where
   args_down : (ws : List Word) (ns : List ℕ) → SpellParts G (map Natural ns) ws → HaveEach IsArg ws ns
@@ -232,7 +232,7 @@ unnumbered (more o l) (w ∷ ws) x y name h e (first, others, cut, k, rest) =
     tail_is e = cc
 unnumbered never ws x y name h e s = h
 
--- what is read within the limits has its parts within theirs
+-- operands that are read within the limits have parts within the limits
 pub parts_may : (l : Line) (ws : List Word) (x : LineContent l) → HasLine l ws x → MayLine l x → MayParts l x
 parts_may nothing ws x h m = tt
 parts_may goal [] x h m = absurd h

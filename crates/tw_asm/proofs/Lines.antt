@@ -19,7 +19,7 @@ param_behind out word words = more_behind out (word ∷ []) words ∙ ap (λ (ws
 -- ---- loops over what is written
 
 module _ {X : Type 0} (each : X → List (List ℕ)) (xs : List X) (i : ℕ) where
-  -- behind what stands there already, the words of one more are written
+  -- after one more item its words are written after those of the items before
   pub wrote : (d : X) (there out new : List ℕ) → i < length xs → out ≡ there ++ behind (flat_map each (take i xs)) → new ≡ out ++ behind (each (get_or xs i d)) → new ≡ there ++ behind (flat_map each (take (i + 1) xs))
   wrote d there out new inside before after =
       let next : i + 1 ≡ suc i = omega arith in
@@ -33,7 +33,7 @@ module _ {X : Type 0} (each : X → List (List ℕ)) (xs : List X) (i : ℕ) whe
   pub wrote_item : (x : X) (there out new : List ℕ) → i < length xs → x ≡ get_or xs i x → out ≡ there ++ behind (flat_map each (take i xs)) → new ≡ out ++ behind (each x) → new ≡ there ++ behind (flat_map each (take (i + 1) xs))
   wrote_item x there out new inside is before after = wrote x there out new inside before (after ∙ ap (λ (y : X). out ++ behind (each y)) is)
 
-  -- all are written, behind a first word and some words more
+  -- all words are written, after a first word and some more
   pub wrote_line : {T E : Type 0} (r : Result T E) (old word : List ℕ) (front : List (List ℕ)) (out new : List ℕ) → length xs ≤ i
       → out ≡ ((old ++ word) ++ behind front) ++ behind (flat_map each (take i xs)) → OnOk r (new ≡ out ++ codes "\n") → OnOk r (new ≡ old ++ (join_with_byte 32 (word ∷ front ++ flat_map each xs) ++ codes "\n"))
   wrote_line (Ok x) old word front out new all before after =
@@ -49,7 +49,7 @@ module _ {X : Type 0} (each : X → List (List ℕ)) (xs : List X) (i : ℕ) whe
       ∙ append_assoc old (join_with_byte 32 (word ∷ front ++ flat_map each xs)) (codes "\n")
   wrote_line (Err e) old word front out new all before after = after
 
--- parts of parts
+-- the parts of all parts
 pub flat_twice : {X Y Z : Type 0} (f : Y → List Z) (g : X → List Y) (xs : List X) → flat_map (λ x. flat_map f (g x)) xs ≡ flat_map f (flat_map g xs)
 flat_twice f g [] = refl
 flat_twice f g (x ∷ xs) = ap (λ zs. flat_map f (g x) ++ zs) (flat_twice f g xs) ∙ sym (flat_map-append f (g x) (flat_map g xs))
@@ -58,7 +58,7 @@ pub flat_mapped : {X Y Z : Type 0} (f : Y → List Z) (g : X → Y) (xs : List X
 flat_mapped f g [] = refl
 flat_mapped f g (x ∷ xs) = ap (λ zs. f (g x) ++ zs) (flat_mapped f g xs)
 
--- a part alone
+-- a single part
 pub one_part : {X Y : Type 0} (f : X → List Y) (x : X) → flat_map f (x ∷ []) ≡ f x
 one_part f x = append-nil (f x)
 
@@ -66,6 +66,6 @@ one_part f x = append-nil (f x)
 pub arg_words : (skip_word : ℕ → List ℕ) (args : List ℕ) → flat_map (λ arg. decimal arg ∷ []) args ≡ flat_map (part_words skip_word) (map Natural args)
 arg_words skip_word args = flat_mapped (part_words skip_word) Natural args
 
--- the words of the operands that the code hands over, and those of the table's
+-- the words of the operands that the code passes are those of the table
 pub row_words : (skip_word : ℕ → List ℕ) (given : List operands.Operand) → flat_map (λ o. operand_words skip_word (seen o)) given ≡ flat_map (part_words skip_word) (flat_map operand_parts (map seen given))
 row_words skip_word given = flat_twice (part_words skip_word) (λ o. operand_parts (seen o)) given ∙ ap (λ (ps : List Part). flat_map (part_words skip_word) ps) (flat_mapped operand_parts seen given)

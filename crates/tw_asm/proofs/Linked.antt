@@ -1,4 +1,4 @@
--- Goals that are looked for one by one.
+-- Goals, resolved one by one.
 use Rattle.std.proofs.Common.{◌≡◌, ℕ, suc, ◌+◌, ◌<◌, List, [], ◌∷◌, ◌++◌, length, map, get_or, take, drop, inl, inr, refl, sym, subst, ap, ◌∙◌, arith}
 use Rattle.std.proofs.Math.Seq.{split_at}
 use Rattle.tw_asm.proofs.AsmNames.{AllByRecursion, AsmFault, Drafted, Instr, Placed, Procedure, Section, flat_map, map-append, map-id}
@@ -61,7 +61,7 @@ section_unlinked (s ∷ ss) [] section others f l u = absurd l
 section_unlinked (s ∷ ss) (p ∷ ps) section others f l u =
     unlinked_behind (section_goals s) (flat_map section_goals (ss ++ (section ∷ others))) p.code f l.0.code (section_unlinked ss ps section others f l.1 u)
 
--- where a loop stands in its list
+-- the list is the items before the loop's position, its item, and the items after
 pub turn_parts : {X : Type 0} (xs : List X) (n : ℕ) (x : X) → n < length xs → x ≡ get_or xs n x → xs ≡ take n xs ++ (x ∷ drop (suc n) xs)
 turn_parts {X} xs n x low e = split_at xs n x low ∙ ap (λ (y : X). take n xs ++ (y ∷ drop (suc n) xs)) (sym e)
 

@@ -7,7 +7,7 @@ use Rattle.tw_asm.proofs.Spelled.{bare_is}
 abbrev NoGoal : Goals
 NoGoal skip word = ⊥
 
--- the words of parts name no label, or one with the last word
+-- the words of parts name no label, or the last word names one
 data LastNamed (goals : Goals) (parts : List Part) (words : List Word) : Type 0 where
   none_named : SpellParts NoGoal parts words → LastNamed goals parts words
   named_last : (skip : ℕ) (name : List ℕ) (front : List Word) → goals skip name → words ≡ front ++ (Bare name ∷ []) → LastNamed goals parts words
@@ -51,7 +51,7 @@ last_same v w words front back e f =
 
 -- ---- goals
 
--- words that name a label spell an instruction by that name alone
+-- words that name a label denote an instruction only by that name
 pub named_goal : {version : Version} (goals : Goals) (i : Instr) (name : List ℕ) (words : List Word) → NamesLabel version name words → Spells version goals (Code i) words → (skip : ℕ) × goals skip name
 named_goal goals i name words n s =
     both (last_named (λ skip word. word ≡ name) (instr_parts n.i) words (row n.i).last n.spells.parts) (last_named goals (instr_parts i) words (row i).last s.parts)

@@ -1,4 +1,4 @@
--- The readings of names, and of goals.
+-- Reading names and goals.
 use Rattle.std.proofs.Common.{◌≡◌, ◌==◌, ℕ, ◌≤◌, Bool, true, false, cond, List, [], ◌∷◌, length, codes, Option, Some, None, inl, inr, Ok, Err, Decides, refl, sym, ap, subst, ◌∙◌, arith}
 use Rattle.tw_asm.proofs.AsmNames.{◌||◌, AllByRecursion, Bare, Decides-and, Decides-eqb, Decides-or, Form, IsInName, IsInRange, IsLetter, IsName, IsSkip, Limit, Quoted, SpellsDigits, SpellsWith, Word, eqb-true, ltb-true, nat_lt, nat_tests}
 use Rattle.tw_lexer.proofs.Decided.{within_decide}
@@ -25,7 +25,7 @@ pub name_decide : (text : List ℕ) → Decides (is_name text) (IsName text)
 name_decide [] = (λ e. absurd (no e), λ h. absurd h)
 name_decide (b ∷ others) = Decides-and (is_letter b) (all_in_name others) (letter_decide b) (all_decide others)
 
--- this name, in these bytes
+-- holds if the bytes are this name
 abbrev pub IsThisName : List ℕ → List ℕ → Type 0
 IsThisName text name = IsName name × (text ≡ name)
 

@@ -1,4 +1,4 @@
--- Words spell one statement alone, and its first word says which sort of statement it is.
+-- Words denote at most one statement, whose kind their first word shows.
 use Rattle.std.proofs.Common.{◌≡◌, inl, inr, ℕ, Bool, true, List, [], ◌∷◌, ◌++◌, map, codes, Some, refl, sym, ap, subst, ◌∙◌}
 use Rattle.tw_asm.proofs.AsmNames.{◌==◌, AllByRecursion, Bare, Closed, Code, First, Goals, HasForm, HasInstr, HasOperand, Head, Instr, Int, IsExpected, IsRead, Kind, Label, Mode, Name, Natural, OfVersion, Opcode, Operand, Param, Part, Ref, Registers, Scalar, SpellParts, Spells, Statement, Text, TypeOf, Val, Version, Word, Write, append_cancel_right, flat_map, has_opcode, head_parts, holds, if◌then◌else◌, instr_parts, kind_word, mode_word, param_parts, register_part, registers_parts, scalar_word, statement_parts, version_parts, with_skip}
 use Rattle.tw_code.specs.declared.form.Form.TheVariants as form
@@ -8,7 +8,7 @@ use Rattle.tw_asm.specs.declared.statement.First.TheVariants as first
 use Rattle.tw_asm.proofs.Rows.{AreAlike, alike_by_sorts, behind_first, class_of_word, different, ends_in_colon, first_name, have_sorts, name_of, operands_of, others, reskip_operand, row, row_among, rows, same}
 use Rattle.tw_asm.proofs.Spelled.{AreNames, Resolved, all_tied, as_is, bare_is, cons_is, parts_more, resolved, tied_are, with_goal}
 
--- ---- what a statement's parts are of
+-- ---- the parts of a statement
 
 abbrev kind_from : List ℕ → Kind
 kind_from word = if same word (codes "leaf") then Leaf else Control
@@ -66,7 +66,7 @@ one_head k l ps qs e = sym (head_made k ps) ∙ ap head_from e ∙ head_made l q
 one_registers : (rs ss : List Scalar) → registers_parts rs ≡ registers_parts ss → Registers rs ≡ Registers ss
 one_registers rs ss e = ap Registers (sym (registers_made rs) ∙ ap (λ (parts : List Part). registers_from (behind_first parts)) e ∙ registers_made ss)
 
--- the parts of an instruction are of no other
+-- no two instructions have the same parts
 pub one_instr : (i j : Instr) → instr_parts i ≡ instr_parts j → i ≡ j
 one_instr i j e = sym (row i).made ∙ ap (λ (parts : List Part). (row_among (first_name parts) rows).make (behind_first parts)) e ∙ (row j).made
 
@@ -88,7 +88,7 @@ pub label_class : (name : List ℕ) → class_of_word (name ++ codes ":") ≡ 2
 label_class name =
     ap (λ (test : Bool). if test then 2 else if same (name ++ codes ":") (codes "proc") then 0 else if same (name ++ codes ":") (codes "regs") then 1 else if same (name ++ codes ":") (codes "version") then 4 else 3) (colon name)
 
--- a statement's parts begin with a name of its class
+-- the parts of a statement begin with a name of its class
 pub record Begins (s : Statement) : Type 0 where
   pub word : List ℕ
   pub others : List Part
@@ -102,7 +102,7 @@ begins (Registers registers) = record { word = codes "regs"; others = map regist
 begins (Label name) = record { word = name ++ codes ":"; others = []; parts = refl; class = label_class name }
 begins (Code i) = record { word = name_of i; others = operands_of i; parts = (row i).parts; class = (row i).class }
 
--- words of a statement begin with its first word
+-- the words of a statement begin with its first word
 pub first_word : {version : Version} (goals : Goals) (s : Statement) (words : List Word) → Spells version goals s words → (rest : List Word) × (words ≡ Bare (begins s).word ∷ rest)
 first_word goals s words h =
     let parts : SpellParts goals (Name (begins s).word ∷ (begins s).others) words = subst (λ (ps : List Part). SpellParts goals ps words) (begins s).parts h.parts in
@@ -120,7 +120,7 @@ same_class a b s t words h k = sym (begins s).class ∙ ap class_of_word (same_w
 abbrev pub first_of_class : ℕ → First
 first_of_class class = if class == 0 then first.Head else if class == 1 then first.Registers else if class == 4 then first.Version else first.Body
 
--- what the first word of its words lets expect
+-- returns the kind of a statement, as its first word shows it
 abbrev pub expected_of : Statement → First
 expected_of s = first_of_class (class_of s)
 
@@ -144,7 +144,7 @@ expected_class version first.Registers word e = ap (λ (w : List ℕ). first_of_
 expected_class version first.Body word (inl (name, is_name, e)) = ap (λ (w : List ℕ). first_of_class (class_of_word w)) e ∙ ap first_of_class (label_class name)
 expected_class version first.Body word (inr (i, operands, had, e)) = ap (λ (w : List ℕ). first_of_class (class_of_word w)) (sym (ap first_name e)) ∙ ap first_of_class (row i).class
 
--- a word lets expect one thing alone
+-- a word begins statements of one kind only
 pub one_expected : (version : Version) (p q : First) (word : List ℕ) → IsExpected version p word → IsExpected version q word → p ≡ q
 one_expected version p q word h k = sym (expected_class version p word h) ∙ expected_class version q word k
 
@@ -177,7 +177,7 @@ module _ (a b : Goals) (names : AreNames a) (others : AreNames b) (alone : (n m 
   number_in (Name word ∷ Natural number ∷ parts) = number
   number_in parts = 0
 
-  -- words spell one statement alone, where a name stands for one skip alone
+  -- words denote one statement if a name denotes one skip
   pub spelled_once : {version : Version} (s t : Statement) (words : List Word) → Spells version a s words → Spells version b t words → s ≡ t
   spelled_once s t words h k = by s t h.parts k.parts (same_class a b s t words h k) (same_word a b s t words h k)
     where
@@ -189,9 +189,9 @@ module _ (a b : Goals) (names : AreNames a) (others : AreNames b) (alone : (n m 
       by (Code i) (Code j) f g c w = ap Code (one_instr i j (parts_are (instr_parts i) (instr_parts j) words (instrs_alike i j w) f g))
       by u v f g c w = different (class_of u) (class_of v) c refl
 
--- ---- what is read, where goals are known
+-- ---- statements that are read, when goals are known
 
--- what spells a statement spells it under more goals
+-- words of a statement denote it also with more goals
 pub spells_more : {version : Version} (a b : Goals) → ((skip : ℕ) (name : List ℕ) → a skip name → b skip name) → (s : Statement) (words : List Word) → Spells version a s words → Spells version b s words
 spells_more a b more s words h = record { form = h.form; parts = parts_more a b more (statement_parts s) words h.parts }
 
@@ -204,7 +204,7 @@ pub had_still : (version : Version) (skip : ℕ) (i : Instr) → HasInstr versio
 had_still version skip i h =
     subst (λ (r : Opcode × List Operand). (has_opcode version r.0 ≡ true) × AllByRecursion (HasOperand version) r.1) (sym (others skip i)) (h.0, operands_had_still version skip (table.row i).1 h.1)
 
--- an instruction that names a label, with the skip for which that stands
+-- the words of an instruction that names a label denote it with the label's skip
 pub resolved_spells : (version : Version) (goals : Goals) (name : List ℕ) (skip : ℕ) (i : Instr) (words : List Word) → IsRead version (record { statement = Code i; goal = Some name }) words → goals skip name
     → Spells version goals (Code (with_skip skip i)) words
 resolved_spells version goals name skip i words read goal = record { form = had_still version skip i read.1.1.form; parts = by (resolved goals name skip goal (instr_parts i) words (row i).last read.1.1.parts) }

@@ -29,8 +29,8 @@ label_begins s line name words body is say = line_begins AnyShortName (Label nam
 code_begins : (s : ParserState) (line : List ℕ) (i : Instr) (words : List Word) → s.stage ≡ InBody → IsLine words line → Say s.version (Code i) words → Begins s line first.Body
 code_begins s line i words body is say = line_begins AnyShortName (Code i) words s line is say.0 (body_may s body)
 
--- What is so of a line by the kind of its fault. The kinds stand in the order in which a line is asked: no first word, no
--- form, an empty procedure before a head, a label that stands twice, and any other limit.
+-- Holds if the line has the fault of this kind. The kinds are in the order in which a line is checked: no first word, no form, an empty procedure
+-- before a head, a label that occurs twice, and any other limit.
 abbrev IsSo : ParserState → List ℕ → ℕ → Type 0
 IsSo s line zero = (expected : First) → Begins s line expected → ⊥
 IsSo s line (suc zero) = HasWords s.version line → ⊥
@@ -38,7 +38,7 @@ IsSo s line (suc (suc zero)) = Begins s line first.Head × IsEmpty s
 IsSo s line (suc (suc (suc zero))) = (name : List ℕ) × (words : List Word) × (s.stage ≡ InBody) × IsLine words line × Say s.version (Label name) words
 IsSo s line (suc (suc (suc (suc k)))) = Unit {0}
 
--- nothing is so by the kinds before this one
+-- holds if the line has no fault of the kinds before this one
 abbrev NoneBefore : ParserState → List ℕ → ℕ → Type 0
 NoneBefore s line zero = Unit {0}
 NoneBefore s line (suc k) = NoneBefore s line k × (IsSo s line k → ⊥)
@@ -64,7 +64,7 @@ line_of number s (suc zero) = number
 line_of number s (suc (suc zero)) = s.head_line
 line_of number s (suc (suc (suc k))) = number
 
--- a fault with its kind, which gives its number and its line
+-- a fault with its kind, which decides its number and its line
 record HasKind (number : ℕ) (s : ParserState) (line : List ℕ) (which : FaultNo) (at : ℕ) : Type 0 where
   kind : ℕ
   which_is : which ≡ fault_of kind
@@ -149,7 +149,7 @@ same_at (suc k) number s (line ∷ more) (x ∷ said) (y ∷ told) h l =
     same_at k (number + 1) (after_line number x s) more said told h.1 (others_say number s line more x y told h.0 l.0 l.1)
     ∙ ap (λ (t : ParserState). situation_from (number + 1) t (take k told)) (both_alike number s line x y h.0 l.0)
 
--- ---- the first line that can't follow
+-- ---- the first line that isn't allowed
 
 head_line_is : (x y : List ℕ) (xs ys : List (List ℕ)) → ◌≡◌ {A = List (List ℕ)} (x ∷ xs) (y ∷ ys) → x ≡ y
 head_line_is x y xs ys e = cc
@@ -196,7 +196,7 @@ next_said number s (first ∷ before) line more (x ∷ said) (y ∷ told) h l =
     let r = next_said (number + 1) (after_line number x s) before line more said told h.1 (others_say number s first before x y told h.0 l.0 l.1) in
     (r.0, subst (λ (t : ParserState). LineSays (situation_from (number + 1) t told) line r.0) (both_alike number s first x y h.0 l.0) r.1)
 
--- where all lines can follow, no line has a fault
+-- no line has a fault if all lines are allowed
 no_line_fault : {Z : Type 0} (text : List ℕ) (which : FaultNo) (at : ℕ) (said : List (Option Statement)) → LinesSay 1 at_start (lines text) said → IsLineFault text which at → Z
 no_line_fault text which at said h f =
     let next = next_said 1 at_start f.before f.line f.others said f.said (subst (λ (ls : List (List ℕ)). LinesSay 1 at_start ls said) f.parts h) f.say in

@@ -4,7 +4,7 @@ use Rattle.tw_asm.proofs.AsmNames.{Code, Head, Instr, Label, LineSays, LinesSay,
 use Rattle.tw_asm.specs.Theorems.{OneLine}
 use Rattle.tw_asm.proofs.Twice.{both_alike, others_say}
 
--- more procedures have begun, or as many, and the last has as many instructions or more
+-- holds if more procedures have begun, or as many, and the last has at least as many instructions
 abbrev IsPast : ParserState → ParserState → Type 0
 IsPast s t = (s.procedures < t.procedures) ⊎ ((s.procedures ≡ t.procedures) × (s.instructions ≤ t.instructions))
 
@@ -26,7 +26,7 @@ past_all : (number : ℕ) (s : ParserState) (said : List (Option Statement)) →
 past_all number s [] = inr (refl, omega arith)
 past_all number s (x ∷ said) = past_both s (after_line number x s) (situation_from (number + 1) (after_line number x s) said) (past_after number x s) (past_all (number + 1) (after_line number x s) said)
 
--- behind the line of an instruction its place is past
+-- after the line of an instruction no line has its place
 never_again : {Z : Type 0} (number : ℕ) (s : ParserState) (line : List ℕ) (i : Instr) (x : Option Statement) (said : List (Option Statement)) → LineSays s line (Some (Code i)) → LineSays s line x
     → s.procedures ≡ (situation_from (number + 1) (after_line number x s) said).procedures → s.instructions ≡ (situation_from (number + 1) (after_line number x s) said).instructions → Z
 never_again number s line i x said h l p q =

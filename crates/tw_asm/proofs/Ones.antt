@@ -1,9 +1,9 @@
--- The goals of code, each once where it is first named: as a set keeps them that they are inserted into.
+-- The goals of code, each once in the order of the first occurrences: inserting them into a set keeps that order.
 use Rattle.std.proofs.Common.{◌≡◌, ◌==◌, ◌||◌, ℕ, Bool, true, false, cond, filter, List, [], ◌∷◌, ◌++◌, length, drop, refl, sym, ap, ◌∙◌, append_assoc, append-nil}
 use Rattle.tw_asm.proofs.AsmNames.{Instr, eqb-true, first_ones, goals_from, label_places, list_any, nat_eq, nat_lt, not}
 use Rattle.indexmap.specs.IndexSet.{insert_key}
 
--- the keys of a set after goals are inserted in turn
+-- returns the keys of a set after goals are inserted one by one
 abbrev pub insert_goals : List ℕ → List ℕ → List ℕ
 insert_goals keys [] = keys
 insert_goals keys (goal ∷ goals) = insert_goals (insert_key nat_eq keys goal) goals
@@ -17,7 +17,7 @@ lacks keys goal = not (has keys goal)
 abbrev other : ℕ → ℕ → Bool
 other x y = not (y == x)
 
--- ---- what passes two tests
+-- ---- items that pass two tests
 
 module _ (p q r : ℕ → Bool) (both : (y : ℕ) → r y ≡ cond (q y) (p y) false) where
   filter_twice : (ys : List ℕ) → filter p (filter q ys) ≡ filter r ys
@@ -40,7 +40,7 @@ module _ (p q r : ℕ → Bool) (both : (y : ℕ) → r y ≡ cond (q y) (p y) f
           ∙ ap (λ (zs : List ℕ). y ∷ zs) rest
           ∙ sym (ap (λ c. cond c (y ∷ filter r ys) (filter r ys)) (both y ∙ ap (λ c. cond c (p y) false) qe ∙ pe))
 
--- ---- one key more
+-- ---- one more key
 
 no_more : (b : Bool) → false ≡ cond b false false
 no_more true = refl
@@ -58,7 +58,7 @@ lacks_push (k ∷ keys) x y = by (nat_eq y k) refl (lacks_push keys x y)
     by true e rest = ap (λ c. not (c || has (keys ++ x ∷ []) y)) e ∙ no_more (other x y) ∙ sym (ap (λ c. cond (other x y) (not (c || has keys y)) false) e)
     by false e rest = ap (λ c. not (c || has (keys ++ x ∷ []) y)) e ∙ rest ∙ sym (ap (λ c. cond (other x y) (not (c || has keys y)) false) e)
 
--- a key that is there is no other
+-- a key that the set has isn't another one
 lacks_other : (keys : List ℕ) (x y : ℕ) → has keys x ≡ true → lacks keys y ≡ cond (other x y) (lacks keys y) false
 lacks_other keys x y there = by (y == x) refl
   where
@@ -66,9 +66,9 @@ lacks_other keys x y there = by (y == x) refl
     by true e = ap not (ap (has keys) (eqb-true y x e) ∙ there) ∙ sym (ap (λ c. cond (not c) (lacks keys y) false) e)
     by false e = sym (ap (λ c. cond (not c) (lacks keys y) false) e)
 
--- ---- all of them
+-- ---- all keys
 
--- those that the set lacks go to its end
+-- the keys that the set lacks are added at its end
 inserted : (keys goals : List ℕ) → insert_goals keys goals ≡ keys ++ filter (lacks keys) (first_ones goals)
 inserted keys [] = sym (append-nil keys)
 inserted keys (x ∷ xs) = by (has keys x) refl (inserted keys xs) (inserted (keys ++ x ∷ []) xs)
@@ -100,7 +100,7 @@ ones goals = inserted [] goals ∙ all_pass (first_ones goals)
 
 -- ---- instruction by instruction
 
--- the keys after the goals of the instructions from a place on are inserted, but for those past the code's length
+-- returns the keys after the goals of the instructions from a place on are inserted, except those past the code's length
 abbrev pub inserted_from : List Instr → ℕ → List ℕ → List ℕ
 inserted_from code place keys = insert_goals keys (filter (λ goal. not (nat_lt (length code) goal)) (goals_from place (drop place code)))
 

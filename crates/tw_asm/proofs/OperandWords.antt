@@ -1,4 +1,4 @@
--- The readings of single words.
+-- Reading single words.
 use Rattle.std.proofs.Common.{◌≡◌, ◌==◌, ℕ, ◌≤◌, Bool, true, false, cond, List, [], ◌∷◌, length, codes, Option, Some, None, Ok, Err, refl, sym, ap, subst, ◌∙◌, arith}
 use Rattle.tw_asm.proofs.AsmNames.{Bare, Closed, FitsSigned, Form, IsIn64, IsInRange, IsRegister, IsSubscriptOf, IsTarget, IsUtf8, IsWithin, Limit, Literal, Natural, NoName, Number, One, Part, Quoted, Ref, Right, Scalar, SpellsDigits, SpellsNumber, SpellsPart, SpellsWith, Target, Two, Val, Value, Version, Word, Write, as_is, bytes_eq, bytes_eq-Decides, container_in, container_word, digits_in, eqb-true, kind_word, literal_in, ltb-true, mode_in, mode_word, nat_lt, nat_tests, natural_in, number_in, register_in, scalar_in, scalar_word, signed_in, target_in, text_container, w64}
 use Rattle.tw_lexer.proofs.Readings.{digits_read, signed_read, Reads, carried}
@@ -9,7 +9,7 @@ use Rattle.tw_types.specs.Text.{IsText}
 use Rattle.tw_types.specs.declared.actor.Kind.TheVariants.{Control, Leaf}
 use Rattle.tw_types.specs.declared.data_type.Scalar.TheVariants as scalar
 
--- texts between quotes are UTF-8
+-- holds if the text between quotes is UTF-8
 abbrev pub IsFine : Word → Type 0
 IsFine (Bare text) = Unit {0}
 IsFine (Quoted text) = IsUtf8 text
@@ -124,7 +124,7 @@ operand_read (natural low high) w fine = natural_read low high w
 operand_read literal w fine = literal_read w fine
 operand_read target w fine = target_read w
 
--- ---- words that stand as they are
+-- ---- fixed words
 
 abbrev pub Free : {A : Type 0} → A → Type 0
 Free a = Unit {0}
@@ -172,7 +172,7 @@ mode_read (Bare text) = by (bytes_eq text (codes "val")) (bytes_eq text (codes "
       | Write ↦ other_bytes text (codes "write") no_write
     ]
 
--- a container that the version has
+-- holds for the word of a container that the version has
 abbrev pub IsContainerOf : Version → Word → Scalar → Type 0
 IsContainerOf version w by = (w ≡ Bare (container_word by)) × IsSubscriptOf version by
 

@@ -1,4 +1,4 @@
--- The numbers that are kept of instructions are those of their lines.
+-- The line numbers that are kept for instructions are those of their lines.
 use Rattle.std.proofs.Common.{◌≡◌, ◌⊎◌, ℕ, zero, suc, ◌+◌, ◌<◌, List, [], ◌∷◌, ◌++◌, length, map, get_or, take, Option, Some, None, MatchOption, inl, inr, refl, sym, subst, ap, ◌∙◌, append_assoc, arith}
 use Rattle.tw_asm.proofs.AsmNames.{AtStart, BehindHead, BehindVersion, Code, Drafted, HasSections, Head, Instr, Kind, Label, LineRead, LinesRead, MayStand, OfVersion, Param, Place, Procedure, Progress, Read, Registers, Section, ParserState, Statement, Version, Within, after_line, append-nil, ended, length-append, length-map, line_step, lines, map-append, outset, progress_from, section_numbers, situation, situation_from, situation_of, slice_get, step}
 use Rattle.tw_asm.specs.Origins.{AreOrigins, ComesFrom, at_place, instr_at}
@@ -7,9 +7,9 @@ use Rattle.tw_asm.proofs.Linked.{linked_length}
 use Rattle.tw_asm.proofs.Stages.{body_head, body_start, head_body, head_start, progress, start_body, start_head, version_body, version_head, version_start}
 use Rattle.tw_asm.proofs.Steps.{line_after, lines_say, said_by, statement_of}
 
--- ---- a list of lists that has grown at its end
+-- ---- a list of lists that grows at its end
 
--- with one item more in the last list, it has what it had, and the item
+-- one more item in the last list: the other items are unchanged
 pub last_more : {X : Type 0} (lists : List (List X)) (items : List X) (item x : X) (k j : ℕ) → at_place (lists ++ ((items ++ (item ∷ [])) ∷ [])) k j ≡ Some x
     → (at_place (lists ++ (items ∷ [])) k j ≡ Some x) ⊎ ((k ≡ length lists) × (j ≡ length items) × (x ≡ item))
 last_more {X} [] items item x zero j e = elim (within items j e) [ inl old ↦ inl old | inr new ↦ inr (refl, new.0, new.1) ]
@@ -23,7 +23,7 @@ last_more {X} [] items item x (suc k) j e = absurd cc
 last_more {X} (list ∷ lists) items item x zero j e = inl e
 last_more {X} (list ∷ lists) items item x (suc k) j e = elim (last_more lists items item x k j e) [ inl old ↦ inl old | inr new ↦ inr (ap suc new.0, new.1, new.2) ]
 
--- with an empty list more, it has what it had
+-- one more empty list: all items are unchanged
 pub empty_more : {X : Type 0} (lists : List (List X)) (x : X) (k j : ℕ) → at_place (lists ++ ([] ∷ [])) k j ≡ Some x → at_place lists k j ≡ Some x
 empty_more [] x zero j e = absurd cc
 empty_more [] x (suc k) j e = absurd cc
@@ -43,9 +43,9 @@ one_taken {A} {B} {C} v f xs i x done more low e is grown =
     let next : i + 1 ≡ suc i = omega arith in
     grown ∙ ap (λ (ys : List C). ys ++ (f (v x) ∷ [])) is ∙ sym (taken v f xs i x low e) ∙ ap (λ (n : ℕ). take n (map f (map v xs))) (sym next)
 
--- ---- what lines have said
+-- ---- statements of lines
 
--- these say the instruction at this place of this procedure in the line of this number
+-- these statements have the instruction at this place of this procedure in the line with this number
 pub record IsSaid (said : List (Option Statement)) (procedure place number : ℕ) : Type 0 where
   pub before : List (Option Statement)
   pub i : Instr
@@ -74,12 +74,12 @@ situation_more number s (x ∷ said) more =
     let e : (number + 1) + length said ≡ number + suc (length said) = omega arith in
     situation_more (number + 1) (after_line number x s) said more ∙ ap (λ (n : ℕ). after_line n more (situation_from (number + 1) (after_line number x s) said)) e
 
--- ---- what the reader keeps
+-- ---- the state of the reader
 
 abbrev kept : List Section → Place → List (List ℕ)
 kept sections place = map section_numbers (ended sections place)
 
--- each number that is kept is that of its line
+-- holds if each number is that of the instruction's line
 abbrev AreSaid : List (Option Statement) → List (List ℕ) → Type 0
 AreSaid said numbers = (k j n : ℕ) → at_place numbers k j ≡ Some n → IsSaid said k j n
 
@@ -186,7 +186,7 @@ text_said text version all h k j n e =
       place_is = s.place_is;
     }
 
--- ---- where there is no number there is no instruction
+-- ---- without a number there is no instruction
 
 none_there : {X Y : Type 0} (xs : List X) (ys : List Y) (k : ℕ) → length ys ≡ length xs → slice_get xs k ≡ None → slice_get ys k ≡ None
 none_there [] [] k e n = refl

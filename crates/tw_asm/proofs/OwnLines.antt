@@ -1,4 +1,4 @@
--- The line of an instruction depends on the word of its own skip alone.
+-- The line of an instruction depends only on the word of its own skip.
 use Rattle.std.proofs.Common.{◌≡◌, ◌++◌, ℕ, ◌+◌, true, List, [], ◌∷◌, codes, Option, Some, None, refl, ap, ◌∙◌}
 use Rattle.tw_asm.proofs.AsmNames.{Code, Instr, Part, Skip, Target, decimal, flat_map, goal_word, instr_parts, join_with_byte, label_at, line_of, option_and_then, part_words, skip_among, skip_of}
 use Rattle.tw_asm.proofs.Rows.{is_last, row, skips_last}
@@ -15,7 +15,7 @@ module _ (f g : ℕ → List ℕ) where
   own_words (Target (Some n) ∷ parts) last h = ap (λ (ws : List (List ℕ)). decimal n ∷ ws) (own_words parts last h)
   own_words (part ∷ parts) last h = ap (λ (ws : List (List ℕ)). part_words f part ++ ws) (own_words parts last h)
 
--- the goal of an instruction by the label that stands there
+-- the words of a goal, by the label at its place
 pub words_of_goal : (labels : List ℕ) (place : ℕ) (label : Option ℕ) (i : Instr) → label ≡ option_and_then (λ skip. label_at labels (place + 1 + skip)) (skip_of i)
     → flat_map (part_words (goal_word label)) (instr_parts i) ≡ flat_map (part_words (λ skip. goal_word (label_at labels (place + 1 + skip)) skip)) (instr_parts i)
 words_of_goal labels place label i is =

@@ -1,4 +1,4 @@
--- The reading of parameters, from the last word on.
+-- Reading parameters, from the last word on.
 use Rattle.std.proofs.Common.{◌≡◌, suc, ◌≤◌, Bool, true, false, cond, List, [], ◌∷◌, ◌++◌, length, Option, Some, None, Result, Ok, Err, refl, sym, ap, subst, ◌∙◌, arith}
 use Rattle.tw_asm.proofs.AsmNames.{AllByRecursion, Bare, Closed, TokenError, Form, HasParam, HasType, Limit, Mode, NestedScalar, Param, Ref, Scalar, Val, Version, Word, Write, as_is, both, container_in, container_of, container_word, depth_of, flat_map, is_scalar, ltb-true, mode_in, mode_word, nat_lt, nat_tests, scalar_in, scalar_word}
 use Rattle.tw_asm.proofs.OperandWords.{Free, IsContainerOf, container_read, mode_read, scalar_read}
@@ -11,7 +11,7 @@ use Rattle.tw_asm.specs.reading.Lines.{begins, contained, ended, ends, goes_on, 
 abbrev pub param_words : Param → List Word
 param_words p = Bare (mode_word p.mode) ∷ words_of p.ty.containers p.ty.scalar
 
--- these words are those of the parameters, which have their form
+-- holds if the words are those of the parameters, which have their form
 abbrev pub AreParams : Version → List Word → List Param → Type 0
 AreParams version ws ps = (ws ≡ flat_map param_words ps) × AllByRecursion (HasParam version) ps
 
@@ -24,7 +24,7 @@ no_first v x e = cc
 abbrev with_parts : Mode → NestedScalar → List Param → List Param
 with_parts mode ty ps = param_of mode ty ∷ ps
 
--- ---- words are of one list of parameters
+-- ---- the parameters of words are unique
 
 pub one_params : (ps qs : List Param) → flat_map param_words ps ≡ flat_map param_words qs → ps ≡ qs
 one_params [] [] e = refl
@@ -37,20 +37,20 @@ one_params (p ∷ ps) (q ∷ qs) e =
     let ty = one_type p.ty q.ty (flat_map param_words ps) (flat_map param_words qs) (rest_is (Bare (mode_word p.mode)) (Bare (mode_word q.mode)) x y e) in
     ap (λ (m : Mode). with_parts m p.ty ps) mode ∙ (ap (λ (t : NestedScalar). with_parts q.mode t ps) ty.0 ∙ ap (λ (os : List Param). q ∷ os) (one_params ps qs ty.1))
 
--- ---- what is kept of the words so far
+-- ---- the parameters and the type so far
 
--- the type, if it isn't too deep
+-- returns the type, or an error if it is too deep
 abbrev limited : NestedScalar → Result NestedScalar TokenError
 limited ty = cond (nat_lt 3 (depth_of ty)) (Err Limit) (Ok ty)
 
--- no type that the version has stands before whole parameters
+-- holds if no type of the version is before the words of parameters
 abbrev NoType : Version → List Word → Type 0
 NoType version ws = (ty : NestedScalar) (rest : List Word) (ps : List Param) → ws ≡ words_of ty.containers ty.scalar ++ rest → HasType version ty → AreParams version rest ps → ⊥
 
 abbrev ReadsParams : Version → List Word → Result (List Param) TokenError → Type 0
 ReadsParams version ws whole = Reads (AreParams version ws) (AllByRecursion IsShallowParam) whole
 
--- a type, and the words behind it
+-- a type, and the words after it
 record IsBegun (version : Version) (ws : List Word) (whole : Result (List Param) TokenError) (read : Result NestedScalar TokenError) : Type 0 where
   ty : NestedScalar
   rest : List Word
@@ -76,7 +76,7 @@ module _ (version : Version) where
       by (c ∷ cs) (q ∷ qs) e =
           mode_no_container q.mode c (sym (first_is (Bare (container_word c)) (Bare (mode_word q.mode)) (words_of cs ty.scalar ++ rest) (words_of q.ty.containers q.ty.scalar ++ flat_map param_words qs) e))
 
-  -- a mode stands before a type
+  -- a mode is before a type
   mode_before : (w : Word) (ws : List Word) (ps : List Param) → w ∷ ws ≡ flat_map param_words ps → (p : Param) × (others : List Param) × (ps ≡ p ∷ others) × (w ≡ Bare (mode_word p.mode)) × (ws ≡ words_of p.ty.containers p.ty.scalar ++ flat_map param_words others)
   mode_before w ws [] e = absurd (no_first w ws e)
   mode_before w ws (p ∷ others) e =

@@ -1,10 +1,10 @@
--- The labels of a procedure's code: few enough to have numbers of the machine, and none past the code's length.
+-- The labels of a procedure's code: their numbers fit in the machine, and none is past the code's length.
 use Rattle.std.proofs.Common.{◌≡◌, ◌==◌, ◌≤◌, ◌<◌, ◌^◌, ℕ, ◌+◌, Bool, true, false, cond, filter, List, [], ◌∷◌, ◌++◌, length, get_or, Option, Some, None, refl, subst, arith}
 use Rattle.tw_asm.proofs.AsmNames.{AllByRecursion, Instr, IsProcedure, Procedure, eqb-true, first_ones, goal_from, goals_from, label_at, label_places, nat_lt, nat_tests, not, skip_of}
 use Rattle.std.proofs.lemmas.List.Elements.{All-from_recursion}
 use Rattle.std.proofs.lemmas.List.Quantifiers.{position-Some}
 
--- the labels' numbers are the machine's
+-- holds if the numbers of the labels fit in the machine
 abbrev pub AreNumbered : List ℕ → Type 0
 AreNumbered labels = (place number : ℕ) → label_at labels place ≡ Some number → number < 2 ^ 64
 
@@ -63,7 +63,7 @@ all_near n (goal ∷ goals) = by (nat_lt n goal) refl (all_near n goals)
 
 -- ---- a label at a place
 
--- its number is its index
+-- the number of a label is its index
 pub label_is : (labels : List ℕ) (place number : ℕ) → label_at labels place ≡ Some number → (number < length labels) × (get_or labels number 0 ≡ place)
 label_is labels place number e = let h = position-Some (λ p. p == place) labels number 0 e in (h.0, eqb-true (get_or labels number 0) place h.1)
 

@@ -1,4 +1,4 @@
--- A text in UTF-8 that stands between quotes is UTF-8.
+-- The quoted form of a text in UTF-8 is UTF-8.
 use Rattle.std.proofs.Common.{◌≡◌, ◌==◌, ◌||◌, ◌<◌, ◌/◌, ◌%◌, ℕ, Bool, true, false, List, [], ◌∷◌, ◌++◌, codes, refl, sym, subst, append_assoc, arith}
 use Rattle.tw_asm.proofs.AsmNames.{AllByRecursion, IsUtf8, flat_map, if◌then◌else◌, nat_lt, nat_tests}
 use Rattle.std.proofs.lemmas.Str.{IsUtf8-append, IsUtf8-from_ascii, IsUtf8-nil}
@@ -28,7 +28,7 @@ hex_bytes b small =
     let last : b % 16 < 16 = omega arith in
     (omega arith, (omega arith, (hex_small (b / 16) high, (hex_small (b % 16) last, tt))))
 
--- what stands for a text's bytes behind some bytes
+-- the escaped bytes of a text are UTF-8 after some bytes
 escaped_utf8 : (front text : List ℕ) → IsUtf8 (front ++ text) → IsUtf8 (front ++ flat_map escaped text)
 escaped_utf8 front [] u = u
 escaped_utf8 front (b ∷ text) u = by (b == 34) (b == 92) (b == 10) (nat_lt b 32 || b == 127) refl refl refl refl (λ f v. escaped_utf8 f text v)

@@ -1,15 +1,15 @@
--- Readings that answer what spells a value and what may stand there, and how they go together.
+-- Lemmas on `Reads`, which says that a result of reading is right about the words of values and about their limits.
 use Rattle.std.proofs.Common.{Result, Ok, Err}
 use Rattle.tw_asm.proofs.AsmNames.{TokenError, Form, Limit, both}
 use Rattle.tw_lexer.proofs.Readings.{Reads}
 
--- the same values, otherwise said
+-- readings of equivalent properties
 pub likewise : {A : Type 0} (Has May Has' May' : A → Type 0) → ((a : A) → Has a → Has' a) → ((a : A) → Has' a → Has a) → ((a : A) → Has a → May a → May' a) → ((a : A) → Has' a → May' a → May a) → (r : Result A TokenError) → Reads Has May r → Reads Has' May' r
 likewise Has May Has' May' to back may may_back (Ok a) h = (to a h.0, may a h.0 h.1)
 likewise Has May Has' May' to back may may_back (Err Form) h = λ a k. h a (back a k)
 likewise Has May Has' May' to back may may_back (Err Limit) h = ((h.0.0, to h.0.0 h.0.1), λ a k m. h.1 a (back a k) (may_back a k m))
 
--- two after one another
+-- two readings, one after another
 module _ {A B : Type 0} (Has May : A → Type 0) (Has' May' : B → Type 0) where
   abbrev HaveBoth : A × B → Type 0
   HaveBoth x = Has x.0 × Has' x.1

@@ -1,5 +1,5 @@
--- The table of instructions as parts see it: which sorts of parts follow a name, and which instruction they make. So what holds of
--- each instruction's parts is gone through once, in `row`.
+-- The table of instructions with parts: the sorts of parts after a name, and the instruction that they make. Facts on the parts of each instruction
+-- are proved once, in `row`.
 use Rattle.std.proofs.Common.{◌≡◌, ◌==◌, ℕ, ℤ, pos, Bool, true, false, List, [], ◌∷◌, ◌++◌, map, codes, Option, None, refl, sym, ap, ◌∙◌, eq-eqb}
 use Rattle.tw_asm.proofs.AsmNames.{◌&&◌, Contents, Instr, Int, Literal, Name, Natural, NestedScalar, Number, Opcode, Operand, Part, Right, Skip, Target, Text, TypeOf, Value, eqb-true, forms_of, holds, if◌then◌else◌, instr_parts, scalar_type, with_skip, word_of}
 use Rattle.tw_code.specs.declared.form.Form.{Form}
@@ -39,14 +39,14 @@ sort_of (TypeOf ty) = 6
 sort_of (Skip skip) = 7
 sort_of (Target target) = 8
 
--- these sorts, and then numbers without sign
+-- holds for parts of these sorts, and then unsigned numbers
 abbrev pub have_sorts : List ℕ → List Part → Bool
 have_sorts [] [] = true
 have_sorts [] (part ∷ parts) = (sort_of part == 4) && have_sorts [] parts
 have_sorts (sort ∷ sorts) [] = true
 have_sorts (sort ∷ sorts) (part ∷ parts) = (sort_of part == sort) && have_sorts sorts parts
 
--- part by part of the same sort, as far as both go
+-- holds if the parts have the same sorts, up to the end of the shorter list
 abbrev pub AreAlike : List Part → List Part → Type 0
 AreAlike [] qs = Unit {0}
 AreAlike (p ∷ ps) [] = Unit {0}
@@ -68,7 +68,7 @@ alike_by_sorts (sort ∷ sorts) (p ∷ ps) (q ∷ qs) h k =
     let b = both_true (sort_of q == sort) (have_sorts sorts qs) k in
     (eqb-true (sort_of p) sort a.0 ∙ sym (eqb-true (sort_of q) sort b.0), alike_by_sorts sorts ps qs a.1 b.1)
 
--- ---- what parts hold
+-- ---- the content of parts
 
 abbrev size : Part → ℕ
 size (Value register) = register
@@ -95,7 +95,7 @@ target_in part = None
 
 -- ---- the rows
 
--- the sort of an operand's part
+-- returns the sort of an operand's part
 abbrev sort_in : Form → ℕ
 sort_in form.Value = 1
 sort_in form.Right = 2
@@ -108,7 +108,7 @@ sort_in form.Callee = 4
 sort_in form.Target = 8
 sort_in form.Args = 4
 
--- those of arguments are numbers without sign
+-- returns the sorts of the operands; those of arguments are unsigned numbers
 abbrev sorts_in : List Form → List ℕ
 sorts_in [] = []
 sorts_in (form.Args ∷ fs) = []
@@ -187,7 +187,7 @@ abbrev pub is_last : List Part → Bool
 is_last [] = true
 is_last (part ∷ parts) = false
 
--- nothing stands behind a skip
+-- returns whether no part is after a skip
 abbrev pub skips_last : List Part → Bool
 skips_last [] = true
 skips_last (Skip skip ∷ parts) = is_last parts
@@ -198,11 +198,11 @@ ends_in_colon [] = false
 ends_in_colon (b ∷ []) = b == 58
 ends_in_colon (b ∷ c ∷ others) = ends_in_colon (c ∷ others)
 
--- what a first word lets expect, as a number: the head, the registers, a label, an instruction, the version
+-- returns the class of a first word, as a number: the head, the registers, a label, an instruction, the version
 abbrev pub class_of_word : List ℕ → ℕ
 class_of_word word = if ends_in_colon word then 2 else if same word (codes "proc") then 0 else if same word (codes "regs") then 1 else if same word (codes "version") then 4 else 3
 
--- what holds of the parts of each instruction
+-- facts on the parts of an instruction
 pub record IsRow (i : Instr) : Type 0 where
   pub parts : instr_parts i ≡ Name (name_of i) ∷ operands_of i
   pub known : is_in (name_of i) names ≡ true
@@ -232,7 +232,7 @@ args_last (arg ∷ args) = args_last args
 
 -- ---- row by row
 
--- the operation is in the name alone
+-- only the name shows the operation
 compute_row : (operation : Arithmetic) (to left right skip : ℕ) → IsRow (instr.Local (local.Compute operation to left right skip))
 compute_row Add to left right skip = record { parts = refl; known = refl; class = refl; sorts = refl; made = refl; reskipped = λ skip. refl; last = refl }
 compute_row operation to left right skip = record { parts = refl; known = refl; class = refl; sorts = refl; made = refl; reskipped = λ skip. refl; last = refl }

@@ -1,4 +1,4 @@
--- Registers, the version and labels: what is read answers which words spell which statements.
+-- Registers, the version and labels: the words are read as a statement that they denote, or they denote none.
 use Rattle.std.proofs.Common.{◌≡◌, ◌≢◌, ℕ, ◌≤◌, List, [], ◌∷◌, ◌++◌, length, map, codes, Option, Some, None, Result, Ok, Err, refl, sym, ap, subst, ◌∙◌}
 use Rattle.tw_asm.proofs.AsmNames.{AllByRecursion, AnyName, AnyShortName, Bare, Code, TokenError, Form, Goals, HasForm, Head, Instr, IsInLimits, IsList, IsName, IsRead, IsWithin, Label, Limit, Name, Natural, NoName, OfVersion, Opcode, Part, Registers, Scalar, SpellParts, Spells, SpellsWith, Statement, Version, Word, as_is, flat_map, kind_word, name_in, natural_in, operand_parts, param_parts, register_part, row, scalar_in, scalar_word, word_of}
 use Rattle.tw_asm.proofs.Answered.{Judged, first_is, none_some, regs_is_none, version_is_none}
@@ -15,7 +15,7 @@ use Rattle.tw_lexer.specs.Names.{before_colon}
 use Rattle.tw_asm.specs.reading.Lines.{each, few, label_line, label_read, named_in, registers_in, registers_read, version_in, version_read}
 use Rattle.tw_code.specs.format.Table.{opcode_in}
 
--- an instruction's name is what the table finds
+-- the table finds the name of an instruction
 pub code_first : (version : Version) (G : Goals) (i : Instr) (word : List ℕ) (ws : List Word) → Spells version G (Code i) (Bare word ∷ ws) → (o : Opcode) × (opcode_in version word ≡ Some o)
 code_first version G i word ws h =
     let k = first_is G (word_of (row i).0) (flat_map operand_parts (row i).1) (Bare word) ws h.parts in
@@ -27,7 +27,7 @@ nonempty G name parts (first, others, cut, h, rest) = no_word (cut ∙ ap (λ (v
     no_word : [] ≡ Bare name ∷ others → ⊥
     no_word e = cc
 
--- no label's word is one without a `:`
+-- a word without `:` is no label
 pub no_label : (word name : List ℕ) → before_colon word ≡ None → word ≡ name ++ codes ":" → ⊥
 no_label word name none e = none_some name (sym none ∙ (ap before_colon e ∙ before name))
 
@@ -98,7 +98,7 @@ version_regs e = other_bytes (codes "version") (codes "regs") refl (ap (λ (t : 
 version_no_label : before_colon (codes "version") ≡ None
 version_no_label = refl
 
--- a number alone has one word
+-- a single number has one word
 number_alone : (G : Goals) (n : ℕ) (ws : List Word) → SpellParts G (Natural n ∷ []) ws → (w : Word) × (ws ≡ w ∷ []) × SpellsWith [] n (w ∷ [])
 number_alone G n ws (first, others, cut, (digits, spells, is), none) =
     (Bare digits, cut ∙ ap (λ (vs : List Word). vs ++ others) is ∙ ap (λ (vs : List Word). Bare digits ∷ vs) none, (digits, spells, refl))

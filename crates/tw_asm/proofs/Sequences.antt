@@ -1,4 +1,4 @@
--- The readings of items one after the other, and of types.
+-- Reading lists of items, and types.
 use Rattle.std.proofs.Common.{◌≡◌, ℕ, suc, ◌≤◌, Bool, true, false, cond, List, [], ◌∷◌, ◌++◌, length, Result, Ok, Err, refl, sym, ap, subst, ◌∙◌, arith, append_assoc, append-nil}
 use Rattle.tw_asm.proofs.AsmNames.{AllByRecursion, Bare, TokenError, Form, HasType, IsList, Limit, NestedScalar, Scalar, Version, Word, around, as_is, both, contained, container_in, container_of, container_word, depth_of, each, each_from, few, joined, ltb-true, nat_lt, nat_tests, put_first, scalar_in, scalar_type, scalar_word, type_in}
 use Rattle.tw_asm.proofs.OperandWords.{Free, IsContainerOf, container_read, scalar_read}
@@ -44,7 +44,7 @@ each_same read s (w ∷ ws) = each_same read (joined s (read w)) ws ∙ regroup 
 pub each_is : {A : Type 0} (read : Word → Result A TokenError) (ws : List Word) → each read ws ≡ each_right read ws
 each_is read ws = each_same read (Ok []) ws ∙ nothing_before (each_right read ws)
 
--- an item a word
+-- holds if each word has its item
 abbrev pub HaveEach : {A : Type 0} → (Word → A → Type 0) → List Word → List A → Type 0
 HaveEach Has [] [] = Unit {0}
 HaveEach Has [] (a ∷ items) = ⊥
@@ -66,7 +66,7 @@ module _ {A : Type 0} (Has : Word → A → Type 0) (May : A → Type 0) (read :
   pub each_read : (ws : List Word) → Reads (HaveEach Has ws) (AllByRecursion May) (each read ws)
   each_read ws = subst (Reads (HaveEach Has ws) (AllByRecursion May)) (sym (each_is read ws)) (each_right_read ws)
 
--- at most so many
+-- reading at most this many items
 pub few_read : {A : Type 0} (Has : List A → Type 0) (May : A → Type 0) (most : ℕ) (r : Result (List A) TokenError) → ((xs ys : List A) → Has xs → Has ys → length xs ≡ length ys) → Reads Has (AllByRecursion May) r → Reads Has (IsList 0 most May) (few most r)
 few_read Has May most (Ok items) one h = by (nat_lt most (length items)) refl
   where
@@ -87,14 +87,14 @@ each_long Has (w ∷ ws) (a ∷ items) h = ap suc (each_long Has ws items h.1)
 
 -- ---- types
 
--- the words of a type that the version has
+-- holds if these are the words of a type that the version has
 abbrev pub IsTypeIn : Version → List Word → NestedScalar → Type 0
 IsTypeIn version ws ty = (ws ≡ words_of ty.containers ty.scalar) × HasType version ty
 
 abbrev pub IsShallow : NestedScalar → Type 0
 IsShallow ty = depth_of ty ≤ 3
 
--- the container of a pair that is read
+-- holds for the container of a pair that is read
 abbrev IsAround : (Scalar × NestedScalar → Type 0) → NestedScalar → Type 0
 IsAround P ty = (x : Scalar × NestedScalar) × P x × (ty ≡ container_of x.0 x.1)
 
@@ -131,7 +131,7 @@ one_word version w (c ∷ cs) s e = absurd (no_words cs s (rest_is e))
     rest_is : w ∷ [] ≡ Bare (container_word c) ∷ words_of cs s → [] ≡ words_of cs s
     rest_is e = cc
 
--- a container's word, and those of a type
+-- holds for the word of a container and the words of a type
 abbrev IsPair : Version → Word → List Word → Scalar × NestedScalar → Type 0
 IsPair version w ws x = IsContainerOf version w x.0 × IsTypeIn version ws x.1
 

@@ -35,6 +35,6 @@ skip_is (instr.Rule action) = action_without action.priority action.target actio
 skip_is (instr.Put action) = action_without action.priority action.target action.args
 skip_is instr.Ret = refl
 
--- as the code finds it
+-- the skip, as the code finds it
 pub skip_by_flow : (i : Instr) (flow : Flow) → flow ≡ flow_of i → skip_in flow ≡ skip_of i
 skip_by_flow i flow is = ap skip_in is ∙ sym (skip_is i)

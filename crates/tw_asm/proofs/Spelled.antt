@@ -1,15 +1,15 @@
--- Words spell one list of parts alone, but for names of skips.
+-- Words denote one list of parts, except for skips by name.
 use Rattle.std.proofs.Common.{◌≡◌, ◌⊎◌, inl, inr, ℕ, true, List, [], ◌∷◌, ◌++◌, map, codes, Option, Some, None, refl, sym, ap, subst, ◌∙◌, arith}
 use Rattle.tw_asm.proofs.AsmNames.{Bare, Goals, IsInRange, IsName, Literal, Name, Natural, NestedScalar, NoName, Number, OnlyName, Part, Quoted, Right, Scalar, Skip, SpellParts, SpellsDigits, SpellsNumber, SpellsPart, SpellsWith, Target, TypeOf, Value, Word, append_cancel_left, container_word, scalar_word}
 use Rattle.tw_lexer.proofs.Numerals.{one_number, one_size}
 use Rattle.tw_asm.proofs.Rows.{AreAlike, different, is_last, reskip, skips_last, sort_of}
 use Rattle.tw_asm.proofs.TypeWords.{one_type, words_of}
 
--- these goals are names of labels
+-- holds if these goals are names of labels
 abbrev pub AreNames : Goals → Type 0
 AreNames goals = (skip : ℕ) (name : List ℕ) → goals skip name → IsName name
 
--- two skips that one name stands for
+-- two skips that one name denotes
 pub record AreNamed (a b : Goals) (p q : Part) : Type 0 where
   pub n : ℕ
   pub m : ℕ
@@ -19,7 +19,7 @@ pub record AreNamed (a b : Goals) (p q : Part) : Type 0 where
   pub goal : a n name
   pub other : b m name
 
--- what the same words say of two parts
+-- holds if two parts are equal, or skips with the same name
 abbrev pub AreTied : Goals → Goals → Part → Part → Type 0
 AreTied a b p q = (p ≡ q) ⊎ AreNamed a b p q
 
@@ -43,7 +43,7 @@ cons_is v w x y e = (cc, cc)
 pub never_cons : {A : Type 0} (v : A) (x : List A) → v ∷ x ≡ [] → ⊥
 never_cons v x e = cc
 
--- two words that stand first
+-- two lists that begin with one word each
 pub first_words : (v w : Word) (f g x y : List Word) → f ≡ v ∷ [] → g ≡ w ∷ [] → f ++ x ≡ g ++ y → (v ≡ w) × (f ≡ g) × (x ≡ y)
 first_words v w f g x y is has e =
     let both = cons_is v w x y (ap (λ (h : List Word). h ++ x) (sym is) ∙ e ∙ ap (λ (h : List Word). h ++ y) has) in
@@ -97,7 +97,7 @@ module _ (a b : Goals) (names : AreNames a) (others : AreNames b) where
       absurd (any_is_no_digits n ds (sym (bare_is ds (codes "any") same.0)) h)
   targets_same (Some n) (Some m) f g x y h k e = let same = digits_same [] n m f g x y h k e in (inl (ap (λ (i : ℕ). Target (Some i)) same.0), same.1, same.2)
 
-  -- words that stand first spell one part alone of a sort
+  -- the first words denote one part of a sort
   one_part : (p q : Part) (f g x y : List Word) → sort_of p ≡ sort_of q → SpellsPart a p f → SpellsPart b q g → f ++ x ≡ g ++ y → AreTied a b p q × (f ≡ g) × (x ≡ y)
   one_part (Name v) (Name w) f g x y s h k e = let same = first_words (Bare v) (Bare w) f g x y h k e in (inl (ap Name (bare_is v w same.0)), same.1, same.2)
   one_part (Value n) (Value m) f g x y s h k e = let same = digits_same (codes "v") n m f g x y h k e in (inl (ap Value same.0), same.1, same.2)
@@ -132,7 +132,7 @@ module _ (a b : Goals) (names : AreNames a) (others : AreNames b) where
   some_word (Target (Some m)) g y (ds, k, has) e = never_cons (Bare ds) y (ap (λ (ws : List Word). ws ++ y) (sym has) ∙ e)
 
 module _ (a b : Goals) (names : AreNames a) (others : AreNames b) where
-  -- the same words spell one list of parts alone, but for named skips
+  -- the same words denote one list of parts, except for named skips
   pub all_tied : (ps qs : List Part) (words ends : List Word) → AreAlike ps qs → words ≡ ends → SpellParts a ps words → SpellParts b qs ends → AllTied a b ps qs
   all_tied [] [] words ends alike e h k = tt
   all_tied [] (q ∷ qs) words ends alike e h (g, y, has, k, ks) = absurd (some_word a b names others q g y k (sym has ∙ sym e ∙ h))
@@ -141,7 +141,7 @@ module _ (a b : Goals) (names : AreNames a) (others : AreNames b) where
       let one = one_part a b names others p q f g x y alike.0 h k (sym is ∙ e ∙ has) in
       (one.0, all_tied ps qs x y alike.1 one.2 hs ks)
 
-  -- where a name stands for one skip alone
+  -- the parts are equal if a name denotes one skip
   pub tied_are : ((n m : ℕ) (name : List ℕ) → a n name → b m name → n ≡ m) → (ps qs : List Part) → AllTied a b ps qs → ps ≡ qs
   tied_are alone [] [] h = refl
   tied_are alone [] (q ∷ qs) h = absurd h
@@ -169,7 +169,7 @@ last_is : (parts : List Part) → is_last parts ≡ true → parts ≡ []
 last_is [] e = refl
 last_is (p ∷ ps) e = absurd cc
 
--- the words of parts where a name stands as the skip are those of the parts with the skip for which it stands
+-- the words of parts with a name as the skip are those of the parts with the skip that it denotes
 pub data Resolved (goals : Goals) (skip : ℕ) (ps : List Part) (words : List Word) : Type 0 where
   as_is : SpellParts NoName ps words → Resolved goals skip ps words
   with_goal : SpellParts goals (map (reskip skip) ps) words → Resolved goals skip ps words

@@ -1,4 +1,4 @@
--- The procedures that have been read, and the words that spell them.
+-- The procedures that are read, and the words that denote them.
 use Rattle.std.proofs.Common.{true, ◌≡◌, ◌≢◌, ℕ, suc, ◌+◌, ◌<◌, ◌≤◌, List, [], ◌∷◌, ◌++◌, length, map, Option, Some, None, inl, inr, refl, sym, subst, ap, ◌∙◌, append_assoc, arith}
 use Rattle.tw_asm.proofs.AsmNames.{AllByRecursion, AllPairs, AnyShortName, AreCode, AtStart, Bare, BehindHead, BehindVersion, Code, Contains, Drafted, Goals, GoesTo, HasInstr, HasSections, HaveWords, Head, Instr, IsGoalOf, IsInLimits, IsInstr, IsInstrOf, IsLine, IsOperand, IsProcedureOf, IsProgramOf, IsRead, IsWhole, Kind, Label, LinesRead, MayStand, NoName, OfVersion, One, Opcode, Operand, Param, Place, Placed, Procedure, Progress, Read, Registers, Scalar, Section, SpellProcedures, Spells, SpellsProcedure, SpellsProgram, SpellsVersion, Statement, Two, Version, Within, Word, append-nil, begun, ended, get_or_default, has_opcode, holds, length-append, line_step, lines, map-append, outset, progress_from, row, situation_of, step, version_by, with_skip}
 use Rattle.std.proofs.lemmas.List.Quantifiers.{all_pairs_push}
@@ -12,7 +12,7 @@ use Rattle.tw_asm.proofs.Steps.{read_says}
 use Rattle.tw_asm.proofs.Versions.{by_number, narrowed, params_narrowed}
 use Rattle.tw_asm.proofs.Walk.{higher}
 
--- ---- bodies whose goals aren't looked for yet
+-- ---- bodies whose goals aren't resolved yet
 
 pub data AreDrafts (version : Version) : ℕ → List Placed → List Drafted → List (List Word) → Type 0 where
   no_drafts : (place : ℕ) → AreDrafts version place [] [] []
@@ -45,7 +45,7 @@ draft_more version place _ _ _ draft words (a_label _ n ws labels drafts others 
 draft_more version place _ _ _ draft words (a_draft _ d ws labels drafts others q more) r =
     a_draft place d ws labels (drafts ++ (draft ∷ [])) (others ++ (words ∷ [])) q (draft_more version (place + 1) labels drafts others draft words more r)
 
--- labels stand within the code, or behind its last instruction
+-- labels are in the code, or after its last instruction
 pub labels_within : (version : Version) (place : ℕ) (labels : List Placed) (drafts : List Drafted) (body : List (List Word)) → AreDrafts version place labels drafts body → AllByRecursion (λ label. label.place ≤ place + length drafts) labels
 labels_within version place _ _ _ (no_drafts _) = tt
 labels_within version place _ _ _ (a_label _ n ws labels drafts others a b more) = (omega arith, labels_within version place labels drafts others more)
@@ -114,7 +114,7 @@ linked_limits version all place _ _ _ (i ∷ is) (a_draft _ d ws labels drafts o
 
 -- ---- sections
 
--- the words of a section, within the limits but for having an instruction
+-- the words of a section, within the limits; it may have no instruction
 pub record IsSection (version : Version) (section : Section) (words : List (List Word)) : Type 0 where
   pub head : List Word
   pub registers : List Word
@@ -150,7 +150,7 @@ linked_within version section words procedure s some l =
       code = ((omega (arith, m.1), omega (arith, m.1, s.few)), m.0);
     }
 
--- sections one after the other, each with an instruction
+-- sections, one after another, each with an instruction
 pub data AreSections (version : Version) : List Section → List (List Word) → Type 0 where
   no_sections : AreSections version [] []
   a_section : (section : Section) (others : List Section) (first after : List (List Word)) → IsSection version section first → 0 < length section.drafts
@@ -178,7 +178,7 @@ linked_procedures version _ _ (p ∷ ps) (a_section x others first after a n mor
     let m = linked_procedures version others after ps more l.1 in
     ((linked_within version x first p a n l.0, m.0), ap suc m.1)
 
--- ---- what has been read is spelled
+-- ---- the words denote what is read
 
 abbrev pub IsPlace : Version → Place → List (List Word) → Type 0
 IsPlace version AtStart words = words ≡ []
@@ -186,7 +186,7 @@ IsPlace version BehindVersion words = words ≡ []
 IsPlace version (BehindHead kind params) words = (head : List Word) × (words ≡ head ∷ []) × Spells version NoName (Head kind params) head × IsInLimits (Head kind params)
 IsPlace version (Within section) words = IsSection version section words
 
--- the version's words stand before all others; at the start there are none
+-- holds if the version's words are before all others; at the start there are none
 abbrev pub IsFront : Place → Version → List Section → List (List Word) → List (List Word) → Type 0
 IsFront AtStart version sections front done = (version ≡ One) × (sections ≡ []) × (front ≡ []) × (done ≡ [])
 IsFront BehindVersion version sections front done = SpellsVersion version front
@@ -212,7 +212,7 @@ word_more all front done current words e =
     ap (λ (x : List (List Word)). x ++ (words ∷ [])) e
     ∙ (append_assoc front (done ++ current) (words ∷ []) ∙ ap (λ (x : List (List Word)). front ++ x) (append_assoc done current (words ∷ [])))
 
--- behind what has ended
+-- a line after all complete sections
 first_word : (all front done current : List (List Word)) (words : List Word) → all ≡ front ++ (done ++ current) → current ≡ [] → all ++ (words ∷ []) ≡ front ++ (done ++ (words ∷ []))
 first_word all front done current words e none =
     word_more all front done current words e ∙ ap (λ (x : List (List Word)). front ++ (done ++ (x ++ (words ∷ [])))) none
@@ -327,7 +327,7 @@ new_name labels name place once new =
     subst (AllPairs (λ (a b : List ℕ). a ≢ b)) (sym (map-append (λ (label : Placed). label.name) labels (record { name = name; place = place } ∷ [])))
     (all_pairs_push (λ (a b : List ℕ). a ≢ b) names name once (λ k d low e. new (k, low, get_or_default names k name d low ∙ e)))
 
--- one line more within a section, which then has these labels and drafts
+-- one more line in a section, which then has these labels and drafts
 body_step : (version : Version) (sections : List Section) (head_line : ℕ) (section : Section) (labels : List Placed) (drafts : List Drafted) (all : List (List Word)) (words : List Word)
     → IsSpelled (progress version sections head_line (Within section)) all → ((body : List (List Word)) → AreDrafts version 0 section.labels section.drafts body → AreDrafts version 0 labels drafts (body ++ (words ∷ [])))
     → AllPairs (λ a b. a ≢ b) (map (λ (label : Placed). label.name) labels) → length drafts ≤ 4096

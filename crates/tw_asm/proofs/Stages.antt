@@ -1,4 +1,4 @@
--- Where reading stands, by its parts, and stages that differ.
+-- The progress of reading, from its fields, and stages that differ.
 use Rattle.std.proofs.Common.{◌≡◌, ℕ, List}
 use Rattle.tw_asm.proofs.AsmNames.{AfterHead, AfterVersion, InBody, Place, Progress, Section, Stage, Start, Version}
 

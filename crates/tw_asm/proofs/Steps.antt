@@ -1,4 +1,4 @@
--- One line more.
+-- Reading one more line.
 use Rattle.std.proofs.Common.{◌≡◌, ◌⊎◌, ℕ, suc, ◌+◌, List, [], ◌∷◌, ◌++◌, length, map, Option, Some, None, Result, Ok, Err, MatchResult, inl, inr, refl, sym, subst, ap, ◌∙◌, arith}
 use Rattle.tw_asm.proofs.AsmNames.{AfterHead, AnyShortName, AreNotRead, AreTextRead, AsmFault, AtStart, BehindHead, BehindVersion, Code, FaultNo, Head, InBody, IsLineFault, IsMemory, IsNotFinished, IsRead, IsShortName, IsUnfinished, Label, LineFault, LineRead, LineSays, LinesRead, LinesSay, MayStand, NoName, OfVersion, OnlyName, Place, Placed, Progress, Read, Registers, Say, Section, ParserState, Stage, Statement, Version, Within, Word, after, after_line, enumerate_from, length-append, line_step, lines, map-append, outset, progress_from, situation_from, situation_of, step}
 use denote.Ref.{Bor}
@@ -6,7 +6,7 @@ use Rattle.tw_lexer.proofs.LineLoops.{StandsAtLine, all_lines}
 use Rattle.tw_asm.proofs.Once.{spells_more}
 use Rattle.tw_asm.proofs.Stages.{body_head, body_start, head_body, head_start, progress, start_body, start_head, version_body, version_head, version_start}
 
--- ---- the situation after a statement
+-- ---- the state after a statement
 
 abbrev counted : Version → Stage → ℕ → List (List ℕ) → ℕ → ℕ → ParserState
 counted version stage head_line labels procedures instructions = record { version = version; stage = stage; procedures = procedures; head_line = head_line; labels = labels; instructions = instructions }
@@ -46,7 +46,7 @@ step_at number (Code i) goal version sections head_line (Within section) m =
 pub step_after : (number : ℕ) (statement : Statement) (goal : Option (List ℕ)) (p : Progress) → MayStand statement (situation_of p) → situation_of (step number statement goal p) ≡ after number statement (situation_of p)
 step_after number statement goal p m = step_at number statement goal p.version p.sections p.head_line p.place m
 
--- ---- what is read is said
+-- ---- statements that are read are those of the text
 
 only_short : (name : List ℕ) → IsShortName name → (skip : ℕ) (word : List ℕ) → OnlyName name skip word → AnyShortName skip word
 only_short name short skip word only = subst IsShortName (sym only.1) short
@@ -110,7 +110,7 @@ reads_length number p [] (read ∷ others) r = absurd r
 reads_length number p (line ∷ after) [] r = absurd r
 reads_length number p (line ∷ after) (read ∷ others) r = ap suc (reads_length (number + 1) (line_step number read p) after others r.1)
 
--- one line more
+-- one more line is read
 pub one_more : (ls : List (List ℕ)) (line : List ℕ) (p q : Progress) (read : Option Read) → AreTextRead ls p → LineRead (situation_of p) line read → q ≡ line_step (length ls + 1) read p → AreTextRead (ls ++ (line ∷ [])) q
 one_more ls line p q read a r e =
     let here = subst (λ (x : Progress). LineRead (situation_of x) line read) a.progress r in
@@ -121,7 +121,7 @@ one_more ls line p q read a r e =
       progress = e ∙ ap (λ (x : Progress). line_step (length ls + 1) read x) a.progress ∙ ap (λ (k : ℕ). line_step k read (progress_from 1 outset a.reads)) (sym n) ∙ sym (progress_more 1 outset a.reads read);
     }
 
--- the next line is at fault
+-- the next line has the fault
 pub fault_there : (text : List ℕ) (before : List (List ℕ)) (line : List ℕ) (others : List (List ℕ)) (p : Progress) (which : FaultNo) (at : ℕ)
     → lines text ≡ before ++ (line ∷ others) → AreTextRead before p → LineFault (length before + 1) (situation_of p) line which at → IsLineFault text which at
 fault_there text before line others p which at parts a f = record {

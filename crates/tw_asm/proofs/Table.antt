@@ -41,7 +41,7 @@ draft_is version o ws = by (row_of version o)
 
 -- ---- each instruction is made of its operands
 
--- some words may be that
+-- holds if some words may have this shape
 abbrev pub is_sayable : Line → Bool
 is_sayable (more o l) = is_sayable l
 is_sayable never = false
@@ -89,7 +89,7 @@ abbrev others : List Item → List Item
 others [] = []
 others (x ∷ xs) = xs
 
--- what the operands of an instruction hold, as a line has it
+-- returns the content of a line, from the operands of an instruction
 abbrev line_from : (l : Line) → is_sayable l ≡ true → List Item → LineContent l
 line_from nothing s xs = tt
 line_from goal s xs = goal_from (first xs)
@@ -133,7 +133,7 @@ made_so version (instr.Rule action) = rule_made version action.procedure action.
 made_so version (instr.Put action) = put_made version action.procedure action.priority action.target action.args
 made_so version instr.Ret = refl
 
--- an instruction, by its opcode and its operands
+-- holds if the instruction is made of its opcode and its operands
 abbrev pub IsMade : Version → Instr → Type 0
 IsMade version i = (o : Opcode) × (x : LineContent (line_of version o)) × (i ≡ instr_of version o x)
 
@@ -155,13 +155,13 @@ pub within_back : (version : Version) (o : Opcode) (x : LineContent (line_of ver
 within_back version op.Int x m = m.1
 within_back version o x m = m.1
 
--- ---- what the version has
+-- ---- opcodes and types of the version
 
 pub row_opcode : (version : Version) (o : Opcode) (x : LineContent (line_of version o)) → (table.row (instr_of version o x)).0 ≡ o
 row_opcode version op.Int x = refl
 row_opcode version o x = refl
 
--- an instruction whose opcode and whose type the version has
+-- an instruction whose opcode and type are in the version
 pub made_had : (version : Version) (o : Opcode) (x : LineContent (line_of version o)) → has_opcode version o ≡ true → Had (line_of version o) x → HasInstr version (instr_of version o x)
 made_had version op.Int x e h = (e, h)
 made_had version o x e h = (e, h)
@@ -181,7 +181,7 @@ pub no_colon : (o : Opcode) → before_colon (word_of o) ≡ None
 no_colon op.Int = refl
 no_colon o = refl
 
--- a name that is found is that of its instruction
+-- holds if a name that is found is that of its instruction
 abbrev IsBack : List ℕ → Option Opcode → Type 0
 IsBack name found = (o : Opcode) → found ≡ Some o → name ≡ word_of o
 

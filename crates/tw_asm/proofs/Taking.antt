@@ -1,4 +1,4 @@
--- What is wrong with a line, by its words.
+-- The fault of a line, by its words.
 use Rattle.tw_asm.proofs.AsmNames.{AnyName, AnyShortName, AreClosed, AreFinished, AsmFault, AtStart, Bare, Begins, BehindHead, BehindVersion, Code, Contains, FaultNo, First, HasWords, HaveForm, Head, InBody, Instr, IsBrokenLine, IsEmptyAt, IsExpected, IsFirstWord, IsGoalOf, IsLimit, IsLimitLine, IsLine, IsLineRead, IsMemory, IsNotClosed, IsNotFinished, IsOutset, Kind, Label, LineFault, MayBegin, MayStand, Param, Place, Progress, Quoted, Say, Section, ParserState, Stage, Statement, Stopped, TakenLine, TakenStatement, Version, Within, Word, WordsRead, begun, blank_no_word, broken_here, broken_no_line, drafts_at, empty, ended, first_word_once, instructions, label_twice, length-append, limit, line_blank, line_once, operand, procedures, situation_of, slice_get, stage_of, step, word}
 use Rattle.tw_asm.specs.declared.statement.Statement as statements
 use Rattle.tw_asm.specs.declared.statement.Statement.TheVariants as statement
@@ -71,7 +71,7 @@ limit_fault number at p line w others expected l b m form none (inr h) =
     (limit expected (begins (situation_of p) line w f.0 expected f.1 b m) (w ∷ others, l, form) (λ e x. h.0 e (is_empty p.place x.0 x.1))
     (λ statement ws k say. none statement (subst (Say p.version statement) (line_once ws (w ∷ others) line k l) say)))
 
--- the statement is what the first word expected
+-- the statement has the kind that the first word shows
 expected_by : (version : Version) (w v : Word) (bytes : List ℕ) (a b : First) → w ≡ Bare bytes → IsExpectedBy version w a → IsExpected version b bytes → a ≡ b
 expected_by version w v bytes a b e p q = one_expected version a b bytes (subst (λ (x : Word). IsExpectedBy version x a) e p) q
 
@@ -137,7 +137,7 @@ head_taken p number kind params all m c few =
 
 -- ---- the end
 
--- the last section ends with the text as it would end with another
+-- the last section ends with the text as it would end before another one
 pub finished : (version : Version) (sections all : List Section) (head_line : ℕ) (section : Section) → AreClosed sections (Within section) all → AreFinished (progress version sections head_line (Within section)) all
 finished version sections all head_line section c = ((refl, positive (length section.drafts) c.1), c.0)
 

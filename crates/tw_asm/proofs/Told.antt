@@ -1,4 +1,4 @@
--- A text that isn't assembled has its first fault told.
+-- For a text that can't be assembled its first fault is returned.
 use Rattle.std.proofs.Common.{◌≡◌, ◌⊎◌, ℕ, List, inl, inr, refl}
 use Rattle.tw_asm.proofs.AsmNames.{AreNotRead, AsmFault, FaultNo, GoalFault, HasSections, IsFirstFault, IsMemory, LineFault, Section, ParserState, Version, empty, flat_map, instructions, label_twice, limit, not_forward, operand, procedures, unknown, word}
 use Rattle.tw_asm.specs.Answers.{IsFault}

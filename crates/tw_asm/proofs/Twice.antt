@@ -1,4 +1,4 @@
--- Two readings of the same lines are alike.
+-- Two readings of the same lines are equal.
 use Rattle.std.proofs.Common.{◌≡◌, ℕ, ◌+◌, List, [], ◌∷◌, Option, Some, None, refl, sym, subst, ap, ◌∙◌}
 use Rattle.tw_asm.proofs.AsmNames.{AnyShortName, Bare, Code, Goals, Head, IsLine, Label, LineSays, LinesSay, OfVersion, Registers, Say, ParserState, Spells, Statement, Version, Word, after_line, labels_ahead, line_once}
 use Rattle.tw_asm.proofs.Once.{begins, first_word}
@@ -37,7 +37,7 @@ ahead_alike s line None (Some statement) a b h k e = nothing_says s.version stat
 ahead_alike s line (Some statement) None a b h k e = nothing_says s.version statement h.0.0 line k h.0.1 h.0.2
 ahead_alike s line (Some statement) (Some other) a b h k e = ahead_by statement other a b (says_alike s.version statement other h.0.0 k.0.0 line h.0.1 h.0.2 k.0.1 k.0.2) e
 
--- the rest of another reading, from the situation of this one
+-- the rest of another reading, from the state of this one
 pub others_say : (number : ℕ) (s : ParserState) (line : List ℕ) (more : List (List ℕ)) (x y : Option Statement) (others : List (Option Statement)) → LineSays s line x → LineSays s line y
     → LinesSay (number + 1) (after_line number y s) more others → LinesSay (number + 1) (after_line number x s) more others
 others_say number s line more x y others h k l = subst (λ (t : ParserState). LinesSay (number + 1) t more others) (sym (both_alike number s line x y h k)) l

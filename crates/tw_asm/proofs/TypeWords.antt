@@ -1,4 +1,4 @@
--- The words of types: each says one thing alone.
+-- The words of types: each has one meaning.
 use Rattle.std.proofs.Common.{◌≡◌, ℕ, false, true, List, [], ◌∷◌, ◌++◌, map, codes, refl, sym, ap, ◌∙◌}
 use Rattle.tw_asm.proofs.AsmNames.{Bare, Closed, Int, Mode, NestedScalar, Ref, Scalar, Text, Val, Word, Write, bytes_eq, bytes_eq-Decides, container_word, mode_word, scalar_word}
 
@@ -13,7 +13,7 @@ other_bytes text word isnt e = no (sym isnt ∙ (bytes_eq-Decides text word).1 (
 
 -- ---- scalars and containers
 
--- the word of a scalar is no container's
+-- the word of a scalar isn't that of a container
 pub scalar_apart : (scalar by : Scalar) → Bare (scalar_word scalar) ≡ Bare (container_word by) → ⊥
 scalar_apart Int Int e = other_bytes (codes "int") (codes "cont") refl e
 scalar_apart Int Text e = other_bytes (codes "int") (codes "tcont") refl e
@@ -74,7 +74,7 @@ one_mode Write Write e = refl
 
 -- ---- types
 
--- the words of a scalar in these containers
+-- returns the words of a scalar in these containers
 abbrev pub words_of : List Scalar → Scalar → List Word
 words_of containers scalar = map Bare (map container_word containers ++ (scalar_word scalar ∷ []))
 

@@ -1,4 +1,4 @@
--- A text spells at most one program.
+-- A text denotes at most one program.
 use Rattle.std.proofs.Common.{◌≡◌, ◌⊎◌, ℕ, ◌+◌, List, [], ◌∷◌, ◌++◌, inl, inr, refl, sym, subst, ap, ◌∙◌, arith}
 use Rattle.tw_asm.proofs.AsmNames.{AreCode, Code, Contains, Goals, GoesTo, HaveWords, Head, Instr, IsShortName, Kind, Label, OfVersion, One, Param, Placed, Procedure, Registers, Scalar, SpellProcedures, Spells, SpellsProcedure, SpellsProgram, SpellsVersion, Statement, Version, Versioned, Word, line_once, lines, version_by, version_number}
 use Rattle.tw_asm.proofs.Alike.{alike}
@@ -17,9 +17,9 @@ words_once (line ∷ ls) _ _ (HaveWords.one_more _ _ word behind a is more) (Hav
 words_once (line ∷ ls) _ _ (HaveWords.one_more _ _ word behind a is more) (HaveWords.one_more _ _ first after b other rest) =
     ap (λ (x : List Word). x ∷ a) (line_once (word ∷ behind) (first ∷ after) line is other) ∙ ap (λ (x : List (List Word)). (first ∷ after) ∷ x) (words_once ls a b more rest)
 
--- ---- where a body ends
+-- ---- the end of a body
 
--- a procedure begins here, or nothing follows
+-- holds if a procedure begins here, or nothing follows
 abbrev IsAnew : Version → List (List Word) → Type 0
 IsAnew version [] = Unit {0}
 IsAnew version (words ∷ others) = (kind : Kind) × (params : List Param) × Spells version (GoesTo [] 0) (Head kind params) words
@@ -37,7 +37,7 @@ no_code_anew version goals i words others a h = absurd (alike (GoesTo [] 0) goal
 no_label_code : {Z : Type 0} (version : Version) (G H : Goals) (name : List ℕ) (i : Instr) (words other : List Word) → words ≡ other → Spells version G (Label name) words → Spells version H (Code i) other → Z
 no_label_code version G H name i words other e h k = absurd (alike G H (Label name) (Code i) words h (subst (λ (x : List Word). Spells version H (Code i) x) (sym e) k))
 
--- the labels of a body and its words, whatever follows them
+-- two bodies with the same labels and words, whatever follows them
 record SameBody (labels others : List Placed) (body front behind rest : List (List Word)) : Type 0 where
   labels_are : labels ≡ others
   body_is : body ≡ front
@@ -81,7 +81,7 @@ body_once version all every place _ _ _ _ _ _ behind rest (AreCode.instruction _
 
 -- ---- the instructions of a body
 
--- labels whose names differ stand at one place each
+-- labels with different names have one place each
 one_place : (labels : List Placed) (x y : Placed) → AreOnce (names_of labels) → Contains labels x → Contains labels y → x.name ≡ y.name → x.place ≡ y.place
 one_place [] x y once c d e = contains_none x c
 one_place (label ∷ labels) x y once c d e = by (contains_cases label labels x c) (contains_cases label labels y d) (λ is has. one_place labels x y once.1 is has e)
@@ -130,7 +130,7 @@ head_same k l ps qs e = (cc, cc)
 registers_same : (rs ss : List Scalar) → Registers rs ≡ Registers ss → rs ≡ ss
 registers_same rs ss e = cc
 
--- where no label may be named
+-- words denote one statement if no label may be named
 plain_once : (version : Version) (s t : Statement) (words other : List Word) → words ≡ other → Spells version (GoesTo [] 0) s words → Spells version (GoesTo [] 0) t other → s ≡ t
 plain_once version s t words other e h k =
     spelled_once (GoesTo [] 0) (GoesTo [] 0) no_names no_names (λ n m name goal to. contains_none (placed name (0 + 1 + n)) goal) s t words h (subst (λ (x : List Word). Spells version (GoesTo [] 0) t x) (sym e) k)
@@ -172,7 +172,7 @@ procedures_once version _ _ _ _ (SpellProcedures.one_more p ps first behind h mo
 no_version_anew : {Z : Type 0} (n : ℕ) (line : List Word) (words others : List (List Word)) → words ≡ line ∷ others → IsAnew One words → Spells One (GoesTo [] 0) (OfVersion n) line → Z
 no_version_anew n line words others e a f = let h = subst (IsAnew One) e a in absurd (alike (GoesTo [] 0) (GoesTo [] 0) (Head h.0 h.1) (OfVersion n) line h.2 f)
 
--- the version, and the words behind its line
+-- the same version, and the same words after its line
 record SameFront (v w : Version) (words others : List (List Word)) : Type 0 where
   version_is : v ≡ w
   words_are : words ≡ others
@@ -189,7 +189,7 @@ front_once _ _ _ _ words others (SpellsVersion.said v line f) (SpellsVersion.sai
 versioned_same : (p q : Versioned) → p.version ≡ q.version → p.procedures ≡ q.procedures → p ≡ q
 versioned_same p q v s = ap (λ (x : Version). record p { version = x }) v ∙ ap (λ (x : List Procedure). record q { procedures = x }) s
 
--- a text spells at most one program
+-- a text denotes at most one program
 pub spells_once : (text : List ℕ) (p q : Versioned) → SpellsProgram p text → SpellsProgram q text → p ≡ q
 spells_once text p q s t =
     let lines_same = words_once (lines text) (s.front ++ s.words) (t.front ++ t.words) s.lines_are t.lines_are in

@@ -1,4 +1,4 @@
--- A text with a fault spells no program.
+-- A text with a fault denotes no program.
 use Rattle.std.proofs.Common.{◌≡◌, ◌⊎◌, ℕ, zero, suc, ◌+◌, ◌<◌, List, [], ◌∷◌, ◌++◌, length, take, drop, Option, Some, None, inl, inr, refl, sym, subst, arith}
 use Rattle.tw_asm.proofs.AsmNames.{AfterHead, AfterVersion, AnyName, AnyShortName, Bare, Begins, Code, Contains, FaultNo, First, GoalFault, HasWords, Head, InBody, Instr, IsEmpty, IsExpected, IsFirstFault, IsLine, IsLineFault, IsOutset, IsUnfinished, IsWhole, Label, LineFault, LineSays, LinesSay, MayBegin, MayStand, NamesLabel, OfVersion, Registers, Say, ParserState, SpellsProgram, Stage, Start, Statement, Version, Versioned, Word, after_line, at_start, blank_no_word, first_word_once, labels_ahead, line_blank, lines, not_forward, situation, situation_from, slice_get, unknown}
 use Rattle.tw_code.proofs.Widening.{widened}
@@ -19,14 +19,14 @@ whole_not_empty s w e = omega (arith, w.1, e)
 not_outset : (s : ParserState) → s.stage ≡ InBody → IsOutset s.stage → ⊥
 not_outset s body outset = subst IsOutset body outset
 
--- a head may begin where no procedure has begun
+-- a head is allowed if no procedure has begun
 begins_outset : (stage : Stage) → IsOutset stage → MayBegin stage first.Head
 begins_outset Start outset = inr refl
 begins_outset AfterVersion outset = refl
 begins_outset AfterHead outset = absurd outset
 begins_outset InBody outset = absurd outset
 
--- what may stand may begin
+-- a statement that is allowed has an allowed first word
 may_begin : (statement : Statement) (s : ParserState) → MayStand statement s → MayBegin s.stage (expectation statement)
 may_begin (OfVersion version) s start = subst (λ (stage : Stage). MayBegin stage first.Version) (sym start) (inl refl)
 may_begin (Head kind params) s (inl outset, few) = begins_outset s.stage outset
@@ -35,12 +35,12 @@ may_begin (Registers registers) s due = subst (λ (stage : Stage). MayBegin stag
 may_begin (Label name) s may = subst (λ (stage : Stage). MayBegin stage first.Body) (sym may.0) (inr refl)
 may_begin (Code i) s may = subst (λ (stage : Stage). MayBegin stage first.Body) (sym may.0) (inr refl)
 
--- ---- what a line says has no fault
+-- ---- the line of a statement has no fault
 
 nothing_begins : {Z : Type 0} (s : ParserState) (line : List ℕ) (expected : First) → IsLine [] line → Begins s line expected → Z
 nothing_begins s line expected blank b = absurd (blank_no_word (Bare b.0) line b.1 (line_blank line blank) b.2)
 
--- the line's first word lets expect its statement
+-- the first word of the line begins its statement
 is_expectation : (s : ParserState) (line : List ℕ) (statement : Statement) (words : List Word) (expected : First) → IsLine words line → Say s.version statement words → Begins s line expected → expected ≡ expectation statement
 is_expectation s line statement words expected is say b =
     let f = first_in_line AnyShortName statement words line is say.0 in
@@ -102,7 +102,7 @@ line_no_fault number s line (Some statement) which at l f = said_no_fault number
 
 -- ---- two readings of the same lines
 
--- what holds is said
+-- lines that hold have these statements
 hold_say : (number : ℕ) (s : ParserState) (ls : List (List ℕ)) (held : List (Option Statement)) → LinesHold number s ls held → LinesSay number s ls held
 hold_say number s [] [] h = tt
 hold_say number s [] (x ∷ held) h = absurd h
@@ -178,7 +178,7 @@ no_line_fault text which at held h f =
     let next = next_says 1 at_start f.before f.line f.others held f.said (subst (λ (ls : List (List ℕ)). LinesHold 1 at_start ls held) f.parts h) f.say in
     line_no_fault (length f.before + 1) (situation f.said) f.line next.0 which at next.1 f.wrong
 
--- a text with a fault spells no program
+-- a text with a fault denotes no program
 pub fault_none : (text : List ℕ) (which : FaultNo) (at : ℕ) (program : Versioned) → IsFirstFault text which at → SpellsProgram program text → ⊥
 fault_none text which at program (inl f) s = let h = hold text program s in no_line_fault text which at h.0 h.1 f
 fault_none text which at program (inr (inl f)) s = let h = hold text program s in finished (situation f.said) at (ends_whole 1 at_start (lines text) h.0 f.said h.1 f.say) f.unfinished

@@ -1,4 +1,4 @@
--- What a version has, and what is of it within the limits.
+-- The instructions and types of each version, within the limits.
 use Rattle.std.proofs.Common.{◌≡◌, ℕ, zero, suc, ◌≤◌, true, List, [], ◌∷◌, refl, arith}
 use Rattle.tw_asm.proofs.AsmNames.{AllByRecursion, Closed, HasInstr, HasOperand, HasParam, HasType, Instr, Int, IsInstr, IsInstrOf, IsOperand, IsOperandOf, IsParam, IsParamOf, IsSubscriptOf, IsTypeOfMode, IsTypeUnderOf, IsWithin, Mode, NestedScalar, One, Operand, Param, Ref, Scalar, Text, Two, Val, Version, Write, depth_of, holds, is_scalar, row, version_by, version_number}
 use Rattle.tw_code.specs.declared.form.Form.TheVariants as form
@@ -47,7 +47,7 @@ had_operands : (version : Version) (os : List Operand) → AllByRecursion (IsOpe
 had_operands version [] h = tt
 had_operands version (o ∷ os) h = (had_operand version o h.0, had_operands version os h.1)
 
--- what is of a version, it has
+-- an instruction of the version has parts that the version has
 pub had : (version : Version) (i : Instr) → IsInstrOf version i → HasInstr version i
 had version i h = (h.0, had_operands version (row i).1 h.1)
 
@@ -79,7 +79,7 @@ had_params version (param ∷ params) h = (had_param version param.mode param.ty
 
 -- ---- depths
 
--- a type that may stand under a mode is no deeper than others
+-- a type that is allowed with a mode is at most 3 deep
 pub under_shallow : (mode : Mode) (ty : NestedScalar) → IsTypeUnderOf Two mode ty → depth_of ty ≤ 3
 under_shallow Val ty h = flat ty.containers ty.scalar h
   where

@@ -1,4 +1,4 @@
--- The lines of a text that spells a program can follow, one after the other, and each goal is ahead.
+-- The lines of a text that denotes a program are allowed, one after another, and each goal is a later label.
 use Rattle.std.proofs.Common.{◌≡◌, ◌≢◌, ◌⊎◌, ℕ, zero, suc, ◌+◌, ◌<◌, ◌≤◌, List, [], ◌∷◌, ◌++◌, length, map, Option, Some, None, inl, inr, refl, sym, subst, ap, ◌∙◌, arith}
 use Rattle.std.proofs.lemmas.List.Elements.{All-contains, All-from_recursion, Contains-push_cases}
 use Rattle.tw_asm.proofs.AsmNames.{AllByRecursion, AllPairs, AnyShortName, AreCode, Code, Contains, Goals, GoesTo, HaveWords, Head, InBody, Instr, IsInstr, IsLine, IsOutset, IsProcedure, IsShortName, IsWhole, Label, LineSays, MayStand, NamesLabel, OfVersion, One, Placed, Procedure, Registers, Say, ParserState, SpellProcedures, Spells, SpellsProcedure, SpellsVersion, Statement, Version, Word, after, after_line, at_start, labels_ahead, line_once, slice_index_or, version_number}
@@ -55,9 +55,9 @@ once_by_pairs [] p = tt
 once_by_pairs (name ∷ names) p =
     (λ c. p 0 (suc c.0) name (omega arith) (omega (arith, c.1)) (sym c.2), once_by_pairs names (λ i j d low high. p (suc i) (suc j) d (omega (arith, low)) (omega (arith, high))))
 
--- ---- statements that follow one another, whatever lines stand between
+-- ---- statements, one after another, whatever lines are between them
 
--- the labels among these statements, up to the next head
+-- returns the labels of these statements, up to the next head
 abbrev pub ahead_of : List Statement → List (List ℕ)
 ahead_of [] = []
 ahead_of (OfVersion version ∷ others) = ahead_of others
@@ -66,11 +66,11 @@ ahead_of (Registers registers ∷ others) = ahead_of others
 ahead_of (Label name ∷ others) = name ∷ ahead_of others
 ahead_of (Code i ∷ others) = ahead_of others
 
--- a label that the words name is ahead, and not before
+-- holds if a label that the words name is after them, and not before
 abbrev pub NamesAhead : ParserState → List (List ℕ) → List Word → Type 0
 NamesAhead s ahead words = (name : List ℕ) → NamesLabel s.version name words → (Contains s.labels name → ⊥) × Contains ahead name
 
--- these words say these statements up to the end, each where it can follow, and their goals are ahead
+-- holds if the words denote these statements up to the end, each is allowed in its state, and goals are after them
 abbrev pub WordsSay : ParserState → List (List Word) → List Statement → Type 0
 WordsSay s [] [] = IsWhole s
 WordsSay s [] (statement ∷ others) = ⊥
@@ -103,7 +103,7 @@ labels_short version all _ _ _ _ (AreCode.label place name words labels code oth
     ]
 labels_short version all _ _ _ _ (AreCode.instruction place i words labels code others h more) label c = labels_short version all (place + 1) labels code others more label c
 
--- within a body, with these labels and so many instructions still ahead
+-- the state in a body, with these labels and this number of instructions still to come
 record Within (version : Version) (all : List Placed) (place : ℕ) (labels : List Placed) (count : ℕ) (s : ParserState) : Type 0 where
   version_is : s.version ≡ version
   stage : s.stage ≡ InBody
@@ -158,7 +158,7 @@ within_code version all place labels count number i s w = record {
   once = w.once;
 }
 
--- the goal of an instruction is ahead
+-- the goal of an instruction is after it
 goal_ahead : (version : Version) (all : List Placed) (place : ℕ) (labels : List Placed) (count : ℕ) (i : Instr) (words : List Word) (s : ParserState) (ahead : List (List ℕ)) → Within version all place labels count s → Spells version (GoesTo all place) (Code i) words
     → ahead ≡ names_of labels → NamesAhead s ahead words
 goal_ahead version all place labels count i words s ahead w h is name n =
@@ -169,7 +169,7 @@ goal_ahead version all place labels count i words s ahead w h is name n =
       | inr c ↦ (λ d. w.apart name d (name_among labels label c), subst (λ (names : List (List ℕ)). Contains names name) (sym is) (name_among labels label c))
     ]
 
--- where the version is this one
+-- the statement in a state with this version
 say_here : (version : Version) (s : ParserState) (statement : Statement) (words : List Word) → s.version ≡ version → Say version statement words → Say s.version statement words
 say_here version s statement words e h = subst (λ (v : Version). Say v statement words) (sym e) h
 
@@ -259,7 +259,7 @@ procedures_say version _ _ (SpellProcedures.one_more p others first behind h mor
     may_begin (inl whole) = inr whole
     may_begin (inr outset) = inl outset.0
 
--- the version's line, and then the procedures
+-- returns the statement of the version's line, if there is one, and those of the procedures
 abbrev pub program_said : (version : Version) (front : List (List Word)) → SpellsVersion version front → List Statement → List Statement
 program_said _ _ SpellsVersion.unsaid others = others
 program_said _ _ (SpellsVersion.said version words h) others = OfVersion (version_number version) ∷ others
@@ -279,7 +279,7 @@ program_says _ _ (SpellsVersion.said version line f) procedures words h fits som
 abbrev pub LineNamesAhead : ParserState → List (List ℕ) → List ℕ → Type 0
 LineNamesAhead s ahead line = (name : List ℕ) (words : List Word) → IsLine words line → NamesLabel s.version name words → (Contains s.labels name → ⊥) × Contains ahead name
 
--- these lines say this up to the end, each where it can follow, and their goals are ahead
+-- holds if the lines have these statements up to the end, each is allowed in its state, and goals are after them
 abbrev pub LinesHold : ℕ → ParserState → List (List ℕ) → List (Option Statement) → Type 0
 LinesHold number s [] [] = IsWhole s
 LinesHold number s [] (said ∷ others) = ⊥

@@ -1,4 +1,4 @@
--- Whole lines: what is read answers which words spell which statements.
+-- Whole lines: the words are read as a statement that they denote, or they denote none.
 use Rattle.std.proofs.Common.{◌≡◌, ◌≢◌, Bool, true, false, cond, ℕ, List, [], ◌∷◌, ◌++◌, map, codes, Option, Some, None, Result, Ok, Err, refl, sym, subst, ◌∙◌}
 use Rattle.tw_asm.proofs.AsmNames.{AllByRecursion, AnyName, Bare, Code, TokenError, Goals, Head, Label, Name, Natural, OfVersion, Opcode, Part, Quoted, Registers, SpellParts, Statement, Version, Word, bytes_eq, bytes_eq-Decides, flat_map, kind_word, operand_parts, param_parts, register_part, row, statement_parts, word_of}
 use Rattle.std.proofs.lemmas.Str.{IsUtf8-string_bytes}
@@ -17,7 +17,7 @@ use Rattle.tw_asm.specs.declared.statement.Statement as statements
 use Rattle.tw_asm.specs.reading.Lines.{Gives, body_in, head_in, registers_in, statement_in, version_in}
 use Rattle.tw_code.specs.format.Table.{opcode_in}
 
--- each statement begins with a word that stands as it is
+-- each statement begins with a fixed word
 begins : (statement : Statement) → (name : List ℕ) × (rest : List Part) × (statement_parts statement ≡ Name name ∷ rest)
 begins (OfVersion number) = (codes "version", Natural number ∷ [], refl)
 begins (Head kind params) = (codes "proc", Name (kind_word kind) ∷ flat_map param_parts params, refl)

@@ -1,4 +1,4 @@
--- What is written of a statement spells it.
+-- The written line of a statement denotes it.
 use Rattle.std.proofs.Common.{◌≡◌, ◌≢◌, inl, inr, ◌≤◌, ◌<◌, ◌^◌, ◌==◌, ℕ, suc, ℤ, pos, negsuc, Bool, true, false, List, [], ◌∷◌, ◌++◌, map, length, codes, Option, Some, None, refl, ap, subst, ◌∙◌, arith}
 use Rattle.tw_asm.proofs.AsmNames.{◌&&◌, ◌||◌, AllByRecursion, Bare, Closed, Code, FitsSigned, Goals, HasForm, HasInstr, Head, Instr, Int, IsAscii, IsInLimits, IsInName, IsInstr, IsLine, IsName, IsOperand, IsRegister, IsSkip, IsTarget, IsUtf8, IsWord, Kind, Label, Literal, Mode, Name, Natural, Number, OfVersion, Opcode, Operand, Param, Part, Quoted, Ref, Registers, Right, Scalar, Skip, SpellParts, Spells, SpellsPart, SpellsWith, Statement, Target, Text, TypeOf, Val, Value, Version, Word, Write, container_word, decimal, flat_map, goal_word, holds, if◌then◌else◌, instr_parts, is_edge, join_with_byte, kind_word, ltb-true, map-append, mode_word, nat_lt, nat_tests, operand_parts, param_parts, part_words, register_part, scalar_word, skip_among, skip_of, statement_parts, w64, word_of}
 use Rattle.std.specs.Fmt.{signed_decimal}
@@ -37,7 +37,7 @@ written_part skip_word (Target (Some number)) = Bare (decimal number) ∷ []
 abbrev pub written : (ℕ → List ℕ) → Statement → List Word
 written skip_word statement = flat_map (written_part skip_word) (statement_parts statement)
 
--- a word as it is written
+-- returns a word as it is written
 abbrev pub text_of : Word → List ℕ
 text_of (Bare word) = word
 text_of (Quoted text) = quoted text
@@ -65,7 +65,7 @@ pub all_append : {A : Type 0} (P : A → Type 0) (xs ys : List A) → AllByRecur
 all_append P [] ys h k = k
 all_append P (x ∷ xs) ys h k = (h.0, all_append P xs ys h.1 k)
 
--- how a written word stands in a line
+-- holds if the written word is one word of a line, in UTF-8
 abbrev pub IsWellWritten : Word → Type 0
 IsWellWritten word = IsWord word (text_of word) × IsOneLine (text_of word) × IsUtf8 (text_of word)
 
@@ -85,7 +85,7 @@ joined_utf8 (word ∷ next ∷ words) h =
 
 -- ---- bare words
 
--- an ASCII byte over `"` that begins no comment
+-- holds for an ASCII byte above `"` that begins no comment
 abbrev pub IsClear : ℕ → Type 0
 IsClear b = (35 ≤ b) × (b < 128) × (b ≢ 59)
 
@@ -110,7 +110,7 @@ clear_ascii : (bytes : List ℕ) → AreClear bytes → IsAscii bytes
 clear_ascii [] h = IsAscii-nil
 clear_ascii (b ∷ bytes) h = IsAscii-cons b bytes h.0.1 (clear_ascii bytes h.1)
 
--- some bytes, all of them clear
+-- holds for at least one byte, all of them clear
 abbrev pub IsClearWord : List ℕ → Type 0
 IsClearWord [] = ⊥
 IsClearWord (b ∷ bytes) = AreClear (b ∷ bytes)
@@ -122,7 +122,7 @@ bare_word (b ∷ bytes) h = (((no_quote h.0.0, clear_edges (b ∷ bytes) h), ref
     no_quote : 35 ≤ b → b ≢ 34
     no_quote low e = omega arith
 
--- the same by a test
+-- tests whether a byte is clear
 abbrev is_clear : ℕ → Bool
 is_clear b = if b == 59 then false else nat_lt 34 b && nat_lt b 128
 
@@ -159,7 +159,7 @@ digits_clear : (digits : List ℕ) → AllDigits 10 digits → AreClear digits
 digits_clear [] h = tt
 digits_clear (d ∷ digits) h = let range = digit_from_value d h.0 in (digit_clear d range.0 range.1, digits_clear digits h.1)
 
--- what begins a word, and digits
+-- the beginning of a word, followed by digits
 numbered_clear : (front : List ℕ) (number : ℕ) → AreClear front → number < 2 ^ 64 → IsClearWord (front ++ decimal number)
 numbered_clear [] number h small = some (decimal number) (decimal_is_IsNumeral number small).0
   where
@@ -195,7 +195,7 @@ label_clear (b ∷ others) h = all_append IsClear (b ∷ others) (codes ":") (na
 
 -- ---- parts
 
--- what a part holds is within the limits
+-- holds if the content of a part is within the limits
 abbrev pub IsInPart : Part → Type 0
 IsInPart (Name word) = IsClearWord word
 IsInPart (Value register) = IsRegister register
@@ -207,7 +207,7 @@ IsInPart (TypeOf ty) = Unit {0}
 IsInPart (Skip skip) = IsSkip skip
 IsInPart (Target target) = IsTarget target
 
--- a skip's word stands for it
+-- holds if the word of a skip denotes it
 abbrev pub IsGoalWord : Goals → (ℕ → List ℕ) → ℕ → Type 0
 IsGoalWord goals skip_word skip = SpellsPart goals (Skip skip) (Bare (skip_word skip) ∷ []) × IsClearWord (skip_word skip)
 
@@ -252,7 +252,7 @@ module _ (goals : Goals) (skip_word : ℕ → List ℕ) where
   part_well (Target None) h g = (refl, (bare_word (codes "any") (clear_word (codes "any") refl), tt))
   part_well (Target (Some n)) h g = let small = register_small n h in (digits_spell [] n small, (bare_word (decimal n) (numbered_clear [] n tt small), tt))
 
-  -- the goals of all skips among them are written so
+  -- holds if this is so for all skips of the parts
   abbrev pub AreGoalWords : List Part → Type 0
   AreGoalWords parts = AllByRecursion (λ part. (skip : ℕ) → part ≡ Skip skip → IsGoalWord goals skip_word skip) parts
 
@@ -265,7 +265,7 @@ module _ (goals : Goals) (skip_word : ℕ → List ℕ) where
         all_append IsWellWritten (written_part skip_word part) (flat_map (written_part skip_word) parts) one.1 more.1,
       )
 
--- ---- the parts of statements in their limits
+-- ---- the parts of statements within their limits
 
 -- each name is a word
 word_clear : (o : Opcode) → IsClearWord (word_of o)
@@ -334,7 +334,7 @@ statement_in version (Code i) form h = instr_in i h
 
 -- ---- statements
 
--- a line of words that spell the statement, in UTF-8
+-- a line in UTF-8 whose words denote the statement
 pub record IsLineOf (version : Version) (goals : Goals) (s : Statement) (line : List ℕ) : Type 0 where
   pub words : List Word
   pub spells : Spells version goals s words
@@ -342,7 +342,7 @@ pub record IsLineOf (version : Version) (goals : Goals) (s : Statement) (line : 
   pub single : IsOneLine line
   pub utf8 : IsUtf8 line
 
--- the line of a statement, without its line feed
+-- returns the line of a statement, without its line feed
 abbrev pub bare_line : (ℕ → List ℕ) → Statement → List ℕ
 bare_line skip_word s = join_with_byte 32 (flat_map (part_words skip_word) (statement_parts s))
 
@@ -368,7 +368,7 @@ plus_word goals skip h =
 label_word : (goals : Goals) (label skip : ℕ) → label < 2 ^ 64 → goals skip (codes "L" ++ decimal label) → IsGoalWord goals (goal_word (Some label)) skip
 label_word goals label skip small goal = (inr (codes "L" ++ decimal label, goal, refl), numbered_clear (codes "L") label (is_clear-true 76 refl, tt) small)
 
--- a label's number is one of the machine's, and its name stands for the skip
+-- holds if the label's number fits in the machine, and its name denotes the skip
 abbrev pub IsGoal : Goals → Option ℕ → ℕ → Type 0
 IsGoal goals None skip = Unit {0}
 IsGoal goals (Some label) skip = (label < 2 ^ 64) × goals skip (codes "L" ++ decimal label)
@@ -381,7 +381,7 @@ all_goals : (goals : Goals) (label : Option ℕ) (parts : List Part) → AllByRe
 all_goals goals label [] h g = tt
 all_goals goals label (part ∷ parts) h g = (λ skip is. goal_words goals label skip (subst IsInPart is h.0) (g.0 skip is), all_goals goals label parts h.1 g.1)
 
--- its skip is its only one, or it has none
+-- the only skip of an instruction, if it has one
 module _ (P : ℕ → Type 0) where
   none_skips : (parts : List Part) → is_last parts ≡ true → AllByRecursion (λ part. (skip : ℕ) → part ≡ Skip skip → P skip) parts
   none_skips [] e = tt
@@ -401,12 +401,12 @@ module _ (P : ℕ → Type 0) where
   skip_alone (Skip n ∷ parts) last h = (goal_here n (h n refl), none_skips parts last)
   skip_alone (part ∷ parts) last h = (no_skip part (λ seven. different (sort_of part) 7 seven refl), skip_alone parts last h)
 
--- what is written of an instruction: its goal by this label, or as a number
+-- the line of an instruction denotes it; its goal is written as this label, or as a number
 pub instr_written : (version : Version) (goals : Goals) (label : Option ℕ) (i : Instr) → HasInstr version i → IsInstr i → ((skip : ℕ) → skip_of i ≡ Some skip → IsGoal goals label skip) → IsLineOf version goals (Code i) (bare_line (goal_word label) (Code i))
 instr_written version goals label i had limits goal =
     written_spells version goals (goal_word label) (Code i) had limits (all_goals goals label (instr_parts i) (instr_in i limits) (skip_alone (IsGoal goals label) (instr_parts i) (row i).last goal))
 
--- what is written of a statement without a skip, whatever the goals
+-- the line of a statement without a skip denotes it, whatever the goals
 params_without : (P : ℕ → Type 0) (params : List Param) → AllByRecursion (λ part. (skip : ℕ) → part ≡ Skip skip → P skip) (flat_map param_parts params)
 params_without P [] = tt
 params_without P (param ∷ params) = (no_skip P (Name (mode_word param.mode)) (λ seven. different 0 7 seven refl), (no_skip P (TypeOf param.ty) (λ seven. different 6 7 seven refl), params_without P params))

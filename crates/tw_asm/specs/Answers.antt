@@ -1,4 +1,4 @@
--- What the calls answer.
+-- The results of the public calls.
 use Rattle.std.specs.Prelude.{◌≡◌, ℕ, List, Result, Ok, Err}
 use Rattle.tw_code.specs.format.Program.{Versioned}
 use Rattle.tw_asm.specs.declared.assembler.LinedProgram.{LinedProgram}
@@ -9,7 +9,7 @@ use Rattle.tw_asm.specs.Fault.{IsFirstFault}
 use Rattle.tw_asm.specs.Origins.{AreOrigins}
 use Rattle.tw_asm.specs.Spelling.{SpellsProgram}
 
--- the first fault of a text that spells no program
+-- the first fault of a text that denotes no program
 pub record HasFault (text : List ℕ) (no : FaultNo) (line : ℕ) : Type 0 where
   pub first : IsFirstFault text no line
   pub none : (program : Versioned) → SpellsProgram program text → ⊥
@@ -23,12 +23,12 @@ IsFault text fault.LabelNotForward line = HasFault text fault.LabelNotForward li
 IsFault text fault.Limit line = HasFault text fault.Limit line
 IsFault text fault.NoMemory line = line ≡ 0
 
--- the program that the text spells, or its first fault, or want of memory
+-- holds if the result is the program that the text denotes, or its first fault, or an allocation fails
 abbrev pub IsAssembled : List ℕ → Result Versioned AsmFault → Type 0
 IsAssembled text (Ok program) = SpellsProgram program text
 IsAssembled text (Err f) = IsFault text f.no f.line
 
--- the same of the program with the line of each instruction
+-- like `IsAssembled`, and each instruction has its line
 abbrev pub IsLined : List ℕ → Result LinedProgram AsmFault → Type 0
 IsLined text (Ok lined) = SpellsProgram lined.program text × AreOrigins text lined.program.procedures lined.lines.procedures
 IsLined text (Err f) = IsFault text f.no f.line

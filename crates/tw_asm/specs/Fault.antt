@@ -1,8 +1,8 @@
--- Which fault of an assembly text is the first.
+-- The first fault of an assembly text.
 --
--- A text is read line by line, and each line stands in a situation: what the lines before it have said. The first line
--- that can't follow has the fault, and of the faults of one line that of the lowest number. Where all lines can follow, and
--- the text may end, labels are looked at: the first line whose goal isn't a label behind it has the fault.
+-- A text is read line by line. The lines before a line decide the state of the parser. The first line that isn't allowed in its state has
+-- the fault; if it has several, the one with the lowest number counts. If all lines are allowed, and the text may end, goals are checked:
+-- the first line whose goal isn't a label after it has the fault.
 use Rattle.std.specs.Prelude.{◌≡◌, ◌⊎◌, ℕ, ◌+◌, ◌≤◌, ◌<◌, List, [], ◌∷◌, ◌++◌, length, take, drop, slice_get, Option, Some, None}
 use Rattle.tw_code.specs.declared.instr.Instr.{Instr}
 use Rattle.tw_code.specs.declared.version.Version.{Version}
@@ -16,7 +16,7 @@ use Rattle.tw_asm.specs.Statement.{Statement, OfVersion, Head, Registers, Label,
 use Rattle.tw_asm.specs.declared.fault.FaultNo.{FaultNo}
 use Rattle.tw_asm.specs.declared.fault.FaultNo.TheVariants as fault
 
--- A01 to A07
+-- returns the number of a fault: A01 to A07
 abbrev pub fault_number : FaultNo → ℕ
 fault_number fault.Word = 1
 fault_number fault.Operand = 2
@@ -26,21 +26,21 @@ fault_number fault.LabelNotForward = 5
 fault_number fault.Limit = 6
 fault_number fault.NoMemory = 7
 
--- ---- situations
+-- ---- states
 
 pub data Stage : Type 0 where
-  -- nothing has been said
+  -- nothing is read yet
   Start : Stage
-  -- the version has been said, and nothing more
+  -- only the version is read
   AfterVersion : Stage
-  -- the types of value registers are due
+  -- the types of value registers have to follow
   AfterHead : Stage
   InBody : Stage
 
 pub record ParserState : Type 0 where
   pub version : Version
   pub stage : Stage
-  -- how many procedures have begun, and the line at which the last one did
+  -- the number of procedures so far, and the line of the last head
   pub procedures : ℕ
   pub head_line : ℕ
   -- the labels of the last procedure, and how many instructions it has
@@ -50,7 +50,7 @@ pub record ParserState : Type 0 where
 abbrev pub at_start : ParserState
 at_start = record { version = One; stage = Start; procedures = 0; head_line = 0; labels = []; instructions = 0 }
 
--- after a statement in the line of this number
+-- returns the state after a statement in the line with this number
 abbrev pub after : ℕ → Statement → ParserState → ParserState
 after number (OfVersion version) s = record s { version = version_by version; stage = AfterVersion }
 after number (Head kind params) s = record { version = s.version; stage = AfterHead; procedures = s.procedures + 1; head_line = number; labels = []; instructions = 0 }
@@ -58,14 +58,14 @@ after number (Registers registers) s = record s { stage = InBody }
 after number (Label name) s = record s { labels = s.labels ++ (name ∷ []) }
 after number (Code i) s = record s { instructions = s.instructions + 1 }
 
--- no procedure has begun
+-- holds if no procedure has begun
 abbrev pub IsOutset : Stage → Type 0
 IsOutset Start = Unit {0}
 IsOutset AfterVersion = Unit {0}
 IsOutset AfterHead = ⊥
 IsOutset InBody = ⊥
 
--- the last procedure may end here: it has an instruction
+-- holds if the last procedure may end here: it has an instruction
 abbrev pub IsWhole : ParserState → Type 0
 IsWhole s = (s.stage ≡ InBody) × (0 < s.instructions)
 
@@ -76,9 +76,9 @@ MayStand (Registers registers) s = s.stage ≡ AfterHead
 MayStand (Label name) s = (s.stage ≡ InBody) × (Contains s.labels name → ⊥)
 MayStand (Code i) s = (s.stage ≡ InBody) × (s.instructions < 4096)
 
--- ---- lines that can follow
+-- ---- lines that are allowed
 
--- what a line says that can follow, if anything
+-- holds if the line has this statement, which is allowed in the state, or has no words
 abbrev pub LineSays : ParserState → List ℕ → Option Statement → Type 0
 LineSays s line None = IsLine [] line
 LineSays s line (Some statement) = ((words : List Word) × IsLine words line × Say s.version statement words) × MayStand statement s
@@ -87,51 +87,51 @@ abbrev pub after_line : ℕ → Option Statement → ParserState → ParserState
 after_line number None s = s
 after_line number (Some statement) s = after number statement s
 
--- Lines from this number on say this, one after the other, each where it can follow.
+-- holds if the lines, the first with this number, have these statements, and each is allowed in its state
 abbrev pub LinesSay : ℕ → ParserState → List (List ℕ) → List (Option Statement) → Type 0
 LinesSay number s [] [] = Unit {0}
 LinesSay number s [] (said ∷ others) = ⊥
 LinesSay number s (line ∷ after) [] = ⊥
 LinesSay number s (line ∷ after) (said ∷ others) = LineSays s line said × LinesSay (number + 1) (after_line number said s) after others
 
--- the situation after lines from this number on, which say this
+-- returns the state after lines with these statements, the first with this number
 abbrev pub situation_from : ℕ → ParserState → List (Option Statement) → ParserState
 situation_from number s [] = s
 situation_from number s (said ∷ others) = situation_from (number + 1) (after_line number said s) others
 
--- the situation after the first lines of a text
+-- returns the state after the first lines of a text
 abbrev pub situation : List (Option Statement) → ParserState
 situation said = situation_from 1 at_start said
 
--- ---- what is wrong with a line
+-- ---- the fault of a line
 
--- what a first word may let expect here
+-- holds if a line that begins so is allowed at this stage
 abbrev pub MayBegin : Stage → First → Type 0
 MayBegin Start expected = (expected ≡ first.Version) ⊎ (expected ≡ first.Head)
 MayBegin AfterVersion expected = expected ≡ first.Head
 MayBegin AfterHead expected = expected ≡ first.Registers
 MayBegin InBody expected = (expected ≡ first.Head) ⊎ (expected ≡ first.Body)
 
--- the line's first word lets expect what may stand here
+-- holds if the first word of the line begins a statement that is allowed here
 abbrev pub Begins : ParserState → List ℕ → First → Type 0
 Begins s line expected = (word rest : List ℕ) × IsFirstWord (Bare word) line rest × IsExpected s.version expected word × MayBegin s.stage expected
 
--- the line's words have a form, within the limits or not
+-- holds if the words of the line have the form of a statement, within the limits or not
 abbrev pub HasWords : Version → List ℕ → Type 0
 HasWords version line = (words : List Word) × IsLine words line × HaveForm version words
 
--- a procedure has begun, and has no instruction
+-- holds if a procedure has begun and has no instruction
 abbrev pub IsEmpty : ParserState → Type 0
 IsEmpty s = (s.stage ≡ InBody) × (s.instructions ≡ 0)
 
--- what is wrong with the line of this number, and at which line it is told
+-- a fault of the line with this number, and the line that is reported
 pub data LineFault (number : ℕ) (s : ParserState) (line : List ℕ) : FaultNo → ℕ → Type 0 where
-  -- it has something, but no first word that may stand here
+  -- it has something, but no first word that is allowed here
   word : (IsLine [] line → ⊥) → ((expected : First) → Begins s line expected → ⊥) → LineFault number s line fault.Word number
   operand : (expected : First) → Begins s line expected → (HasWords s.version line → ⊥) → LineFault number s line fault.Operand number
   label_twice : (name : List ℕ) (words : List Word) → s.stage ≡ InBody → IsLine words line → Say s.version (Label name) words
       → Contains s.labels name → LineFault number s line fault.LabelTwice number
-  -- a procedure without instructions is met at the next head, and the fault is at its own
+  -- a procedure without instructions is found at the next head, and reported at its own
   empty : Begins s line first.Head → HasWords s.version line → IsEmpty s → LineFault number s line fault.Limit s.head_line
   limit : (expected : First) → Begins s line expected → HasWords s.version line → (expected ≡ first.Head → IsEmpty s → ⊥)
       → ((statement : Statement) (words : List Word) → IsLine words line → Say s.version statement words → ⊥)
@@ -140,7 +140,7 @@ pub data LineFault (number : ℕ) (s : ParserState) (line : List ℕ) : FaultNo 
   instructions : (i : Instr) (words : List Word) → s.stage ≡ InBody → IsLine words line → Say s.version (Code i) words
       → 4096 ≤ s.instructions → LineFault number s line fault.Limit number
 
--- the first line that can't follow
+-- the first line that isn't allowed
 pub record IsLineFault (text : List ℕ) (no : FaultNo) (at : ℕ) : Type 0 where
   pub before : List (List ℕ)
   pub line : List ℕ
@@ -150,11 +150,11 @@ pub record IsLineFault (text : List ℕ) (no : FaultNo) (at : ℕ) : Type 0 wher
   pub say : LinesSay 1 at_start before said
   pub wrong : LineFault (length before + 1) (situation said) line no at
 
--- There is no procedure, or the last one has no instruction.
+-- holds if there is no procedure, or the last one has no instruction
 abbrev pub IsUnfinished : ParserState → ℕ → Type 0
 IsUnfinished s at = (IsOutset s.stage × (at ≡ 1)) ⊎ ((IsOutset s.stage → ⊥) × (s.instructions ≡ 0) × (at ≡ s.head_line))
 
--- all lines can follow, but the text may not end there
+-- a text whose lines are all allowed, but which may not end there
 pub record IsEndFault (text : List ℕ) (no : FaultNo) (at : ℕ) : Type 0 where
   pub said : List (Option Statement)
   pub say : LinesSay 1 at_start (lines text) said
@@ -163,7 +163,7 @@ pub record IsEndFault (text : List ℕ) (no : FaultNo) (at : ℕ) : Type 0 where
 
 -- ---- goals
 
--- the labels among these statements, up to the next head
+-- returns the labels of these statements, up to the next head
 abbrev pub labels_ahead : List (Option Statement) → List (List ℕ)
 labels_ahead [] = []
 labels_ahead (None ∷ others) = labels_ahead others
@@ -173,14 +173,14 @@ labels_ahead (Some (Registers registers) ∷ others) = labels_ahead others
 labels_ahead (Some (Label name) ∷ others) = name ∷ labels_ahead others
 labels_ahead (Some (Code i) ∷ others) = labels_ahead others
 
--- the line names a label as a goal that is neither before it nor ahead, or one that is before it
+-- the line names a label as its goal that isn't in the procedure, or that is before it
 pub data GoalFault (s : ParserState) (ahead : List (List ℕ)) (line : List ℕ) : FaultNo → Type 0 where
   unknown : (name : List ℕ) (words : List Word) → IsLine words line → NamesLabel s.version name words → (Contains s.labels name → ⊥)
       → (Contains ahead name → ⊥) → GoalFault s ahead line fault.UnknownLabel
   not_forward : (name : List ℕ) (words : List Word) → IsLine words line → NamesLabel s.version name words → Contains s.labels name
       → GoalFault s ahead line fault.LabelNotForward
 
--- The text may end, and the line of this number has such a goal.
+-- a text that may end, and in which the line of this number has such a goal
 pub record IsGoalFault (text : List ℕ) (no : FaultNo) (at : ℕ) : Type 0 where
   pub said : List (Option Statement)
   pub say : LinesSay 1 at_start (lines text) said
@@ -191,10 +191,10 @@ pub record IsGoalFault (text : List ℕ) (no : FaultNo) (at : ℕ) : Type 0 wher
   pub line_is : slice_get (lines text) index ≡ Some line
   pub wrong : GoalFault (situation (take index said)) (labels_ahead (drop (index + 1) said)) line no
 
--- and no line before it has one
+-- holds if also no line before it has such a fault
 abbrev pub IsFirstGoalFault : List ℕ → FaultNo → ℕ → Type 0
 IsFirstGoalFault text which at = IsGoalFault text which at × ((other : FaultNo) (number : ℕ) → IsGoalFault text other number → at ≤ number)
 
--- the first fault of the text, and the number of its line, from 1
+-- holds if this is the first fault of the text, and the number of its line, from 1
 abbrev pub IsFirstFault : List ℕ → FaultNo → ℕ → Type 0
 IsFirstFault text which at = IsLineFault text which at ⊎ (IsEndFault text which at ⊎ IsFirstGoalFault text which at)

@@ -1,6 +1,7 @@
--- Assembly text: Spelling says which texts spell a program, Fault which fault of a text is the first, Origins which line an
--- instruction comes from, Disassembly which text a program has, and Listing the pieces of that text. They stand on statements: Parts is the table of what each has, Statement says which words spell it,
--- and Written how it is written. Theorems has a law on spellings and one on faults.
+-- Definitions of assembly text. `Spelling` says which texts denote a program, and `Fault` which fault of a text is the first. `Origins` says from
+-- which line an instruction comes, `Disassembly` which text a program has, and `Listing` what the pieces of that text are. They depend on statements:
+-- `Parts` is the table of their parts, `Statement` says which words denote them, and `Written` how they are written. `Theorems` has statements about
+-- all texts.
 pub mod Parts
 pub mod Statement
 pub mod Written
@@ -10,7 +11,8 @@ pub mod Origins
 pub mod Disassembly
 pub mod Listing
 pub mod Theorems
--- How the code's results and statements are seen: Answers, LineAnswers, Seen. What the readers keep is in reading and words.
+-- Answers, LineAnswers and Seen relate the code's results and statements to these definitions. The state of the readers is in reading and
+-- words.
 pub mod Answers
 pub mod LineAnswers
 pub mod Seen

@@ -1,4 +1,4 @@
--- What reading a line's words answers.
+-- The results of reading the words of a line.
 use Rattle.std.specs.Prelude.{List, Result, Ok, Err}
 use Rattle.tw_code.specs.declared.version.Version.{Version}
 use Rattle.tw_lexer.specs.Words.{Word}
@@ -10,12 +10,12 @@ use Rattle.tw_lexer.specs.declared.numbers.TokenError.TheVariants as flaw
 use Rattle.tw_asm.specs.declared.rejection.Rejection.{Rejection}
 use Rattle.tw_asm.specs.declared.rejection.Rejection.TheVariants as rejection
 
--- what is wrong with these words, after a first word that lets expect a statement
+-- holds if the words after the first one have this error
 abbrev pub IsFlawed : Version → TokenError → List Word → Type 0
 IsFlawed version flaw.Form words = HaveForm version words → ⊥
 IsFlawed version flaw.Limit words = HaveForm version words × ((statement : Statement) → Say version statement words → ⊥)
 
--- what reading answers, memory aside
+-- holds if this is the result of reading the words; an allocation may fail
 abbrev pub Answers : Version → Result statements.Statement Rejection → List Word → Type 0
 Answers version (Ok read) words = IsRead version (seen read) words
 Answers version (Err rejection.NoMemory) words = Unit {0}

@@ -1,4 +1,4 @@
--- What a statement of assembly text has, part by part, in the order of the text.
+-- The parts of each statement of assembly text, in the order of the text.
 use Rattle.std.specs.Prelude.{ℕ, ℤ, List, [], ◌∷◌, ◌++◌, map, codes, Option, Some, None}
 use Rattle.std.specs.List.{flat_map}
 use Rattle.tw_code.specs.declared.form.Form.TheVariants as form
@@ -14,7 +14,7 @@ use Rattle.tw_types.specs.declared.param.Mode.TheVariants.{Val, Closed, Ref, Wri
 use Rattle.tw_types.specs.declared.param.Param.{Param}
 
 pub data Part : Type 0 where
-  -- a word that stands as it is
+  -- a fixed word
   Name : List ℕ → Part
   -- a value register, a right register
   Value : ℕ → Part
@@ -25,9 +25,9 @@ pub data Part : Type 0 where
   -- a text
   Literal : List ℕ → Part
   TypeOf : NestedScalar → Part
-  -- how many instructions to skip
+  -- how many instructions are skipped
   Skip : ℕ → Part
-  -- the number of an actor, or any
+  -- the number of an actor, or `any`
   Target : Option ℕ → Part
 
 abbrev pub kind_word : Kind → List ℕ
@@ -44,16 +44,16 @@ abbrev pub scalar_word : Scalar → List ℕ
 scalar_word Int = codes "int"
 scalar_word Text = codes "text"
 
--- by the type of its subscripts
+-- returns the word of a container, by the type of its subscripts
 abbrev pub container_word : Scalar → List ℕ
 container_word Int = codes "cont"
 container_word Text = codes "tcont"
 
--- a word for each container, the outermost first, and the scalar
+-- returns a word for each container, the outermost first, and the word of the scalar
 abbrev pub type_words : NestedScalar → List (List ℕ)
 type_words ty = map container_word ty.containers ++ (scalar_word ty.scalar ∷ [])
 
--- ---- instructions: a line a form of operands
+-- ---- instructions: a row for each form of operands
 
 abbrev pub operand_parts : Operand → List Part
 operand_parts (holds form.Value register) = Value register ∷ []
@@ -67,7 +67,7 @@ operand_parts (holds form.Callee procedure) = Natural procedure ∷ []
 operand_parts (holds form.Target target) = Target target ∷ []
 operand_parts (holds form.Args registers) = map Natural registers
 
--- its name, and each of its operands
+-- returns the name, and the parts of each operand
 abbrev pub instr_parts : Instr → List Part
 instr_parts i = Name (word_of (row i).0) ∷ flat_map operand_parts (row i).1
 
@@ -88,7 +88,7 @@ register_part scalar = Name (scalar_word scalar)
 abbrev pub registers_parts : List Scalar → List Part
 registers_parts registers = Name (codes "regs") ∷ map register_part registers
 
--- a name and `:` as one word
+-- returns the label's name and `:` as one word
 abbrev pub label_parts : List ℕ → List Part
 label_parts name = Name (name ++ codes ":") ∷ []
 
@@ -99,6 +99,6 @@ skip_among [] = None
 skip_among (Skip skip ∷ parts) = Some skip
 skip_among (part ∷ parts) = skip_among parts
 
--- how many instructions it skips, if it may skip any
+-- returns how many instructions it skips, if it may skip any
 abbrev pub skip_of : Instr → Option ℕ
 skip_of i = skip_among (instr_parts i)

@@ -1,4 +1,4 @@
--- How contracts see what the code keeps of a statement, and of one whose label isn't known yet.
+-- How contracts see the code's statements, also those whose label isn't resolved yet.
 use Rattle.std.specs.Borrow.{Bor}
 use Rattle.std.specs.Prelude.{◌≡◌, ℕ, List, Option, Some, None}
 use Rattle.tw_code.specs.declared.instr.DataInstr.{DataInstr}
@@ -13,7 +13,7 @@ use Rattle.tw_asm.specs.declared.statement.Statement as statements
 use Rattle.tw_asm.specs.declared.statement.Statement.TheVariants as statement
 use Rattle.tw_asm.specs.Statement.{Statement, OfVersion, Head, Registers, Label, Code, Goals, Spells, IsInLimits, IsShortName, NamesLabel, version_number}
 
--- a statement, and the label that it names where it is an instruction
+-- a statement, and the label that it names, if it is an instruction
 pub record Read : Type 0 where
   pub statement : Statement
   pub goal : Option (List ℕ)
@@ -29,14 +29,14 @@ seen (statement.Registers registers) = record { statement = Registers registers;
 seen (statement.Label name) = record { statement = Label name.now; goal = None }
 seen (statement.Code draft) = record { statement = Code draft.instr; goal = bytes_of draft.goal }
 
--- this name alone, whose skip is 0 as long as it isn't known
+-- holds for this name alone; its skip is 0 until the label is resolved
 abbrev pub OnlyName : List ℕ → Goals
 OnlyName name skip word = (skip ≡ 0) × (word ≡ name)
 
 abbrev pub NoName : Goals
 NoName skip word = ⊥
 
--- These words are this statement, within the limits; where a label is named, they are no statement without a label.
+-- Holds if the words denote this statement, within the limits. If it names a label, they denote no statement without a label.
 abbrev pub IsRead : Version → Read → List Word → Type 0
 IsRead version read words = IsInLimits read.statement × spelled read.goal
   where
@@ -44,7 +44,7 @@ IsRead version read words = IsInLimits read.statement × spelled read.goal
     spelled None = Spells version NoName read.statement words
     spelled (Some name) = IsShortName name × Spells version (OnlyName name) read.statement words × NamesLabel version name words
 
--- ---- an instruction with another skip, where it has one
+-- ---- an instruction with another skip, if it has one
 
 abbrev pub local_with_skip : ℕ → LocalInstr → LocalInstr
 local_with_skip skip (local.Compute operation to left right old) = local.Compute operation to left right skip

@@ -1,4 +1,4 @@
--- Which texts spell a program. A program has many spellings.
+-- Which texts denote a program. A program has many texts.
 use Rattle.std.specs.Prelude.{◌≡◌, ◌≢◌, ℕ, ◌+◌, List, [], ◌∷◌, ◌++◌, map}
 use Rattle.std.specs.List.{AllPairs, Contains}
 use Rattle.std.specs.Str.Lines.{lines}
@@ -18,18 +18,17 @@ pub data HaveWords : List (List ℕ) → List (List Word) → Type 0 where
   one_more : (line : List ℕ) (others : List (List ℕ)) (word : Word) (after : List Word) (words : List (List Word))
       → IsLine (word ∷ after) line → HaveWords others words → HaveWords (line ∷ others) ((word ∷ after) ∷ words)
 
--- a label, with the place of the next instruction, or with the code's length after the last one
+-- a label, with the place of the next instruction, or the length of the code if it is last
 pub record Placed : Type 0 where
   pub name : List ℕ
   pub place : ℕ
 
--- The skip from the instruction at a place to a label: so many instructions stand between. So a label that isn't behind the
--- instruction is no goal.
+-- Holds if this skip leads from the instruction at a place to the label: it is the number of instructions between them. So a label before
+-- the instruction is no goal.
 abbrev pub GoesTo : List Placed → ℕ → Goals
 GoesTo labels place skip name = Contains labels (record { name = name; place = place + 1 + skip })
 
--- From a place on these lines are these instructions, and these are the labels among them; goals may be all labels of the
--- procedure.
+-- These lines denote the instructions from a place on, and these labels are among them. A goal may be any label of the procedure.
 pub data AreCode (version : Version) (all : List Placed) : ℕ → List Placed → List Instr → List (List Word) → Type 0 where
   end : (place : ℕ) → AreCode version all place [] [] []
   label : (place : ℕ) (name : List ℕ) (words : List Word) (labels : List Placed) (code : List Instr) (others : List (List Word))
@@ -39,7 +38,7 @@ pub data AreCode (version : Version) (all : List Placed) : ℕ → List Placed �
       → Spells version (GoesTo all place) (Code i) words → AreCode version all (place + 1) labels code others
       → AreCode version all place labels (i ∷ code) (words ∷ others)
 
--- a head, the types of the value registers, and the code, in which no label stands twice
+-- a head, the types of the value registers, and the code, in which each label occurs once
 pub record SpellsProcedure (version : Version) (procedure : Procedure) (words : List (List Word)) : Type 0 where
   pub head : List Word
   pub registers : List Word
@@ -51,13 +50,13 @@ pub record SpellsProcedure (version : Version) (procedure : Procedure) (words : 
   pub body_is : AreCode version labels 0 labels procedure.code body
   pub once : AllPairs (λ a b. a ≢ b) (map (λ label. label.name) labels)
 
--- one procedure after the other
+-- one procedure after another
 pub data SpellProcedures (version : Version) : List Procedure → List (List Word) → Type 0 where
   end : SpellProcedures version [] []
   one_more : (procedure : Procedure) (others : List Procedure) (first after : List (List Word))
       → SpellsProcedure version procedure first → SpellProcedures version others after → SpellProcedures version (procedure ∷ others) (first ++ after)
 
--- the version's line, if it stands there; without it the version is the first
+-- the line of the version, if there is one; without it the version is the first
 pub data SpellsVersion : Version → List (List Word) → Type 0 where
   unsaid : SpellsVersion One []
   said : (version : Version) (words : List Word) → Spells One (GoesTo [] 0) (OfVersion (version_number version)) words → SpellsVersion version (words ∷ [])

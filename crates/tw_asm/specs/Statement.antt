@@ -1,4 +1,4 @@
--- Statements of assembly text, and the words that spell them.
+-- Statements of assembly text, and the words that denote them.
 use Rattle.std.specs.Prelude.{◌≡◌, ◌⊎◌, ◌≤◌, ℕ, Bool, true, List, [], ◌∷◌, ◌++◌, length, codes, map, Some, None, ◌==◌, if◌then◌else◌}
 use Rattle.std.specs.Int.{IsInRange}
 use Rattle.std.specs.List.{AllByRecursion}
@@ -30,12 +30,12 @@ version_number Two = 2
 abbrev pub version_by : ℕ → Version
 version_by number = if number == 2 then Two else One
 
--- ---- what a line says
+-- ---- statements
 
 pub data Statement : Type 0 where
   -- the version of the language
   OfVersion : ℕ → Statement
-  -- a procedure begins, of this kind and with these parameters
+  -- the head of a procedure, with its kind and its parameters
   Head : Kind → List Param → Statement
   -- the types of its value registers
   Registers : List Scalar → Statement
@@ -55,26 +55,26 @@ statement_parts (Code i) = instr_parts i
 abbrev pub IsLetter : ℕ → Type 0
 IsLetter b = IsInRange 65 90 b ⊎ IsInRange 97 122 b
 
--- a letter, a digit or `_`
+-- holds for a letter, a digit or `_`
 abbrev pub IsInName : ℕ → Type 0
 IsInName b = IsLetter b ⊎ (IsInRange 48 57 b ⊎ (b ≡ 95))
 
--- an ASCII letter, and then ASCII letters, digits or `_`
+-- holds for an ASCII letter, followed by ASCII letters, digits or `_`
 abbrev pub IsName : List ℕ → Type 0
 IsName [] = ⊥
 IsName (b ∷ others) = IsLetter b × AllByRecursion IsInName others
 
--- at most 64 bytes
+-- holds for a name of at most 64 bytes
 abbrev pub IsShortName : List ℕ → Type 0
 IsShortName name = IsName name × (length name ≤ 64)
 
 -- ---- the words of a part
 
--- the word of a skip may name a label: which names stand for which skips
+-- which names denote which skips: a skip may be written as the name of a label
 abbrev pub Goals : Type 1
 Goals = ℕ → List ℕ → Type 0
 
--- a letter and the digits of a number
+-- holds for a letter and the digits of a number
 abbrev pub SpellsWith : List ℕ → ℕ → List Word → Type 0
 SpellsWith front number words = (digits : List ℕ) × SpellsDigits number digits × (words ≡ Bare (front ++ digits) ∷ [])
 
@@ -90,7 +90,7 @@ SpellsPart goals (Skip skip) words = SpellsWith (codes "+") skip words ⊎ ((nam
 SpellsPart goals (Target None) words = words ≡ Bare (codes "any") ∷ []
 SpellsPart goals (Target (Some number)) words = SpellsWith [] number words
 
--- one part after the other
+-- holds for the words of each part, one after another
 abbrev pub SpellParts : Goals → List Part → List Word → Type 0
 SpellParts goals [] words = words ≡ []
 SpellParts goals (part ∷ parts) words =
@@ -105,13 +105,13 @@ abbrev pub HasOperand : Version → Operand → Type 0
 HasOperand version (holds form.TypeOf ty) = HasType version ty
 HasOperand version o = Unit {0}
 
--- its opcode, and each type in it
+-- holds if the version has the opcode, and each type in the instruction
 abbrev pub HasInstr : Version → Instr → Type 0
 HasInstr version i = (has_opcode version (row i).0 ≡ true) × AllByRecursion (HasOperand version) (row i).1
 
 -- ---- statements
 
--- no container stands under `val`
+-- holds unless a container has mode `val`
 abbrev pub IsTypeOfMode : Mode → Bool → Type 0
 IsTypeOfMode Val scalar = scalar ≡ true
 IsTypeOfMode Closed scalar = Unit {0}
@@ -121,7 +121,7 @@ IsTypeOfMode Write scalar = Unit {0}
 abbrev pub HasParam : Version → Param → Type 0
 HasParam version param = IsTypeOfMode param.mode (is_scalar param.ty) × HasType version param.ty
 
--- what stands in a statement but for limits
+-- holds if the version has what the statement consists of, whatever its limits
 abbrev pub HasForm : Version → Statement → Type 0
 HasForm version (OfVersion number) = Unit {0}
 HasForm version (Head kind params) = AllByRecursion (HasParam version) params
@@ -129,12 +129,12 @@ HasForm version (Registers registers) = Unit {0}
 HasForm version (Label name) = IsName name
 HasForm version (Code i) = HasInstr version i
 
--- these words spell the statement, whatever its limits
+-- these words denote the statement, whatever its limits
 pub record Spells (version : Version) (goals : Goals) (statement : Statement) (words : List Word) : Type 0 where
   pub form : HasForm version statement
   pub parts : SpellParts goals (statement_parts statement) words
 
--- numbers, counts and texts are within the limits of programs
+-- holds if numbers, counts and texts are within the limits of programs
 abbrev pub IsInLimits : Statement → Type 0
 IsInLimits (OfVersion number) = IsWithin 1 2 number
 IsInLimits (Head kind params) = IsList 0 8 IsParam params
@@ -142,36 +142,36 @@ IsInLimits (Registers registers) = IsWithin 0 16 (length registers)
 IsInLimits (Label name) = length name ≤ 64
 IsInLimits (Code i) = IsInstr i
 
--- ---- where labels aren't known yet
+-- ---- labels that aren't resolved yet
 
--- any name
+-- holds for any name
 abbrev pub AnyName : Goals
 AnyName skip name = IsName name
 
--- any name that isn't too long
+-- holds for any name of at most 64 bytes
 abbrev pub AnyShortName : Goals
 AnyShortName skip name = IsShortName name
 
--- the words of some statement, whatever its limits
+-- holds if the words denote a statement, whatever its limits
 abbrev pub HaveForm : Version → List Word → Type 0
 HaveForm version words = (statement : Statement) × Spells version AnyName statement words
 
--- the words of this statement, which is within the limits
+-- holds if the words denote this statement, which is within the limits
 abbrev pub Say : Version → Statement → List Word → Type 0
 Say version statement words = Spells version AnyShortName statement words × IsInLimits statement
 
--- the instruction names this label as its goal, and no number of instructions
+-- the instruction names this label as its goal, and has no number of instructions instead
 pub record NamesLabel (version : Version) (name : List ℕ) (words : List Word) : Type 0 where
   pub i : Instr
   pub spells : Spells version (λ skip word. word ≡ name) (Code i) words
   pub names : (other : Instr) → Spells version (λ skip word. ⊥) (Code other) words → ⊥
 
--- ---- what a first word lets expect
+-- ---- first words
 
 abbrev pub IsLabelWord : List ℕ → Type 0
 IsLabelWord word = (name : List ℕ) × IsName name × (word ≡ name ++ codes ":")
 
--- the name of an instruction that the version has
+-- holds for the name of an instruction that the version has
 abbrev pub IsInstrWord : Version → List ℕ → Type 0
 IsInstrWord version word = (i : Instr) × (operands : List Part) × HasInstr version i × (instr_parts i ≡ Name word ∷ operands)
 

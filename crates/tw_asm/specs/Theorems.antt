@@ -1,4 +1,4 @@
--- That a text spells one program, that it has one first fault, and that an instruction comes from one line.
+-- Theorems: a text denotes one program, it has one first fault, and an instruction comes from one line.
 use Rattle.std.specs.Prelude.{◌≡◌, ℕ, List}
 use Rattle.tw_code.specs.format.Program.{Versioned}
 use Rattle.tw_asm.specs.declared.fault.FaultNo.{FaultNo}
@@ -9,7 +9,7 @@ use Rattle.tw_asm.specs.Spelling.{SpellsProgram}
 abbrev pub SpellsOnce : Type 0
 SpellsOnce = (text : List ℕ) (p q : Versioned) → SpellsProgram p text → SpellsProgram q text → p ≡ q
 
--- one number, and one line
+-- says that a text has one fault number and one line
 abbrev pub OneFirstFault : Type 0
 OneFirstFault = (text : List ℕ) (which other : FaultNo) (line number : ℕ) → IsFirstFault text which line → IsFirstFault text other number → (which ≡ other) × (line ≡ number)
 

@@ -1,4 +1,4 @@
--- What the assembler keeps to itself: no public clause reaches this folder.
+-- Private to the assembler: no public clause uses this folder.
 pub mod Expected
 pub mod Progress
 pub mod Goals

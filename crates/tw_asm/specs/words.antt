@@ -1,3 +1,3 @@
--- What the functions of this crate keep to themselves: no public clause reaches this folder.
+-- Private to the functions of this crate: no public clause uses this folder.
 pub mod Lines
 pub mod Skips

@@ -9,14 +9,15 @@ use crate::reading::read_text;
 use std::alloc::Global;
 use tw_code::Program;
 
-/// A program, and the line of its text that each instruction comes from.
+/// A program, and the line of the text from which each instruction comes.
 #[derive(Drop)]
 pub struct LinedProgram {
     pub program: Program,
     pub lines: LineNumbers,
 }
 
-/// The program that a text spells, with its lines, or the first fault in it.
+/// Assembles a text into its program with line numbers, or returns the first fault. Use it if messages about the program have to name lines of the
+/// text.
 pub fn assemble_lined(alloc: Global, text: &str) -> Result<LinedProgram, AsmFault>
     ensures { IsLined text.now result }
 {
@@ -29,7 +30,7 @@ pub fn assemble_lined(alloc: Global, text: &str) -> Result<LinedProgram, AsmFaul
     })
 }
 
-/// The program that a text spells, or the first fault in it.
+/// Assembles a text into its program, or returns the first fault of the text.
 pub fn assemble(alloc: Global, text: &str) -> Result<Program, AsmFault>
     ensures { IsAssembled text.now result }
 {

@@ -1,4 +1,4 @@
-//! What stands in a procedure's body: labels, and instructions whose goals aren't looked for yet.
+//! The body of a procedure: labels, and instructions whose goals aren't resolved yet.
 
 ghost use Rattle.std.specs.Prelude.{map, None};
 ghost use Rattle.tw_asm.specs.Fault.{MayBegin};

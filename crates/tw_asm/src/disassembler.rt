@@ -16,7 +16,7 @@ use indexmap::IndexSet;
 use std::alloc::{AllocError, Global};
 use tw_code::{Instr, NoMemory, Procedure, Program, Version};
 
-/// The places of the labels of a procedure's code, in the order in which they are first named.
+/// Returns the places of the labels of a procedure's code, in the order in which they are first named.
 pub fn label_places(alloc: Global, code: &[Instr]) -> Result<IndexSet<usize>, AllocError>
     ensures { IfOk result (λ places. places.keys ≡ label_places code.now) }
 {
@@ -32,14 +32,14 @@ pub fn label_places(alloc: Global, code: &[Instr]) -> Result<IndexSet<usize>, Al
     Ok(places)
 }
 
-/// The number of the label at a place, if one stands there.
+/// Returns the number of the label at a place, if there is one.
 fn label_at(places: &IndexSet<usize>, place: usize) -> Option<usize>
     ensures { result ≡ label_at places.now.keys place }
 {
     places.get_index_of(&place)
 }
 
-/// Adds the label at a place, if one stands there.
+/// Adds the line of the label at a place, if there is one.
 fn put_label_at(lines: &mut Lines, places: &IndexSet<usize>, place: usize) -> Result<(), AllocError>
     ensures { OnOk result (lines.new.out.items ≡ lines.old.out.items ++ label_line (label_at places.now.keys place)) }
 {
@@ -49,7 +49,7 @@ fn put_label_at(lines: &mut Lines, places: &IndexSet<usize>, place: usize) -> Re
     }
 }
 
-/// The number of the label to which the instruction at a place may skip, if one stands there.
+/// Returns the number of the label to which the instruction at a place may skip, if there is one.
 fn goal_label(places: &IndexSet<usize>, place: usize, instr: &Instr) -> Option<usize>
     requires { place < 2 ^ 63 }
     ensures { result ≡ option_and_then (λ skip. label_at places.now.keys (place + 1 + skip)) (skip_of instr.now) }
@@ -60,7 +60,7 @@ fn goal_label(places: &IndexSet<usize>, place: usize, instr: &Instr) -> Option<u
     }
 }
 
-/// Adds the line of the instruction at a place.
+/// Adds the line of the instruction at a place. `places` are the places of the procedure's labels.
 pub fn put_instr_at(
     lines: &mut Lines,
     places: &IndexSet<usize>,
@@ -98,7 +98,7 @@ fn put_procedure(lines: &mut Lines, procedure: &Procedure) -> Result<(), AllocEr
     put_code(lines, &places, procedure.code.as_slice())
 }
 
-/// Adds the lines of procedures, one procedure after the other.
+/// Adds the lines of the procedures in their order.
 fn put_procedures(lines: &mut Lines, procedures: &[Procedure]) -> Result<(), AllocError>
     requires { AllByRecursion IsProcedure procedures.now }
     ensures { OnOk result (lines.new.out.items ≡ lines.old.out.items ++ flat_map procedure_lines procedures.now) }
@@ -109,7 +109,7 @@ fn put_procedures(lines: &mut Lines, procedures: &[Procedure]) -> Result<(), All
     Ok(())
 }
 
-/// The line of the version, and those of the procedures.
+/// Returns the line of the version, if it isn't the first, and the lines of the procedures.
 fn lines_of(
     alloc: Global,
     version: Version,
@@ -124,7 +124,7 @@ fn lines_of(
     Ok(lines.out)
 }
 
-/// The one text of a program, which assembles to it.
+/// Returns the canonical text of a program. `assemble` returns the same program for it.
 pub fn disassemble(alloc: Global, program: &Program) -> Result<String, NoMemory>
     ensures text { IfOk result (λ text. string_bytes text ≡ disassembly program.now) }
     ensures spells { IfOk result (λ text. SpellsProgram program.now (string_bytes text)) }

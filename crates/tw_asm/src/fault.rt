@@ -7,27 +7,27 @@ ghost use Rattle.tw_asm.specs.declared.fault.FaultNo.TheVariants.{NoMemory};
 use std::alloc::{AllocError, AllocFailed};
 use thiserror::Error;
 
-/// What is wrong with a text.
+/// The kind of a fault in an assembly text.
 #[derive(Clone, Copy, Debug, PartialEq, Eq)]
 pub enum FaultNo {
-    /// A01: the line's first word isn't known, or can't stand there.
+    /// A01: the first word of the line is unknown, or isn't allowed there.
     Word,
-    /// A02: an operand has another form, or there are too few or too many.
+    /// A02: an operand has the wrong form, or there are too few or too many.
     Operand,
     /// A03: the procedure has no label of this name.
     UnknownLabel,
-    /// A04: a label of this name stands in the procedure already.
+    /// A04: the procedure has a label of this name already.
     LabelTwice,
-    /// A05: the label isn't behind the instruction that names it.
+    /// A05: the label isn't after the instruction that names it.
     LabelNotForward,
-    /// A06: a number, a count, a nesting, a name or a text is past its limit, or a procedure has no instruction.
+    /// A06: a number, a count, a nesting, a name or a text exceeds its limit, or a procedure has no instruction.
     Limit,
-    /// A07: memory was refused.
+    /// A07: an allocation failed.
     NoMemory,
 }
 
 impl FaultNo {
-    /// The number behind the letter A, from 1.
+    /// Returns the number after the letter A, from 1.
     pub fn number(self) -> u8
         ensures { result ≡ fault_number self }
     {
@@ -37,7 +37,7 @@ impl FaultNo {
 
 /// The first fault of a text, and the number of its line, from 1.
 ///
-/// Where memory was refused the line is 0.
+/// If an allocation failed, the line is 0.
 #[derive(Clone, Copy, Debug, Error)]
 #[error("A{:02} at line {line}", .no.number())]
 pub struct AsmFault {

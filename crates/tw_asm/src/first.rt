@@ -1,7 +1,8 @@
-//! What the first word of a line lets expect.
+//! First words of lines, and the statements that they begin.
 
-ghost use Rattle.std.specs.Prelude.{◌⊎◌, ◌↔◌, MatchOption, IsTrue};
+ghost use Rattle.std.specs.Prelude.{◌≡◌, ◌⊎◌, ◌↔◌, MatchOption, IsTrue};
 ghost use Rattle.tw_asm.specs.declared.statement.First.{First};
+ghost use Rattle.tw_asm.specs.reading.Expected.{is_plainly_blank};
 ghost use Rattle.tw_asm.specs.Statement.{IsInstrWord, IsLabelWord, IsExpected};
 
 use crate::statement::First;
@@ -25,7 +26,7 @@ fn is_instr_name(version: Version, word: &[u8]) -> bool
     opcode_in(version, word).is_some()
 }
 
-/// What a first word lets expect in this version, if anything.
+/// Returns the kind of statement that begins with a word in this version, if there is one.
 pub fn first_of(version: Version, word: &[u8]) -> Option<First>
     ensures { MatchOption result ((first : First) → IsExpected version first word.now → ⊥) (λ first. IsExpected version first word.now) }
 {
@@ -39,5 +40,15 @@ pub fn first_of(version: Version, word: &[u8]) -> Option<First>
         Some(First::Body)
     } else {
         None
+    }
+}
+
+/// Returns whether the first byte says that a line has no word. Most bytes of a long text may be line ends or begin comments.
+pub fn is_plainly_blank(line: &str) -> bool
+    ensures { result ≡ is_plainly_blank line.now }
+{
+    match line.as_bytes() {
+        [byte, ..] => *byte == b';',
+        [] => true,
     }
 }

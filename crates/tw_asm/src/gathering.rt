@@ -1,4 +1,4 @@
-//! Items one after the other, and types.
+//! Lists of items, and types.
 
 ghost use Rattle.std.specs.Prelude.{◌≡◌, IfOk, Ok, map, reverse};
 ghost use Rattle.tw_lexer.specs.Seen.{seen as seen_word};
@@ -13,7 +13,7 @@ use tw_code::{Procedure, Version};
 use tw_lexer::{TokenError, Word};
 use tw_types::{DataType, Items, Scalar};
 
-/// One item more.
+/// Appends an item, if the items and the item could be read.
 pub fn joined<A: Drop>(
     items: Result<Vec<A>, TokenError>,
     item: Result<A, TokenError>,
@@ -30,7 +30,7 @@ pub fn joined<A: Drop>(
     }
 }
 
-/// One item more before items that are kept from the last one on.
+/// Inserts an item before the others. The items are in reverse order, the last one first.
 pub fn put_first<A: Drop>(
     item: Result<A, TokenError>,
     items: Result<Vec<A>, TokenError>,
@@ -47,7 +47,7 @@ pub fn put_first<A: Drop>(
     }
 }
 
-/// At most so many items.
+/// Returns the items, or `Limit` if there are more than `most`.
 pub fn few<A: Drop>(most: u8, items: Result<Vec<A>, TokenError>) -> Result<Items<A>, TokenError>
     ensures { result ≡ few most (as_is (λ v. v.items) items) }
 {
@@ -73,7 +73,7 @@ fn arg_list(alloc: Global, words: &[Word<'_>]) -> Result<Result<Vec<u8>, TokenEr
     Ok(args)
 }
 
-/// At most 8 numbers of registers.
+/// Reads the register numbers of arguments. Returns `Limit` if there are more than 8.
 pub fn args_of(
     alloc: Global,
     words: &[Word<'_>],
@@ -97,7 +97,7 @@ fn scalar_list(
     Ok(scalars)
 }
 
-/// The types of at most 16 registers.
+/// Reads the types of registers. Returns `Limit` if there are more than 16.
 pub fn scalars_of(
     alloc: Global,
     words: &[Word<'_>],
@@ -108,7 +108,7 @@ pub fn scalars_of(
     Ok(few(Procedure::VALUE_REGISTERS, scalars))
 }
 
-/// A container with such subscripts around data of this type.
+/// Returns a container around data of type `ty`, whose subscripts have type `by`. Returns `Limit` if that would be more than 3 containers.
 fn around(by: Scalar, ty: DataType) -> Result<DataType, TokenError>
     ensures { result ≡ around (Ok (by, ty)) }
 {
@@ -118,7 +118,7 @@ fn around(by: Scalar, ty: DataType) -> Result<DataType, TokenError>
     }
 }
 
-/// A container with such subscripts around data of this type, as both were read.
+/// Like `around`, but its arguments may be errors of reading.
 pub fn contained(
     by: Result<Scalar, TokenError>,
     ty: Result<DataType, TokenError>,
@@ -140,7 +140,7 @@ fn scalar_type(word: &Word<'_>) -> Result<DataType, TokenError>
     }
 }
 
-/// One word more before a type, or its last one.
+/// Reads a type from its last word, or puts the container of a word around the type after it.
 fn typed(
     version: Version,
     word: &Word<'_>,
@@ -154,7 +154,7 @@ fn typed(
     }
 }
 
-/// A type: a scalar, and containers before it.
+/// Reads a type: the words of its containers, the outermost first, and then a scalar.
 pub fn type_of(version: Version, words: &[Word<'_>]) -> Result<DataType, TokenError>
     ensures { result ≡ type_in version (map seen_word words.now) }
 {

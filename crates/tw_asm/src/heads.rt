@@ -1,4 +1,4 @@
-//! Parameters of a procedure.
+//! Parameters of a procedure, read from the last word on.
 
 ghost use Rattle.std.specs.Prelude.{◌≡◌, IfOk, map, reverse};
 ghost use Rattle.tw_lexer.specs.Words.{Bare};
@@ -15,7 +15,7 @@ use tw_code::{Procedure, Version};
 use tw_lexer::{TokenError, Word};
 use tw_types::{DataType, Items, Kind, Mode, Param};
 
-/// The parameters so far, from the last one on, and the type whose mode is due.
+/// The parameters so far, from the last one on, and the type whose mode comes next.
 #[derive(Drop)]
 struct Params {
     whole: Result<Vec<Param>, TokenError>,
@@ -31,7 +31,7 @@ fn broken() -> Params
     }
 }
 
-/// The last word of a type.
+/// Begins a type with its last word.
 fn begins(whole: Result<Vec<Param>, TokenError>, word: &Word<'_>) -> Params
     ensures { seen_params result ≡ begins (as_is (λ v. reverse v.items) whole) (scalar_in (seen_word word.now)) }
 {
@@ -44,7 +44,7 @@ fn begins(whole: Result<Vec<Param>, TokenError>, word: &Word<'_>) -> Params
     }
 }
 
-/// The type, if it may stand under this mode.
+/// Returns the type, or `Form` if it is a container and the mode is `val`.
 fn under(mode: Mode, ty: Result<DataType, TokenError>) -> Result<DataType, TokenError>
     ensures { result ≡ under mode ty }
 {
@@ -66,7 +66,7 @@ fn param_of(mode: Mode, ty: Result<DataType, TokenError>) -> Result<Param, Token
     }
 }
 
-/// The mode before a type.
+/// Ends a parameter with the mode before its type.
 fn ending(
     whole: Result<Vec<Param>, TokenError>,
     ty: Result<DataType, TokenError>,
@@ -83,7 +83,7 @@ fn ending(
     }
 }
 
-/// One word more before a type.
+/// Reads a word before a type: a container or a mode.
 fn gone_on(
     version: Version,
     whole: Result<Vec<Param>, TokenError>,
@@ -101,7 +101,7 @@ fn gone_on(
     }
 }
 
-/// One word more.
+/// Reads the word before the others.
 fn taken(version: Version, params: Params, word: &Word<'_>) -> Result<Params, AllocError>
     ensures { IfOk result (λ after. seen_params after ≡ taken version (seen_word word.now) (seen_params params)) }
 {
@@ -112,7 +112,7 @@ fn taken(version: Version, params: Params, word: &Word<'_>) -> Result<Params, Al
     }
 }
 
-/// The parameters in their order.
+/// Returns the parameters in the order of the text, or `Form` if a type has no mode.
 fn ended(params: Params) -> Result<Vec<Param>, TokenError>
     ensures { as_is (λ v. v.items) result ≡ ended (seen_params params) }
 {
@@ -147,7 +147,7 @@ fn param_list(
     Ok(ended(params))
 }
 
-/// At most 8 parameters.
+/// Reads the parameters of a procedure. Returns `Limit` if there are more than 8.
 pub fn params_of(
     alloc: Global,
     version: Version,
@@ -171,7 +171,7 @@ fn kind_in(text: &[u8]) -> Result<Kind, TokenError>
     }
 }
 
-/// The kind of a procedure.
+/// Reads the kind of a procedure, `control` or `leaf`.
 pub fn kind_of(word: &Word<'_>) -> Result<Kind, TokenError>
     ensures { result ≡ kind_in (seen_word word.now) }
 {

@@ -1,4 +1,4 @@
-//! Instruction lines: the operands of each.
+//! Instruction lines: the operands of each opcode.
 
 ghost use Rattle.std.specs.Prelude.{◌≡◌, None, map};
 ghost use Rattle.tw_lexer.specs.Seen.{seen as seen_word};
@@ -22,21 +22,21 @@ use tw_code::{Action, Arithmetic, DataInstr, Instr, LocalInstr, Opcode, Priority
 use tw_lexer::{TokenError, Word};
 use tw_types::{Items, Scalar, Text};
 
-/// An instruction that names no label.
+/// Makes an instruction that names no label.
 fn straight<'a>(instr: Instr) -> Unlinked<'a>
     ensures { drafted result ≡ (instr, None) }
 {
     Unlinked { instr, goal: None }
 }
 
-/// An instruction that goes on there.
+/// Makes an instruction that may skip to the label, if it names one.
 fn going<'a>(instr: Instr, label: Option<&'a [u8]>) -> Unlinked<'a>
     ensures { drafted result ≡ (instr, bytes_of label.entry) }
 {
     Unlinked { instr, goal: label }
 }
 
-/// A value register and a text.
+/// Reads a value register and a text.
 fn value_and_literal(alloc: Global, words: &[Word<'_>]) -> Result<(u8, (Text, ())), Rejection>
     ensures { Gives (λ x. x) result (line_in (more value (more literal nothing)) (map seen_word words.now)) }
 {
@@ -49,7 +49,7 @@ fn value_and_literal(alloc: Global, words: &[Word<'_>]) -> Result<(u8, (Text, ()
     }
 }
 
-/// The operands of RULE, and of PUT: the procedure, the priority, the target and the arguments.
+/// Reads the operands of RULE and PUT: procedure, priority, target and arguments.
 fn action_parts(
     alloc: Global,
     words: &[Word<'_>],
@@ -69,7 +69,7 @@ fn action_parts(
     }
 }
 
-/// The operands of RULEV, and of PUTV, whose priority is in a value register.
+/// Reads the operands of RULEV and PUTV, whose priority is in a value register.
 fn computed_parts(
     alloc: Global,
     words: &[Word<'_>],
@@ -89,7 +89,7 @@ fn computed_parts(
     }
 }
 
-/// An action whose priority is a constant.
+/// Makes an action whose priority is a constant.
 fn constant(parts: (u8, (i64, (Option<u8>, Items<u8>)))) -> Action
     ensures { result ≡ record { procedure = parts.0; priority = Constant parts.1.0; target = parts.1.1.0; args = parts.1.1.1 } }
 {
@@ -102,7 +102,7 @@ fn constant(parts: (u8, (i64, (Option<u8>, Items<u8>)))) -> Action
     }
 }
 
-/// An action whose priority is computed.
+/// Makes an action whose priority is computed.
 fn computed(parts: (u8, (u8, (Option<u8>, Items<u8>)))) -> Action
     ensures { result ≡ record { procedure = parts.0; priority = Computed parts.1.0; target = parts.1.1.0; args = parts.1.1.1 } }
 {
@@ -115,7 +115,7 @@ fn computed(parts: (u8, (u8, (Option<u8>, Items<u8>)))) -> Action
     }
 }
 
-/// A text in a register.
+/// Makes the instruction that loads a text into a register.
 fn text(parts: (u8, (Text, ()))) -> Instr
     ensures { result ≡ instr.Local (local.Text parts.0 parts.1.0) }
 {
@@ -123,7 +123,7 @@ fn text(parts: (u8, (Text, ()))) -> Instr
     Instr::Local(LocalInstr::Text { to, text })
 }
 
-/// The operands of ADD to REM.
+/// Reads the operands of ADD, SUB, MUL, DIV and REM.
 fn compute<'a>(operation: Arithmetic, words: &[Word<'a>]) -> Result<Unlinked<'a>, TokenError>
     ensures { as_is drafted result
         ≡ as_is (λ x. (instr.Local (local.Compute operation x.0 x.1.0 x.1.1.0 x.1.1.1.skip), x.1.1.1.label)) (line_in (more value (more value (more value goal))) (map seen_word words.now)) }
@@ -139,7 +139,7 @@ fn compute<'a>(operation: Arithmetic, words: &[Word<'a>]) -> Result<Unlinked<'a>
     Ok(going(Instr::Local(compute), label))
 }
 
-/// An instruction whose last operand is a goal, a row each.
+/// Reads an instruction whose last operand is a goal. Each row has one opcode.
 #[rattlefmt::skip]
 fn going_of<'a>(opcode: Opcode, words: &[Word<'a>]) -> Result<Unlinked<'a>, TokenError>
     requires { EndsInSkip (forms_of opcode) }
@@ -166,7 +166,7 @@ fn going_of<'a>(opcode: Opcode, words: &[Word<'a>]) -> Result<Unlinked<'a>, Toke
     }
 }
 
-/// An instruction whose operands take no memory, a row each.
+/// Reads an instruction whose operands need no allocation. Each row has one opcode.
 #[rattlefmt::skip]
 fn plain_of<'a>(version: Version, opcode: Opcode, words: &[Word<'a>]) -> Result<Unlinked<'a>, TokenError>
     requires { TakesNoMemory (forms_of opcode) }
@@ -192,7 +192,7 @@ fn plain_of<'a>(version: Version, opcode: Opcode, words: &[Word<'a>]) -> Result<
     }
 }
 
-/// An instruction, by its opcode and the words behind its name. Only a text and a list of arguments take memory.
+/// Reads the operands of an instruction from the words after its name. Only a text and a list of arguments are allocated.
 pub fn draft_of<'a>(
     alloc: Global,
     version: Version,

@@ -1,8 +1,8 @@
-//! Assembly text: programs from it, and the one text of a program.
+//! Assembly text: the assembler and the disassembler.
 //!
-//! * From text: `assemble` reads it line by line; the first word of a line lets expect a statement, and the words say it or are
-//!   flawed, as the version has it; then skips are linked to labels.
-//! * To text: `disassemble` writes a line a statement.
+//! * `assemble` reads a text line by line. The first word of a line decides which statement is expected, and the other words are its
+//!   operands in this version. At the end skips are linked to labels.
+//! * `disassemble` writes one line for each statement.
 #![tactic(auto)]
 
 mod assembler;

@@ -1,4 +1,4 @@
-//! Which line of a text each instruction of its program comes from.
+//! The lines of a text from which the instructions of its program come.
 
 ghost use Rattle.std.specs.Prelude.{◌≡◌, IfOk, map};
 ghost use Rattle.tw_asm.specs.Origins.{at_place};
@@ -8,14 +8,14 @@ use crate::reading::Section;
 use std::alloc::{AllocError, Global};
 use tw_types::Items;
 
-/// The line that each instruction of a program comes from, counted from 1 over all lines of the text.
+/// The line of each instruction of a program, counted from 1 over all lines of the text.
 #[derive(Drop)]
 pub struct LineNumbers {
     procedures: Items<Items<usize>>,
 }
 
 impl LineNumbers {
-    /// The line of the instruction at a place of a procedure, both counted from 0.
+    /// Returns the line of the instruction at a place of a procedure, both counted from 0.
     pub fn at(&self, procedure: usize, place: usize) -> Option<usize>
         ensures { result ≡ at_place self.now.procedures procedure place }
     {
@@ -34,7 +34,7 @@ fn numbers_of(alloc: Global, section: &Section<'_>) -> Result<Items<usize>, Allo
     Ok(Items::from(numbers))
 }
 
-/// The lines of the instructions of all procedures.
+/// Returns the lines of the instructions of all procedures.
 pub fn line_numbers(alloc: Global, sections: &[Section<'_>]) -> Result<LineNumbers, AllocError>
     ensures { IfOk result (λ lines. lines.procedures ≡ map section_numbers (map seen_section sections.now)) }
 {

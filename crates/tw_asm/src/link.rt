@@ -1,4 +1,4 @@
-//! Procedures with their skips.
+//! Links procedures: replaces labels by skips.
 
 ghost use Rattle.std.specs.Prelude.{◌⊎◌, MatchResult, map};
 ghost use Rattle.std.specs.List.{AllByRecursion, flat_map};
@@ -12,7 +12,8 @@ use std::alloc::Global;
 use tw_code::{Instr, Procedure};
 use tw_types::Items;
 
-/// The skip from the instruction at a place to a label.
+/// Returns the number of instructions between the instruction at a place and a label. Returns a fault if there is no such label, or it isn't after
+/// the instruction.
 fn skip_to(labels: &Labels<'_>, place: usize, name: &[u8]) -> Result<u16, FaultNo>
     requires { AreWithin (map seen_label labels.now.entries) }
     ensures { IsSkipTo (map seen_label labels.now.entries) place name.now result }
@@ -81,7 +82,7 @@ fn link_section(alloc: Global, section: Section<'_>) -> Result<Procedure, AsmFau
     })
 }
 
-/// The procedures with their skips, or the first goal that isn't a label behind its instruction.
+/// Links all procedures, or returns the first goal that isn't a label after its instruction.
 pub fn link(alloc: Global, sections: Vec<Section<'_>>) -> Result<Vec<Procedure>, AsmFault>
     requires { AllByRecursion HasLabelsWithin (map seen_section sections.items) }
     ensures { MatchResult result (λ procedures. AreLinkedProcedures (map seen_section sections.entry.items) procedures.items) (λ f. IsMemory f ⊎ FirstUnlinked (flat_map section_goals (map seen_section sections.entry.items)) f) }

@@ -1,4 +1,4 @@
-//! A procedure's text in pieces, for a listing that has something beside each instruction.
+//! The pieces of a procedure's text, for a listing that shows something next to each instruction.
 
 ghost use Rattle.std.specs.Prelude.{◌≡◌, ◌<◌, ◌++◌, ◌^◌, IfOk, OnOk};
 ghost use Rattle.tw_code.specs.format.Program.{IsInstr};
@@ -14,7 +14,7 @@ use tw_code::{Instr, Procedure};
 use tw_lexer::put_numbered;
 use tw_types::Param;
 
-/// Where the labels of a procedure's code stand.
+/// The places of the labels of a procedure's code.
 #[derive(Drop)]
 pub struct LabelPlaces {
     places: IndexSet<usize>,
@@ -29,7 +29,7 @@ impl Model for LabelPlaces {
 }
 
 impl LabelPlaces {
-    /// The labels that the disassembly of this code has.
+    /// Returns the labels that the disassembly of this code has.
     pub fn new(alloc: Global, code: &[Instr]) -> Result<LabelPlaces, AllocError>
         ensures { IfOk result (λ labels. labels ≡ label_places code.now) }
     {
@@ -37,7 +37,7 @@ impl LabelPlaces {
         Ok(LabelPlaces { places })
     }
 
-    /// Adds the line of the label at a place, if one stands there.
+    /// Adds the line of the label at a place, if there is one.
     pub fn put_line(&self, alloc: Global, out: &mut Vec<u8>, place: usize) -> Result<(), AllocError>
         ensures { OnOk result (out.new.items ≡ out.old.items ++ label_line (label_at self.now place)) }
     {
@@ -47,7 +47,7 @@ impl LabelPlaces {
         }
     }
 
-    /// The line of the instruction at a place, without its end.
+    /// Returns the line of the instruction at a place, without its line feed. A skip to a label is written as its name.
     pub fn instr_text(
         &self,
         alloc: Global,
@@ -74,7 +74,7 @@ pub fn put_head_lines(out: &mut Vec<u8>, procedure: &Procedure) -> Result<(), Al
     put_registers(out, procedure.registers.as_slice())
 }
 
-/// Adds a right register and what it holds.
+/// Adds a right register and what it holds, written like a parameter.
 pub fn put_right(
     alloc: Global,
     out: &mut Vec<u8>,

@@ -1,4 +1,4 @@
-//! Operands: what one word says.
+//! Operands of one word. A word of another form is the error `Form`; a number or a length past its limit is `Limit`.
 
 ghost use Rattle.std.specs.Prelude.{◌≡◌, ◌≤◌, IfOk};
 ghost use Rattle.tw_lexer.specs.Words.{Bare};
@@ -12,10 +12,10 @@ use tw_code::{LocalInstr, Procedure, Version};
 use tw_lexer::{TokenError, Word, digits, is_name, number};
 use tw_types::{Layout, Mode, Scalar, Text};
 
-/// The most bytes of a label's name.
+/// The maximal length of a label's name, in bytes.
 const MAX_NAME: usize = 64;
 
-/// Where an instruction goes on: so many instructions further, or at a label, and `skip` is 0 then.
+/// Where execution continues after a branch: after `skip` instructions, or at a label; then `skip` is 0.
 #[derive(Drop)]
 pub struct Goal<'a> {
     pub skip: u16,
@@ -31,7 +31,7 @@ impl<'a> Model for Goal<'a> {
     ghost view = { λ goal. record { skip = goal.skip; label = bytes_of goal.label } };
 }
 
-/// Two operands; a wrong form goes before a limit.
+/// Pairs two operands. If both have an error, a wrong form is reported before a limit.
 pub fn both_of<A: Drop, B: Drop>(
     first: Result<A, TokenError>,
     second: Result<B, TokenError>,
@@ -51,7 +51,7 @@ pub fn both_of<A: Drop, B: Drop>(
     }
 }
 
-/// The number between these limits that digits spell.
+/// Reads a number from its digits. Returns `Form` if a byte is no digit, `Limit` if the number isn't from `low` to `high`.
 pub fn digits_of(text: &[u8], low: u64, high: u64) -> Result<u64, TokenError>
     ensures is { result ≡ digits_in low high text.now }
     ensures within { IfOk result (λ n. n ≤ high) }
@@ -59,7 +59,7 @@ pub fn digits_of(text: &[u8], low: u64, high: u64) -> Result<u64, TokenError>
     digits(text, low, high)
 }
 
-/// The number of 64 bits that a text spells.
+/// Reads a signed 64-bit number.
 fn signed_of(text: &[u8]) -> Result<i64, TokenError>
     ensures { result ≡ signed_in text.now }
 {
@@ -75,7 +75,7 @@ fn byte_in(low: u8, high: u8, text: &[u8]) -> Result<u8, TokenError>
     }
 }
 
-/// A number without a sign, of one byte.
+/// Reads an unsigned number of one byte, from `low` to `high`.
 pub fn byte_of(low: u8, high: u8, word: &Word<'_>) -> Result<u8, TokenError>
     ensures { result ≡ natural_in low high (seen_word word.now) }
 {
@@ -85,7 +85,7 @@ pub fn byte_of(low: u8, high: u8, word: &Word<'_>) -> Result<u8, TokenError>
     }
 }
 
-/// The number of iterations of a loop, 1 to 1,000.
+/// Reads the number of iterations of a loop, 1 to 1,000.
 pub fn iterations_of(word: &Word<'_>) -> Result<u16, TokenError>
     ensures { result ≡ natural_in 1 1000 (seen_word word.now) }
 {
@@ -98,7 +98,7 @@ pub fn iterations_of(word: &Word<'_>) -> Result<u16, TokenError>
     }
 }
 
-/// The number of a register, behind its letter.
+/// Reads the number of a register after its letter.
 fn number_after(letter: u8, text: &[u8]) -> Result<u8, TokenError>
     ensures { result ≡ register_in letter (Bare text.now) }
 {
@@ -108,7 +108,7 @@ fn number_after(letter: u8, text: &[u8]) -> Result<u8, TokenError>
     }
 }
 
-/// A register, by its letter and its number.
+/// Reads a register: its letter and its number.
 fn register_of(letter: u8, word: &Word<'_>) -> Result<u8, TokenError>
     ensures { result ≡ register_in letter (seen_word word.now) }
 {
@@ -118,21 +118,21 @@ fn register_of(letter: u8, word: &Word<'_>) -> Result<u8, TokenError>
     }
 }
 
-/// A value register.
+/// Reads a value register, `v0` to `v15`.
 pub fn value_of(word: &Word<'_>) -> Result<u8, TokenError>
     ensures { result ≡ register_in 118 (seen_word word.now) }
 {
     register_of(b'v', word)
 }
 
-/// A right register.
+/// Reads a right register, `d0` to `d15`.
 pub fn right_of(word: &Word<'_>) -> Result<u8, TokenError>
     ensures { result ≡ register_in 100 (seen_word word.now) }
 {
     register_of(b'd', word)
 }
 
-/// A number of 64 bits.
+/// Reads a signed 64-bit number.
 pub fn number_of(word: &Word<'_>) -> Result<i64, TokenError>
     ensures { result ≡ number_in (seen_word word.now) }
 {
@@ -142,7 +142,7 @@ pub fn number_of(word: &Word<'_>) -> Result<i64, TokenError>
     }
 }
 
-/// A text of at most 4,096 bytes.
+/// Reads a quoted text of at most 4,096 bytes.
 pub fn literal_of(alloc: Global, word: &Word<'_>) -> Result<Result<Text, TokenError>, AllocError>
     ensures { IfOk result (λ read. read ≡ literal_in (seen_word word.now)) }
 {
@@ -159,7 +159,7 @@ pub fn literal_of(alloc: Global, word: &Word<'_>) -> Result<Result<Text, TokenEr
     }
 }
 
-/// The number of an actor, or `None` for any.
+/// Reads the number of an actor, or returns `None` for `any`.
 pub fn target_of(word: &Word<'_>) -> Result<Option<u8>, TokenError>
     ensures { result ≡ target_in (seen_word word.now) }
 {
@@ -177,7 +177,7 @@ pub fn target_of(word: &Word<'_>) -> Result<Option<u8>, TokenError>
     }
 }
 
-/// A label's name, of at most 64 bytes.
+/// Checks the name of a label. Returns `Form` if it isn't a name, `Limit` if it has more than 64 bytes.
 #[tactic(auto, unfolding(crate::specs::reading::Operands::name_in))]
 pub fn name_of(text: &[u8]) -> Result<&[u8], TokenError>
     ensures { as_is (λ name. name.now) result ≡ name_in text.now }
@@ -213,7 +213,7 @@ fn goal_in(text: &[u8]) -> Result<Goal<'_>, TokenError>
     }
 }
 
-/// Where an instruction goes on.
+/// Reads a goal: `+` and a number of instructions, or a label.
 pub fn goal_of<'a>(word: &Word<'a>) -> Result<Goal<'a>, TokenError>
     ensures { result ≡ goal_in (seen_word word.now) }
 {
@@ -235,7 +235,7 @@ fn scalar_in(text: &[u8]) -> Result<Scalar, TokenError>
     }
 }
 
-/// The type of a value register.
+/// Reads the type of a value register, `int` or `text`.
 pub fn scalar_of(word: &Word<'_>) -> Result<Scalar, TokenError>
     ensures { result ≡ scalar_in (seen_word word.now) }
 {
@@ -245,7 +245,7 @@ pub fn scalar_of(word: &Word<'_>) -> Result<Scalar, TokenError>
     }
 }
 
-/// A container whose subscripts are texts; version 1 has none.
+/// Returns the type of subscripts of a container with text subscripts. Version 1 has none.
 fn text_container(version: Version) -> Result<Scalar, TokenError>
     ensures { result ≡ text_container version }
 {
@@ -267,7 +267,7 @@ fn container_in(version: Version, text: &[u8]) -> Result<Scalar, TokenError>
     }
 }
 
-/// A container, by the type of its subscripts.
+/// Reads a container's word, `cont` or `tcont`, and returns the type of its subscripts.
 pub fn container_of(version: Version, word: &Word<'_>) -> Result<Scalar, TokenError>
     ensures { result ≡ container_in version (seen_word word.now) }
 {
@@ -293,7 +293,7 @@ fn mode_in(text: &[u8]) -> Result<Mode, TokenError>
     }
 }
 
-/// How a parameter is held.
+/// Reads the mode of a parameter, `val`, `closed`, `ref` or `write`.
 pub fn mode_of(word: &Word<'_>) -> Result<Mode, TokenError>
     ensures { result ≡ mode_in (seen_word word.now) }
 {

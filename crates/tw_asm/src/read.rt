@@ -19,7 +19,7 @@ use std::alloc::Global;
 use tw_code::{Version, opcode_in};
 use tw_lexer::{TokenError, Word, before_colon};
 
-/// The version of this number, 1 or 2.
+/// Returns the version with this number, 1 or 2.
 fn version_by(number: u8) -> Version
     ensures { result ≡ version_by number }
 {
@@ -30,7 +30,7 @@ fn version_by(number: u8) -> Version
     }
 }
 
-/// What stands behind `version`.
+/// Reads the words after `version`.
 fn version_of<'a>(words: &[Word<'_>]) -> Result<Statement<'a>, Rejection>
     ensures { Gives seen result (version_in (map seen_word words.now)) }
 {
@@ -43,7 +43,7 @@ fn version_of<'a>(words: &[Word<'_>]) -> Result<Statement<'a>, Rejection>
     }
 }
 
-/// What stands behind `proc`.
+/// Reads the words after `proc`.
 fn head_of<'a>(
     alloc: Global,
     version: Version,
@@ -61,7 +61,7 @@ fn head_of<'a>(
     }
 }
 
-/// What stands behind `regs`.
+/// Reads the words after `regs`.
 fn registers_of<'a>(alloc: Global, words: &[Word<'_>]) -> Result<Statement<'a>, Rejection>
     ensures { Gives seen result (registers_in (map seen_word words.now)) }
 {
@@ -69,7 +69,7 @@ fn registers_of<'a>(alloc: Global, words: &[Word<'_>]) -> Result<Statement<'a>, 
     Ok(Statement::Registers(registers?))
 }
 
-/// A label, as one word.
+/// Reads a label, which is a line of one word.
 fn label_of<'a>(word: &'a [u8], others: &[Word<'_>]) -> Result<Statement<'a>, Rejection>
     ensures { Gives seen result (label_line word.entry.now (map seen_word others.now)) }
 {
@@ -82,7 +82,7 @@ fn label_of<'a>(word: &'a [u8], others: &[Word<'_>]) -> Result<Statement<'a>, Re
     }
 }
 
-/// An instruction, or a label.
+/// Reads an instruction or a label.
 fn body_of<'a>(
     alloc: Global,
     version: Version,
@@ -97,7 +97,7 @@ fn body_of<'a>(
     }
 }
 
-/// What a first word and the others say.
+/// Reads a line from its first word and the others.
 #[tactic(auto, unfolding(crate::specs::reading::Lines::statement_in))]
 fn words_read<'a>(
     alloc: Global,
@@ -135,7 +135,7 @@ fn read_of<'a>(
     }
 }
 
-/// The statement that words are in this version, or what is wrong with them: their form before a limit.
+/// Reads the statement of these words in this version, or returns their error. A wrong form is reported before a limit.
 pub fn statement_of<'a>(
     alloc: Global,
     version: Version,

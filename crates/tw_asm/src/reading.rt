@@ -1,4 +1,4 @@
-//! The lines of a text, one by one. Goals aren't looked for yet.
+//! Reads the lines of a text, one by one. Goals aren't resolved yet.
 
 ghost use Rattle.std.specs.Prelude.{◌≡◌, ◌↔◌, IsTrue, MatchOption, MatchResult, None, map};
 ghost use Rattle.tw_asm.specs.Fault.{MayBegin};
@@ -12,7 +12,7 @@ ghost use Rattle.tw_asm.specs.declared.statement.First.{First};
 
 use crate::bodies::{take_draft, take_label};
 use crate::fault::{AsmFault, FaultNo};
-use crate::first::first_of;
+use crate::first::{first_of, is_plainly_blank};
 use crate::read::statement_of;
 use crate::rejection::Rejection;
 use crate::statement::{First, Statement, Unlinked};
@@ -25,14 +25,14 @@ use tw_types::{Items, Kind, Param, Scalar};
 /// The labels of a procedure, and their places.
 pub type Labels<'a> = IndexMap<&'a [u8], usize, TextHash>;
 
-/// An instruction whose goal isn't looked for yet, and the number of its line.
+/// An instruction whose goal isn't resolved yet, and the number of its line.
 #[derive(Drop)]
 pub struct UnlinkedLine<'a> {
     pub draft: Unlinked<'a>,
     pub number: usize,
 }
 
-/// A procedure whose goals aren't looked for yet; its labels with their places.
+/// A procedure whose goals aren't resolved yet; its labels with their places.
 #[derive(Drop)]
 pub struct Section<'a> {
     pub kind: Kind,
@@ -42,27 +42,27 @@ pub struct Section<'a> {
     pub drafts: Vec<UnlinkedLine<'a>>,
 }
 
-/// What may follow.
+/// The stage of reading, which decides which statements may follow.
 #[derive(Drop)]
 pub enum Stage<'a> {
-    /// Nothing has been said.
+    /// Nothing is read yet.
     Start,
-    /// The version has been said, and nothing more.
+    /// Only the version is read.
     AfterVersion,
-    /// The types of value registers are due.
+    /// The types of value registers have to follow.
     AfterHead { kind: Kind, params: Items<Param> },
     InBody(Section<'a>),
 }
 
-/// What the lines so far have said.
+/// The result of the lines so far.
 #[derive(Drop)]
 pub struct Reading<'a> {
-    /// How the text's labels are hashed.
+    /// The hash function for the labels of the text.
     pub hash: TextHash,
     pub version: Version,
-    /// The procedures that have ended.
+    /// The procedures that are complete.
     pub sections: Vec<Section<'a>>,
-    /// The line at which the last procedure began.
+    /// The line at which the last procedure begins.
     pub head_line: usize,
     pub stage: Stage<'a>,
 }
@@ -78,7 +78,7 @@ fn may_begin(stage: &Stage<'_>, expected: First) -> bool
     }
 }
 
-/// What a line's first word lets expect, if that may stand here.
+/// Returns the kind of statement that a first word begins, if it is allowed at this stage.
 fn expected_of(version: Version, word: &Word<'_>, stage: &Stage<'_>) -> Option<First>
     ensures { MatchOption result
         ((first : First) → IsExpectedBy version (seen_word word.now) first → MayBegin (stage_of (seen_stage stage.now)) first → ⊥)
@@ -97,7 +97,7 @@ fn expected_of(version: Version, word: &Word<'_>, stage: &Stage<'_>) -> Option<F
     }
 }
 
-/// A procedure has begun, and has no instruction.
+/// Returns whether a procedure has begun and has no instruction.
 fn is_empty(stage: &Stage<'_>) -> bool
     ensures { IsTrue result ↔ IsEmptyAt (seen_stage stage.now) }
 {
@@ -107,7 +107,7 @@ fn is_empty(stage: &Stage<'_>) -> bool
     }
 }
 
-/// The line at which a limit is told: that of the head of an empty procedure goes first.
+/// Returns the line for which a limit is reported: the head of the empty procedure that another head would end, or else `number`.
 fn limit_line(reading: &Reading<'_>, first: First, number: usize) -> usize
     ensures { IsLimitLine (seen_reading reading.now) first number result }
 {
@@ -150,7 +150,7 @@ fn read_words<'a>(
     }
 }
 
-/// The procedures that have ended once another begins; one without instructions can't end.
+/// Appends the last procedure to the complete ones. If it has no instruction, returns a fault at the line of its head.
 fn close<'a>(
     mut sections: Vec<Section<'a>>,
     head_line: usize,
@@ -167,7 +167,7 @@ fn close<'a>(
     Ok(sections)
 }
 
-/// The version is said before all else.
+/// Takes the version, which comes before all other statements.
 fn take_version<'a>(reading: Reading<'a>, version: Version) -> Reading<'a>
     ensures { seen_reading result ≡ record (seen_reading reading.entry) { version = version; place = BehindVersion } }
 {
@@ -257,6 +257,22 @@ fn take_statement<'a>(
     }
 }
 
+/// Like `read_words`, but a line without words is mostly seen at once.
+fn read_line<'a>(
+    alloc: Global,
+    reading: &Reading<'_>,
+    number: usize,
+    line: &'a str,
+) -> Result<Option<Statement<'a>>, AsmFault>
+    ensures { WordsRead (seen_reading reading.now) number line.now result }
+{
+    if is_plainly_blank(line) {
+        Ok(None)
+    } else {
+        read_words(alloc, reading, number, line)
+    }
+}
+
 fn take_line<'a>(
     alloc: Global,
     reading: Reading<'a>,
@@ -265,14 +281,14 @@ fn take_line<'a>(
 ) -> Result<Reading<'a>, AsmFault>
     ensures { TakenLine (seen_reading reading.entry) number line.now result }
 {
-    match read_words(alloc, &reading, number, line) {
+    match read_line(alloc, &reading, number, line) {
         Ok(None) => Ok(reading),
         Ok(Some(statement)) => take_statement(alloc, reading, number, statement),
         Err(f) => Err(f),
     }
 }
 
-/// What all lines say.
+/// Reads all lines of a text.
 fn read_lines<'a>(alloc: Global, text: &'a str) -> Result<Reading<'a>, AsmFault>
     ensures { LinesAreRead text.now result }
 {
@@ -289,14 +305,14 @@ fn read_lines<'a>(alloc: Global, text: &'a str) -> Result<Reading<'a>, AsmFault>
     Ok(reading)
 }
 
-/// A program whose goals aren't looked for yet.
+/// A program whose goals aren't resolved yet.
 #[derive(Drop)]
 pub struct UnlinkedProgram<'a> {
     pub version: Version,
     pub sections: Vec<Section<'a>>,
 }
 
-/// The procedures, where the text may end.
+/// Returns the procedures, or a fault if there are none, or the last one has no instruction.
 fn finish<'a>(reading: Reading<'a>) -> Result<Vec<Section<'a>>, AsmFault>
     ensures { MatchResult result (λ all. AreFinished (seen_reading reading.entry) (map seen_section all.items)) (λ f. IsNotFinished (seen_reading reading.entry) f) }
 {
@@ -313,7 +329,7 @@ fn finish<'a>(reading: Reading<'a>) -> Result<Vec<Section<'a>>, AsmFault>
     }
 }
 
-/// The program of a text, or its first fault but for goals.
+/// Reads a whole text, or returns its first fault. Goals are resolved later, by `link`.
 pub fn read_text<'a>(alloc: Global, text: &'a str) -> Result<UnlinkedProgram<'a>, AsmFault>
     ensures { MatchResult result
         (λ program. HasSections text.now program.version (map seen_section program.sections.items))

@@ -1,4 +1,4 @@
-//! Why words are no statement, and why none is read.
+//! Errors of reading a statement.
 
 ghost use Rattle.std.specs.Prelude.{◌≡◌};
 ghost use Rattle.tw_asm.specs.declared.rejection.Rejection.TheVariants.{NoMemory, Flawed};
@@ -6,7 +6,7 @@ ghost use Rattle.tw_asm.specs.declared.rejection.Rejection.TheVariants.{NoMemory
 use std::alloc::{AllocError, AllocFailed};
 use tw_lexer::TokenError;
 
-/// Why no statement is read from words.
+/// The reason why no statement is read: the words have an error, or an allocation failed.
 #[derive(Clone, Copy, Debug, PartialEq, Eq)]
 pub enum Rejection {
     Flawed(TokenError),

@@ -1,4 +1,4 @@
-//! Operands of several words, and of several operands.
+//! Lists of operands, by their shape. Too few or too many words are the error `Form`.
 
 ghost use Rattle.std.specs.Prelude.{◌≡◌, map};
 ghost use Rattle.tw_lexer.specs.Seen.{seen as seen_word};
@@ -10,7 +10,7 @@ use tw_code::Version;
 use tw_lexer::{TokenError, Word};
 use tw_types::DataType;
 
-/// No operands.
+/// Checks that there are no operands.
 pub fn nothing_of(words: &[Word<'_>]) -> Result<(), TokenError>
     ensures { result ≡ line_in nothing (map seen_word words.now) }
 {
@@ -22,7 +22,7 @@ pub fn nothing_of(words: &[Word<'_>]) -> Result<(), TokenError>
 
 // ---- one operand
 
-/// A value register.
+/// Reads a value register.
 fn only_value(words: &[Word<'_>]) -> Result<(u8, ()), TokenError>
     ensures { result ≡ line_in (more value nothing) (map seen_word words.now) }
 {
@@ -32,7 +32,7 @@ fn only_value(words: &[Word<'_>]) -> Result<(u8, ()), TokenError>
     }
 }
 
-/// A right register.
+/// Reads a right register.
 pub fn only_right(words: &[Word<'_>]) -> Result<(u8, ()), TokenError>
     ensures { result ≡ line_in (more right nothing) (map seen_word words.now) }
 {
@@ -42,7 +42,7 @@ pub fn only_right(words: &[Word<'_>]) -> Result<(u8, ()), TokenError>
     }
 }
 
-/// A number.
+/// Reads a number.
 fn only_number(words: &[Word<'_>]) -> Result<(i64, ()), TokenError>
     ensures { result ≡ line_in (more number nothing) (map seen_word words.now) }
 {
@@ -52,7 +52,7 @@ fn only_number(words: &[Word<'_>]) -> Result<(i64, ()), TokenError>
     }
 }
 
-/// The number of iterations of a loop.
+/// Reads the number of iterations of a loop.
 pub fn only_iterations(words: &[Word<'_>]) -> Result<(u16, ()), TokenError>
     ensures { result ≡ line_in (more (natural 1 1000) nothing) (map seen_word words.now) }
 {
@@ -62,7 +62,7 @@ pub fn only_iterations(words: &[Word<'_>]) -> Result<(u16, ()), TokenError>
     }
 }
 
-/// A goal.
+/// Reads a goal.
 pub fn only_goal<'a>(words: &[Word<'a>]) -> Result<Goal<'a>, TokenError>
     ensures { result ≡ line_in goal (map seen_word words.now) }
 {
@@ -74,7 +74,7 @@ pub fn only_goal<'a>(words: &[Word<'a>]) -> Result<Goal<'a>, TokenError>
 
 // ---- an operand and the others
 
-/// A value register and a number.
+/// Reads a value register and a number.
 pub fn value_and_number(words: &[Word<'_>]) -> Result<(u8, (i64, ())), TokenError>
     ensures { result ≡ line_in (more value (more number nothing)) (map seen_word words.now) }
 {
@@ -84,7 +84,7 @@ pub fn value_and_number(words: &[Word<'_>]) -> Result<(u8, (i64, ())), TokenErro
     }
 }
 
-/// Two value registers.
+/// Reads two value registers.
 pub fn two_values(words: &[Word<'_>]) -> Result<(u8, (u8, ())), TokenError>
     ensures { result ≡ line_in (more value (more value nothing)) (map seen_word words.now) }
 {
@@ -94,7 +94,7 @@ pub fn two_values(words: &[Word<'_>]) -> Result<(u8, (u8, ())), TokenError>
     }
 }
 
-/// A right register and a value register.
+/// Reads a right register and a value register.
 pub fn right_and_value(words: &[Word<'_>]) -> Result<(u8, (u8, ())), TokenError>
     ensures { result ≡ line_in (more right (more value nothing)) (map seen_word words.now) }
 {
@@ -104,7 +104,7 @@ pub fn right_and_value(words: &[Word<'_>]) -> Result<(u8, (u8, ())), TokenError>
     }
 }
 
-/// A value register and a right register.
+/// Reads a value register and a right register.
 pub fn value_and_right(words: &[Word<'_>]) -> Result<(u8, (u8, ())), TokenError>
     ensures { result ≡ line_in (more value (more right nothing)) (map seen_word words.now) }
 {
@@ -114,7 +114,7 @@ pub fn value_and_right(words: &[Word<'_>]) -> Result<(u8, (u8, ())), TokenError>
     }
 }
 
-/// Two right registers.
+/// Reads two right registers.
 pub fn two_rights(words: &[Word<'_>]) -> Result<(u8, (u8, ())), TokenError>
     ensures { result ≡ line_in (more right (more right nothing)) (map seen_word words.now) }
 {
@@ -126,7 +126,7 @@ pub fn two_rights(words: &[Word<'_>]) -> Result<(u8, (u8, ())), TokenError>
 
 // ---- with a type
 
-/// A right register and a type.
+/// Reads a right register and a type.
 fn right_and_type(version: Version, words: &[Word<'_>]) -> Result<(u8, DataType), TokenError>
     ensures { result ≡ line_in (more right (type version)) (map seen_word words.now) }
 {
@@ -136,7 +136,7 @@ fn right_and_type(version: Version, words: &[Word<'_>]) -> Result<(u8, DataType)
     }
 }
 
-/// Two right registers and a type.
+/// Reads two right registers and a type.
 pub fn two_rights_and_type(
     version: Version,
     words: &[Word<'_>],
@@ -151,7 +151,7 @@ pub fn two_rights_and_type(
 
 // ---- with a goal
 
-/// A value register and a goal.
+/// Reads a value register and a goal.
 fn value_and_goal<'a>(words: &[Word<'a>]) -> Result<(u8, Goal<'a>), TokenError>
     ensures { result ≡ line_in (more value goal) (map seen_word words.now) }
 {
@@ -161,7 +161,7 @@ fn value_and_goal<'a>(words: &[Word<'a>]) -> Result<(u8, Goal<'a>), TokenError>
     }
 }
 
-/// A right register and a goal.
+/// Reads a right register and a goal.
 fn right_and_goal<'a>(words: &[Word<'a>]) -> Result<(u8, Goal<'a>), TokenError>
     ensures { result ≡ line_in (more right goal) (map seen_word words.now) }
 {
@@ -171,7 +171,7 @@ fn right_and_goal<'a>(words: &[Word<'a>]) -> Result<(u8, Goal<'a>), TokenError>
     }
 }
 
-/// Two value registers and a goal.
+/// Reads two value registers and a goal.
 pub fn two_values_and_goal<'a>(words: &[Word<'a>]) -> Result<(u8, (u8, Goal<'a>)), TokenError>
     ensures { result ≡ line_in (more value (more value goal)) (map seen_word words.now) }
 {
@@ -181,7 +181,7 @@ pub fn two_values_and_goal<'a>(words: &[Word<'a>]) -> Result<(u8, (u8, Goal<'a>)
     }
 }
 
-/// A right register, a value register and a goal.
+/// Reads a right register, a value register and a goal.
 fn right_value_and_goal<'a>(words: &[Word<'a>]) -> Result<(u8, (u8, Goal<'a>)), TokenError>
     ensures { result ≡ line_in (more right (more value goal)) (map seen_word words.now) }
 {
@@ -191,7 +191,7 @@ fn right_value_and_goal<'a>(words: &[Word<'a>]) -> Result<(u8, (u8, Goal<'a>)), 
     }
 }
 
-/// A value register, a right register and a goal.
+/// Reads a value register, a right register and a goal.
 fn value_right_and_goal<'a>(words: &[Word<'a>]) -> Result<(u8, (u8, Goal<'a>)), TokenError>
     ensures { result ≡ line_in (more value (more right goal)) (map seen_word words.now) }
 {
@@ -201,7 +201,7 @@ fn value_right_and_goal<'a>(words: &[Word<'a>]) -> Result<(u8, (u8, Goal<'a>)), 
     }
 }
 
-/// Three value registers and a goal.
+/// Reads three value registers and a goal.
 pub fn three_values_and_goal<'a>(
     words: &[Word<'a>],
 ) -> Result<(u8, (u8, (u8, Goal<'a>))), TokenError>
@@ -213,7 +213,7 @@ pub fn three_values_and_goal<'a>(
     }
 }
 
-/// A right register, a value register, a right register and a goal.
+/// Reads a right register, a value register, a right register and a goal.
 pub fn right_value_right_and_goal<'a>(
     words: &[Word<'a>],
 ) -> Result<(u8, (u8, (u8, Goal<'a>))), TokenError>
@@ -225,7 +225,7 @@ pub fn right_value_right_and_goal<'a>(
     }
 }
 
-/// Two right registers, a value register and a goal.
+/// Reads two right registers, a value register and a goal.
 pub fn right_right_value_and_goal<'a>(
     words: &[Word<'a>],
 ) -> Result<(u8, (u8, (u8, Goal<'a>))), TokenError>
@@ -237,7 +237,7 @@ pub fn right_right_value_and_goal<'a>(
     }
 }
 
-/// A value register, a right register, a value register and a goal.
+/// Reads a value register, a right register, a value register and a goal.
 pub fn value_right_value_and_goal<'a>(
     words: &[Word<'a>],
 ) -> Result<(u8, (u8, (u8, Goal<'a>))), TokenError>

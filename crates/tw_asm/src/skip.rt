@@ -34,7 +34,7 @@ fn data_with_skip(instr: DataInstr, skip: u16) -> DataInstr
     }
 }
 
-/// The instruction with another skip, where it has one.
+/// Replaces the skip of an instruction, if it has one.
 pub fn with_skip(instr: Instr, skip: u16) -> Instr
     ensures { result ≡ with_skip skip instr }
 {
@@ -54,7 +54,7 @@ fn skip_in(flow: Flow) -> Option<u16>
     }
 }
 
-/// How many instructions it skips, if it may skip any.
+/// Returns how many instructions it may skip, if it has a skip.
 pub fn skip_of(instr: &Instr) -> Option<u16>
     ensures { result ≡ skip_of instr.now }
 {

@@ -1,30 +1,30 @@
-//! What a line of assembly text says.
+//! Statements: the content of a line of assembly text.
 
 use tw_code::{Instr, Version};
 use tw_types::{Items, Kind, Param, Scalar};
 
-/// An instruction, and the label that it names as its goal, where it names one; its skip is 0 then.
+/// An instruction, and the label that it names as its goal, if any; then its skip is 0.
 #[derive(Drop)]
 pub struct Unlinked<'a> {
     pub instr: Instr,
     pub goal: Option<&'a [u8]>,
 }
 
-/// What a line says.
+/// The statement of a line.
 #[derive(Drop)]
 pub enum Statement<'a> {
     /// The version of the language.
     Version(Version),
-    /// A procedure begins.
+    /// The head of a procedure.
     Head { kind: Kind, params: Items<Param> },
-    /// The types of its value registers.
+    /// The types of the procedure's value registers.
     Registers(Items<Scalar>),
     /// A label with this name.
     Label(&'a [u8]),
     Code(Unlinked<'a>),
 }
 
-/// What a first word lets expect.
+/// The kind of a statement, as its first word shows it.
 #[derive(Clone, Copy, Debug, PartialEq, Eq)]
 pub enum First {
     /// `version`.

@@ -1,18 +1,18 @@
-//! What holds of all texts.
+//! Theorems about all texts.
 
 ghost use Rattle.tw_asm.specs.Theorems.{OneFirstFault, OneLine, SpellsOnce};
 
-/// A text spells at most one program. So the text that `disassemble` gives is assembled to the program that it was given.
+/// Proves that a text denotes at most one program. So `assemble` returns the program that was given to `disassemble`.
 pub fn spells_once()
     ensures { SpellsOnce }
 {}
 
-/// A text has at most one first fault. So `assemble` can tell no other one, whatever its way.
+/// Proves that a text has at most one first fault. So `assemble` can return no other, however it reads the text.
 pub fn one_first_fault()
     ensures { OneFirstFault }
 {}
 
-/// An instruction comes from at most one line. So `assemble_lined` can tell no other one.
+/// Proves that an instruction comes from at most one line. So `assemble_lined` can return no other.
 pub fn one_line_each()
     ensures { OneLine }
 {}

@@ -1,4 +1,4 @@
-//! Statements as lines.
+//! Writes statements as lines.
 
 ghost use Rattle.std.specs.Prelude.{◌≡◌, ◌++◌, [], ◌∷◌, None, OnOk, codes, decimal, map, if◌then◌else◌};
 ghost use Rattle.std.specs.Fmt.{signed_decimal};
@@ -49,7 +49,7 @@ fn scalar_word(scalar: Scalar) -> &'static str
     }
 }
 
-/// The word of the outermost container.
+/// Returns the word of the outermost container.
 fn word_of_container(ty: DataType) -> &'static str
     ensures { result.now ≡ (if is_container_by Text ty then container_word Text else container_word Int) }
 {
@@ -172,7 +172,7 @@ fn put_operand(
 
 // ---- lines
 
-/// The text as it grows, and the label that the next instruction's skip names, if it names one.
+/// The text so far, and the label that the skip of the next instruction names, if any.
 #[derive(Drop)]
 pub struct Lines {
     pub alloc: Global,
@@ -192,7 +192,7 @@ impl Lines {
     }
 }
 
-/// A line an instruction: its name and its operands.
+/// Writes one line for each instruction: its name and its operands.
 impl Sink for Lines {
     ghost use Rattle.std.specs.Prelude.{◌≡◌, ◌++◌};
     ghost use Rattle.tw_asm.specs.Written.{goal_word};
@@ -221,7 +221,7 @@ fn put_row(
     put(out, "\n")
 }
 
-/// Adds the line of an instruction; its skip, where it has one, as this label or as a number.
+/// Adds the line of an instruction. Its skip, if any, is written as this label, or as a number if there is none.
 pub fn put_instr(lines: &mut Lines, instr: &Instr, label: Option<usize>) -> Result<(), AllocError>
     requires { IsInstr instr.now }
     ensures { OnOk result (lines.new.out.items ≡ lines.old.out.items ++ line_of (goal_word label) (Code instr.now)) }
@@ -261,7 +261,7 @@ pub fn put_label(alloc: Global, out: &mut Vec<u8>, number: usize) -> Result<(), 
     put(out, ":\n")
 }
 
-/// Adds the line of the version; the first one has none.
+/// Adds the line of the version. The first version has none.
 pub fn put_version(alloc: Global, out: &mut Vec<u8>, version: Version) -> Result<(), AllocError>
     ensures { OnOk result (out.new.items ≡ out.old.items ++ version_line version) }
 {

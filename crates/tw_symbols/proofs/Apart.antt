@@ -1,4 +1,4 @@
--- Registers that are listed or made in one procedure are apart.
+-- Registers that are listed or made in one procedure differ.
 use Rattle.std.proofs.Common.{[], ◌≡◌, ◌==◌, ◌<◌, ◌≤◌, ℕ, zero, suc, ◌+◌, Bool, true, false, cond, List, ◌∷◌, ◌++◌, Option, Some, None, Result, Ok, Err, refl, sym, ap, subst, ◌∙◌, arith}
 use Rattle.std.specs.Prelude.{◌&&◌, ◌||◌}
 use Rattle.std.specs.Option.{option_map_or}
@@ -20,12 +20,12 @@ use Rattle.tw_symbols.proofs.NameSteps.{IsStep, head_step, taken_step}
 
 -- ---- entries
 
--- no register is listed behind an entry that lists it
+-- holds if no register is listed again after the entry that lists it
 abbrev AreApart : Table → Type 0
 AreApart [] = Unit {0}
 AreApart (entry ∷ table) = ((b : Bank) (n : ℕ) → lists b n entry.1 ≡ true → is_listed b n table ≡ false) × AreApart table
 
--- right registers that have a name are below this
+-- holds if right registers that have a name are below this
 abbrev IsBelow : ℕ → Binding → Type 0
 IsBelow rights (binding.Register bank.Right n by) = n < rights
 IsBelow rights x = Unit {0}
@@ -41,7 +41,7 @@ listed_more : (b : Bank) (n : ℕ) (table : Table) (x : List ℕ × Binding) →
 listed_more b n [] x = or_none (lists b n x.1)
 listed_more b n (e ∷ table) x = ap (λ (t : Bool). lists b n e.1 || t) (listed_more b n table x) ∙ or_again (lists b n e.1) (is_listed b n table) (lists b n x.1)
 
--- an entry that lists what none before it does
+-- an entry that lists a register that no entry before it lists
 still_free : (b : Bank) (n : ℕ) (e x : List ℕ × Binding) (table : Table) → lists b n e.1 ≡ true → is_listed b n table ≡ false → (lists b n x.1 ≡ true → is_listed b n (e ∷ table) ≡ false) → is_listed b n (table ++ x ∷ []) ≡ false
 still_free b n e x table this free new = listed_more b n table x ∙ by (is_listed b n table) (lists b n x.1) free refl
   where
@@ -122,7 +122,7 @@ this_is : (b : Bank) (n : ℕ) → lists b n (binding.Register b n origin.Listed
 this_is bank.Value n = ap (λ (t : Bool). t && true) (same_number n)
 this_is bank.Right n = ap (λ (t : Bool). t && true) (same_number n)
 
--- ---- a name more
+-- ---- one more name
 
 above_rights : (b : Bank) (n rights : ℕ) → (rights ≤ above b n rights) × IsBelow (above b n rights) (binding.Register b n origin.Listed)
 above_rights bank.Value n rights = (omega arith, tt)

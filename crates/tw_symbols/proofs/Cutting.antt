@@ -8,7 +8,7 @@ use Rattle.tw_symbols.specs.Answers.{pieces_left}
 at_byte : (front : List ℕ) (b : ℕ) (rest : List ℕ) (t : Bool) → is_sign b ≡ t → pieces_after front (b ∷ rest) ≡ cond t (some_piece front ++ pieces_after [] rest) (pieces_after (front ++ b ∷ []) rest)
 at_byte front b rest t e = ap (λ (x : Bool). cond x (some_piece front ++ pieces_after [] rest) (pieces_after (front ++ b ∷ []) rest)) e
 
--- one byte more
+-- adds one more byte to the piece
 piece_more : (word : List ℕ) (start index : ℕ) → start ≤ index → index < length word → take (index + 1 - start) (drop start word) ≡ take (index - start) (drop start word) ++ (get_or word index 0 ∷ [])
 piece_more word start index low lt =
     let count : index + 1 - start ≡ suc (index - start) = omega arith in

@@ -1,4 +1,4 @@
--- What texts keep that are made of texts of a line: that no line feed is in them, and that they are in UTF-8.
+-- Two properties that an expansion keeps if the line's words have them: it has no line feed, and is in UTF-8.
 use Rattle.std.proofs.Common.{[], ◌≡◌, ◌==◌, ◌<◌, ◌≤◌, ◌+◌, ◌/◌, ◌%◌, ℕ, zero, suc, Bool, true, false, cond, List, ◌∷◌, ◌++◌, refl, sym, subst, append_assoc, arith}
 use Rattle.tw_symbols.proofs.TextNames.{AllByRecursion, IsTail, IsUtf8, StandsFirst, append-nil, begins_quoted, decimal, is_sign, nat_lt, pieces, pieces_after, some_piece}
 use Rattle.std.specs.Fmt.{digit_glyph, digits, digits_onto}
@@ -9,7 +9,7 @@ use Rattle.tw_lexer.proofs.Texts.{edge_small, parting_small, rest_utf8}
 use Rattle.tw_lexer.proofs.Utf8.{cut_front, cut_rest, one_ascii}
 use Rattle.tw_lexer.specs.Words.{IsAtEdge, IsGap}
 
--- no text of a line loses it by what a line stands for
+-- a property of texts that the expansion of a line keeps
 pub record IsKept (Q : List ℕ → Type 0) : Type 0 where
   pub none : Q []
   pub both : (a b : List ℕ) → Q a → Q b → Q (a ++ b)
@@ -25,7 +25,7 @@ pub all_kept : (Q : List ℕ → Type 0) (xs ys : List (List ℕ)) → AllKept Q
 all_kept Q [] ys h k = k
 all_kept Q (x ∷ xs) ys h k = (h.0, all_kept Q xs ys h.1 k)
 
--- either way
+-- proves a property for both branches
 pub either : {B : Type 0} (P : B → Type 0) (t : Bool) (x y : B) → P x → P y → P (cond t x y)
 either P true x y h k = h
 either P false x y h k = k

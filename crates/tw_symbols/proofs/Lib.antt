@@ -18,4 +18,6 @@ pub mod NameSteps
 pub mod Apart
 pub mod Uses
 pub mod Renamed
+pub mod RightLines
+pub mod BlankLines
 mod TextNames

@@ -1,4 +1,4 @@
--- A text with names stands for as many lines as it has, and where it is in UTF-8 for a text in UTF-8.
+-- An expansion has as many lines as its text, and is in UTF-8 if the text is.
 use Rattle.std.proofs.Common.{[], ◌≡◌, ◌==◌, ◌<◌, ◌-◌, ◌+◌, ℕ, suc, Bool, true, false, cond, List, ◌∷◌, ◌++◌, length, take, drop, get_or, Result, Ok, Err, inl, inr, refl, sym, ap, subst, ◌∙◌, append_assoc, append-nil, arith}
 use Rattle.tw_symbols.proofs.TextNames.{AllByRecursion, AreTaken, Broken, IsTaken, IsUtf8, Line, Names, Procedures, Rejection, Said, Says, StandFirst, Worded, at_number, ended, line_rest, line_words, lines, lines_of_parts, lines_say, no_names, onto_first, procedures_of, slice_index, slice_split, strip_carriage_return, take-append-drop, taken_says}
 use Rattle.std.proofs.lemmas.Bool.{eqb-true}
@@ -16,7 +16,7 @@ use Rattle.tw_symbols.proofs.Walk.{taken_length}
 abbrev LineKept : (List ℕ → Type 0) → Line → Type 0
 LineKept Q line = AllKept Q (line_words line) × Q (line_rest line)
 
--- each with a line feed
+-- joins lines, each with a line feed
 abbrev joined : List (List ℕ) → List ℕ
 joined [] = []
 joined (l ∷ ls) = l ++ 10 ∷ joined ls
@@ -61,7 +61,7 @@ module _ (Q : List ℕ → Type 0) (kept : IsKept Q) where
         subst (λ (x : Names × List ℕ). AllKept Q x.0.types) is one.3,
       )
 
-  -- each line says one line
+  -- each line expands to one line
   lines_kept : (p : Procedures) (n : ℕ) (names : Names) (front : List ℕ) (all : List Line) (plain : List ℕ) → AllKept Q names.types → AllByRecursion (LineKept Q) all → lines_say p n names front all ≡ Ok plain
       → (ls : List (List ℕ)) × (plain ≡ front ++ joined ls) × AllKept Q ls × (length ls ≡ length all)
   lines_kept p n names front [] plain h k e = ([], sym (plain_is front plain e) ∙ sym (append-nil front), tt, refl)
@@ -136,7 +136,7 @@ as_many text plain (inr (_, same)) = ap (λ (t : List ℕ). length (lines t)) sa
 
 -- ---- in UTF-8
 
--- the first of the parts follows this
+-- holds if the first of the parts follows this text
 abbrev PartsUtf8 : List ℕ → List (List ℕ) → Type 0
 PartsUtf8 front [] = ⊥
 PartsUtf8 front (part ∷ parts) = IsUtf8 (front ++ part) × AllKept IsUtf8 parts

@@ -31,7 +31,7 @@ gather_more ls line index p q at (all, are, is) (t, taken, e) =
 
 -- ---- what the lines so far say
 
--- what all lines say is what those behind this many say, with these names and behind this text
+-- holds if the result of all lines is that of the lines after the first `n`, with these names and after this text
 abbrev pub HasCome : Procedures → List (List ℕ) → ℕ → Names → List ℕ → Type 0
 HasCome p ls n names front = (all : List Line) → AreTaken all ls → lines_say p 1 no_names [] all ≡ lines_say p (n + 1) names front (drop n all)
 

@@ -1,4 +1,4 @@
--- What holds of the names before a line and behind it, where each name that it adds keeps it.
+-- A relation between the names before and after a line, if each name that it adds keeps it.
 use Rattle.std.proofs.Common.{[], ◌≡◌, ◌<◌, ℕ, Bool, true, false, cond, List, ◌∷◌, ◌++◌, length, take, drop, Option, Some, None, Result, Ok, Err, refl, sym, ap, subst, ◌∙◌, codes, arith}
 use Rattle.tw_symbols.proofs.TextNames.{TokenError, Line, Names, Procedures, Said, and_then, at_head, flat_map, is_name, known, line_rest, line_words, made_say, may_name, name_register, nat_lt, parameters, pieces, procedure_name, taken_says, list_says}
 use Rattle.std.proofs.lemmas.Bool.Decides.{nat_tests}
@@ -20,7 +20,7 @@ use Rattle.tw_symbols.specs.declared.meaning.Binding.{Binding}
 use Rattle.tw_symbols.specs.declared.meaning.Binding.TheVariants as binding
 use Rattle.tw_symbols.proofs.SaidTexts.{ok_is, went_then, word_made}
 
--- names before, and behind something that adds some
+-- a relation between names and those after something that adds some
 pub record IsStep (R : Names → Names → Type 0) : Type 0 where
   pub same : (n : Names) → R n n
   pub both : (a b c : Names) → R a b → R b c → R a c
@@ -29,7 +29,7 @@ pub record IsStep (R : Names → Names → Type 0) : Type 0 where
   pub listed : (n : Names) (name : List ℕ) (b : Bank) (number : ℕ) → number < 16 → is_listed b number n.registers ≡ false → R n (name_register n name b number origin.Listed)
   pub made : (n : Names) (name : List ℕ) → n.rights < 16 → R n (name_register n name bank.Right n.rights origin.Listed)
 
--- either way, with the test that led there
+-- proves a property for both branches, each with the test that leads to it
 pub by_test : {B : Type 0} (P : B → Type 0) (t : Bool) (x y : B) → (t ≡ true → P x) → (t ≡ false → P y) → P (cond t x y)
 by_test P true x y h k = h refl
 by_test P false x y h k = k refl
@@ -41,7 +41,7 @@ module _ (R : Names → Names → Type 0) (step : IsStep R) where
   abbrev pub StepTo : Names → Result Names TokenError → Type 0
   StepTo names r = (after : Names) → r ≡ Ok after → R names after
 
-  -- what is said behind these names
+  -- holds if the names after these are related to them
   abbrev pub StepSaid : Names → Said → Type 0
   StepSaid names says = (said : Names × List ℕ) → says ≡ Ok said → R names said.0
 
@@ -139,14 +139,14 @@ module _ (R : Names → Names → Type 0) (step : IsStep R) where
   body_step p names None front ws = names_step names _
   body_step p names (Some o) front ws = instruction_step p names o front (flat_map pieces ws)
 
-  -- behind a head the names are those that it lists
+  -- the names after a head are those that it lists
   pub head_step : (p : Procedures) (number : ℕ) (names : Names) (front : List ℕ) (ws : List (List ℕ)) (said : Names × List ℕ) → head_says p number names front ws ≡ Ok said → R (at_head names ws) said.0
   head_step p number names front ws said e =
       let first = went_then (name_says p number (procedure_name ws)) _ said e in
       let next = went_then (list_says p listed.Parameters (at_head names ws) 0 0 (parameters ws)) _ said first.2 in
       subst (λ (x : Names × List ℕ). R (at_head names ws) x.0) (ok_is (next.0, _) said next.2) (list_step p listed.Parameters (at_head names ws) 0 0 (parameters ws) next.0 next.1)
 
-  -- a line that is no head, or else what a head comes to
+  -- proves the step of a line from that of a head, if it is one
   pub line_step : (p : Procedures) (number : ℕ) (names : Names) (front : List ℕ) (ws : List (List ℕ))
       → ((first : List ℕ) (others : List (List ℕ)) → ws ≡ first ∷ others → bytes_eq first (codes "proc") ≡ true → StepSaid names (head_says p number names (front ++ first) (flat_map pieces others)))
       → StepSaid names (line_says p number names front ws)

@@ -27,7 +27,7 @@ and_right : (x y : Bool) → (x && y) ≡ true → y ≡ true
 and_right true y e = e
 and_right false y e = differ e
 
--- something that is no word isn't `names`
+-- something that isn't a word isn't `names`
 tail_other : (tail bytes : List ℕ) → IsTail tail bytes → is_names_line tail [] ≡ true → ⊥
 tail_other tail bytes is e = no ((bytes_eq-Decides tail (codes "names")).0 (and_left (bytes_eq tail (codes "names")) true e))
   where

@@ -1,4 +1,4 @@
--- A name that may be given means nothing yet.
+-- A name that may be defined has no meaning yet.
 use Rattle.std.proofs.Common.{◌≡◌, ℕ, Bool, true, false, cond, List, Option, Some, None, Ok, refl}
 use Rattle.tw_symbols.proofs.TextNames.{Names, Procedures, is_name, is_some, known, may_name, meaning, or_else, refused}
 use Rattle.tw_symbols.specs.declared.meaning.Binding.{Binding}

@@ -1,4 +1,4 @@
--- What a text says is one thing.
+-- A text has one result.
 use Rattle.std.proofs.Common.{◌≡◌, ℕ, List, Result, Ok, Err, inl, inr, refl, sym, ap, ◌∙◌}
 use Rattle.tw_symbols.proofs.TextNames.{Rejection, Says, lines, text_says}
 use Rattle.tw_symbols.specs.Theorems.{NotBoth, OneFirstRejection, StandsForItself, StandsForOne}

@@ -1,4 +1,4 @@
--- Which names are known behind a line.
+-- The names that are known after a line.
 use Rattle.std.proofs.Common.{[], ◌≡◌, ◌==◌, ◌≤◌, ◌⊎◌, ℕ, zero, suc, ◌+◌, ◌-◌, Bool, true, false, cond, List, ◌∷◌, ◌++◌, length, drop, take, Option, Some, None, Ok, Err, inl, inr, refl, sym, ap, subst, ◌∙◌, arith}
 use Rattle.tw_symbols.proofs.TextNames.{AreTaken, Bor, IsMemory, IsTaken, Line, Names, Procedures, Said, Table, drop-drop, drop_all, length-drop, length-map, no_names, now, option_map, option_or, seen_entry, seen_table, slice_get, take_all, taken_says}
 use Rattle.std.specs.Result.{IsErr}
@@ -11,25 +11,25 @@ use Rattle.tw_symbols.specs.declared.meaning.Bank.{Bank}
 use Rattle.tw_symbols.specs.declared.meaning.Binding.{Binding}
 use Rattle.tw_symbols.proofs.Walk.{taken_at, taken_length}
 
--- what is known behind the line is what those behind this many lines tell, with these names and behind this text
+-- holds if the names after all lines are those after the lines from `n` on, with these names and after this text
 abbrev pub HasGone : Procedures → ℕ → List (List ℕ) → ℕ → Names → List ℕ → Type 0
 HasGone p last ls n names front = (all : List Line) → AreTaken all ls → names_after_line p last 1 no_names [] all ≡ names_after_line p last (n + 1) names front (drop n all)
 
-same_number : (a b : ℕ) → a ≡ b → (a == b) ≡ true
+pub same_number : (a b : ℕ) → a ≡ b → (a == b) ≡ true
 same_number a b e = grind (arith, nat_tests)
 
-other_number : (a b : ℕ) → (a ≡ b → ⊥) → (a == b) ≡ false
+pub other_number : (a b : ℕ) → (a ≡ b → ⊥) → (a == b) ≡ false
 other_number a b other = by (a == b) refl
   where
     by : (t : Bool) → (a == b) ≡ t → t ≡ false
     by true e = absurd (other (eqb-true a b e))
     by false e = refl
 
-goes : (p : Procedures) (last n : ℕ) (names : Names) (front : List ℕ) (t : Line) (after : Names) (text : List ℕ) (others : List Line) → taken_says p n names front t ≡ Ok (after, text)
+pub goes : (p : Procedures) (last n : ℕ) (names : Names) (front : List ℕ) (t : Line) (after : Names) (text : List ℕ) (others : List Line) → taken_says p n names front t ≡ Ok (after, text)
     → names_after_line p last n names front (t ∷ others) ≡ cond (n == last) (Some after) (names_after_line p last (n + 1) after text others)
 goes p last n names front t after text others e = rw e refl
 
-refuses : (p : Procedures) (last n : ℕ) (names : Names) (front : List ℕ) (t : Line) (others : List Line) (says : Said) → taken_says p n names front t ≡ says → IsErr says
+pub refuses : (p : Procedures) (last n : ℕ) (names : Names) (front : List ℕ) (t : Line) (others : List Line) (says : Said) → taken_says p n names front t ≡ says → IsErr says
     → names_after_line p last n names front (t ∷ others) ≡ None
 refuses p last n names front t others (Ok said) e h = absurd cc
 refuses p last n names front t others (Err flaw) e h = rw e refl
@@ -71,7 +71,7 @@ gone_end p last ls n names front gone e all are =
     let short : length all ≤ n = omega (arith, e, taken_length all ls are) in
     gone all are ∙ ap (names_after_line p last (n + 1) names front) (drop_all n all short)
 
--- a refusal that isn't want of memory
+-- an error that isn't out of memory is the line's
 pub says_refused : (number : ℕ) (f : NameError) (says : Said) → (f.no ≡ no.NoMemory → ⊥) → IsMemory f ⊎ ((f.line ≡ number) × (says ≡ Err (record { no = f.no; word = f.word.now }))) → IsErr says
 says_refused number f says other (inl memory) = absurd (other memory.0)
 says_refused number f says other (inr (at, e)) = subst IsErr (sym e) refl
@@ -81,12 +81,12 @@ Entries = List (Bor (List ℕ) × Binding)
 
 -- ---- the last name
 
--- an entry behind those before it
-abbrev or_entry : Bank → ℕ → Option (List ℕ × Binding) → Option (List ℕ) → Option (List ℕ)
+-- returns the name of an entry, or else that of the entries before it
+abbrev pub or_entry : Bank → ℕ → Option (List ℕ × Binding) → Option (List ℕ) → Option (List ℕ)
 or_entry in_bank number None before = before
 or_entry in_bank number (Some entry) before = cond (is_register in_bank number entry.1) (Some entry.0) before
 
-one_more : (table : Table) (i : ℕ) (in_bank : Bank) (number : ℕ) (found : Option (List ℕ))
+pub one_more : (table : Table) (i : ℕ) (in_bank : Bank) (number : ℕ) (found : Option (List ℕ))
     → last_name (take (suc i) table) in_bank number found ≡ or_entry in_bank number (slice_get table i) (last_name (take i table) in_bank number found)
 one_more [] zero in_bank number found = refl
 one_more [] (suc i) in_bank number found = refl
@@ -131,11 +131,11 @@ found_all es i in_bank number found all so_far =
 
 -- ---- up to the first space
 
--- where a space stands, or nothing, the part before it ends
+-- the part ends at a space, or at the text's end
 pub part_ends : (text : List ℕ) (count : ℕ) → count + length (first_part (drop count text)) ≡ length (first_part text) → (length (first_part (drop count text)) == 0) ≡ true → count ≡ length (first_part text)
 part_ends text count so_far ends = let none : length (first_part (drop count text)) ≡ 0 = eqb-true (length (first_part (drop count text))) 0 ends in omega (arith, so_far, none)
 
--- a byte further
+-- moves one byte further
 further : (rest : List ℕ) → (length (first_part rest) == 0) ≡ false → (length (first_part rest) ≡ suc (length (first_part (drop 1 rest)))) × (1 ≤ length rest)
 further [] e = absurd cc
 further (b ∷ rest) e = by (b == 32) e
@@ -156,7 +156,7 @@ one_taken : (b : ℕ) (text : List ℕ) (t : Bool) → take (length (first_part 
 one_taken b text true e = refl
 one_taken b text false e = ap (λ (x : List ℕ). b ∷ x) e
 
--- what is cut off to the end
+-- cuts off the rest up to the end
 pub rest_is : (text : List ℕ) (count : ℕ) → drop count text ≡ take (length text - count) (drop count text)
 rest_is text count = let all : length (drop count text) ≤ length text - count = omega (arith, length-drop count text) in sym (take_all (length text - count) (drop count text) all)
 

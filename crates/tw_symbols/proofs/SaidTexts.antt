@@ -1,4 +1,4 @@
--- What a line stands for keeps what its words keep.
+-- A line's expansion keeps a property that its words have.
 use Rattle.std.proofs.Common.{[], ◌≡◌, ◌<◌, ◌≤◌, ℕ, ℤ, pos, negsuc, zero, suc, cond, List, ◌∷◌, ◌++◌, length, take, drop, filter, Option, Some, None, Result, Ok, Err, refl, sym, ap, subst, ◌∙◌, append_assoc, append-nil, codes, decimal, is_some, slice_get, arith}
 use Rattle.tw_symbols.proofs.TextNames.{TokenError, Names, Procedures, and_then, flat_map, is_name, known, may_name, name_register, nat_lt, pieces, unwrap_or, with_constant, with_register}
 use Rattle.tw_symbols.specs.Meanings.{is_listed, with_listed}
@@ -25,7 +25,7 @@ use Rattle.tw_symbols.specs.declared.meaning.Binding.TheVariants as binding
 use Rattle.tw_symbols.specs.declared.rejection.NameNo.TheVariants as no
 use Rattle.tw_symbols.proofs.KeptTexts.{AllKept, IsKept, all_kept, either, number_kept}
 
--- what went, and what went first
+-- if two steps succeed, the first one does, and then the second
 pub went_then : {A B : Type 0} (r : Result A TokenError) (next : A → Result B TokenError) (b : B) → and_then r next ≡ Ok b → (a : A) × (r ≡ Ok a) × (next a ≡ Ok b)
 went_then (Ok a) next b e = (a, refl, e)
 went_then (Err flaw) next b e = absurd cc
@@ -39,7 +39,7 @@ not_ok x y e = absurd cc
 some_is : (x y : List ℕ) → Some x ≡ Some y → x ≡ y
 some_is x y e = cc
 
--- ---- the types that are left out stay those of before
+-- ---- the types that are left out don't change
 
 abbrev SameTypes : Names → Result Names TokenError → Type 0
 SameTypes names r = (after : Names) → r ≡ Ok after → after.types ≡ names.types
@@ -95,7 +95,7 @@ list_types p l names values rights (word ∷ words) after e =
 one_types : (p : Procedures) (names : Names) (word : List ℕ) → SameTypes names (made_one p names word)
 one_types p names word = either (SameTypes names) _ _ _ (register_types p names word bank.Right names.rights origin.Listed) (same_names names)
 
--- what a word that is made comes to
+-- returns both steps of a word that is made
 pub word_made : (p : Procedures) (names : Names) (front word : List ℕ) (said : Names × List ℕ) → made_word p names front word ≡ Ok said
     → (made_one p names word ≡ Ok said.0) × (word_says p said.0 asked.Right front word ≡ Ok said.1)
 word_made p names front word said e =
@@ -136,12 +136,12 @@ all_parameters Q ws h = either (AllKept Q) (is_some (procedure_name ws)) (drop 2
 
 -- ---- the text of a line
 
--- what is said is said behind this text, and keeps it
+-- holds if the expansion is added to this text, and keeps the property
 abbrev pub SaysKept : (List ℕ → Type 0) → List ℕ → Said → Type 0
 SaysKept Q front says = (said : Names × List ℕ) → says ≡ Ok said → (line : List ℕ) × (said.1 ≡ front ++ line) × Q line × AllKept Q said.0.types
 
 module _ (Q : List ℕ → Type 0) (kept : IsKept Q) where
-  -- a space, and a word
+  -- a space and a word keep it
   spaced : (w : List ℕ) → Q w → Q (32 ∷ w)
   spaced w h = kept.both (32 ∷ []) w (kept.byte 32 (omega arith) (omega arith)) h
 
@@ -171,7 +171,7 @@ module _ (Q : List ℕ → Type 0) (kept : IsKept Q) where
         subst (λ (x : Names × List ℕ). AllKept Q x.0.types) is h,
       )
 
-  -- behind a first word
+  -- an expansion after a first word keeps it
   after_first : (front first : List ℕ) (says : Said) → Q first → SaysKept Q (front ++ first) says → SaysKept Q front says
   after_first front first says h each said e =
       let more = each said e in
@@ -200,7 +200,7 @@ module _ (Q : List ℕ → Type 0) (kept : IsKept Q) where
   stood asked.Procedure (binding.Procedure n) text e = subst Q (some_is (decimal n) text e) (number_kept Q kept n)
   stood a x text e = absurd cc
 
-  -- what is behind a text
+  -- holds if a text is another one with more after it
   abbrev IsMore : List ℕ → List ℕ → Type 0
   IsMore front text = (line : List ℕ) × (text ≡ front ++ line) × Q line
 

@@ -5,7 +5,7 @@ use Rattle.tw_symbols.proofs.TextNames.{AreTaken, IsTaken, Line, flat_map}
 use Rattle.tw_symbols.proofs.Walk.{taken_more}
 use Rattle.tw_symbols.specs.Symbols.{line_names}
 
--- these are the names in lines
+-- holds if these are the names in the lines
 abbrev pub AreRead : List (List ℕ) → List (List ℕ) → Type 0
 AreRead ls names = (all : List Line) × AreTaken all ls × (names ≡ flat_map line_names all)
 

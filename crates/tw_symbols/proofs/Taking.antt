@@ -5,7 +5,7 @@ use Rattle.tw_lexer.specs.Words.{IsBlank, IsFirstWord, IsWord, Bare, Quoted, Wor
 use Rattle.tw_lexer.specs.reading.Next.{IsAfterGap}
 use Rattle.tw_lexer.proofs.Once.{blank_no_word, first_word_once, gap_once, word_here}
 
--- what stands before a text's end
+-- returns what is before a text's end
 cut_front : (text after : List ℕ) → take (length (text ++ after) - length after) (text ++ after) ≡ text
 cut_front text after =
     let e : length (text ++ after) - length after ≡ length text = omega (arith, length-append text after) in
@@ -15,7 +15,7 @@ text_here : (w : Word) (bytes here after : List ℕ) (f : IsFirstWord w bytes af
 text_here w bytes here after f a =
     gap_once a.gap f.gap here (f.text ++ after) a.is_gap f.is_gap a.at_word (word_here w f.text after f.is_word).0 (sym a.parts ∙ f.parts)
 
--- a word, as it is cut out behind the gap
+-- a word that is cut out after the gap
 pub cut_word : (w : Word) (bytes here after : List ℕ) → IsAfterGap bytes here → IsFirstWord w bytes after → StandsFirst (take (length here - length after) here) bytes after
 cut_word w bytes here after a f =
     let e = text_here w bytes here after f a in
@@ -29,7 +29,7 @@ cut_word_at w bytes here after n a f e =
     let count : length here - length after ≡ n = omega (arith, e) in
     subst (λ (k : ℕ). StandsFirst (take k here) bytes after) count (cut_word w bytes here after a f)
 
--- what follows a word is shorter
+-- the rest after a word is shorter
 nonempty : (w : Word) (text : List ℕ) → IsWord w text → 0 < length text
 nonempty (Bare []) text is = absurd is.0
 nonempty (Bare (b ∷ bs)) text is = subst (λ (t : List ℕ). 0 < length t) (sym is.1) (omega arith)
@@ -41,7 +41,7 @@ shorter w bytes after f =
     let all : length bytes ≡ length f.gap + (length f.text + length after) = ap length f.parts ∙ length-append f.gap (f.text ++ after) ∙ ap (λ (n : ℕ). length f.gap + n) (length-append f.text after) in
     omega (arith, some, all)
 
--- a word more
+-- adds one more word
 pub first_more : (ws : List (List ℕ)) (w line bytes rest : List ℕ) → StandFirst ws line bytes → StandsFirst w bytes rest → StandFirst (ws ++ w ∷ []) line rest
 first_more [] w line bytes rest are first = (rest, subst (λ (b : List ℕ). StandsFirst w b rest) (sym are) first, refl)
 first_more (v ∷ vs) w line bytes rest (after, is, more) first = (after, is, first_more vs w after bytes rest more first)
@@ -68,7 +68,7 @@ words_once (w ∷ ws) (v ∷ vs) bytes rest after ((next, first, more), blank) (
     let all = words_once ws vs next_ rest after (subst (λ (b : List ℕ). StandFirst ws b rest) one.1 more, blank) (others, empty) in
     (ap (λ (x : List ℕ). x ∷ ws) one.0 ∙ ap (λ (xs : List (List ℕ)). v ∷ xs) all.0, all.1)
 
--- where something is no word, no word stands
+-- no word is at the place of something that isn't a word
 no_word_in_tail : (t tail bytes rest : List ℕ) → IsTail tail bytes → StandsFirst t bytes rest → ⊥
 no_word_in_tail t tail bytes rest is (w, f, e) = is.broken.1 w rest f
 

@@ -1,4 +1,4 @@
--- Names of texts with names, of their words and of what is known of them, for the files here.
+-- Imports for the proofs here: the definitions of symbolic assembly, of words and of names.
 pub use Rattle.std.proofs.lemmas.List.{append-nil, drop-drop, drop_all, get_or-drop, length-append, length-drop, length-map, map-append, take-append-drop, take-map, take_all, take_at}
 pub use Rattle.std.specs.List.{AllByRecursion, filter_map, flat_map, onto_first, slice_get, slice_split}
 pub use Rattle.std.specs.Option.{is_some, option_or, unwrap_or}

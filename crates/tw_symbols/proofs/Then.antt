@@ -1,4 +1,4 @@
--- One thing after another.
+-- Steps in sequence.
 use Rattle.std.proofs.Common.{◌≡◌, ℕ, List, ◌∷◌, ◌++◌, take, filter, Option, Result, Ok, refl, sym, ap, subst, ◌∙◌, append_assoc}
 use Rattle.tw_symbols.proofs.TextNames.{TokenError, Line, Names, Procedures, and_then, at_head, behind, ended, flat_map, head_says, is_unnamed, line_rest, line_says, line_words, list_says, name_says, parameters, procedure_name, taken_says}
 use Rattle.std.proofs.lemmas.Grind.{flat_map-append}
@@ -11,7 +11,7 @@ pub behind_more : (front : List ℕ) (a b : List (List ℕ)) → behind (behind 
 behind_more front a b =
     append_assoc front (flat_map (λ word. 32 ∷ word) a) (flat_map (λ word. 32 ∷ word) b) ∙ ap (λ (x : List ℕ). front ++ x) (sym (flat_map-append (λ (word : List ℕ). 32 ∷ word) a b))
 
--- what a line's words say, and what follows them
+-- returns the expansion of a line's words, and the rest after them
 pub line_said : (p : Procedures) (number : ℕ) (names : Names) (front : List ℕ) (t : Line) (words : List (List ℕ)) (rest : List ℕ) → words ≡ line_words t → rest ≡ line_rest t
     → and_then (line_says p number names front words) (λ (said : Names × List ℕ). Ok (said.0, said.1 ++ ended rest)) ≡ taken_says p number names front t
 line_said p number names front t words rest e d =

@@ -1,4 +1,4 @@
--- Names of registers stay, are given by their places, and are used for what they were given to.
+-- Names of registers stay, are given by their places, and are used for the registers that got them.
 use Rattle.std.proofs.Common.{[], ◌≡◌, ◌<◌, ◌+◌, ℕ, Bool, true, false, cond, List, ◌∷◌, ◌++◌, Option, Some, None, Result, Ok, Err, refl, sym, ap, subst, ◌∙◌, codes, decimal, arith}
 use Rattle.std.specs.Map.{lookup}
 use Rattle.std.specs.Option.{option_map_or}
@@ -57,7 +57,7 @@ names_stay p number names front line said name x e no_head means =
     taken_step KeepsMeaning keeps_step p number names front line
     (λ first others is proc later h. absurd (no_head (others, is ∙ ap (λ (word : List ℕ). word ∷ others) ((bytes_eq-Decides first (codes "proc")).0 proc)))) said e name x means
 
--- ---- a name means the register that begins behind it
+-- ---- a name means the register that begins after it
 
 new_found : (name : List ℕ) (table : Table) (x : Binding) → meaning name table ≡ None → meaning name (table ++ (name, x) ∷ []) ≡ Some x
 new_found name [] x e = ap (λ (t : Bool). cond t (Some x) None) ((bytes_eq-Decides name name).1 refl)
@@ -127,7 +127,7 @@ listed_by_place p l names after values rights (v ∷ vs) name word others b is s
     listed_by_place p l went.0 after (counted bank.Value (begins l v) values) (counted bank.Right (begins l v) rights) vs name word others b is went.2
     ∙ ap (λ (n : ℕ). Some (binding.Register b n origin.Listed)) (one_counted b (begins l v) values rights (begun l b vs) ∙ ap (λ (n : ℕ). number_in b values rights + n) (sym (sum_by-cons (λ (w : List ℕ). cond (option_map_or (is_bank b) (begins l w) false) 1 0) v vs)))
 
--- ---- a use says the register
+-- ---- a use means the register
 
 low_read : (n : ℕ) → n < 16 → digits_in 0 15 (decimal n) ≡ Ok n
 low_read n low =

@@ -1,4 +1,4 @@
--- A text is gone over line by line.
+-- A text is read line by line.
 use Rattle.std.proofs.Common.{[], ◌≡◌, ℕ, suc, ◌+◌, List, ◌∷◌, ◌++◌, length, drop, refl, ap, ◌∙◌, inl, inr, arith}
 use Rattle.tw_symbols.proofs.TextNames.{AreTaken, AreWords, HasNames, IsTaken, Line, Procedures, codes, with_line, with_lines}
 use Rattle.tw_symbols.proofs.Taking.{words_once}
@@ -21,7 +21,7 @@ taken_length [] (l ∷ ls) are = absurd are
 taken_length (x ∷ all) [] are = absurd are
 taken_length (x ∷ all) (l ∷ ls) (_, more) = ap suc (taken_length all ls more)
 
--- the line behind those before it
+-- returns the line after those before it
 pub taken_at : (all : List Line) (before : List (List ℕ)) (line : List ℕ) (others : List (List ℕ)) → AreTaken all (before ++ line ∷ others) → (t : Line) × IsTaken t line × (drop (length before) all ≡ t ∷ drop (suc (length before)) all)
 taken_at [] [] line others are = absurd are
 taken_at (x ∷ all) [] line others (is, _) = (x, is, refl)
@@ -30,7 +30,7 @@ taken_at (x ∷ all) (l ∷ before) line others (_, more) = taken_at all before 
 
 -- ---- the line `names`
 
--- these lines have no word
+-- holds if these lines have no word
 abbrev pub AreBlank : List (List ℕ) → Type 0
 AreBlank [] = Unit {0}
 AreBlank (line ∷ others) = ((rest : List ℕ) × AreWords [] line rest) × AreBlank others

@@ -1,5 +1,5 @@
--- What the calls answer.
-use Rattle.std.specs.Prelude.{◌≡◌, ◌⊎◌, ◌<◌, ℕ, Bool, true, false, List, [], ◌∷◌, ◌++◌, decimal, Option, Some, None, Result, Ok, Err, ◌-◌, length, take, drop, IsUtf8}
+-- The results of calls, in terms of the definitions.
+use Rattle.std.specs.Prelude.{◌≡◌, ◌==◌, ◌⊎◌, ◌<◌, ℕ, Bool, true, false, List, [], ◌∷◌, ◌++◌, decimal, Option, Some, None, Result, Ok, Err, ◌-◌, length, take, drop, IsUtf8}
 use Rattle.std.specs.Fmt.{signed_decimal}
 use Rattle.tw_symbols.specs.Meanings.{TokenError, lists}
 use Rattle.std.specs.Str.Lines.{lines}
@@ -21,7 +21,7 @@ use Rattle.tw_symbols.specs.declared.rejection.NameError.{NameError}
 use Rattle.tw_symbols.specs.declared.rejection.Rejection.{Rejection}
 use Rattle.tw_symbols.specs.declared.rejection.Rejection.TheVariants as rejection
 
--- N01 to N07; a name and a register may both be taken, which is N03
+-- returns the number of N01 to N07; N03 is both for a name and for a register that is taken
 abbrev pub name_number : NameNo → ℕ
 name_number no.Form = 1
 name_number no.NoName = 2
@@ -36,28 +36,33 @@ abbrev pub standing_text : standings.OperandText → List ℕ
 standing_text (standing.Numbered front number) = front.now ++ decimal number
 standing_text (standing.Number number) = signed_decimal number
 
--- whether an entry is a name by which this register was listed or made
+-- returns whether an entry is a name by which this register was listed or made
 abbrev pub lists_entry : Bank → ℕ → Option (List ℕ × Binding) → Bool
 lists_entry in_bank number None = false
 lists_entry in_bank number (Some entry) = lists in_bank number entry.1
 
--- the pieces of a word from an index on, where the piece round it begins at a place
+-- returns the pieces of a word from an index on, if the piece around the index begins at `start`
 unfoldable pub pieces_left : List ℕ → ℕ → ℕ → List (List ℕ)
 pieces_left word start index = pieces_after (take (index - start) (drop start word)) (drop index word)
 
+-- returns whether the first byte says that a line has no word: it is empty, or a comment
+abbrev pub is_plainly_blank : List ℕ → Bool
+is_plainly_blank [] = true
+is_plainly_blank (b ∷ line) = b == 59
+
 -- ---- parts of a line
 
--- it is refused as the function did
+-- holds if the error is the one that the function returned
 abbrev pub Fails : {Y : Type 0} → Rejection → Result Y TokenError → Type 0
 Fails rejection.NoMemory says = Unit {0}
 Fails (rejection.Flawed which word) says = says ≡ Err (record { no = which; word = word.now })
 
--- What a function returned, seen by view, is what is said, unless memory ran out.
+-- holds if the result, seen by `view`, is the expected one, or memory ran out
 abbrev pub Gives : {X Y : Type 0} → (X → Y) → Result X Rejection → Result Y TokenError → Type 0
 Gives view (Ok x) says = says ≡ Ok (view x)
 Gives view (Err e) says = Fails e says
 
--- the names, and the text in what is written now
+-- holds if these are the names, and the text that is written now
 abbrev pub SaysBehind : Result names.Names Rejection → List ℕ → Said → Type 0
 SaysBehind result text says = Gives (λ n. (seen_names n, text)) result says
 
@@ -69,22 +74,22 @@ IsMemory f = (f.no ≡ no.NoMemory) × (f.line ≡ 0) × (f.word.now ≡ [])
 abbrev pub told : NameError → Told
 told f = record { line = f.line; no = f.no; word = f.word.now }
 
--- what is refused, with the number of its line
+-- holds if this is the error, with the number of its line
 abbrev pub IsAtLine : ℕ → Rejection → NameError → Type 0
 IsAtLine number rejection.NoMemory f = IsMemory f
 IsAtLine number (rejection.Flawed which word) f = told f ≡ record { line = number; no = which; word = word.now }
 
--- the names and the text of a line of this number, or its refusal, or want of memory
+-- holds if these are the names and the text after a line of this number, or its error, or memory ran out
 abbrev pub SaidAt : ℕ → Result names.Names NameError → List ℕ → Said → Type 0
 SaidAt number (Ok n) text says = says ≡ Ok (seen_names n, text)
 SaidAt number (Err f) text says = IsMemory f ⊎ ((f.line ≡ number) × (says ≡ Err (record { no = f.no; word = f.word.now })))
 
--- whether a line that has a word has just `names`
+-- returns whether a line has just `names`, if it has a word
 abbrev pub named_by : List (List ℕ) → Option Bool
 named_by [] = None
 named_by (first ∷ words) = Some (is_names_line first words)
 
--- the same of the first line that has a word, where this one is read behind others
+-- holds if `after` is the answer so far, or that of this line if there was none
 abbrev pub IsNamedAfter : Option Bool → List ℕ → Option Bool → Type 0
 IsNamedAfter (Some named) line after = after ≡ Some named
 IsNamedAfter None line after = (taken : Line) × IsTaken taken line × (after ≡ named_by (line_words taken))
@@ -95,7 +100,7 @@ IsNamed false text = HasNames (lines text) → ⊥
 
 -- ---- a line
 
--- what stands first; what follows a word in UTF-8 is shorter, and in UTF-8
+-- holds if this is the beginning of the bytes; the rest after a word is shorter, and in UTF-8
 abbrev pub IsFirst : firsts.First → List ℕ → Type 0
 IsFirst first.End bytes = IsBlank bytes
 IsFirst first.Broken bytes = IsBroken bytes

@@ -1,4 +1,4 @@
--- Which text a text with names stands for, and which refusal of it is the first.
+-- The expansion of a symbolic assembly text, or its first error.
 use Rattle.std.specs.Prelude.{◌≡◌, ◌+◌, ℕ, List, [], ◌∷◌, ◌++◌, ◌⊎◌, length, codes, Option, Some, None, Result, Ok, Err, is_some, if◌then◌else◌}
 use Rattle.std.specs.List.{filter_map, flat_map}
 use Rattle.std.specs.Str.{bytes_eq}
@@ -11,12 +11,12 @@ use Rattle.tw_symbols.specs.declared.rejection.NameNo.{NameNo}
 
 -- ---- the procedures of a text
 
--- the first procedure of a name has it
+-- returns the table with a procedure's name, unless an earlier procedure has it
 abbrev pub with_name : Option (List ℕ) → ℕ → Table → Table
 with_name None number table = table
 with_name (Some name) number table = if is_some (meaning name table) then table else table ++ (name, binding.Procedure number) ∷ []
 
--- the words behind `proc` in the line of this number
+-- returns the procedures with the one whose head has these words, in the line of this number
 abbrev pub with_head : Procedures → ℕ → List (List ℕ) → Procedures
 with_head procedures number words = record {
   table = with_name (procedure_name words) (length procedures.heads) procedures.table;
@@ -30,7 +30,7 @@ with_words procedures number (first ∷ words) = if bytes_eq first (codes "proc"
 abbrev pub with_line : Procedures → ℕ → Line → Procedures
 with_line procedures number line = with_words procedures number (line_words line)
 
--- those of lines from this number on
+-- returns the procedures with those of lines from this number on
 abbrev pub with_lines : Procedures → ℕ → List Line → Procedures
 with_lines procedures number [] = procedures
 with_lines procedures number (line ∷ others) = with_lines (with_line procedures number line) (number + 1) others
@@ -48,16 +48,16 @@ pub record Rejection : Type 0 where
 abbrev pub ended : List ℕ → List ℕ
 ended line = line ++ codes "\n"
 
--- what follows the last word stands as it is
+-- returns the expansion of a line; the rest after its last word stays as it is
 abbrev pub taken_says : Procedures → ℕ → Names → List ℕ → Line → Said
 taken_says procedures number names front line = and_then (line_says procedures number names front (line_words line)) (λ said. Ok (said.0, said.1 ++ ended (line_rest line)))
 
--- what is refused is told with the number of its line
+-- returns an error with the number of its line
 abbrev pub at_number : ℕ → Said → (Names × List ℕ → Result (List ℕ) Rejection) → Result (List ℕ) Rejection
 at_number number (Ok said) next = next said
 at_number number (Err flaw) next = Err (record { line = number; no = flaw.no; word = flaw.word })
 
--- lines from this number on, behind a text
+-- returns a text with the expansion of lines from this number on
 abbrev pub lines_say : Procedures → ℕ → Names → List ℕ → List Line → Result (List ℕ) Rejection
 lines_say procedures number names front [] = Ok front
 lines_say procedures number names front (line ∷ others) = at_number number (taken_says procedures number names front line) (λ said. lines_say procedures (number + 1) said.0 said.1 others)
@@ -67,16 +67,16 @@ text_says all = lines_say (procedures_of all) 1 no_names [] all
 
 -- ---- the text
 
--- the first line that has a word has just `names`
+-- holds if the first line that has a word has just `names`
 abbrev pub HasNames : List (List ℕ) → Type 0
 HasNames [] = ⊥
 HasNames (line ∷ others) = ((rest : List ℕ) × AreWords (codes "names" ∷ []) line rest) ⊎ (((rest : List ℕ) × AreWords [] line rest) × HasNames others)
 
--- a text with names says this
+-- holds if the text has names, and this is its expansion or its first error
 abbrev pub Says : List ℕ → Result (List ℕ) Rejection → Type 0
 Says text says = HasNames (lines text) × ((all : List Line) × AreTaken all (lines text) × (text_says all ≡ says))
 
--- a text, and the assembly text that it stands for
+-- holds if the second text is the expansion of the first
 abbrev pub StandsFor : List ℕ → List ℕ → Type 0
 StandsFor text plain = Says text (Ok plain) ⊎ ((HasNames (lines text) → ⊥) × (plain ≡ text))
 

@@ -1,15 +1,16 @@
--- Texts with names. Lines says how a line's words are taken, Meanings what names mean, LineExpansion what each line says and stands for,
--- and Expansion which text a text with names stands for, or which refusal is the first: these are to be believed. Theorems says what the
--- laws are.
+-- Symbolic assembly. Lines defines the words of a line, Meanings the meanings of names, LineExpansion the expansion of a line, and Expansion that of
+-- a text, or its first error. These definitions have to be trusted. Theorems states what follows from them.
 pub mod Lines
 pub mod Meanings
 pub mod LineExpansion
 pub mod Expansion
 pub mod Theorems
--- How a register's name is told beside its number.
+-- The name of a register, printed beside its number.
 pub mod Registers
--- How procedures are told by name.
+-- The names of procedures, for messages.
 pub mod Symbols
--- How contracts see what the code keeps, and what calls answer.
+-- The names of right registers at each line, for listings.
+pub mod RightNames
+-- Views of the code's data, and the results of calls.
 pub mod Seen
 pub mod Answers

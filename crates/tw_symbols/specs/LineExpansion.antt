@@ -1,4 +1,4 @@
--- What each line of a text with names says: which names it adds, and which text it stands for.
+-- The expansion of each line of symbolic assembly, and the names that it adds.
 use Rattle.std.specs.Prelude.{◌==◌, ◌+◌, ◌&&◌, ◌||◌, ℕ, ℤ, Bool, true, false, List, [], ◌∷◌, ◌++◌, length, map, filter, not, take, drop, codes, decimal, slice_get, Option, Some, None, Result, Ok, is_none, is_some, unwrap_or, if◌then◌else◌}
 use Rattle.std.specs.Fmt.{signed_decimal}
 use Rattle.std.specs.List.{flat_map, list_any}
@@ -26,17 +26,17 @@ use Rattle.tw_symbols.specs.declared.meaning.Binding.{Binding}
 use Rattle.tw_symbols.specs.declared.meaning.Binding.TheVariants as binding
 use Rattle.tw_symbols.specs.declared.rejection.NameNo.TheVariants as no
 
--- the names behind a line, and a text with that for which its words stand
+-- the names after a line and the text with the line's expansion, or an error
 abbrev pub Said : Type 0
 Said = Result (Names × List ℕ) TokenError
 
--- words behind a text, each with a space before it
+-- returns a text with words added, each after a space
 abbrev pub behind : List ℕ → List (List ℕ) → List ℕ
 behind front words = front ++ flat_map (λ word. 32 ∷ word) words
 
 -- ---- words that may be names
 
--- What stands in the place of a name, where this is asked: of a register its letter and number, as an argument the number alone.
+-- returns the replacement of a name if its meaning is of the required kind: a register's letter and number, or as an argument the number alone
 abbrev pub stands : Expected → Binding → Option (List ℕ)
 stands asked.Value (binding.Register bank.Value number by) = Some (codes "v" ++ decimal number)
 stands asked.Right (binding.Register bank.Right number by) = Some (codes "d" ++ decimal number)
@@ -46,7 +46,7 @@ stands asked.Number (binding.Constant number) = Some (signed_decimal number)
 stands asked.Procedure (binding.Procedure number) = Some (codes "" ++ decimal number)
 stands a x = None
 
--- a text, and behind it a word
+-- returns a text with a space and a word added
 abbrev pub with_word : List ℕ → List ℕ → List ℕ
 with_word front word = front ++ 32 ∷ word
 
@@ -58,12 +58,12 @@ abbrev pub named : List ℕ → List ℕ → Option Binding → Expected → Res
 named front word None a = refused no.Unknown word
 named front word (Some x) a = fitting front word a x (stands a x)
 
--- a text with what a word stands for: where nothing is asked, and where it is no name, that is the word itself
+-- returns a text with the expansion of a word, which is the word itself if no name is required or it is none
 abbrev pub word_says : Procedures → Names → Expected → List ℕ → List ℕ → Result (List ℕ) TokenError
 word_says procedures names asked.Nothing front word = Ok (with_word front word)
 word_says procedures names a front word = if is_name word then named front word (known procedures names word) a else Ok (with_word front word)
 
--- the same of words, each with what is asked in its place; further words are asked nothing
+-- returns a text with the expansion of words, each with what is required in its place; of further words nothing is required
 abbrev pub words_say : Procedures → Names → List Expected → List ℕ → List (List ℕ) → Result (List ℕ) TokenError
 words_say procedures names all front [] = Ok front
 words_say procedures names all front (word ∷ words) =
@@ -75,7 +75,7 @@ abbrev pub argument_of : Bank → Expected
 argument_of bank.Value = asked.ValueArgument
 argument_of bank.Right = asked.RightArgument
 
--- what an operand of a form asks, where the procedure's parameters are of these banks
+-- returns what an operand of a form has to be, if the procedure's parameters are of these banks
 abbrev pub asked_by : List Bank → Form → List Expected
 asked_by banks form.Value = asked.Value ∷ []
 asked_by banks form.Right = asked.Right ∷ []
@@ -86,7 +86,7 @@ asked_by banks form.Callee = asked.Procedure ∷ []
 asked_by banks form.Args = map argument_of banks
 asked_by banks f = asked.Nothing ∷ []
 
--- a procedure, by its name or else by its number
+-- returns the number of a procedure from its name, or else from digits
 abbrev pub callee : Option Binding → Option ℕ → Option ℕ
 callee (Some (binding.Procedure number)) digits = Some number
 callee x digits = digits
@@ -95,12 +95,12 @@ abbrev pub banks_at : Procedures → Option ℕ → List Bank
 banks_at procedures None = []
 banks_at procedures (Some number) = option_map_or (λ (head : Head). head.banks) (slice_get procedures.heads number) []
 
--- those of the parameters of the procedure that the first word tells, as many as there are words
+-- returns the banks of the parameters of the procedure that the first word names, at most as many as there are words
 abbrev pub banks_of : Procedures → Names → List (List ℕ) → List Bank
 banks_of procedures names [] = []
 banks_of procedures names (word ∷ words) = take (length (word ∷ words)) (banks_at procedures (callee (known procedures names word) (result_ok (digits_in 0 255 word))))
 
--- how many of its first operands are right registers that it fills
+-- returns how many of its first operands are right registers that it fills
 abbrev pub makes : Opcode → ℕ
 makes opcode.New = 2
 makes opcode.Look = 1
@@ -109,12 +109,12 @@ makes opcode.CopyRead = 1
 makes opcode.CopyWrite = 1
 makes o = 0
 
--- a name that means nothing yet is the next right register
+-- returns the names with the next right register, if the word is a name without a meaning
 abbrev pub made_one : Procedures → Names → List ℕ → Result Names TokenError
 made_one procedures names word =
     if is_name word && is_none (known procedures names word) then with_register procedures names word bank.Right names.rights origin.Listed else Ok names
 
--- a text with the word of a right register that an instruction fills: it is named, and then stands for its register
+-- returns a text with the word of a right register that an instruction fills: it is named first, and then expanded
 abbrev pub made_word : Procedures → Names → List ℕ → List ℕ → Said
 made_word procedures names front word = and_then (made_one procedures names word) (λ after. and_then (word_says procedures after asked.Right front word) (λ text. Ok (after, text)))
 
@@ -129,23 +129,23 @@ instruction_says procedures names o front words =
 
 -- ---- `const` and `let`
 
--- The word behind `=`, of the words behind a name. A word that is missing is told by the line's first word, and another sign by itself.
+-- returns the word after `=`, from the words after a name; the error is at the line's first word if a word is missing, and else at the other sign
 abbrev pub assigned : List ℕ → List (List ℕ) → Result (List ℕ) TokenError
 assigned first [] = refused no.Form first
 assigned first (sign ∷ []) = if bytes_eq sign (codes "=") then refused no.Form first else refused no.Form sign
 assigned first (sign ∷ word ∷ words) = if bytes_eq sign (codes "=") then Ok word else refused no.Form sign
 
--- what a word is read as, if it is that
+-- returns the value of a word, if it has one
 abbrev pub read_as : {A : Type 0} → List ℕ → Option A → Result A TokenError
 read_as word None = refused no.Form word
 read_as word (Some a) = Ok a
 
--- no word is left
+-- succeeds if no word is left
 abbrev pub nothing_left : List (List ℕ) → Result (Unit {0}) TokenError
 nothing_left [] = Ok tt
 nothing_left (word ∷ words) = refused no.Form word
 
--- what stands behind a name, `=` and nothing else, as this reads it
+-- returns the value of the word after `=`, if no word follows it
 abbrev pub value_after : {A : Type 0} → (List ℕ → Option A) → List ℕ → List (List ℕ) → Result A TokenError
 value_after read first words = and_then (assigned first words) (λ word. and_then (read_as word (read word)) (λ a. and_then (nothing_left (drop 2 words)) (λ _. Ok a)))
 
@@ -157,12 +157,12 @@ register_in None number = None
 register_in (Some in_bank) None = None
 register_in (Some in_bank) (Some number) = Some (in_bank, number)
 
--- its letter, and a number from 0 to 15
+-- returns the register with this letter, and a number from 0 to 15
 abbrev pub register_of : List ℕ → Option (Bank × ℕ)
 register_of [] = None
 register_of (b ∷ rest) = register_in (bank_of_letter b) (result_ok (digits_in 0 15 rest))
 
--- the number that a word spells
+-- returns the signed 64-bit number that a word encodes
 abbrev pub number_of : List ℕ → Option ℤ
 number_of word = result_ok (signed_in word)
 
@@ -178,14 +178,14 @@ let_says procedures names first (name ∷ words) =
 
 -- ---- `proc` and `regs`
 
--- the bank of a parameter of this mode
+-- returns the bank of a parameter of this mode
 abbrev pub bank_of_mode : List ℕ → Option Bank
 bank_of_mode word =
     if bytes_eq word (codes "val") then Some bank.Value else
     if bytes_eq word (codes "closed") || (bytes_eq word (codes "ref") || bytes_eq word (codes "write")) then Some bank.Right else
     None
 
--- Of which bank a register begins with this word: in a head with a mode, in a line `regs` with each word that isn't a name and `:`.
+-- returns the bank of the register that begins with this word: in a head a mode, in a line `regs` each word that isn't a name and `:`
 abbrev pub begins : Listed → List ℕ → Option Bank
 begins listed.Parameters word = bank_of_mode word
 begins listed.Registers word = if is_some (before_colon word) then None else Some bank.Value
@@ -198,22 +198,22 @@ abbrev pub number_in : Bank → ℕ → ℕ → ℕ
 number_in bank.Value values rights = values
 number_in bank.Right values rights = rights
 
--- a register of this name, if one begins behind it, where so many value registers and right registers have begun
+-- returns the names with this one, if a register begins after it and so many value registers and right registers have begun before
 abbrev pub list_name : Procedures → Names → ℕ → ℕ → List ℕ → List ℕ → Option Bank → Result Names TokenError
 list_name procedures names values rights word [] b = refused no.Form word
 list_name procedures names values rights word name None = refused no.Form word
 list_name procedures names values rights word name (Some b) = with_listed procedures names name b (number_in b values rights)
 
--- a mode, or a word of a type
+-- returns whether a word is a mode, or a word of a type
 abbrev pub is_listed_word : List ℕ → Bool
 is_listed_word word =
     is_some (bank_of_mode word) || (bytes_eq word (codes "int") || (bytes_eq word (codes "text") || (bytes_eq word (codes "cont") || bytes_eq word (codes "tcont"))))
 
--- a `:` stands in it, and not between quotes
+-- returns whether a word that isn't quoted contains a `:`
 abbrev pub has_colon : List ℕ → Bool
 has_colon word = not (begins_quoted word) && list_any (λ b. b == 58) word
 
--- no name stands there without `:`, and none with more right behind that
+-- returns an error if the word is a name without `:`, or has more after its `:`
 abbrev pub unnamed_says : Names → List ℕ → Result Names TokenError
 unnamed_says names word =
     if is_name word && not (is_listed_word word) then refused no.Unknown word else
@@ -224,13 +224,13 @@ abbrev pub name_before : Procedures → Listed → Names → ℕ → ℕ → Lis
 name_before procedures l names values rights word words None = unnamed_says names word
 name_before procedures l names values rights word words (Some name) = list_name procedures names values rights word name (begins_first l words)
 
--- how many of a bank have begun
+-- returns how many registers of a bank have begun
 abbrev pub counted : Bank → Option Bank → ℕ → ℕ
 counted bank.Value (Some bank.Value) n = n + 1
 counted bank.Right (Some bank.Right) n = n + 1
 counted b begun n = n
 
--- words with names, where so many registers have begun: behind a name and `:` one begins
+-- returns the names after these words, if so many registers have begun; after a name and `:` a register has to begin
 abbrev pub list_says : Procedures → Listed → Names → ℕ → ℕ → List (List ℕ) → Result Names TokenError
 list_says procedures l names values rights [] = Ok names
 list_says procedures l names values rights (word ∷ words) =
@@ -239,7 +239,7 @@ list_says procedures l names values rights (word ∷ words) =
 abbrev pub is_unnamed : List ℕ → Bool
 is_unnamed word = is_none (before_colon word)
 
--- the word behind the kind, unless a parameter begins with it
+-- returns the word after the kind, unless a parameter begins with it
 abbrev pub procedure_name : List (List ℕ) → Option (List ℕ)
 procedure_name (kind ∷ word ∷ words) = if is_some (bank_of_mode word) || is_some (before_colon word) then None else Some word
 procedure_name words = None
@@ -247,12 +247,12 @@ procedure_name words = None
 abbrev pub parameters : List (List ℕ) → List (List ℕ)
 parameters words = if is_some (procedure_name words) then drop 2 words else drop 1 words
 
--- the words behind each `val`
+-- returns the words after each `val`
 abbrev pub value_types : List (List ℕ) → List (List ℕ)
 value_types [] = []
 value_types (word ∷ words) = if bytes_eq word (codes "val") then take 1 words ++ value_types words else value_types words
 
--- the procedure of this name begins at this line
+-- returns whether the procedure of this name begins at this line
 abbrev pub begins_at : Procedures → ℕ → Option Binding → Bool
 begins_at procedures number (Some (binding.Procedure n)) = option_map_or (λ (head : Head). head.line == number) (slice_get procedures.heads n) false
 begins_at procedures number x = false
@@ -262,7 +262,7 @@ name_says procedures number None = Ok tt
 name_says procedures number (Some name) =
     if is_name name then (if begins_at procedures number (meaning name procedures.table) then Ok tt else refused no.Twice name) else refused no.NoName name
 
--- the names at a head: no registers yet
+-- returns the names at a head, with no registers yet
 abbrev pub at_head : Names → List (List ℕ) → Names
 at_head names words = record names { registers = []; types = if is_some (procedure_name words) then value_types (parameters words) else []; rights = 0 }
 
@@ -282,7 +282,7 @@ abbrev pub body_says : Procedures → Names → Option Opcode → List ℕ → L
 body_says procedures names (Some o) front words = instruction_says procedures names o front (flat_map pieces words)
 body_says procedures names None front words = Ok (names, behind front words)
 
--- nothing is left of the line
+-- returns the names after a line whose words expand to nothing
 abbrev pub only_names : List ℕ → Result Names TokenError → Said
 only_names front names = and_then names (λ after. Ok (after, front))
 
@@ -290,11 +290,11 @@ abbrev pub is_empty : List (List ℕ) → Bool
 is_empty [] = true
 is_empty (word ∷ words) = false
 
--- just the word `names`
+-- returns whether a line has just the word `names`
 abbrev pub is_names_line : List ℕ → List (List ℕ) → Bool
 is_names_line first words = bytes_eq first (codes "names") && is_empty words
 
--- the words of the line of this number, behind a text
+-- returns a text with the expansion of the words of the line of this number
 unfoldable pub line_says : Procedures → ℕ → Names → List ℕ → List (List ℕ) → Said
 line_says procedures number names front [] = Ok (names, front)
 line_says procedures number names front (first ∷ words) =

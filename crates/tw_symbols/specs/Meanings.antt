@@ -1,4 +1,4 @@
--- What names mean.
+-- The meanings of names.
 use Rattle.std.specs.Prelude.{◌==◌, ◌+◌, ◌&&◌, ◌||◌, ℕ, Bool, true, false, not, List, [], ◌∷◌, ◌++◌, length, codes, Option, Some, None, Result, Ok, Err, is_some, nat_lt, if◌then◌else◌}
 use Rattle.std.specs.Map.{lookup}
 use Rattle.std.specs.Str.{bytes_eq}
@@ -15,19 +15,19 @@ use Rattle.tw_symbols.specs.declared.rejection.NameNo.TheVariants as no
 
 -- ---- which words are names
 
--- `v` or `d`, and digits
+-- returns whether a word is `v` or `d` and digits
 abbrev pub is_register_word : List ℕ → Bool
 is_register_word [] = false
 is_register_word (b ∷ rest) = if (b == 118) || (b == 100) then are_digits rest else false
 
--- a name as a label's, at most 64 bytes, and no word that means itself
+-- returns whether a word may be a name: it has the form of a label's name, at most 64 bytes, and no meaning of its own
 abbrev pub is_name : List ℕ → Bool
 is_name word =
     if words.is_name word then (if nat_lt 64 (length word) then false else if is_register_word word then false else not (bytes_eq word (codes "any"))) else false
 
 -- ---- what is known at a line
 
--- names, and what they mean
+-- names and their meanings
 abbrev pub Table : Type 0
 Table = List (List ℕ × Binding)
 
@@ -39,7 +39,7 @@ pub record Head : Type 0 where
   pub banks : List Bank
   pub line : ℕ
 
--- the procedures of the text, and what their names mean
+-- the procedures of the text, and the meanings of their names
 pub record Procedures : Type 0 where
   pub table : Table
   pub heads : List Head
@@ -48,7 +48,7 @@ pub record Names : Type 0 where
   -- the constants so far, and the registers of the procedure so far
   pub constants : Table
   pub registers : Table
-  -- the types that its line `regs` leaves out
+  -- the types that the procedure's line `regs` leaves out
   pub types : List (List ℕ)
   -- one more than the highest right register that has a name
   pub rights : ℕ
@@ -60,13 +60,13 @@ abbrev pub or_else : Option Binding → Option Binding → Option Binding
 or_else None other = other
 or_else (Some x) other = Some x
 
--- what a name means at a line
+-- returns the meaning of a name at a line
 abbrev pub known : Procedures → Names → List ℕ → Option Binding
 known procedures names name = or_else (meaning name names.registers) (or_else (meaning name names.constants) (meaning name procedures.table))
 
--- ---- refusals
+-- ---- errors
 
--- a number and a word
+-- an error and its word
 pub record TokenError : Type 0 where
   pub no : NameNo
   pub word : List ℕ
@@ -74,14 +74,14 @@ pub record TokenError : Type 0 where
 abbrev pub refused : {A : Type 0} → NameNo → List ℕ → Result A TokenError
 refused which word = Err (record { no = which; word = word })
 
--- and then; what is refused first goes through
+-- returns the result of the next step, or the first error
 abbrev pub and_then : {A B : Type 0} → Result A TokenError → (A → Result B TokenError) → Result B TokenError
 and_then (Ok a) next = next a
 and_then (Err flaw) next = Err flaw
 
--- ---- a name more
+-- ---- one more name
 
--- it is a name, and means nothing yet
+-- succeeds if it is a name, and has no meaning yet
 abbrev pub may_name : Procedures → Names → List ℕ → Result (Unit {0}) TokenError
 may_name procedures names name =
     if is_name name then (if is_some (known procedures names name) then refused no.Twice name else Ok tt) else refused no.NoName name
@@ -89,7 +89,7 @@ may_name procedures names name =
 abbrev pub with_constant : Procedures → Names → List ℕ → Binding → Result Names TokenError
 with_constant procedures names name x = and_then (may_name procedures names name) (λ _. Ok (record names { constants = names.constants ++ (name, x) ∷ [] }))
 
--- one more than the higher of a register's number and those before
+-- returns the count of right registers after this register got a name: at least one more than its number
 abbrev pub above : Bank → ℕ → ℕ → ℕ
 above bank.Value number rights = rights
 above bank.Right number rights = if nat_lt number rights then rights else number + 1
@@ -114,12 +114,12 @@ is_origin origin.Listed origin.Listed = true
 is_origin origin.Chosen origin.Chosen = true
 is_origin a b = false
 
--- a name that means this is that by which the register was listed or made
+-- returns whether a name with this meaning is that by which the register was listed or made
 abbrev pub lists : Bank → ℕ → Binding → Bool
 lists in_bank number (binding.Register other place by) = is_bank in_bank other && ((number == place) && is_origin by origin.Listed)
 lists in_bank number x = false
 
--- a register has a name by which it was listed or made
+-- returns whether a register has a name by which it was listed or made
 abbrev pub is_listed : Bank → ℕ → Table → Bool
 is_listed in_bank number [] = false
 is_listed in_bank number (entry ∷ table) = lists in_bank number entry.1 || is_listed in_bank number table

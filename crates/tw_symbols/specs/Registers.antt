@@ -1,4 +1,4 @@
--- The names of registers, beside what is told of them.
+-- The names of registers, for messages that print their numbers.
 use Rattle.std.specs.Prelude.{◌≡◌, ◌==◌, ◌+◌, ◌&&◌, ℕ, Bool, true, false, List, [], ◌∷◌, ◌++◌, codes, drop, length, if◌then◌else◌, Option, Some, None, Ok, Err}
 use Rattle.std.specs.Option.{option_map_or}
 use Rattle.std.specs.Str.Lines.{lines}
@@ -10,12 +10,12 @@ use Rattle.tw_symbols.specs.declared.meaning.Bank.{Bank}
 use Rattle.tw_symbols.specs.declared.meaning.Binding.{Binding}
 use Rattle.tw_symbols.specs.declared.meaning.Binding.TheVariants as binding
 
--- none where a line is refused
+-- returns nothing if a line has an error
 abbrev pub said_then : Said → (Names × List ℕ → Option Names) → Option Names
 said_then (Ok said) next = next said
 said_then (Err flaw) next = None
 
--- the names behind the line of one number, where these lines count from another; none where there is no such line
+-- returns the names after line `last`, if these lines count from `number`; nothing if there is no such line
 abbrev pub names_after_line : Procedures → ℕ → ℕ → Names → List ℕ → List Line → Option Names
 names_after_line procedures last number names front [] = None
 names_after_line procedures last number names front (line ∷ others) =
@@ -28,12 +28,12 @@ abbrev pub is_register : Bank → ℕ → Binding → Bool
 is_register in_bank number (binding.Register other place by) = is_bank in_bank other && (number == place)
 is_register in_bank number x = false
 
--- the name of an entry, if it is that of this register
+-- returns the name of an entry, if it is that of this register
 abbrev pub entry_name : Bank → ℕ → Option (List ℕ × Binding) → Option (List ℕ)
 entry_name in_bank number None = None
 entry_name in_bank number (Some entry) = if is_register in_bank number entry.1 then Some entry.0 else None
 
--- the name that a register was given last, or else this one
+-- returns the name that a register was given last, or else this one
 abbrev pub last_name : Table → Bank → ℕ → Option (List ℕ) → Option (List ℕ)
 last_name [] in_bank number found = found
 last_name (entry ∷ table) in_bank number found = last_name table in_bank number (if is_register in_bank number entry.1 then Some entry.0 else found)
@@ -42,7 +42,7 @@ abbrev pub name_of : Table → Option (Bank × ℕ) → Option (List ℕ)
 name_of table None = None
 name_of table (Some register) = last_name table register.0 register.1 None
 
--- up to the first space
+-- returns the text up to the first space
 abbrev pub first_part : List ℕ → List ℕ
 first_part [] = []
 first_part (b ∷ text) = if b == 32 then [] else b ∷ first_part text
@@ -51,10 +51,10 @@ abbrev pub name_text : Option (List ℕ) → List ℕ
 name_text None = []
 name_text (Some name) = codes " (" ++ (name ++ codes ")")
 
--- a text, and behind the register with which it begins that register's name, if it has one
+-- returns a message, and after the register with which it begins that register's name, if it has one
 abbrev pub with_name : Table → List ℕ → List ℕ
 with_name table told = first_part told ++ (name_text (name_of table (register_of (first_part told))) ++ drop (length (first_part told)) told)
 
--- the same by the names that the lines of a text have given up to this one
+-- holds if `more` is the message with a name, by the names that the lines of the text up to this one have defined
 abbrev pub IsWithName : List ℕ → ℕ → List ℕ → List ℕ → Type 0
 IsWithName text number told more = (all : List Line) × AreTaken all (lines text) × (more ≡ with_name (registers_at all number) told)

@@ -1,4 +1,4 @@
--- How contracts see what the code keeps.
+-- Views of the code's data.
 use Rattle.std.specs.Prelude.{ℕ, List, map}
 use denote.Ref.{Bor}
 use Rattle.tw_symbols.specs.Meanings.{Head, Names, Procedures, Table}

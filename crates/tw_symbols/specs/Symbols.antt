@@ -6,7 +6,7 @@ use Rattle.std.specs.Str.Lines.{lines}
 use Rattle.tw_symbols.specs.Lines.{AreTaken, Line, line_words, pieces}
 use Rattle.tw_symbols.specs.LineExpansion.{procedure_name}
 
--- the name in a head, or nothing in a head without one; no other line names a procedure
+-- returns the name in a head, empty if it has none; any other line names no procedure
 abbrev pub head_names : List (List ℕ) → List (List ℕ)
 head_names [] = []
 head_names (first ∷ words) = if bytes_eq first (codes "proc") then unwrap_or (procedure_name (flat_map pieces words)) [] ∷ [] else []
@@ -14,20 +14,20 @@ head_names (first ∷ words) = if bytes_eq first (codes "proc") then unwrap_or (
 abbrev pub line_names : Line → List (List ℕ)
 line_names line = head_names (line_words line)
 
--- the names of a text's procedures, in their order
+-- holds if these are the names of a text's procedures, in their order
 abbrev pub AreNames : List ℕ → List (List ℕ) → Type 0
 AreNames text names = (all : List Line) × AreTaken all (lines text) × (names ≡ flat_map line_names all)
 
--- those of a program that was read from a text; of another one no name is known
+-- holds if these are the names of a program that was read from this text; without a text no name is known
 abbrev pub AreSymbols : Option (List ℕ) → List (List ℕ) → Type 0
 AreSymbols None names = names ≡ []
 AreSymbols (Some text) names = AreNames text names
 
--- the name of the procedure of a number, or nothing
+-- returns the name of the procedure of a number, or an empty one
 abbrev pub name_at : List (List ℕ) → ℕ → List ℕ
 name_at names number = get_or names number []
 
--- a name in brackets, if there is one
+-- returns the name in brackets, unless it is empty
 abbrev pub bracketed : List ℕ → List ℕ
 bracketed [] = []
 bracketed (b ∷ name) = codes " (" ++ ((b ∷ name) ++ codes ")")

@@ -1,6 +1,6 @@
--- That a text stands for one text at most, and has one first refusal at most and not both; that a text without names stands for
--- itself; and that a text stands for one with as many lines, so that a line's number is the same in both, and in UTF-8 as it is.
--- That the names of a procedure's registers differ, stay, and are used for what they were given to.
+-- Theorems. A text has at most one expansion and at most one first error, and not both; a text without names expands to itself. An expansion has as
+-- many lines, so that a line's number is the same in both, and is in UTF-8 if the text is. The names of a procedure's registers differ, stay, and are
+-- used for the registers that got them.
 use Rattle.std.specs.Prelude.{◌≡◌, ◌<◌, ◌+◌, ℕ, true, false, IsUtf8, List, [], ◌∷◌, ◌++◌, Option, Some, None, Ok, codes, count_by, drop, length, map, slice_get, unwrap_or}
 use Rattle.std.specs.Option.{option_map_or}
 use Rattle.std.specs.Result.{result_ok}
@@ -42,16 +42,16 @@ InUtf8 = (text plain : List ℕ) → StandsFor text plain → IsUtf8 text → Is
 
 -- ---- registers
 
--- a register was listed or made by this name
+-- holds if a register was listed or made by this name
 abbrev pub IsListedAs : Table → List ℕ → Bank → ℕ → Type 0
 IsListedAs table name in_bank number = (i : ℕ) × (slice_get table i ≡ Some (name, binding.Register in_bank number origin.Listed))
 
--- Behind each line of a text, names by which registers of the procedure were listed or made mean different registers.
+-- holds if after each line of a text, names by which registers of the procedure were listed or made mean different registers
 abbrev pub NamesDiffer : Type 0
 NamesDiffer = (text : List ℕ) (all : List Line) (line : ℕ) (name other : List ℕ) (in_bank : Bank) (number : ℕ) → AreTaken all (lines text)
     → IsListedAs (registers_at all line) name in_bank number → IsListedAs (registers_at all line) other in_bank number → name ≡ other
 
--- the register that a word says in a place where this is required; an argument is the number alone
+-- returns the register that a word means in a place where this is required; an argument is the number alone
 abbrev pub read_in : Expected → List ℕ → Option (Bank × ℕ)
 read_in asked.Value word = register_of word
 read_in asked.Right word = register_of word
@@ -59,26 +59,26 @@ read_in asked.ValueArgument word = register_in (Some bank.Value) (result_ok (dig
 read_in asked.RightArgument word = register_in (Some bank.Right) (result_ok (digits_in 0 15 word))
 read_in a word = None
 
--- What stands in the place of a register's name says this register.
+-- holds if the replacement of a register's name means this register
 abbrev pub UsesAreRegisters : Type 0
 UsesAreRegisters = (procedures : Procedures) (names : Names) (a : Expected) (front word text : List ℕ) (in_bank : Bank) (number : ℕ) (by : Origin)
     → number < 16 → is_name word ≡ true → known procedures names word ≡ Some (binding.Register in_bank number by) → (a ≡ asked.Nothing → ⊥)
     → word_says procedures names a front word ≡ Ok text → (register : List ℕ) × (text ≡ with_word front register) × (read_in a register ≡ Some (in_bank, number))
 
--- the line begins a procedure
+-- holds if the line begins a procedure
 abbrev pub IsHead : Line → Type 0
 IsHead line = (others : List (List ℕ)) × (line_words line ≡ codes "proc" ∷ others)
 
--- The name of a register keeps its meaning behind each line that begins no procedure.
+-- holds if the name of a register keeps its meaning after each line that begins no procedure
 abbrev pub NamesStay : Type 0
 NamesStay = (procedures : Procedures) (number : ℕ) (names : Names) (front : List ℕ) (line : Line) (said : Names × List ℕ) (name : List ℕ) (x : Binding)
     → taken_says procedures number names front line ≡ Ok said → (IsHead line → ⊥) → meaning name names.registers ≡ Some x → meaning name said.0.registers ≡ Some x
 
--- how many registers of a bank these words begin
+-- returns how many registers of a bank these words begin
 abbrev pub begun : Listed → Bank → List (List ℕ) → ℕ
 begun l in_bank words = count_by (λ word. option_map_or (is_bank in_bank) (begins l word) false) words
 
--- A name and `:` in a list mean the register that begins behind them: that of its bank whose number is how many began before.
+-- holds if a name and `:` in a list mean the register that begins after them: that of its bank whose number is how many began before
 abbrev pub ListedByPlace : Type 0
 ListedByPlace = (procedures : Procedures) (l : Listed) (names after : Names) (values rights : ℕ) (before : List (List ℕ)) (name word : List ℕ) (others : List (List ℕ)) (in_bank : Bank)
     → begins l word ≡ Some in_bank → list_says procedures l names values rights (before ++ (name ++ codes ":") ∷ word ∷ others) ≡ Ok after
@@ -95,13 +95,13 @@ renamed_names f names = record names { constants = renamed_table f names.constan
 abbrev pub renamed_procedures : (List ℕ → List ℕ) → Procedures → Procedures
 renamed_procedures f procedures = record procedures { table = renamed_table f procedures.table }
 
--- each name has one of its own in its place, and no other word changes
+-- a function that gives each name a name of its own, and changes no other word
 pub record IsRenaming (f : List ℕ → List ℕ) : Type 0 where
   pub apart : (a b : List ℕ) → bytes_eq (f a) (f b) ≡ bytes_eq a b
   pub names : (a : List ℕ) → is_name (f a) ≡ is_name a
   pub others : (a : List ℕ) → is_name a ≡ false → f a ≡ a
 
--- where nothing with a name is required, a word is no name
+-- returns the renamed word; unchanged if no name is required in its place
 abbrev pub renamed_word : (List ℕ → List ℕ) → Expected → List ℕ → List ℕ
 renamed_word f asked.Nothing word = word
 renamed_word f a word = f word
@@ -110,7 +110,7 @@ abbrev pub renamed_words : (List ℕ → List ℕ) → List Expected → List (L
 renamed_words f all [] = []
 renamed_words f all (word ∷ words) = renamed_word f (unwrap_or (slice_get all 0) asked.Nothing) word ∷ renamed_words f (drop 1 all) words
 
--- Operands with other names for the same things stand for the same text.
+-- holds if operands expand alike if each name is replaced by another for the same thing
 abbrev pub RenamedAlike : Type 0
 RenamedAlike = (f : List ℕ → List ℕ) → IsRenaming f → (procedures : Procedures) (names : Names) (all : List Expected) (front : List ℕ) (words : List (List ℕ)) (text : List ℕ)
     → words_say procedures names all front words ≡ Ok text → words_say (renamed_procedures f procedures) (renamed_names f names) all front (renamed_words f all words) ≡ Ok text

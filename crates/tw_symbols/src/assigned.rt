@@ -1,4 +1,4 @@
-//! Lines `const` and `let`.
+//! Expansion of lines `const` and `let`.
 
 ghost use Rattle.std.specs.Prelude.{◌≡◌, drop};
 ghost use Rattle.tw_symbols.specs.Answers.{Gives};
@@ -14,9 +14,9 @@ use crate::rejection::{NameNo, Rejection};
 /// The number of a bank's last register.
 const LAST_REGISTER: u64 = 15;
 
-/// Returns the word behind `=`, of the words behind a name.
+/// Returns the word after `=`, from the words after a name.
 ///
-/// A missing word is told by the line's first word.
+/// If a word is missing, the error names the line's first word.
 fn assigned<'a>(first: &'a [u8], words: &[&'a [u8]]) -> Result<&'a [u8], Rejection<'a>>
     ensures { Gives now result (assigned first.now (texts words.now)) }
 {
@@ -28,7 +28,7 @@ fn assigned<'a>(first: &'a [u8], words: &[&'a [u8]]) -> Result<&'a [u8], Rejecti
     }
 }
 
-/// Returns an error if a word is left behind `=` and the value.
+/// Returns an error if a word is left after `=` and the value.
 fn nothing_after<'a>(words: &[&'a [u8]]) -> Result<(), Rejection<'a>>
     ensures { Gives (λ u. u) result (nothing_left (drop 2 (texts words.now))) }
 {
@@ -38,7 +38,7 @@ fn nothing_after<'a>(words: &[&'a [u8]]) -> Result<(), Rejection<'a>>
     }
 }
 
-/// Returns the number behind `=`, of the words behind a constant's name.
+/// Returns the number after `=`, from the words after a constant's name.
 fn number_after<'a>(first: &'a [u8], words: &[&'a [u8]]) -> Result<i64, Rejection<'a>>
     ensures { Gives (λ n. n) result (value_after number_of first.now (texts words.now)) }
 {
@@ -50,7 +50,7 @@ fn number_after<'a>(first: &'a [u8], words: &[&'a [u8]]) -> Result<i64, Rejectio
     Ok(number)
 }
 
-/// Returns the register behind `=`, of the words behind its name.
+/// Returns the register after `=`, from the words after its name.
 fn register_after<'a>(first: &'a [u8], words: &[&'a [u8]]) -> Result<(Bank, usize), Rejection<'a>>
     ensures { Gives (λ r. r) result (value_after register_of first.now (texts words.now)) }
 {
@@ -78,7 +78,7 @@ fn register_in(bank: Option<Bank>, number: Option<usize>) -> Option<(Bank, usize
     Some((bank?, number?))
 }
 
-/// A register, by its letter and its number.
+/// Returns the register with this letter and number, for example `v3`.
 pub fn register_of(word: &[u8]) -> Option<(Bank, usize)>
     ensures { result ≡ register_of word.now }
 {
@@ -91,7 +91,7 @@ pub fn register_of(word: &[u8]) -> Option<(Bank, usize)>
     }
 }
 
-/// The names behind a line `const`.
+/// Returns the names after a line `const`.
 pub fn with_const<'a>(
     procedures: &Procedures<'_>,
     names: Names<'a>,
@@ -108,7 +108,7 @@ pub fn with_const<'a>(
     with_constant(procedures, names, name, number)
 }
 
-/// The names behind a line `let`.
+/// Returns the names after a line `let`.
 pub fn with_let<'a>(
     procedures: &Procedures<'_>,
     names: Names<'a>,

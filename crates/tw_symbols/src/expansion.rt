@@ -1,4 +1,4 @@
-//! The assembly text for which a text with names stands.
+//! The expansion of a symbolic assembly text.
 
 ghost use Rattle.std.specs.Prelude.{◌≡◌, ◌⊎◌, ◌++◌, [], List, Ok, Err, IfOk, IsUtf8, MatchOption, MatchResult, string_bytes};
 ghost use Rattle.std.specs.Str.Lines.{lines};
@@ -35,7 +35,7 @@ fn names_in(alloc: Global, line: &str) -> Result<Option<bool>, AllocError>
     Ok(named_by(&taken.words))
 }
 
-/// The same of the first line that has a word, where one line more is read.
+/// Returns the answer so far if there is one, and else that of this line.
 fn first_named(alloc: Global, named: Option<bool>, line: &str) -> Result<Option<bool>, AllocError>
     ensures { IfOk result (λ after. IsNamedAfter named line.now after) }
 {
@@ -45,8 +45,8 @@ fn first_named(alloc: Global, named: Option<bool>, line: &str) -> Result<Option<
     }
 }
 
-/// Whether the first line that has a word has just `names`.
-fn is_named(alloc: Global, text: &str) -> Result<bool, AllocError>
+/// Returns whether the first line that has a word has just `names`.
+pub fn is_named(alloc: Global, text: &str) -> Result<bool, AllocError>
     ensures { IfOk result (λ named. IsNamed named text.now) }
 {
     let mut named = None;
@@ -56,7 +56,7 @@ fn is_named(alloc: Global, text: &str) -> Result<bool, AllocError>
     Ok(named.unwrap_or(false))
 }
 
-/// Adds what a line stands for that has these words, with its line feed, and gives the names behind it.
+/// Adds the expansion of a line with these words, and its line feed. Returns the names after it.
 fn put_worded<'a>(
     alloc: Global,
     procedures: &Procedures<'_>,
@@ -77,7 +77,7 @@ fn put_worded<'a>(
     }
 }
 
-/// Adds what a line stands for, with its line feed, and gives the names behind it.
+/// Adds the expansion of a line, and its line feed. Returns the names after it.
 fn put_taken<'a>(
     alloc: Global,
     procedures: &Procedures<'_>,
@@ -113,7 +113,7 @@ fn at_line(number: usize, rejection: Rejection<'_>) -> NameError<'_>
     }
 }
 
-/// Adds what the line of this number stands for.
+/// Adds the expansion of the line of this number. Returns the names after it; an error has this number.
 pub fn put_numbered_line<'a>(
     alloc: Global,
     procedures: &Procedures<'_>,
@@ -130,7 +130,7 @@ pub fn put_numbered_line<'a>(
     }
 }
 
-/// What all lines stand for.
+/// Returns the expansion of all lines, or the first error.
 fn expanded_lines<'a>(
     alloc: Global,
     procedures: &Procedures<'_>,
@@ -148,7 +148,7 @@ fn expanded_lines<'a>(
     Ok(out)
 }
 
-/// What a text stands for whose first line with a word is `names`.
+/// Returns the expansion of a text whose first line with a word is `names`, or its first error.
 fn named_text<'a>(alloc: Global, text: &'a str) -> Result<Vec<u8>, NameError<'a>>
     requires { HasNames (lines text.now) }
     ensures { MatchResult result
@@ -159,7 +159,7 @@ fn named_text<'a>(alloc: Global, text: &'a str) -> Result<Vec<u8>, NameError<'a>
     expanded_lines(alloc, &procedures, text)
 }
 
-/// Bytes as a text.
+/// Returns these bytes as a string.
 fn as_text(bytes: Vec<u8>) -> String
     requires { IsUtf8 bytes.items }
     ensures { string_bytes result ≡ bytes.items }
@@ -170,8 +170,7 @@ fn as_text(bytes: Vec<u8>) -> String
     }
 }
 
-/// The assembly text for which a text with names stands, or its first refusal; `None` for a text without names, which stands for
-/// itself.
+/// Expands a symbolic assembly text, or returns its first error; `None` if the text has no names, and so expands to itself.
 pub fn expanded_text<'a>(alloc: Global, text: &'a str) -> Result<Option<String>, NameError<'a>>
     ensures stands { MatchResult result
         (λ read. MatchOption read (StandsFor text.entry.now text.entry.now) (λ plain. StandsFor text.entry.now (string_bytes plain)))

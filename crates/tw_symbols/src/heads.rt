@@ -1,4 +1,4 @@
-//! Words of heads.
+//! The words of a procedure's head.
 
 ghost use Rattle.std.specs.Prelude.{◌≡◌, IfOk};
 ghost use Rattle.std.specs.List.{filter_map};
@@ -10,7 +10,7 @@ use crate::meaning::Bank;
 use std::alloc::{AllocError, Global};
 use tw_lexer::before_colon;
 
-/// The bank of a parameter of this mode.
+/// Returns the bank of a parameter of this mode.
 pub fn bank_of_mode(word: &[u8]) -> Option<Bank>
     ensures { result ≡ bank_of_mode word.now }
 {
@@ -26,7 +26,7 @@ pub fn bank_of_mode(word: &[u8]) -> Option<Bank>
     }
 }
 
-/// The banks of the parameters.
+/// Returns the banks of the parameters.
 pub fn banks_of_modes(alloc: Global, words: &[&[u8]]) -> Result<Vec<Bank>, AllocError>
     ensures { IfOk result (λ banks. banks.items ≡ filter_map bank_of_mode (texts words.now)) }
 {
@@ -39,7 +39,7 @@ pub fn banks_of_modes(alloc: Global, words: &[&[u8]]) -> Result<Vec<Bank>, Alloc
     Ok(banks)
 }
 
-/// The word behind the kind, unless a parameter begins with it.
+/// Returns the word after the kind, unless a parameter begins with it.
 pub fn procedure_name<'a>(words: &[&'a [u8]]) -> Option<&'a [u8]>
     ensures { option_map now result ≡ procedure_name (texts words.now) }
 {
@@ -55,7 +55,7 @@ pub fn procedure_name<'a>(words: &[&'a [u8]]) -> Option<&'a [u8]>
     }
 }
 
-/// The words behind the kind and the name.
+/// Returns the words after the kind and the name.
 pub fn parameters<'b, 'a>(words: &'b [&'a [u8]]) -> &'b [&'a [u8]]
     ensures { texts result.now ≡ parameters (texts words.now) }
 {
@@ -67,7 +67,7 @@ pub fn parameters<'b, 'a>(words: &'b [&'a [u8]]) -> &'b [&'a [u8]]
     }
 }
 
-/// The words behind each `val`.
+/// Returns the words after each `val`.
 pub fn value_types<'a>(alloc: Global, words: &[&'a [u8]]) -> Result<Vec<&'a [u8]>, AllocError>
     ensures { IfOk result (λ types. texts types.items ≡ value_types (texts words.now)) }
 {

@@ -1,4 +1,4 @@
-//! Lines of instructions.
+//! Expansion of lines of instructions.
 
 ghost use Rattle.std.specs.Prelude.{◌≡◌, ◌++◌, IfOk, OnOk, drop, take};
 ghost use Rattle.std.specs.List.{flat_map};
@@ -22,7 +22,7 @@ use tw_code::{Form, Opcode};
 /// The greatest number of a procedure in a line.
 const LAST_PROCEDURE: u64 = 255;
 
-/// What an argument asks.
+/// Returns what is expected of an argument.
 fn argument_of(bank: Bank) -> Expected
     ensures { result ≡ argument_of bank }
 {
@@ -32,7 +32,7 @@ fn argument_of(bank: Bank) -> Expected
     }
 }
 
-/// Adds what an operand of a form asks, where the procedure's parameters are of these banks.
+/// Adds what an operand of a form has to be, if the procedure's parameters are of these banks.
 fn push_expected(asked: &mut Vec<Expected>, banks: &[Bank], form: Form) -> Result<(), AllocError>
     ensures { OnOk result (asked.new.items ≡ asked.old.items ++ asked_by banks.now form) }
 {
@@ -51,7 +51,7 @@ fn push_expected(asked: &mut Vec<Expected>, banks: &[Bank], form: Form) -> Resul
     Ok(())
 }
 
-/// What the operands of forms ask.
+/// Returns what the operands of these forms have to be.
 fn expected_in(alloc: Global, banks: &[Bank], forms: &[Form]) -> Result<Vec<Expected>, AllocError>
     ensures { IfOk result (λ asked. asked.items ≡ flat_map (asked_by banks.now) forms.now) }
 {
@@ -62,7 +62,7 @@ fn expected_in(alloc: Global, banks: &[Bank], forms: &[Form]) -> Result<Vec<Expe
     Ok(asked)
 }
 
-/// A procedure, by its name or else by its number.
+/// Returns the number of a procedure that is named or numbered by a word.
 fn callee(procedures: &Procedures<'_>, names: &Names<'_>, word: &[u8]) -> Option<usize>
     ensures { result ≡ callee (known (seen_procedures procedures.now) (seen_names names.now) word.now) (result_ok (digits_in 0 255 word.now)) }
 {
@@ -72,7 +72,7 @@ fn callee(procedures: &Procedures<'_>, names: &Names<'_>, word: &[u8]) -> Option
     }
 }
 
-/// The banks of the parameters of a procedure.
+/// Returns the banks of the parameters of a procedure; none if there is no such procedure.
 fn banks_at<'p>(procedures: &'p Procedures<'_>, number: Option<usize>) -> &'p [Bank]
     ensures { result.now ≡ banks_at (seen_procedures procedures.entry.now) number }
 {
@@ -85,7 +85,7 @@ fn banks_at<'p>(procedures: &'p Procedures<'_>, number: Option<usize>) -> &'p [B
     }
 }
 
-/// Returns the first banks, at most so many.
+/// Returns the first `count` banks, or all.
 #[tactic(auto, using(std::proofs::lemmas::List::take_all))]
 fn first_banks(banks: &[Bank], count: usize) -> &[Bank]
     ensures { result.now ≡ take count banks.now }
@@ -97,7 +97,7 @@ fn first_banks(banks: &[Bank], count: usize) -> &[Bank]
     }
 }
 
-/// Returns the banks of the procedure that the first word tells, as many as there are words.
+/// Returns the banks of the procedure that the first word names, at most as many as there are words.
 fn banks_of<'p>(procedures: &'p Procedures<'_>, names: &Names<'_>, words: &[&[u8]]) -> &'p [Bank]
     ensures { result.now ≡ banks_of (seen_procedures procedures.entry.now) (seen_names names.now) (texts words.now) }
 {
@@ -110,7 +110,7 @@ fn banks_of<'p>(procedures: &'p Procedures<'_>, names: &Names<'_>, words: &[&[u8
     }
 }
 
-/// How many of its first operands are right registers that it fills.
+/// Returns how many of its first operands are right registers that it fills.
 fn makes(opcode: Opcode) -> usize
     ensures { result ≡ makes opcode }
 {
@@ -121,7 +121,7 @@ fn makes(opcode: Opcode) -> usize
     }
 }
 
-/// A name that means nothing yet is the next right register.
+/// Adds the name of the next right register, if the word is a name without a meaning.
 fn made_one<'a>(
     procedures: &Procedures<'_>,
     names: Names<'a>,
@@ -137,7 +137,7 @@ fn made_one<'a>(
     }
 }
 
-/// Adds the register that a word stands for, after naming it if it has no meaning.
+/// Adds the register that a word means, after naming the next one if the word has no meaning.
 fn put_made<'a>(
     alloc: Global,
     procedures: &Procedures<'_>,
@@ -152,7 +152,7 @@ fn put_made<'a>(
     Ok(names)
 }
 
-/// Adds the right registers that these words fill, each after naming it if it has no meaning.
+/// Adds the right registers that these words fill, after naming those whose word has no meaning.
 fn put_all_made<'a>(
     alloc: Global,
     procedures: &Procedures<'_>,
@@ -168,7 +168,7 @@ fn put_all_made<'a>(
     Ok(names)
 }
 
-/// Adds what the words behind those stand for.
+/// Adds the expansion of the operands after those that the instruction fills.
 fn put_others<'a>(
     alloc: Global,
     procedures: &Procedures<'_>,
@@ -193,7 +193,7 @@ fn put_others<'a>(
     )
 }
 
-/// Adds what the operands of an instruction stand for.
+/// Adds the expansion of an instruction's operands. Returns the names after it.
 pub fn put_instruction<'a>(
     alloc: Global,
     procedures: &Procedures<'_>,

@@ -1,7 +1,7 @@
-//! Texts with names, which stand for assembly text line by line.
+//! Symbolic assembly, which is expanded to assembly text line by line.
 //!
-//! `expanded_text` goes over a text twice: once for its procedures, which may be named before they begin, and then line by line, with
-//! the names that the lines so far have given.
+//! `expanded_text` reads a text twice: once for its procedures, which may be used before their head, and once line by line, with the names that the
+//! lines so far have defined.
 #![tactic(auto)]
 
 mod assigned;
@@ -19,6 +19,7 @@ mod pieces;
 mod procedures;
 mod registers;
 mod rejection;
+mod right_names;
 mod symbols;
 mod theorems;
 
@@ -26,6 +27,7 @@ pub use expansion::expanded_text;
 pub use meaning::{Bank, Binding, Expected, Origin};
 pub use registers::put_with_name;
 pub use rejection::{NameError, NameNo};
+pub use right_names::{RightNames, put_named};
 pub use symbols::Symbols;
 pub use theorems::{
     as_many_lines, expands_to_itself, expands_to_one, in_utf8, listed_by_place, names_differ,

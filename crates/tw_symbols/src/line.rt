@@ -1,37 +1,37 @@
-//! The words of a line, as they stand in it.
+//! The words of a line, as slices of it.
 
 ghost use Rattle.std.specs.Prelude.{◌≡◌, ◌++◌, ◌∷◌, [], ℕ, List, IfOk, IsUtf8};
 ghost use Rattle.tw_lexer.specs.Seen.{seen};
 ghost use Rattle.tw_lexer.specs.Words.{IsFirstWord};
 ghost use Rattle.tw_lexer.specs.reading.Next.{IsAfterGap};
-ghost use Rattle.tw_symbols.specs.Answers.{IsFirst};
+ghost use Rattle.tw_symbols.specs.Answers.{IsFirst, is_plainly_blank};
 ghost use Rattle.tw_symbols.specs.Lines.{IsTaken, Line, StandsFirst, line_rest, line_words};
 ghost use Rattle.tw_symbols.specs.Seen.{texts};
 
 use std::alloc::{AllocError, Global};
 use tw_lexer::{Next, Word, next_word, without_gap};
 
-/// A line: its words, and what follows the last one.
+/// A line: its words, and the rest after the last one.
 ///
-/// What is no word counts as one more, the last, up to the line's end.
+/// Characters that form no word are one more word, the last, up to the line's end.
 #[derive(Drop)]
 pub struct ParsedLine<'a> {
     pub words: Vec<&'a [u8]>,
     pub rest: &'a [u8],
 }
 
-/// What stands first in what is left of a line.
+/// The beginning of what is left of a line.
 #[derive(Clone, Copy)]
 pub enum First<'a> {
     /// A comment, or nothing.
     End,
-    /// Something that is no word.
+    /// Something that isn't a word.
     Broken,
-    /// A word as it stands, and what follows it.
+    /// A word, and what follows it.
     Text(&'a [u8], &'a [u8]),
 }
 
-/// The word that stands first, as it stands there, where this follows it.
+/// Cuts out the first word, which `rest` follows.
 fn cut_word<'a>(bytes: &'a [u8], _word: &Word<'_>, rest: &[u8]) -> &'a [u8]
     requires utf8 { IsUtf8 bytes.now }
     requires first { IsFirstWord (seen _word.now) bytes.now rest.now }
@@ -43,7 +43,7 @@ fn cut_word<'a>(bytes: &'a [u8], _word: &Word<'_>, rest: &[u8]) -> &'a [u8]
     word
 }
 
-/// What stands first.
+/// Returns the first word, or why there is none.
 fn first_text(alloc: Global, bytes: &[u8]) -> Result<First<'_>, AllocError>
     requires { IsUtf8 bytes.now }
     ensures { IfOk result (λ first. IsFirst first bytes.now) }
@@ -55,7 +55,7 @@ fn first_text(alloc: Global, bytes: &[u8]) -> Result<First<'_>, AllocError>
     }
 }
 
-/// Returns a line that has these words, and then something that is no word.
+/// Returns a line that has these words, and then something that isn't a word.
 fn broken<'a>(mut words: Vec<&'a [u8]>, rest: &'a [u8]) -> Result<ParsedLine<'a>, AllocError>
     requires { IsUtf8 rest.now }
     ensures { IfOk result (λ taken. (tail : List ℕ) × IsAfterGap rest.entry.now tail × (texts taken.words.items ≡ texts words.entry.items ++ tail ∷ []) × (taken.rest.now ≡ [])) }
@@ -64,8 +64,18 @@ fn broken<'a>(mut words: Vec<&'a [u8]>, rest: &'a [u8]) -> Result<ParsedLine<'a>
     Ok(ParsedLine { words, rest: b"" })
 }
 
-/// The words of a line.
-pub fn take_line(alloc: Global, line: &str) -> Result<ParsedLine<'_>, AllocError>
+/// Returns whether the first byte says that a line has no word. Most bytes of a long text may be line ends or begin comments.
+fn is_plainly_blank(line: &str) -> bool
+    ensures { result ≡ is_plainly_blank line.now }
+{
+    match line.as_bytes() {
+        [byte, ..] => *byte == b';',
+        [] => true,
+    }
+}
+
+/// Splits a line into its words.
+fn take_words(alloc: Global, line: &str) -> Result<ParsedLine<'_>, AllocError>
     ensures { IfOk result (λ taken. (seen : Line) × IsTaken seen line.now × (texts taken.words.items ≡ line_words seen) × (taken.rest.now ≡ line_rest seen)) }
 {
     let mut words = Vec::new(alloc);
@@ -79,5 +89,19 @@ pub fn take_line(alloc: Global, line: &str) -> Result<ParsedLine<'_>, AllocError
                 rest = after;
             }
         }
+    }
+}
+
+/// Like `take_words`, but a line without words is mostly seen at once.
+pub fn take_line(alloc: Global, line: &str) -> Result<ParsedLine<'_>, AllocError>
+    ensures { IfOk result (λ taken. (seen : Line) × IsTaken seen line.now × (texts taken.words.items ≡ line_words seen) × (taken.rest.now ≡ line_rest seen)) }
+{
+    if is_plainly_blank(line) {
+        Ok(ParsedLine {
+            words: Vec::new(alloc),
+            rest: line.as_bytes(),
+        })
+    } else {
+        take_words(alloc, line)
     }
 }

@@ -1,4 +1,4 @@
-//! What a line says.
+//! Expansion of one line.
 
 ghost use Rattle.std.specs.Prelude.{◌≡◌, ◌++◌};
 ghost use Rattle.tw_code.specs.format.Table.{opcode_in};
@@ -20,14 +20,14 @@ use crate::rejection::Rejection;
 use std::alloc::{AllocError, Global};
 use tw_code::{Version, opcode_in};
 
-/// Whether a line has just the word `names`.
+/// Returns whether a line has just the word `names`.
 pub fn is_names_line(first: &[u8], words: &[&[u8]]) -> bool
     ensures { result ≡ is_names_line first.now (texts words.now) }
 {
     first == b"names".as_slice() && words.is_empty()
 }
 
-/// Adds what a line of an instruction stands for, and else the line as it stands.
+/// Adds the expansion of an instruction's words, and any other line as it is.
 fn put_body<'a>(
     alloc: Global,
     procedures: &Procedures<'_>,
@@ -51,7 +51,7 @@ fn put_body<'a>(
     }
 }
 
-/// Adds what stands behind `proc`, and the word.
+/// Adds the word `proc`, and the expansion of those after it.
 fn put_proc<'a>(
     alloc: Global,
     procedures: &Procedures<'_>,
@@ -68,7 +68,7 @@ fn put_proc<'a>(
     put_head(alloc, procedures, number, names, out, &pieces)
 }
 
-/// Adds what stands behind `regs`, and the word.
+/// Adds the word `regs`, and the expansion of those after it.
 fn put_regs<'a>(
     alloc: Global,
     procedures: &Procedures<'_>,
@@ -84,7 +84,7 @@ fn put_regs<'a>(
     put_registers(procedures, names, out, &pieces)
 }
 
-/// Adds what the words of the line of this number stand for, and gives the names behind it.
+/// Adds the expansion of the words of the line of this number. Returns the names after it.
 #[tactic(auto, unfolding(crate::specs::LineExpansion::line_says))]
 pub fn put_line<'a>(
     alloc: Global,

@@ -1,4 +1,4 @@
-//! Lines that list registers, `proc` and `regs`.
+//! Expansion of lines that list registers: `proc` and `regs`.
 
 ghost use Rattle.std.specs.Prelude.{◌≡◌, ◌≤◌, ◌^◌, IfOk, OnOk, filter, length};
 ghost use Rattle.std.specs.Option.{option_map};
@@ -18,7 +18,7 @@ use indexmap::IndexMap;
 use std::alloc::{AllocError, Global};
 use tw_lexer::before_colon;
 
-/// Of which bank a register begins with this word.
+/// Returns the bank of the register that begins with this word, if one does.
 fn begins(listed: Listed, word: &[u8]) -> Option<Bank>
     ensures { result ≡ begins listed word.now }
 {
@@ -52,7 +52,7 @@ fn number_in(bank: Bank, values: usize, rights: usize) -> usize
     }
 }
 
-/// Whether a word is a mode, or one of a type.
+/// Returns whether a word is a mode, or a word of a type.
 fn is_listed_word(word: &[u8]) -> bool
     ensures { result ≡ is_listed_word word.now }
 {
@@ -63,14 +63,14 @@ fn is_listed_word(word: &[u8]) -> bool
         || word == b"tcont".as_slice()
 }
 
-/// Returns whether a `:` stands in a word that isn't quoted.
+/// Returns whether a word that isn't quoted contains a `:`.
 fn has_colon(word: &[u8]) -> bool
     ensures { result ≡ has_colon word.now }
 {
     !begins_quoted(word) && word.contains(&b':')
 }
 
-/// The names behind a word that isn't a name and `:`.
+/// Returns the names after a word that isn't a name and `:`.
 fn unnamed<'a>(names: Names<'a>, word: &'a [u8]) -> Result<Names<'a>, Rejection<'a>>
     ensures { Gives seen_names result (unnamed_says (seen_names names.entry) word.now) }
 {
@@ -83,7 +83,7 @@ fn unnamed<'a>(names: Names<'a>, word: &'a [u8]) -> Result<Names<'a>, Rejection<
     }
 }
 
-/// The names with one of a register that begins behind it.
+/// Returns the names with that of a register which begins after it.
 fn name_begun<'a>(
     procedures: &Procedures<'_>,
     names: Names<'a>,
@@ -103,7 +103,7 @@ fn name_begun<'a>(
     }
 }
 
-/// The names with that of a register that begins behind this word, if it is a name and `:`.
+/// Returns the names with that of a register which begins after this word, if it is a name and `:`.
 fn name_listed<'a>(
     procedures: &Procedures<'_>,
     listed: Listed,
@@ -127,7 +127,7 @@ fn name_listed<'a>(
     }
 }
 
-/// The names with those of listed registers, of which so many value registers stand before these words.
+/// Returns the names with those of listed registers, if so many value registers are listed before these words.
 fn list<'a>(
     procedures: &Procedures<'_>,
     listed: Listed,
@@ -153,7 +153,7 @@ fn list<'a>(
     Ok(names)
 }
 
-/// Adds the words that aren't a name and `:`.
+/// Adds all words except each name with `:`.
 fn put_unnamed(out: &mut Vec<u8>, words: &[&[u8]]) -> Result<(), AllocError>
     ensures { OnOk result (out.new.items ≡ behind out.old.items (filter is_unnamed (texts words.now))) }
 {
@@ -165,7 +165,7 @@ fn put_unnamed(out: &mut Vec<u8>, words: &[&[u8]]) -> Result<(), AllocError>
     Ok(())
 }
 
-/// Whether the procedure that a name means begins at this line.
+/// Returns whether the procedure that a name means begins at this line.
 fn begins_at(procedures: &Procedures<'_>, number: usize, binding: Option<Binding>) -> bool
     ensures { result ≡ begins_at (seen_procedures procedures.now) number binding }
 {
@@ -197,7 +197,7 @@ fn check_name<'a>(
     }
 }
 
-/// Returns the names at a head: no registers yet.
+/// Returns the names at a head, with no registers yet.
 fn at_head<'a>(
     alloc: Global,
     procedures: &Procedures<'_>,
@@ -220,7 +220,7 @@ fn at_head<'a>(
     })
 }
 
-/// Adds what stands behind `proc`.
+/// Adds the expansion of the words after `proc`. Returns the names after it.
 pub fn put_head<'a>(
     alloc: Global,
     procedures: &Procedures<'_>,
@@ -240,7 +240,7 @@ pub fn put_head<'a>(
     Ok(names)
 }
 
-/// Adds what stands behind `regs`.
+/// Adds the expansion of the words after `regs`. Returns the names after it.
 pub fn put_registers<'a>(
     procedures: &Procedures<'_>,
     names: Names<'a>,

@@ -1,4 +1,4 @@
-//! What names mean, and what is required where they are used.
+//! The meanings of names, and which of them an operand requires.
 
 ghost use Rattle.std.specs.Prelude.{◌≡◌};
 ghost use Rattle.tw_symbols.specs.Meanings.{is_bank, is_origin};
@@ -20,12 +20,12 @@ pub fn is_bank(bank: Bank, other: Bank) -> bool
     }
 }
 
-/// How a register got a name.
+/// The way in which a register got a name.
 #[derive(Clone, Copy, Debug, PartialEq, Eq)]
 pub enum Origin {
-    /// A head or a line `regs` lists it, or an instruction makes it.
+    /// A head or a line `regs` lists it, or an instruction fills it.
     Listed,
-    /// A line `let` chooses it, and other names may mean it too.
+    /// A line `let` names it; other names may mean it too.
     Chosen,
 }
 
@@ -39,7 +39,7 @@ pub fn is_origin(origin: Origin, other: Origin) -> bool
     }
 }
 
-/// What a name means.
+/// The meaning of a name.
 #[derive(Clone, Copy, Debug, PartialEq, Eq)]
 pub enum Binding {
     Constant(i64),
@@ -47,7 +47,7 @@ pub enum Binding {
     Procedure(usize),
 }
 
-/// What is asked in a word's place.
+/// The kind of operand that is required in a word's place.
 #[derive(Clone, Copy, Debug, PartialEq, Eq)]
 pub enum Expected {
     Value,
@@ -58,15 +58,15 @@ pub enum Expected {
     RightArgument,
     Number,
     Procedure,
-    /// Nothing that has a name: a text, a type, a skip.
+    /// Nothing that can have a name: a text, a type, a skip.
     Nothing,
 }
 
-/// What a line's words list.
+/// The kind of a list of registers.
 #[derive(Clone, Copy, Debug, PartialEq, Eq)]
 pub enum Listed {
     /// The parameters of a procedure.
     Parameters,
-    /// Its value registers.
+    /// A procedure's value registers.
     Registers,
 }

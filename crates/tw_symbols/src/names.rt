@@ -15,20 +15,20 @@ use indexmap::IndexMap;
 use std::alloc::{AllocError, Global};
 use tw_lexer::TextHash;
 
-/// Names, and what they mean.
+/// Names and their meanings.
 pub type Table<'a> = IndexMap<&'a [u8], Binding, TextHash>;
 
-/// The most bytes of a name.
+/// The longest name, in bytes.
 const MAX_NAME: usize = 64;
 
-/// How many registers a bank has.
+/// The number of registers in a bank.
 const REGISTERS: usize = 16;
 
-/// The names that the lines so far have given.
+/// The names that the lines so far have defined.
 #[derive(Drop)]
 pub struct Names<'a> {
     pub constants: Table<'a>,
-    /// Those of the procedure so far.
+    /// The registers of the procedure so far.
     pub registers: Table<'a>,
     /// The types that its line `regs` leaves out.
     pub types: Vec<&'a [u8]>,
@@ -37,7 +37,7 @@ pub struct Names<'a> {
 }
 
 impl<'a> Names<'a> {
-    /// Makes an empty table of names, to be hashed so.
+    /// Makes empty tables of names with this hash function.
     pub fn new(alloc: Global, hash: TextHash) -> Names<'a>
         ensures { seen_names result ≡ no_names }
     {
@@ -85,7 +85,7 @@ fn is_bank_letter(byte: u8) -> bool
     byte == b'v' || byte == b'd'
 }
 
-/// `v` or `d`, and digits.
+/// Returns whether a word is `v` or `d` and digits.
 fn is_register_word(word: &[u8]) -> bool
     ensures { result ≡ is_register_word word.now }
 {
@@ -95,7 +95,7 @@ fn is_register_word(word: &[u8]) -> bool
     }
 }
 
-/// Whether a word may be a name: as a label's, and no word that means itself.
+/// Returns whether a word may be a name: it has the form of a label's name, at most 64 bytes, and no meaning of its own, as `v1` and `any` have.
 pub fn is_name(word: &[u8]) -> bool
     ensures { result ≡ is_name word.now }
 {
@@ -110,7 +110,7 @@ pub fn is_name(word: &[u8]) -> bool
     }
 }
 
-/// What a name means in a table.
+/// Returns the meaning of a name in a table.
 pub fn meaning(table: &Table<'_>, name: &[u8]) -> Option<Binding>
     ensures { result ≡ meaning name.now (seen_table table.now.entries) }
 {
@@ -120,7 +120,7 @@ pub fn meaning(table: &Table<'_>, name: &[u8]) -> Option<Binding>
     }
 }
 
-/// What a name means at a line.
+/// Returns the meaning of a name at a line: of a register, a constant or a procedure.
 pub fn known(procedures: &Procedures<'_>, names: &Names<'_>, name: &[u8]) -> Option<Binding>
     ensures { result ≡ known (seen_procedures procedures.now) (seen_names names.now) name.now }
 {
@@ -133,7 +133,7 @@ pub fn known(procedures: &Procedures<'_>, names: &Names<'_>, name: &[u8]) -> Opt
     }
 }
 
-/// Whether a word may be given a meaning: it is a name, and means nothing yet.
+/// Checks that a word may get a meaning: it is a name, and has none yet.
 pub fn may_name<'a>(
     procedures: &Procedures<'_>,
     names: &Names<'_>,
@@ -150,7 +150,7 @@ pub fn may_name<'a>(
     }
 }
 
-/// Adds a name that a table hasn't.
+/// Adds a name that isn't in the table.
 pub fn put_name<'a>(
     table: &mut Table<'a>,
     name: &'a [u8],
@@ -163,7 +163,7 @@ pub fn put_name<'a>(
     Ok(())
 }
 
-/// The names with a constant more.
+/// Returns the names with one more constant.
 pub fn with_constant<'a>(
     procedures: &Procedures<'_>,
     mut names: Names<'a>,
@@ -177,7 +177,7 @@ pub fn with_constant<'a>(
     Ok(names)
 }
 
-/// One more than the higher of a register's number and those before.
+/// Returns the count of right registers after this register got a name: at least one more than its number.
 fn above(bank: Bank, number: usize, rights: usize) -> usize
     requires { number < 16 }
     ensures { result ≡ above bank number rights }
@@ -188,7 +188,7 @@ fn above(bank: Bank, number: usize, rights: usize) -> usize
     }
 }
 
-/// The names with a register more.
+/// Returns the names with one more register.
 pub fn with_register<'a>(
     procedures: &Procedures<'_>,
     mut names: Names<'a>,
@@ -246,7 +246,7 @@ fn is_listed(table: &Table<'_>, bank: Bank, number: usize) -> bool
     false
 }
 
-/// Returns the names with a register more, unless it has been listed or made by another name.
+/// Returns the names with one more register, unless it has been listed or made by another name.
 pub fn with_listed<'a>(
     procedures: &Procedures<'_>,
     names: Names<'a>,

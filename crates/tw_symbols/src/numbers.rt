@@ -1,4 +1,4 @@
-//! Numbers in words.
+//! Numbers that are written in words.
 
 ghost use Rattle.std.specs.Prelude.{◌≡◌};
 ghost use Rattle.std.specs.Result.{result_ok};
@@ -6,7 +6,7 @@ ghost use Rattle.tw_lexer.specs.Digits.{digits_in, signed_in};
 
 use tw_lexer::{digits, number};
 
-/// The number that digits spell, up to this one.
+/// Returns the number that digits encode, if it is at most `most`.
 pub fn natural(text: &[u8], most: u64) -> Option<usize>
     ensures { result ≡ result_ok (digits_in 0 most text.now) }
 {
@@ -16,7 +16,7 @@ pub fn natural(text: &[u8], most: u64) -> Option<usize>
     }
 }
 
-/// The number of 64 bits that a word spells.
+/// Returns the signed 64-bit number that a word encodes.
 pub fn signed(text: &[u8]) -> Option<i64>
     ensures { result ≡ result_ok (signed_in text.now) }
 {

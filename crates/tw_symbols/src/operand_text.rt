@@ -1,4 +1,4 @@
-//! What is asked in the place of a word, and what stands there.
+//! The expansion of operands.
 
 ghost use Rattle.std.specs.Prelude.{◌≡◌, ◌++◌, OnOk, drop, length, slice_get, take, unwrap_or};
 ghost use Rattle.tw_symbols.specs.declared.meaning.Expected.TheVariants.{Nothing};
@@ -15,16 +15,16 @@ use crate::rejection::{NameNo, Rejection};
 use std::alloc::{AllocError, Global};
 use tw_lexer::{put_numbered, put_signed};
 
-/// What stands in the place of a name.
+/// The replacement of a name.
 #[derive(Clone, Copy)]
 pub enum OperandText {
-    /// A register or a procedure, behind its letter.
+    /// A letter and the number of a register or a procedure.
     Numbered(&'static str, usize),
-    /// A constant.
+    /// The value of a constant.
     Number(i64),
 }
 
-/// What stands in the place of a name that means this, if it is what is asked.
+/// Returns the replacement of a name with this meaning, if the meaning is of the required kind.
 fn operand_text_of(asked: Expected, binding: Binding) -> Option<OperandText>
     ensures { option_map standing_text result ≡ stands asked binding }
 {
@@ -63,7 +63,7 @@ fn put_operand_text(
     }
 }
 
-/// Adds a space, and a word as it stands.
+/// Adds a space and a word as it is.
 pub fn put_plain(out: &mut Vec<u8>, word: &[u8]) -> Result<(), AllocError>
     ensures { OnOk result (out.new.items ≡ with_word out.old.items word.now) }
 {
@@ -78,7 +78,7 @@ pub fn count(words: &[&[u8]]) -> usize
     words.len()
 }
 
-/// The first so many words, or all.
+/// Returns the first `count` words, or all.
 #[tactic(auto, using(crate::proofs::Cutting::first_taken, crate::proofs::Cutting::all_taken))]
 pub fn first_words<'b, 'a>(words: &'b [&'a [u8]], count: usize) -> &'b [&'a [u8]]
     ensures { texts result.now ≡ take count (texts words.now) }
@@ -90,7 +90,7 @@ pub fn first_words<'b, 'a>(words: &'b [&'a [u8]], count: usize) -> &'b [&'a [u8]
     }
 }
 
-/// Returns the words after the first so many.
+/// Returns the words after the first `count`.
 #[tactic(auto, using(crate::proofs::Cutting::left_after, crate::proofs::Cutting::none_after))]
 pub fn words_after<'b, 'a>(words: &'b [&'a [u8]], count: usize) -> &'b [&'a [u8]]
     ensures { texts result.now ≡ drop count (texts words.now) }
@@ -102,7 +102,7 @@ pub fn words_after<'b, 'a>(words: &'b [&'a [u8]], count: usize) -> &'b [&'a [u8]
     }
 }
 
-/// Returns what is required after the first so many places.
+/// Returns what is required after the first `count` places.
 #[tactic(auto, using(std::proofs::lemmas::List::drop_all))]
 pub fn expected_after(asked: &[Expected], count: usize) -> &[Expected]
     ensures { result.now ≡ drop count asked.now }
@@ -114,7 +114,7 @@ pub fn expected_after(asked: &[Expected], count: usize) -> &[Expected]
     }
 }
 
-/// Adds a line's end, and a line feed.
+/// Adds the end of a line, and a line feed.
 pub fn put_ended(out: &mut Vec<u8>, line: &[u8]) -> Result<(), AllocError>
     ensures { OnOk result (out.new.items ≡ out.old.items ++ ended line.now) }
 {
@@ -122,7 +122,7 @@ pub fn put_ended(out: &mut Vec<u8>, line: &[u8]) -> Result<(), AllocError>
     out.extend_from_slice(b"\n")
 }
 
-/// Adds words as they stand.
+/// Adds words as they are.
 pub fn put_all(out: &mut Vec<u8>, words: &[&[u8]]) -> Result<(), AllocError>
     ensures { OnOk result (out.new.items ≡ behind out.old.items (texts words.now)) }
 {
@@ -132,7 +132,7 @@ pub fn put_all(out: &mut Vec<u8>, words: &[&[u8]]) -> Result<(), AllocError>
     Ok(())
 }
 
-/// Adds a space, and what stands in the place of a name.
+/// Adds a space and the replacement of a name.
 fn put_named<'a>(
     alloc: Global,
     out: &mut Vec<u8>,
@@ -153,7 +153,7 @@ fn put_named<'a>(
     Ok(())
 }
 
-/// Adds a space, and what a word stands for.
+/// Adds a space and the expansion of a word.
 pub fn put_word<'a>(
     alloc: Global,
     procedures: &Procedures<'_>,
@@ -171,7 +171,7 @@ pub fn put_word<'a>(
     put_named(alloc, out, asked, word, known(procedures, names, word))
 }
 
-/// What is asked in the first place.
+/// Returns what is required in the first place.
 fn first_expected(asked: &[Expected]) -> Expected
     ensures { result ≡ unwrap_or (slice_get asked.now 0) Nothing }
 {
@@ -181,7 +181,7 @@ fn first_expected(asked: &[Expected]) -> Expected
     }
 }
 
-/// What is asked in the places behind it.
+/// Returns what is required in the places after the first.
 fn after_first(asked: &[Expected]) -> &[Expected]
     ensures { result.now ≡ drop 1 asked.now }
 {
@@ -191,7 +191,7 @@ fn after_first(asked: &[Expected]) -> &[Expected]
     }
 }
 
-/// Adds what words stand for; behind what is asked each stands for itself.
+/// Adds the expansion of words. Each word after the last required one is added as it is.
 pub fn put_words<'a>(
     alloc: Global,
     procedures: &Procedures<'_>,

@@ -1,4 +1,4 @@
-//! Words of lines that list registers, where signs part words too.
+//! The pieces of words in lines that list registers: signs separate words there too.
 
 ghost use Rattle.std.specs.Prelude.{◌≡◌, [], ◌++◌, ◌+◌, ◌<◌, ◌≤◌, IfOk, OnOk, length};
 ghost use Rattle.tw_symbols.specs.Answers.{pieces_left};
@@ -14,7 +14,7 @@ fn is_sign(byte: u8) -> bool
     byte == b'(' || byte == b')' || byte == b','
 }
 
-/// Adds a piece, if there is anything.
+/// Adds a piece unless it is empty.
 fn push_some<'a>(out: &mut Vec<&'a [u8]>, piece: &'a [u8]) -> Result<(), AllocError>
     ensures { OnOk result (texts out.new.items ≡ texts out.old.items ++ some_piece piece.now) }
 {
@@ -24,7 +24,7 @@ fn push_some<'a>(out: &mut Vec<&'a [u8]>, piece: &'a [u8]) -> Result<(), AllocEr
     Ok(())
 }
 
-/// Adds the piece that begins at a place, where it ends at the index, and tells where the piece behind the index begins.
+/// Adds the piece that begins at `start` if it ends at the index. Returns the start of the piece after the index.
 #[tactic(auto, using(crate::proofs::Cutting::goes_on, crate::proofs::Cutting::ends))]
 fn push_ended<'a>(
     out: &mut Vec<&'a [u8]>,
@@ -79,7 +79,7 @@ fn push_pieces<'a>(out: &mut Vec<&'a [u8]>, word: &'a [u8]) -> Result<(), AllocE
     }
 }
 
-/// The pieces of words, one word after the other.
+/// Returns the pieces of words, in their order.
 pub fn pieces_of<'a>(alloc: Global, words: &[&'a [u8]]) -> Result<Vec<&'a [u8]>, AllocError>
     ensures { IfOk result (λ all. texts all.items ≡ flat_map pieces (texts words.now)) }
 {

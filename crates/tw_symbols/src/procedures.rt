@@ -23,16 +23,16 @@ pub struct Head {
     pub line: usize,
 }
 
-/// The procedures of a text, and what their names mean.
+/// The procedures of a text, and the meanings of their names.
 #[derive(Drop)]
 pub struct Procedures<'a> {
-    /// How the text's names are hashed.
+    /// The hash function of the text's names.
     pub hash: TextHash,
     pub table: Table<'a>,
     pub heads: Vec<Head>,
 }
 
-/// The first procedure of a name has it.
+/// Adds the name of a procedure, unless an earlier one has it.
 fn name_procedure<'a>(
     table: &mut Table<'a>,
     name: Option<&'a [u8]>,
@@ -48,7 +48,7 @@ fn name_procedure<'a>(
     Ok(())
 }
 
-/// The procedures with one more.
+/// Returns the procedures with one more.
 fn with_head<'a>(
     alloc: Global,
     mut procedures: Procedures<'a>,
@@ -84,7 +84,7 @@ fn with_words<'a>(
     }
 }
 
-/// The procedures with what the line of this number says.
+/// Returns the procedures after the line of this number.
 fn with_line<'a>(
     alloc: Global,
     procedures: Procedures<'a>,
@@ -97,7 +97,7 @@ fn with_line<'a>(
     with_words(alloc, procedures, number, &taken.words)
 }
 
-/// The procedures of a text.
+/// Returns the procedures of a text.
 pub fn procedures_of(alloc: Global, text: &str) -> Result<Procedures<'_>, AllocError>
     ensures { IfOk result (λ procedures. (all : List Line) × AreTaken all (lines text.now) × (seen_procedures procedures ≡ procedures_of all)) }
 {

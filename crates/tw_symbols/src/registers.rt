@@ -1,4 +1,4 @@
-//! The names of registers, beside what is told of them.
+//! The names of registers, for messages that print their numbers.
 
 ghost use Rattle.std.specs.Prelude.{◌≡◌, ◌==◌, ◌++◌, [], ℕ, List, None, IfOk, OnOk, MatchOption, Ok, drop, length, option_map, slice_get};
 ghost use Rattle.std.specs.Result.{IsErr};
@@ -18,8 +18,8 @@ use crate::procedures::{Procedures, procedures_of};
 use crate::rejection::NameNo;
 use std::alloc::{AllocError, Global};
 
-/// The names behind a line, unless it is refused.
-fn names_after<'a>(
+/// Returns the names after a line; `None` if the line has an error.
+pub fn names_after<'a>(
     alloc: Global,
     procedures: &Procedures<'_>,
     number: usize,
@@ -40,7 +40,7 @@ fn names_after<'a>(
     }
 }
 
-/// The names behind the line of this number, unless it or one before is refused, or there is no such line.
+/// Returns the names after the line of this number; `None` if it or an earlier one has an error, or there is no such line.
 fn names_after_line<'a>(
     alloc: Global,
     procedures: &Procedures<'_>,
@@ -71,7 +71,7 @@ fn is_register(bank: Bank, number: usize, binding: Binding) -> bool
     }
 }
 
-/// The name at an index, if it is that of this register.
+/// Returns the name at an index, if it is that of this register.
 fn named_at<'a>(table: &Table<'a>, index: usize, bank: Bank, number: usize) -> Option<&'a [u8]>
     ensures { option_map now result ≡ entry_name bank number (slice_get (seen_table table.now.entries) index) }
 {
@@ -81,7 +81,7 @@ fn named_at<'a>(table: &Table<'a>, index: usize, bank: Bank, number: usize) -> O
     }
 }
 
-/// The name that a register was given last.
+/// Returns the name that a register was given last.
 fn last_name<'a>(table: &Table<'a>, bank: Bank, number: usize) -> Option<&'a [u8]>
     ensures { option_map now result ≡ last_name (seen_table table.now.entries) bank number None }
 {
@@ -92,7 +92,7 @@ fn last_name<'a>(table: &Table<'a>, bank: Bank, number: usize) -> Option<&'a [u8
     found
 }
 
-/// Whether a space stands here, or nothing.
+/// Returns whether the text is empty or begins with a space.
 fn ends_part(text: &[u8]) -> bool
     ensures { result ≡ (length (first_part text.now) == 0) }
 {
@@ -102,8 +102,8 @@ fn ends_part(text: &[u8]) -> bool
     }
 }
 
-/// What stands up to the first space, and the rest.
-fn cut(text: &[u8]) -> (&[u8], &[u8])
+/// Splits a text at its first space.
+pub fn cut(text: &[u8]) -> (&[u8], &[u8])
     ensures first { result.0.now ≡ first_part text.entry.now }
     ensures rest { result.1.now ≡ drop (length (first_part text.entry.now)) text.entry.now }
 {
@@ -127,7 +127,7 @@ fn put_name(out: &mut Vec<u8>, name: Option<&[u8]>) -> Result<(), AllocError>
     }
 }
 
-/// The name of the register of a word, by those behind the line of this number.
+/// Returns the name that a word's register has after the line of this number.
 fn name_after_line<'a>(
     alloc: Global,
     text: &'a str,
@@ -147,8 +147,7 @@ fn name_after_line<'a>(
     }
 }
 
-/// Adds what is told, and behind the register with which it begins that register's name, if the lines of the text up to this
-/// one have given it one.
+/// Adds a message, and after the register with which it begins that register's name, if the lines of the text up to this one have defined it.
 pub fn put_with_name(
     alloc: Global,
     out: &mut Vec<u8>,

@@ -1,4 +1,4 @@
-//! Refusals of texts with names.
+//! Errors of symbolic assembly.
 
 ghost use Rattle.std.specs.Prelude.{◌≡◌, []};
 ghost use Rattle.tw_symbols.specs.Answers.{name_number};
@@ -8,29 +8,29 @@ ghost use Rattle.tw_symbols.specs.declared.rejection.Rejection.TheVariants.{NoMe
 use crate::meaning::{Binding, Expected};
 use std::alloc::{AllocError, AllocFailed};
 
-/// What is wrong with a text with names.
+/// The kind of an error in a symbolic assembly text.
 #[derive(Clone, Copy, Debug, PartialEq, Eq)]
 pub enum NameNo {
-    /// N01: a line that gives names has another form.
+    /// N01: a line that defines names is malformed.
     Form,
-    /// N02: what should be named isn't a name.
+    /// N02: the word to be defined isn't a name.
     NoName,
     /// N03: the name is taken.
     Twice,
     /// N03: the register has been listed by another name.
     Listed,
-    /// N04: the name means nothing here.
+    /// N04: the name has no meaning here.
     Unknown,
-    /// N05: the name means this, and that is required in its place.
+    /// N05: the name has this meaning, but another kind of operand is required.
     Kind(Binding, Expected),
-    /// N06: a register past the last would be named.
+    /// N06: a name would mean a register past the last.
     Limit,
-    /// N07: memory was refused.
+    /// N07: out of memory.
     NoMemory,
 }
 
 impl NameNo {
-    /// Returns the number behind the letter N.
+    /// Returns the number after the letter N.
     pub fn number(self) -> u8
         ensures { result ≡ name_number self }
     {
@@ -46,11 +46,11 @@ impl NameNo {
     }
 }
 
-/// Why a line says nothing.
+/// The reason why a line isn't expanded.
 #[derive(Clone, Copy, Debug)]
 pub enum Rejection<'a> {
     NoMemory,
-    /// What is wrong, and with which word.
+    /// An error, and the word that it is about.
     Flawed(NameNo, &'a [u8]),
 }
 
@@ -70,9 +70,9 @@ impl<T: Drop> From<AllocFailed<T>> for Rejection<'_> {
     }
 }
 
-/// The first refusal of a text: what is wrong, in which line, from 1, and with which word.
+/// The first error of a text: its kind, its line (from 1) and its word.
 ///
-/// Where memory was refused the line is 0, and there is no word.
+/// If memory runs out, the line is 0 and the word is empty.
 #[derive(Clone, Copy, Debug)]
 pub struct NameError<'a> {
     pub no: NameNo,

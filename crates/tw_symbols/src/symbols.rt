@@ -13,7 +13,7 @@ use std::alloc::{AllocError, Global};
 use std::marker::Model;
 use tw_types::Items;
 
-/// The names of a program's procedures, by their numbers; an empty one where a procedure has none.
+/// The names of a program's procedures, by number; an empty one if a procedure has none.
 #[derive(Drop)]
 pub struct Symbols {
     procedures: Vec<Items<u8>>,
@@ -67,6 +67,18 @@ fn push_line(alloc: Global, names: &mut Vec<Items<u8>>, line: &str) -> Result<()
     push_words(alloc, names, &taken.words)
 }
 
+/// Adds a name in brackets, if it isn't empty.
+pub fn put_bracketed(out: &mut Vec<u8>, name: &[u8]) -> Result<(), AllocError>
+    ensures { OnOk result (out.new.items ≡ out.old.items ++ bracketed name.now) }
+{
+    if name.is_empty() {
+        return Ok(());
+    }
+    out.extend_from_slice(b" (")?;
+    out.extend_from_slice(name)?;
+    out.extend_from_slice(b")")
+}
+
 impl Symbols {
     /// Returns the table of a program without names.
     pub fn none(alloc: Global) -> Symbols
@@ -88,7 +100,7 @@ impl Symbols {
         Ok(Symbols { procedures })
     }
 
-    /// Returns the name of the procedure of this number, or nothing if it has none.
+    /// Returns the name of the procedure of this number, or an empty one if it has none.
     pub fn procedure(&self, number: usize) -> &[u8]
         ensures { result.now ≡ name_at self.entry.now number }
     {
@@ -102,12 +114,6 @@ impl Symbols {
     pub fn put(&self, out: &mut Vec<u8>, number: usize) -> Result<(), AllocError>
         ensures { OnOk result (out.new.items ≡ out.old.items ++ bracketed (name_at self.now number)) }
     {
-        let name = self.procedure(number);
-        if name.is_empty() {
-            return Ok(());
-        }
-        out.extend_from_slice(b" (")?;
-        out.extend_from_slice(name)?;
-        out.extend_from_slice(b")")
+        put_bracketed(out, self.procedure(number))
     }
 }

@@ -1,58 +1,58 @@
-//! What holds of all texts.
+//! Theorems about all texts.
 
 ghost use Rattle.tw_symbols.specs.Theorems.{AsManyLines, InUtf8, ListedByPlace, NamesDiffer, NamesStay, NotBoth, OneFirstRejection, RenamedAlike, StandsForItself, StandsForOne, UsesAreRegisters};
 
-/// A text stands for at most one text.
+/// Proves that a text has at most one expansion.
 pub fn expands_to_one()
     ensures { StandsForOne }
 {}
 
-/// A text has at most one first refusal.
+/// Proves that a text has at most one first error.
 pub fn one_first_rejection()
     ensures { OneFirstRejection }
 {}
 
-/// A text that stands for one isn't refused.
+/// Proves that a text with an expansion has no error.
 pub fn not_both()
     ensures { NotBoth }
 {}
 
-/// A text without names stands for itself.
+/// Proves that a text without names expands to itself.
 pub fn expands_to_itself()
     ensures { StandsForItself }
 {}
 
-/// A line's number in a text is that of the line for which it stands.
+/// Proves that a line keeps its number in the expansion.
 pub fn as_many_lines()
     ensures { AsManyLines }
 {}
 
-/// What a text stands for is UTF-8 as well.
+/// Proves that the expansion of a text in UTF-8 is in UTF-8.
 pub fn in_utf8()
     ensures { InUtf8 }
 {}
 
-/// Names by which registers of a procedure are listed or made mean different registers.
+/// Proves that names by which registers of a procedure are listed or made mean different registers.
 pub fn names_differ()
     ensures { NamesDiffer }
 {}
 
-/// A name in a head or a line `regs` means the register that begins behind it.
+/// Proves that a name in a head or a line `regs` means the register that begins after it.
 pub fn listed_by_place()
     ensures { ListedByPlace }
 {}
 
-/// The name of a register keeps its meaning up to the next head.
+/// Proves that the name of a register keeps its meaning until the next head.
 pub fn names_stay()
     ensures { NamesStay }
 {}
 
-/// What stands in the place of a register's name is this register.
+/// Proves that the replacement of a register's name is this register.
 pub fn uses_are_registers()
     ensures { UsesAreRegisters }
 {}
 
-/// Operands with other names for the same things stand for the same text.
+/// Proves that operands expand alike if each name is replaced by another for the same thing.
 pub fn renamed_alike()
     ensures { RenamedAlike }
 {}

@@ -3,14 +3,14 @@ use Rattle.std.specs.Prelude.{List, [], ◌∷◌}
 use Rattle.tw_code.specs.declared.form.Form.{Form}
 use Rattle.tw_code.specs.declared.form.Form.TheVariants as form
 
--- no text, and no arguments
+-- holds if there are no text and no arguments among the operands
 abbrev pub TakesNoMemory : List Form → Type 0
 TakesNoMemory [] = Unit {0}
 TakesNoMemory (form.Literal ∷ forms) = ⊥
 TakesNoMemory (form.Args ∷ forms) = ⊥
 TakesNoMemory (f ∷ forms) = TakesNoMemory forms
 
--- the last one is a goal
+-- holds if the last operand is a goal
 abbrev pub EndsInSkip : List Form → Type 0
 EndsInSkip [] = ⊥
 EndsInSkip (form.Skip ∷ []) = Unit {0}

@@ -1,4 +1,4 @@
--- How goals are looked for.
+-- How goals are resolved.
 use Rattle.std.specs.Prelude.{◌≡◌, ◌⊎◌, ℕ, ◌+◌, ◌≤◌, List, [], ◌∷◌, map, Option, Some, None, Result, Ok, Err}
 use Rattle.std.specs.List.{AllByRecursion, Contains}
 use Rattle.tw_code.specs.declared.instr.Instr.{Instr}
@@ -10,7 +10,7 @@ use Rattle.tw_asm.specs.declared.fault.FaultNo.TheVariants as fault
 use Rattle.tw_asm.specs.Spelling.{Placed}
 use Rattle.tw_asm.specs.reading.Progress.{Drafted, Section, IsMemory}
 
--- an instruction at its place, with all labels of its procedure
+-- an instruction that may have a goal, with its place and all labels of its procedure
 pub record Goal : Type 0 where
   pub labels : List Placed
   pub place : ℕ
@@ -23,11 +23,11 @@ goals_in labels place (draft ∷ others) = record { labels = labels; place = pla
 abbrev pub section_goals : Section → List Goal
 section_goals section = goals_in section.labels 0 section.drafts
 
--- a label of this name is at this place
+-- holds if a label with this name is at this place
 abbrev pub StandsAt : List Placed → List ℕ → ℕ → Type 0
 StandsAt labels name place = Contains labels (record { name = name; place = place })
 
--- what is wrong with a name as a goal
+-- holds if a name is no goal, with this fault
 abbrev pub IsNoGoal : List Placed → ℕ → List ℕ → FaultNo → Type 0
 IsNoGoal labels place name which =
     ((which ≡ fault.UnknownLabel) × (Contains (map (λ label. label.name) labels) name → ⊥))
@@ -37,7 +37,7 @@ abbrev pub IsSkipTo : List Placed → ℕ → List ℕ → Result ℕ FaultNo �
 IsSkipTo labels place name (Ok skip) = StandsAt labels name (place + 1 + skip) × (skip ≤ 4096)
 IsSkipTo labels place name (Err which) = IsNoGoal labels place name which
 
--- the instruction with its skip
+-- holds if this is the instruction with its skip
 abbrev pub IsLinkedTo : List Placed → ℕ → Option (List ℕ) → Instr → Instr → Type 0
 IsLinkedTo labels place None draft i = i ≡ draft
 IsLinkedTo labels place (Some name) draft i = (skip : ℕ) × StandsAt labels name (place + 1 + skip) × (skip ≤ 4096) × (i ≡ with_skip skip draft)
@@ -45,7 +45,7 @@ IsLinkedTo labels place (Some name) draft i = (skip : ℕ) × StandsAt labels na
 abbrev pub IsLinked : Goal → Instr → Type 0
 IsLinked goal i = IsLinkedTo goal.labels goal.place goal.draft.goal goal.draft.instr i
 
--- the goal's fault, and its line
+-- holds if the goal has this fault, at the instruction's line
 abbrev pub IsUnlinked : Goal → AsmFault → Type 0
 IsUnlinked goal f = (name : List ℕ) × (goal.draft.goal ≡ Some name) × IsNoGoal goal.labels goal.place name f.no × (f.line ≡ goal.draft.number)
 
@@ -55,7 +55,7 @@ AreLinkedCode [] (i ∷ code) = ⊥
 AreLinkedCode (goal ∷ goals) [] = ⊥
 AreLinkedCode (goal ∷ goals) (i ∷ code) = IsLinked goal i × AreLinkedCode goals code
 
--- the first goal that isn't found has this fault
+-- holds if the first goal that can't be resolved has this fault
 abbrev pub FirstUnlinked : List Goal → AsmFault → Type 0
 FirstUnlinked [] f = ⊥
 FirstUnlinked (goal ∷ goals) f = IsUnlinked goal f ⊎ (((i : Instr) × IsLinked goal i) × FirstUnlinked goals f)
@@ -80,7 +80,7 @@ abbrev pub IsLinkedSection : Section → Result Procedure AsmFault → Type 0
 IsLinkedSection section (Ok procedure) = IsLinkedProcedure section procedure
 IsLinkedSection section (Err f) = IsMemory f ⊎ FirstUnlinked (section_goals section) f
 
--- no label stands further than code goes
+-- holds if no label is after place 4096
 abbrev pub AreWithin : List Placed → Type 0
 AreWithin labels = AllByRecursion (λ label. label.place ≤ 4096) labels
 

@@ -1,4 +1,5 @@
--- How the parameters that are read so far are seen: their order is that of the text, and they were met from the last one on.
+-- How contracts see the parameters that are read so far. The code keeps them from the last one on. Contracts have them in the order of the
+-- text.
 use Rattle.std.specs.Prelude.{reverse}
 use Rattle.tw_asm.specs.declared.heads.Params as heads
 use Rattle.tw_asm.specs.reading.Lines.{Params}

@@ -1,4 +1,4 @@
--- What the words behind a name say.
+-- Reading the words after a first word.
 use Rattle.std.specs.Prelude.{◌≡◌, ℕ, ℤ, List, [], ◌∷◌, ◌++◌, length, codes, Option, Some, None, Result, Ok, Err, nat_lt, if◌then◌else◌}
 use Rattle.std.specs.Str.{bytes_eq}
 use Rattle.tw_code.specs.declared.form.Form.{Form as OperandForm}
@@ -31,11 +31,11 @@ use Rattle.tw_types.specs.declared.param.Param.{Param}
 
 -- ---- several words
 
--- one more item
+-- adds an item
 abbrev pub joined : {A : Type 0} → Result (List A) TokenError → Result A TokenError → Result (List A) TokenError
 joined items item = as_is (λ x. x.0 ++ (x.1 ∷ [])) (both items item)
 
--- an item a word
+-- reads an item from each word
 abbrev pub each_from : {A : Type 0} → (Word → Result A TokenError) → Result (List A) TokenError → List Word → Result (List A) TokenError
 each_from read items [] = items
 each_from read items (w ∷ ws) = each_from read (joined items (read w)) ws
@@ -43,14 +43,14 @@ each_from read items (w ∷ ws) = each_from read (joined items (read w)) ws
 abbrev pub each : {A : Type 0} → (Word → Result A TokenError) → List Word → Result (List A) TokenError
 each read ws = each_from read (Ok []) ws
 
--- at most so many
+-- returns the items, or an error if there are more than this
 abbrev pub few : {A : Type 0} → ℕ → Result (List A) TokenError → Result (List A) TokenError
 few most (Ok items) = if nat_lt most (length items) then Err Limit else Ok items
 few most (Err e) = Err e
 
 -- ---- types and parameters, from the last word on
 
--- a container with such subscripts around data of this type
+-- returns a container around data of this type, with such subscripts
 abbrev pub around : Result (Scalar × NestedScalar) TokenError → Result NestedScalar TokenError
 around (Ok x) = if nat_lt (depth_of x.1) 3 then Ok (container_of x.0 x.1) else Err Limit
 around (Err e) = Err e
@@ -58,7 +58,7 @@ around (Err e) = Err e
 abbrev pub contained : Result Scalar TokenError → Result NestedScalar TokenError → Result NestedScalar TokenError
 contained by ty = around (both by ty)
 
--- one word more before a type, or its last one
+-- reads the last word of a type, or a word before a type
 abbrev pub typed : Version → Word → Option (Result NestedScalar TokenError) → Result NestedScalar TokenError
 typed version w None = as_is scalar_type (scalar_in w)
 typed version w (Some ty) = contained (container_in version w) ty
@@ -67,7 +67,7 @@ abbrev pub type_from : Version → List Word → Option (Result NestedScalar Tok
 type_from version [] = None
 type_from version (w ∷ ws) = Some (typed version w (type_from version ws))
 
--- a scalar, and containers before it
+-- reads a scalar, and the containers before it
 abbrev pub type_in : Version → List Word → Result NestedScalar TokenError
 type_in version ws = whole (type_from version ws)
   where
@@ -75,7 +75,7 @@ type_in version ws = whole (type_from version ws)
     whole None = Err Form
     whole (Some ty) = ty
 
--- parameters, and before them a type whose mode is due
+-- the parameters, and a type before them whose mode comes next
 pub record Params : Type 0 where
   pub whole : Result (List Param) TokenError
   pub begun : Option (Result NestedScalar TokenError)
@@ -90,7 +90,7 @@ abbrev pub begins : Result (List Param) TokenError → Result Scalar TokenError 
 begins whole (Ok scalar) = record { whole = whole; begun = Some (Ok (scalar_type scalar)) }
 begins whole (Err e) = broken
 
--- no container stands under `val`
+-- returns the type, unless a container has mode `val`
 abbrev pub under : Mode → Result NestedScalar TokenError → Result NestedScalar TokenError
 under Val (Ok ty) = if is_scalar ty then Ok ty else Err Form
 under Val (Err e) = Err Form
@@ -101,7 +101,7 @@ under Write ty = ty
 abbrev pub param_of : Mode → NestedScalar → Param
 param_of mode ty = record { mode = mode; ty = ty }
 
--- one item more before the others
+-- adds an item before the others
 abbrev pub put_first : {A : Type 0} → Result A TokenError → Result (List A) TokenError → Result (List A) TokenError
 put_first item items = as_is (λ x. x.0 ∷ x.1) (both item items)
 
@@ -113,7 +113,7 @@ abbrev pub goes_on : Result (List Param) TokenError → Result NestedScalar Toke
 goes_on whole ty (Ok by) mode = record { whole = whole; begun = Some (contained (Ok by) ty) }
 goes_on whole ty (Err e) mode = ends whole ty mode
 
--- one word more before them
+-- reads a word before the others
 abbrev pub taken : Version → Word → Params → Params
 taken version w params = by params.whole params.begun
   where
@@ -125,7 +125,7 @@ abbrev pub params_from : Version → List Word → Params
 params_from version [] = no_params
 params_from version (w ∷ ws) = taken version w (params_from version ws)
 
--- no type is left without its mode
+-- returns the parameters, unless a type has no mode
 abbrev pub ended : Params → Result (List Param) TokenError
 ended params = by params.begun
   where
@@ -159,14 +159,14 @@ operand_in (natural low high) w = natural_in low high w
 operand_in literal w = literal_in w
 operand_in target w = target_in w
 
--- the operands of an instruction
+-- the shape of an instruction's operands
 pub data Line : Type 0 where
   nothing : Line
   goal : Line
   type : Version → Line
   args : Line
   more : Operand → Line → Line
-  -- no words are that
+  -- no words have this shape
   never : Line
 
 abbrev pub LineContent : Line → Type 0
@@ -189,7 +189,7 @@ line_in (more o l) [] = Err Form
 line_in (more o l) (w ∷ ws) = both (operand_in o w) (line_in l ws)
 line_in never ws = Err Form
 
--- the label that is named, if any
+-- returns the label that is named, if any
 abbrev pub label_in : (l : Line) → LineContent l → Option (List ℕ)
 label_in nothing x = None
 label_in goal x = x.label
@@ -198,7 +198,7 @@ label_in args x = None
 label_in (more o l) x = label_in l x.1
 label_in never x = None
 
--- ---- the operands of these forms; a skip, a type and arguments stand last
+-- ---- the operands of these forms; a skip, a type or arguments are the last ones
 
 abbrev pub line_of : Version → List OperandForm → Line
 line_of version [] = nothing
@@ -226,7 +226,7 @@ contents_of version (f ∷ forms) x = (x.0, contents_of version forms x.1)
 
 -- ---- an instruction
 
--- its operands, and what they make
+-- the shape of the operands, and the instruction that is made from them
 pub data Row : Type 0 where
   row : (l : Line) → (LineContent l → Instr) → Row
 
@@ -236,7 +236,7 @@ row_by version (a_row code forms make) = row (line_of version forms) (λ x. make
 abbrev pub row_of : Version → Opcode → Row
 row_of version o = row_by version (table.row_of o)
 
--- an instruction, and the label that it names
+-- reads an instruction, and the label that it names
 abbrev pub draft_by : Row → List Word → Result (Instr × Option (List ℕ)) TokenError
 draft_by (row l make) ws = as_is (λ x. (make x, label_in l x)) (line_in l ws)
 
@@ -297,17 +297,17 @@ statement_in version (Bare word ∷ ws) =
     if bytes_eq word (codes "version") then version_in ws else
     body_in version (opcode_in version word) word ws
 
--- ---- what functions answer
+-- ---- results of functions
 
 abbrev pub drafted : Unlinked → Instr × Option (List ℕ)
 drafted draft = (draft.instr, bytes_of draft.goal)
 
--- the reading fails as the function did
+-- holds if reading fails with the same error
 abbrev pub Fails : {Y : Type 0} → Rejection → Result Y TokenError → Type 0
 Fails rejection.NoMemory read = Unit {0}
 Fails (rejection.Flawed flaw) read = read ≡ Err flaw
 
--- What a function returned, seen by view, is what reading gives, unless memory ran out.
+-- holds if the function's result, seen by `view`, is what reading returns, unless an allocation fails
 abbrev pub Gives : {X Y : Type 0} → (X → Y) → Result X Rejection → Result Y TokenError → Type 0
 Gives view (Ok x) read = read ≡ Ok (view x)
 Gives view (Err e) read = Fails e read

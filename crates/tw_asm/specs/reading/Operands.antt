@@ -1,4 +1,4 @@
--- What one word says, or what is wrong with it.
+-- Reading one word, or its error.
 use Rattle.std.specs.Prelude.{ℕ, ℤ, List, [], ◌∷◌, length, codes, Option, Some, None, Result, Ok, Err, nat_lt, ◌==◌, if◌then◌else◌}
 use Rattle.std.specs.Str.{bytes_eq}
 use Rattle.tw_code.specs.declared.version.Version.{Version}
@@ -14,7 +14,7 @@ use Rattle.tw_types.specs.declared.data_type.Scalar.TheVariants as scalar
 use Rattle.tw_types.specs.declared.param.Mode.{Mode}
 use Rattle.tw_types.specs.declared.param.Mode.TheVariants.{Val, Closed, Ref, Write}
 
--- two after one another: a wrong form goes before a limit
+-- pairs two results; a wrong form is returned before a limit
 abbrev pub both : {A B : Type 0} → Result A TokenError → Result B TokenError → Result (A × B) TokenError
 both r (Err Form) = Err Form
 both (Ok a) (Ok b) = Ok (a, b)
@@ -28,7 +28,7 @@ abbrev pub natural_in : ℕ → ℕ → Word → Result ℕ TokenError
 natural_in low high (Bare text) = digits_in low high text
 natural_in low high (Quoted text) = Err Form
 
--- a register, behind its letter
+-- reads the number of a register, after its letter
 abbrev pub register_in : ℕ → Word → Result ℕ TokenError
 register_in letter (Bare []) = Err Form
 register_in letter (Bare (b ∷ rest)) = if b == letter then digits_in 0 15 rest else Err Form
@@ -51,7 +51,7 @@ target_in (Quoted text) = Err Form
 unfoldable pub name_in : List ℕ → Result (List ℕ) TokenError
 name_in text = if is_name text then (if nat_lt 64 (length text) then Err Limit else Ok text) else Err Form
 
--- where an instruction goes on: so many further, or at a label, and the number is 0 then
+-- where execution continues: after `skip` instructions, or at a label; then `skip` is 0
 pub record Goal : Type 0 where
   pub skip : ℕ
   pub label : Option (List ℕ)
@@ -73,12 +73,12 @@ abbrev pub scalar_in : Word → Result Scalar TokenError
 scalar_in (Bare text) = if bytes_eq text (scalar_word scalar.Int) then Ok scalar.Int else if bytes_eq text (scalar_word scalar.Text) then Ok scalar.Text else Err Form
 scalar_in (Quoted text) = Err Form
 
--- version 1 has no container whose subscripts are texts
+-- returns the type text, unless the version is 1, which has no container with text subscripts
 abbrev pub text_container : Version → Result Scalar TokenError
 text_container One = Err Form
 text_container Two = Ok scalar.Text
 
--- a container, by the type of its subscripts
+-- reads the word of a container, as the type of its subscripts
 abbrev pub container_in : Version → Word → Result Scalar TokenError
 container_in version (Bare text) =
     if bytes_eq text (container_word scalar.Int) then Ok scalar.Int else

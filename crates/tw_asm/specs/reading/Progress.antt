@@ -1,4 +1,4 @@
--- What the reader of lines keeps.
+-- The state of the reader of lines.
 use Rattle.std.specs.Prelude.{◌≡◌, ◌⊎◌, ℕ, ◌+◌, ◌<◌, ◌≤◌, List, [], ◌∷◌, ◌++◌, length, map, Option, Some, None, Result, Ok, Err}
 use Rattle.std.specs.Borrow.{Bor}
 use Rattle.std.specs.List.{Contains}
@@ -71,11 +71,11 @@ seen_stage (stage.InBody section) = Within (seen_section section)
 abbrev pub seen_reading : readings.Reading → Progress
 seen_reading reading = record { version = reading.version; sections = map seen_section reading.sections.items; head_line = reading.head_line; place = seen_stage reading.stage }
 
--- the lines of its instructions
+-- returns the lines of the instructions
 abbrev pub section_numbers : Section → List ℕ
 section_numbers section = map (λ draft. draft.number) section.drafts
 
--- ---- the situation
+-- ---- the parser's state
 
 abbrev pub stage_of : Place → Stage
 stage_of AtStart = Start
@@ -106,7 +106,7 @@ situation_of p = record { version = p.version; stage = stage_of p.place; procedu
 
 -- ---- steps
 
--- the sections that have ended once another begins
+-- returns the sections that are complete when another one begins
 abbrev pub ended : List Section → Place → List Section
 ended sections AtStart = sections
 ended sections BehindVersion = sections
@@ -131,7 +131,7 @@ in_section f BehindVersion = BehindVersion
 in_section f (BehindHead kind params) = BehindHead kind params
 in_section f (Within section) = Within (f section)
 
--- after a statement in the line of this number, which names this goal
+-- returns the progress after a statement in the line with this number, which names this goal
 abbrev pub step : ℕ → Statement → Option (List ℕ) → Progress → Progress
 step number (OfVersion version) goal p = record p { version = version_by version; place = BehindVersion }
 step number (Head kind params) goal p = record { version = p.version; sections = ended p.sections p.place; head_line = number; place = BehindHead kind params }
@@ -150,9 +150,9 @@ progress_from number p (read ∷ others) = progress_from (number + 1) (line_step
 abbrev pub outset : Progress
 outset = record { version = One; sections = []; head_line = 0; place = AtStart }
 
--- ---- what lines say, as it is read
+-- ---- lines that are read
 
--- a goal is named by an instruction alone
+-- holds if only an instruction names a goal
 abbrev pub IsGoalOf : Statement → Option (List ℕ) → Type 0
 IsGoalOf (OfVersion version) goal = goal ≡ None
 IsGoalOf (Head kind params) goal = goal ≡ None
@@ -164,14 +164,14 @@ abbrev pub LineRead : ParserState → List ℕ → Option Read → Type 0
 LineRead s line None = IsLine [] line
 LineRead s line (Some read) = ((words : List Word) × IsLine words line × IsRead s.version read words) × MayStand read.statement s × IsGoalOf read.statement read.goal
 
--- lines from this number on are read as this
+-- holds if the lines, the first with this number, are read as this
 abbrev pub LinesRead : ℕ → Progress → List (List ℕ) → List (Option Read) → Type 0
 LinesRead number p [] [] = Unit {0}
 LinesRead number p [] (read ∷ others) = ⊥
 LinesRead number p (line ∷ after) [] = ⊥
 LinesRead number p (line ∷ after) (read ∷ others) = LineRead (situation_of p) line read × LinesRead (number + 1) (line_step number read p) after others
 
--- ---- what the functions answer
+-- ---- results of functions
 
 abbrev pub IsMemory : AsmFault → Type 0
 IsMemory f = (f.no ≡ fault.NoMemory) × (f.line ≡ 0)
@@ -185,11 +185,11 @@ IsEmptyAt BehindVersion = ⊥
 IsEmptyAt (BehindHead kind params) = ⊥
 IsEmptyAt (Within section) = length section.drafts ≡ 0
 
--- where a limit is told: at the head of an empty procedure, which another head would end, or else at the line itself
+-- holds if a limit is reported at this line: that of the head of an empty procedure, which another head would end, or else the line itself
 abbrev pub IsLimitLine : Progress → First → ℕ → ℕ → Type 0
 IsLimitLine p expected number at = ((expected ≡ first.Head) × IsEmptyAt p.place × (at ≡ p.head_line)) ⊎ ((expected ≡ first.Head → IsEmptyAt p.place → ⊥) × (at ≡ number))
 
--- the line's statement, if it has any; it begins with what may stand here
+-- holds if this is the statement of the line, if any, and it is allowed at this stage; or its fault
 abbrev pub WordsRead : Progress → ℕ → List ℕ → Result (Option statements.Statement) AsmFault → Type 0
 WordsRead p number line (Ok None) = IsLine [] line
 WordsRead p number line (Ok (Some statement)) = ((words : List Word) × IsLine words line × IsRead p.version (seen statement) words) × MayBegin (stage_of p.place) (expectation (seen statement).statement)
@@ -206,7 +206,7 @@ abbrev pub TakenLine : Progress → ℕ → List ℕ → Result readings.Reading
 TakenLine p number line (Ok reading) = (read : Option Read) × LineRead (situation_of p) line read × (seen_reading reading ≡ line_step number read p)
 TakenLine p number line (Err f) = IsMemory f ⊎ LineFault number (situation_of p) line f.no f.line
 
--- the sections once another begins; the last one has an instruction
+-- holds if these are the sections when another one begins, and the last of them has an instruction
 abbrev pub AreClosed : List Section → Place → List Section → Type 0
 AreClosed sections place all = (all ≡ ended sections place) × (IsEmptyAt place → ⊥)
 
@@ -225,7 +225,7 @@ abbrev pub WithDraft : Section → Section → Drafted → Result (Unit {0}) Asm
 WithDraft section new draft (Ok done) = (length section.drafts < 4096) × (new ≡ drafted draft section)
 WithDraft section new draft (Err f) = IsMemory f ⊎ (IsLimit f draft.number × (4096 ≤ length section.drafts))
 
--- all lines of the text were read
+-- all lines of the text are read
 pub record AreTextRead (ls : List (List ℕ)) (p : Progress) : Type 0 where
   pub reads : List (Option Read)
   pub are_read : LinesRead 1 outset ls reads
@@ -235,7 +235,7 @@ abbrev pub LinesAreRead : List ℕ → Result readings.Reading AsmFault → Type
 LinesAreRead text (Ok reading) = AreTextRead (lines text) (seen_reading reading)
 LinesAreRead text (Err f) = IsMemory f ⊎ IsLineFault text f.no f.line
 
--- the last section has ended too
+-- holds if the last section is complete too
 abbrev pub AreFinished : Progress → List Section → Type 0
 AreFinished p all = IsWhole (situation_of p) × (all ≡ ended p.sections p.place)
 

@@ -9,17 +9,17 @@ use Rattle.tw_asm.specs.Written.{part_words}
 abbrev pub spaced : List ℕ → List ℕ
 spaced word = 32 ∷ word
 
--- words, with a space before each
+-- returns the words with a space before each
 abbrev pub behind : List (List ℕ) → List ℕ
 behind words = flat_map spaced words
 
 abbrev pub line_of_parts : (ℕ → List ℕ) → List Part → List ℕ
 line_of_parts skip_word parts = join_with_byte 32 (flat_map (part_words skip_word) parts) ++ codes "\n"
 
--- the words of an operand, with the word of each skip
+-- returns the words of an operand; `skip_word` has the word of each skip
 abbrev pub operand_words : (ℕ → List ℕ) → Operand → List (List ℕ)
 operand_words skip_word o = flat_map (part_words skip_word) (operand_parts o)
 
--- the line of an instruction
+-- returns the line of an instruction
 abbrev pub row_line : (ℕ → List ℕ) → Opcode → List Operand → List ℕ
 row_line skip_word o operands = line_of_parts skip_word (Name (word_of o) ∷ flat_map operand_parts operands)

@@ -1,4 +1,4 @@
--- The skip in what follows an instruction.
+-- The skip of an instruction, from its flow.
 use Rattle.std.specs.Prelude.{ℕ, Option, Some, None}
 use Rattle.tw_code.specs.declared.flow.Flow.{Flow}
 use Rattle.tw_code.specs.declared.flow.Flow.TheVariants.{Straight, Branch, Jump, Begin, Close, Stop}

@@ -6,7 +6,7 @@ use Rattle.tw_asm.proofs.disassembler.disassemble.Goals as goal
 not_true : false ≡ true → ⊥
 not_true e = cc
 
--- the text of what a program is made of
+-- the text of a program, from its version and procedures
 parts_text : (text : List ℕ) (v w : Version) (ps qs : List Procedure) → text ≡ version_line v ++ flat_map procedure_lines ps → v ≡ w → ps ≡ qs → text ≡ disassembly (record { version = w; procedures = qs })
 parts_text text v w ps qs e f g = e ∙ (ap (λ (x : Version). version_line x ++ flat_map procedure_lines ps) f ∙ ap (λ (x : List Procedure). version_line w ++ flat_map procedure_lines x) g)
 

@@ -3,6 +3,6 @@ use Rattle.tw_asm.specs.Disassembly.{label_places}
 use Rattle.tw_asm.proofs.Ones.{inserted_from}
 use Rattle.tw_asm.proofs.disassembler.label_places.Given as goal
 
--- with the goals of what is left, the places are all
+-- the places so far, with the goals of the other instructions, are all
 abbrev pub invariant-loop-place : goal.invariant-loop-place
 invariant-loop-place l = inserted_from l.code l.place l.places.keys ≡ label_places l.code

@@ -1,34 +1,8 @@
-use Rattle.std.proofs.Common.{◌≡◌, ◌<◌, ◌++◌, ◌∷◌, [], List, ℕ, length, IsUtf8, refl, ap, sym, subst, ◌∙◌}
-use Rattle.std.proofs.lemmas.Result.{IfOk-weaker}
-use Rattle.tw_symbols.proofs.TextNames.{Broken, IsTaken, Line, StandFirst, StandsFirst, Worded, line_rest, line_words, map-append, now, texts}
-use Rattle.tw_lexer.specs.Words.{IsBlank, IsBroken}
-use Rattle.tw_symbols.proofs.Taking.{first_more}
+use Rattle.std.proofs.Common.{ap, sym, ◌∙◌, []}
+use Rattle.tw_symbols.proofs.TextNames.{Worded, texts}
+use Rattle.tw_symbols.proofs.BlankLines.{blank_taken}
 use Rattle.tw_symbols.proofs.line.take_line.Goals as goal
 
-pub returns-in-End : goal.returns-in-End
-returns-in-End c =
-    let blank : IsBlank c.loop-words.rest.now = rw c.in-End.is at c.in_ok-first_text.ensures in
-    (Worded (texts c.loop-words.words.items) c.loop-words.rest.now, (c.loop-words.invariant.first, blank), refl, refl)
-
-pub returns-in-Broken : goal.returns-in-Broken
-returns-in-Broken c =
-    let broken : IsBroken c.loop-words.rest.now = rw c.in-Broken.is at c.in_ok-first_text.ensures in
-    IfOk-weaker c.broken.result _ _
-    (λ taken is.
-    let e : texts taken.words.items ≡ texts c.loop-words.words.items ++ is.0 ∷ [] = is.2 in (
-      Broken (texts c.loop-words.words.items) is.0,
-      (c.loop-words.rest.now, c.loop-words.invariant.first, record { broken = broken; gap = is.1.gap; parts = is.1.parts; is_gap = is.1.is_gap; at_word = is.1.at_word }),
-      e,
-      is.3,
-    ))
-    c.broken.ensures
-
-pub loop-words-preserved : goal.loop-words-preserved
-loop-words-preserved c =
-    let step : StandsFirst c.in-Text.word.now c.loop-words.rest.now c.in-Text.after.now × IsUtf8 c.in-Text.after.now × (length c.in-Text.after.now < length c.loop-words.rest.now) = rw c.in-Text.is at c.in_ok-first_text.ensures in
-    let grown : texts c.push.new.self.items ≡ texts c.loop-words.words.items ++ (c.in-Text.word.now ∷ []) = ap texts c.in_ok-push-in-Text.ensures.items ∙ map-append now c.loop-words.words.items (c.in-Text.word ∷ []) in
-    record {
-      first = subst (λ (words : List (List ℕ)). StandFirst words c.args.line.now c.in-Text.after.now) (sym grown)
-          (first_more (texts c.loop-words.words.items) c.in-Text.word.now c.args.line.now c.loop-words.rest.now c.in-Text.after.now c.loop-words.invariant.first step.0);
-      utf8 = step.1;
-    }
+pub returns-then-is_plainly_blank : goal.returns-then-is_plainly_blank
+returns-then-is_plainly_blank c =
+    (Worded [] c.args.line.now, blank_taken c.args.line.now (sym c.is_plainly_blank.ensures ∙ c.if-is_plainly_blank.true), ap texts c.new.ensures.items, c.as_bytes.ensures.value)

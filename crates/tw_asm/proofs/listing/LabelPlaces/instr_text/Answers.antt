@@ -4,7 +4,7 @@ use Rattle.std.proofs.lemmas.List.{length-append}
 use Rattle.tw_asm.specs.Listing.{instr_text}
 use Rattle.tw_asm.proofs.listing.LabelPlaces.instr_text.Goals as goal
 
--- a line without its end, which was written where nothing was
+-- a line without its line feed, written to an empty buffer
 without_end : (text before line : List ℕ) (n : ℕ) → before ≡ [] → line ≡ before ++ (text ++ codes "\n") → n ≡ length line → take (n - 1) line ≡ text
 without_end text before line n nothing wrote long =
     let is : line ≡ text ++ codes "\n" = wrote ∙ ap (λ (b : List ℕ). b ++ (text ++ codes "\n")) nothing in

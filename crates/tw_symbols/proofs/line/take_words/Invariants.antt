@@ -1,6 +1,6 @@
 use Rattle.std.proofs.Common.{length, IsUtf8}
 use Rattle.tw_symbols.proofs.TextNames.{StandFirst, texts}
-use Rattle.tw_symbols.proofs.line.take_line.Given as goal
+use Rattle.tw_symbols.proofs.line.take_words.Given as goal
 
 abbrev pub invariant-loop-words : goal.invariant-loop-words
 invariant-loop-words l = record {

@@ -1,0 +1,8 @@
+-- Lines without words.
+use Rattle.std.proofs.Common.{[], ◌≡◌, ℕ, true, List, ◌∷◌, refl}
+use Rattle.tw_lexer.specs.Words.{IsLine}
+use Rattle.tw_asm.specs.reading.Expected.{is_plainly_blank}
+
+pub no_words : (line : List ℕ) → is_plainly_blank line ≡ true → IsLine [] line
+no_words [] e = ([], refl, record { gap = []; rest = []; parts = refl; is_gap = tt; is_end = tt })
+no_words (b ∷ line) e = (b ∷ line, refl, record { gap = []; rest = b ∷ line; parts = refl; is_gap = tt; is_end = e })
