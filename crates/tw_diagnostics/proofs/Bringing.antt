@@ -1,4 +1,4 @@
--- What an earlier place brings.
+-- Typings that an earlier place brings.
 use Rattle.std.proofs.Common.{◌≡◌, ◌⊎◌, inl, inr, ℕ, ◌+◌, ◌<◌, ◌≤◌, List, Some, refl, sym, ap, subst, ◌∙◌, arith}
 use Rattle.std.proofs.lemmas.Bool.{cases_lt}
 use Rattle.std.proofs.lemmas.Option.{same_Some}
@@ -25,7 +25,7 @@ brings_of program p typings before place way i from earlier here goes there = re
 same_place : (code : List Instr) (place : ℕ) (i j : Instr) → slice_get code place ≡ Some i → slice_get code place ≡ Some j → i ≡ j
 same_place code place i j at there = same_Some i j (sym at ∙ there)
 
--- by the outcome of its step, a place that is known brings what that leaves
+-- with the outcome of its step, a known place brings what that step leaves
 pub brought_is : (program : List Procedure) (p : Procedure) (typings : List Typing) (before place : ℕ) (i : Instr) (from : Typing) → slice_get p.code before ≡ Some i → slice_get typings before ≡ Some from
     → (other : Typing) (b : Brings program p typings before place other) → other ≡ after program b.step.way i from
 brought_is program p typings before place i from at there other b =
@@ -36,7 +36,7 @@ pub nothing_else : (program : List Procedure) (p : Procedure) (typings : List Ty
 nothing_else program p typings way before place here i from at there same other b d by is =
     same d (subst (λ (t : Typing). IsDifference here t d) (brought_is program p typings before place i from at there other b ∙ ap (λ (w : Way). after program w i from) by) is)
 
--- and no outcome brings anything by which the place doesn't go on
+-- no outcome with which the place doesn't continue here brings anything
 pub stays_here : (program : List Procedure) (p : Procedure) (typings : List Typing) (way : Way) (before place : ℕ) (i : Instr) → slice_get p.code before ≡ Some i → (onward way before (flow_of i) ≡ Some place → ⊥)
     → (other : Typing) (b : Brings program p typings before place other) → b.step.way ≡ way → ⊥
 stays_here program p typings way before place i at stays other b by =
@@ -45,7 +45,7 @@ stays_here program p typings way before place i at stays other b by =
 
 -- ---- places that are passed
 
--- a place that goes on here by neither outcome
+-- a place that continues here with neither outcome
 pub leads_not : (code : List Instr) (before place : ℕ) (i : Instr) → slice_get code before ≡ Some i → (onward Completed before (flow_of i) ≡ Some place → ⊥) → (onward Skipped before (flow_of i) ≡ Some place → ⊥) → LeadsTo code before place → ⊥
 leads_not code before place i at done skipped leads =
     by leads.way (subst (λ (x : Instr). onward leads.way before (flow_of x) ≡ Some place) (same_place code before leads.instr i leads.here at) leads.goes_on)

@@ -1,4 +1,4 @@
--- Registers of which two typings say the same.
+-- Registers on which two typings agree.
 use Rattle.std.proofs.Common.{◌≡◌, Bool, true, false, ◌&&◌, not, [], ◌∷◌, Option, refl, ap, sym, ◌∙◌}
 use Rattle.std.specs.Option.{option_eq}
 use Rattle.tw_code.specs.machine.Rights.{RightType}

@@ -1,4 +1,4 @@
--- What has a form, limits aside: two readings one after the other have it where both have.
+-- Forms of words, limits aside: two readings, one after the other, have a form if both have.
 use Rattle.std.proofs.Common.{◌≡◌, ◌&&◌, ℕ, Bool, true, false, cond, List, [], ◌∷◌, ◌++◌, length, Result, Ok, Err, refl, sym, ap, ◌∙◌}
 use Rattle.tw_diagnostics.proofs.ReasonNames.{TokenError, Form, Limit, Scalar, Word, around, as_is, both, contained, each, each_from, few, has_form, joined, list_all, nat_lt, put_first}
 use Rattle.tw_types.specs.DataType.{container_of, depth_of}
@@ -47,7 +47,7 @@ form_joined {A} items item = form_as_is (λ (x : List A × A). x.0 ++ (x.1 ∷ [
 pub form_put_first : {A : Type 0} (item : Result A TokenError) (items : Result (List A) TokenError) → has_form (put_first item items) ≡ (has_form item && has_form items)
 form_put_first {A} item items = form_as_is (λ (x : A × List A). x.0 ∷ x.1) (both item items) ∙ form_both item items
 
--- each of several words has it
+-- returns whether each of several words has it
 abbrev pub all_form : {A : Type 0} → (Word → Result A TokenError) → List Word → Bool
 all_form read ws = list_all (λ w. has_form (read w)) ws
 

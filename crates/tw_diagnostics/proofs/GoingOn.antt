@@ -1,4 +1,4 @@
--- A line is gone along just where some statement goes on so.
+-- A line continues word by word exactly if some statement continues so.
 use Rattle.std.proofs.Common.{◌≡◌, ◌+◌, ◌&&◌, ◌||◌, ◌==◌, ℕ, zero, suc, Bool, true, false, not, cond, List, [], ◌∷◌, codes, drop, length, Option, None, Some, Ok, Err, refl, sym, ap, ◌∙◌, add-one}
 use Rattle.std.specs.Cmp.{second_so}
 use Rattle.tw_diagnostics.proofs.ReasonNames.{Bare, Form, Limit, Operand, Quoted, Version, Word, after_operand, bytes_eq, each, ends_at, form_behind, go_on, goal, goes, has_form, is_any, is_goal, is_quoted, line_in, line_of, literal, nat_lt, natural, number, only_if, operand_in, right, slice_get, target, type_in, value}
@@ -80,7 +80,7 @@ target_form (Quoted text) = refl
 
 -- ---- operands, one after the other
 
--- a skip, a type and arguments stand last
+-- returns whether an operand has to be last: a skip, a type and arguments do
 abbrev pub stands_last : OperandForm → Bool
 stands_last form.Value = false
 stands_last form.Right = false
@@ -129,7 +129,7 @@ module _ (version : Version) (name : Bor (List ℕ)) where
   abbrev at : ℕ → Read
   at k = read.Operands name k
 
-  -- the words from a place on, where this operand is due there
+  -- returns whether the words from a place on are right, if this operand is due there
   abbrev by_form : ℕ → Option OperandForm → List Word → Bool
   by_form k f [] = ends_at f
   by_form k f (w ∷ ws) = go_on (after_operand version name k w f) (λ next. goes version next ws)
@@ -149,7 +149,7 @@ module _ (version : Version) (name : Bor (List ℕ)) where
     end_goes k cut [] = sym (goes_due k [] cut [])
     end_goes k cut (w ∷ ws) = sym (goes_due k [] cut (w ∷ ws))
 
-    -- an operand of one word, and what is behind it
+    -- an operand of one word, and what follows it
     operand_goes : (o : Operand) (b : Bool) (fs : List OperandForm) (k : ℕ) (w : Word) (ws : List Word) → has_form (operand_in o w) ≡ b → has_form (line_in (line_of version fs) ws) ≡ goes version (at (k + 1)) ws
         → has_form (both (operand_in o w) (line_in (line_of version fs) ws)) ≡ go_on (only_if b (at (k + 1))) (λ next. goes version next ws)
     operand_goes o b fs k w ws is rest =

@@ -14,7 +14,7 @@ tail_is x y xs ys e = cc
 first_is : {A : Type 0} (x y : A) (xs ys : List A) → x ∷ xs ≡ y ∷ ys → x ≡ y
 first_is x y xs ys e = cc
 
--- fronts of one list that are of one length
+-- prefixes of one list that are of one length
 pub front_is : {A : Type 0} (a b c d : List A) → a ++ c ≡ b ++ d → length a ≡ length b → a ≡ b
 front_is [] [] c d e l = refl
 front_is [] (y ∷ b) c d e l = absurd (omega (arith, l))
@@ -24,7 +24,7 @@ front_is {A} (x ∷ a) (y ∷ b) c d e l =
 
 -- ---- lines before one
 
--- what they say up to a line, what that says, and what those behind it say
+-- what they say up to a line, what that says, and what those after it say
 pub record SplitAt (number : ℕ) (s : ParserState) (ls : List (List ℕ)) (line : List ℕ) (said : List (Option Statement)) : Type 0 where
   pub before : List (Option Statement)
   pub here : Option Statement
@@ -84,7 +84,7 @@ front_none : (xs ys : List (Option Statement)) → HasNoHead (xs ++ ys) → HasN
 front_none [] ys h = tt
 front_none (x ∷ xs) ys h = (h.0, front_none xs ys h.1)
 
--- so none before a line that begins one
+-- no procedure begins before a line if none begins at all
 pub front_no_procedure : (before after : List (Option Statement)) → HasNoHead (before ++ after) → (situation before).procedures ≡ 0
 front_no_procedure before after h = no_procedure before (front_none before after h)
 

@@ -1,4 +1,4 @@
--- Words have a form just where what is read of them isn't another form.
+-- Words have a form exactly if reading them gives no form error.
 use Rattle.std.proofs.Common.{◌≡◌, true, false, ℕ, List, ◌∷◌, Result, Ok, Err, sym}
 use Rattle.tw_diagnostics.proofs.ReasonNames.{AllByRecursion, AnyName, AnyShortName, Bare, TokenError, Form, HaveForm, Limit, Version, Word, has_form, statement_in}
 use Rattle.tw_asm.proofs.Answered.{Judged}

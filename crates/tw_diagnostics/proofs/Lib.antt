@@ -2,6 +2,7 @@ pub mod Asking
 pub mod Bringing
 pub mod Classes
 pub mod Differing
+mod ErrorWords
 pub mod Fewness
 pub mod Forms
 pub mod Getting

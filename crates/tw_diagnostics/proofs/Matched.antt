@@ -1,4 +1,4 @@
--- What is known of a value that is there or not.
+-- Facts about a value that is there or not.
 use Rattle.std.proofs.Common.{◌≡◌, Option, None, Some, sym, subst}
 use Rattle.tw_diagnostics.proofs.ReasonNames.{MatchOption}
 

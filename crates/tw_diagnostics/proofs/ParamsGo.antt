@@ -1,4 +1,4 @@
--- Parameters are gone along as they are read.
+-- Parameters continue word by word as they are read.
 use Rattle.std.proofs.Common.{◌≡◌, ◌&&◌, Bool, true, false, cond, List, [], ◌∷◌, Option, None, Some, Result, Ok, Err, refl, sym, ap, ◌∙◌}
 use Rattle.tw_diagnostics.proofs.ReasonNames.{TokenError, Form, Limit, Params, Scalar, Version, Word, as_is, contained, ended, goes, has_form, nat_lt, param_of, params_from, put_first, taken, under}
 use Rattle.tw_types.specs.DataType.{container_of, depth_of}
@@ -10,7 +10,7 @@ use Rattle.tw_diagnostics.specs.declared.step.Read.TheVariants as read
 use Rattle.tw_diagnostics.proofs.Classes.{Class, class_of, container, mode, other, scalar}
 use Rattle.tw_diagnostics.proofs.Forms.{form_as_is, form_contained, form_put_first}
 
--- where the rest has been read so: what stands before it is whole parameters, a right's mode, or `val`
+-- returns whether the rest has a form; before it are whole parameters, a right's mode, or `val`
 abbrev pub whole_form : Result (List Param) TokenError → Option (Result NestedScalar TokenError) → Bool
 whole_form whole None = has_form whole
 whole_form whole (Some ty) = false

@@ -1,5 +1,5 @@
--- That the reason is told at the refused place.
-use Rattle.std.proofs.Common.{◌≡◌, ℕ, List, [], None, Some, Result, Ok, Err, sym, subst, ◌∙◌}
+-- The reason is printed for the rejected place.
+use Rattle.std.proofs.Common.{◌≡◌, ◌++◌, ℕ, List, [], None, Some, Result, Ok, Err, ap, append_assoc, sym, subst, ◌∙◌}
 use Rattle.std.proofs.lemmas.Option.{none-some, same_Some}
 use Rattle.tw_diagnostics.proofs.ReasonNames.{OnOk, Typing, append-nil, slice_get}
 use Rattle.tw_code.specs.declared.instr.Instr.{Instr}
@@ -12,6 +12,11 @@ use Rattle.tw_diagnostics.specs.Reasons.{AddsReason, AddsDiagnostic, IsReason, T
 pub on_ok : {T E : Type 0} (P Q : Type 0) (r : Result T E) → OnOk r P → (P → Q) → OnOk r Q
 on_ok P Q (Ok x) h f = f h
 on_ok P Q (Err e) h f = h
+
+-- three parts, one after the other
+pub three_parts : (old a b c first second third : List ℕ) → first ≡ old ++ a → second ≡ first ++ b → third ≡ second ++ c → third ≡ old ++ (a ++ (b ++ c))
+three_parts old a b c first second third e f g =
+    g ∙ ap (λ (t : List ℕ). t ++ c) (f ∙ ap (λ (t : List ℕ). t ++ b) e) ∙ append_assoc (old ++ a) b c ∙ append_assoc old a (b ++ c)
 
 module _ (which : VerifyError) (lines : List (List ℕ)) (program : List Procedure) (procedure place : ℕ) where
   pub tells : (old new : List ℕ) (p : Procedure) (i : Instr) (typings : List Typing) → slice_get p.code place ≡ Some i → AreFound program (verify_error_code which) procedure procedure typings

@@ -1,4 +1,4 @@
--- A line's first word tells what the line says.
+-- A line's first word decides the line's role.
 use Rattle.std.proofs.Common.{◌≡◌, ◌≢◌, ◌+◌, ℕ, suc, Bool, true, false, List, [], ◌∷◌, ◌++◌, length, map, codes, Option, Some, None, refl, sym, ap, subst, ◌∙◌, arith}
 use Rattle.tw_diagnostics.proofs.ReasonNames.{AnyShortName, Bare, Code, Head, IsLine, IsRead, Label, LineSays, LinesSay, OfVersion, Quoted, Registers, Say, ParserState, SpellParts, Spells, Statement, Version, Word, after_line, at_start, before_colon, broken_no_line, bytes_eq, flat_map, line_once, opcode_in, seen, situation, situation_from, version_by}
 use Rattle.std.proofs.lemmas.Slice.Eq.{bytes_eq-Decides}
@@ -133,7 +133,7 @@ line_told ws whole line told read nothing says s None is = nothing (nothing_seen
 line_told ws whole line told read nothing says s (Some statement) ((vs, is, say), may) =
     says s.version statement (subst (λ (us : List Word). Say s.version statement us) (sym (words_are (map seen ws) vs whole line read is)) say)
 
--- ---- situations, line by line
+-- ---- the parser's state, line by line
 
 pub behind_is : (number : ℕ) (s : ParserState) (said : Option Statement) (line : List ℕ) → LineSays s line said → behind (situation_of s) (says_of said) ≡ situation_of (after_line number said s)
 behind_is number s None line says = refl
@@ -171,7 +171,7 @@ split_last number s (l ∷ ls) line (x ∷ said) h =
       leads = more.leads ∙ ap (λ (n : ℕ). after_line n more.last (situation_from (number + 1) (after_line number x s) more.before)) e;
     }
 
--- the situation behind these lines, whatever they say that can follow
+-- holds if this is the parser's state after these lines, whatever they say that can follow
 abbrev pub Stands : List (List ℕ) → declared.ParserState → Type 0
 Stands ls now = (said : List (Option Statement)) → LinesSay 1 at_start ls said → now ≡ situation_of (situation said)
 

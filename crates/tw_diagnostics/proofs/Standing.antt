@@ -1,18 +1,18 @@
--- Where a word stands in a line.
+-- Positions of words in a line.
 use Rattle.std.proofs.Common.{◌≡◌, ℕ, ◌+◌, ◌-◌, ◌<◌, ◌≤◌, List, [], ◌∷◌, ◌++◌, length, take, Option, None, Some, refl, sym, ap, ◌∙◌, append_assoc, arith}
 use Rattle.std.proofs.lemmas.List.{take_at}
 use Rattle.tw_diagnostics.proofs.ReasonNames.{AreFirstWords, IsBlank, IsBroken, IsFirstWord, IsLine, IsWord, MatchOption, Stands, Word, broken_no_line, first_words_more, length-append, line_once, word_here}
 use Rattle.tw_diagnostics.specs.declared.error_position.ErrorPosition.{ErrorPosition}
 use Rattle.tw_lexer.specs.reading.Next.{IsAfterGap}
 
--- what stands before a back
+-- what precedes a suffix
 pub front_cut : (xs front back : List ℕ) → xs ≡ front ++ back → xs ≡ take (length xs - length back) xs ++ back
 front_cut xs front back e =
     let long : length xs ≡ length front + length back = ap length e ∙ length-append front back in
     let n : length xs - length back ≡ length front = omega arith in
     e ∙ ap (λ (ys : List ℕ). ys ++ back) (sym (ap (λ (k : ℕ). take k xs) n ∙ ap (take (length front)) e ∙ take_at front back _ refl))
 
--- words that stand first stand in front of what follows
+-- words that are first in a line are a prefix of it
 pub words_front : (words : List Word) (line after : List ℕ) → AreFirstWords words line after → (front : List ℕ) × (line ≡ front ++ after)
 words_front [] line after are = ([], are)
 words_front (word ∷ words) line after (mid, first, more) =
@@ -22,7 +22,7 @@ words_front (word ∷ words) line after (mid, first, more) =
     moved : (gap text front : List ℕ) → gap ++ (text ++ (front ++ after)) ≡ (gap ++ (text ++ front)) ++ after
     moved gap text front = ap (λ (xs : List ℕ). gap ++ xs) (sym (append_assoc text front after)) ∙ sym (append_assoc gap (text ++ front) after)
 
--- so many bytes of the line stand before the rest
+-- this many bytes of the line precede the rest
 pub stands : (words : List Word) (line after here : List ℕ) → AreFirstWords words line after → IsAfterGap after here
     → Stands line words (take (length line - length here) line) here
 stands words line after here are gap =
@@ -34,13 +34,13 @@ stands words line after here are gap =
       gap = gap;
     }
 
--- a word that stands first, with what stands before it, up to what follows
+-- a word that is first, with what precedes it, up to what follows
 pub word_cut : (word : Word) (here after : List ℕ) → IsFirstWord word here after → here ≡ take (length here - length after) here ++ after
 word_cut word here after first = front_cut here (first.gap ++ first.text) after (first.parts ∙ sym (append_assoc first.gap first.text after))
 
 -- ---- word by word
 
--- so many words stand first in the line, and this follows them
+-- holds if this many words are first in the line, and this follows them
 abbrev pub Passed : List ℕ → List ℕ → ℕ → Type 0
 Passed line rest before = (words : List Word) × AreFirstWords words line rest × (before ≡ length words)
 

@@ -1,4 +1,4 @@
--- Behind its first word a line is gone along just where some statement goes on so; and from wherever it stands some words end it.
+-- After its first word a line continues word by word exactly if some statement continues so; wherever it is, some words end it.
 use Rattle.std.proofs.Common.{◌≡◌, ◌&&◌, ℕ, zero, suc, Bool, true, false, not, cond, List, [], ◌∷◌, codes, drop, Option, None, Some, Result, refl, sym, ap, ◌∙◌, inl, inr}
 use Rattle.std.specs.Cmp.{second_so}
 use Rattle.tw_diagnostics.proofs.ReasonNames.{AllByRecursion, Bare, TokenError, IsExpected, IsLabelWord, Quoted, Version, Word, after_operand, bytes_eq, ends_at, first_read, form_behind, go_on, goes, has_form, slice_get}
@@ -80,7 +80,7 @@ label_goes version word [] e (name, is, same) =
     ∙ sym (ap ends_at (none_behind version word.now 0 e))
 label_goes version word (w ∷ ws) e label = sym (ap (λ (f : Option OperandForm). go_on (after_operand version word 0 w f) (λ next. goes version next ws)) (none_behind version word.now 0 e))
 
--- ---- behind the first word
+-- ---- after the first word
 
 is_label : (version : Version) (expected : First) (word : List ℕ) → IsExpected version expected word → bytes_eq word (codes "proc") ≡ false → bytes_eq word (codes "regs") ≡ false → bytes_eq word (codes "version") ≡ false → opcode_in version word ≡ None
     → IsLabelWord word

@@ -1,4 +1,4 @@
--- Where a line stops, its words so far begin a statement, and with what stands there they begin none.
+-- Where a line stops, its words so far begin a statement, and with what is there they begin none.
 use Rattle.std.proofs.Common.{◌≡◌, ◌+◌, ℕ, true, false, List, [], ◌∷◌, ◌++◌, length, Option, None, Some, refl, sym, ap, subst, ◌∙◌, append_assoc}
 use Rattle.std.specs.Borrow.{Bor}
 use Rattle.std.specs.Prelude.{MatchOption}
@@ -22,7 +22,7 @@ fine_both : (xs ys : List Word) → AllByRecursion IsFine xs → AllByRecursion 
 fine_both [] ys h k = k
 fine_both (x ∷ xs) ys h k = (h.0, fine_both xs ys h.1 k)
 
--- the words so far, and how what is behind them goes on
+-- the words so far, and how what follows them continues
 pub record Follows (version : Version) (first line rest : List ℕ) (count : ℕ) (now : Read) : Type 0 where
   pub word : Bor (List ℕ)
   pub word_is : word.now ≡ first
@@ -56,7 +56,7 @@ follows_on version first line rest behind count now next w f is fine e = record 
       ap (goes version (first_read f.word)) (append_assoc f.others (w ∷ []) more) ∙ f.goes_on (w ∷ more) ∙ ap (λ (o : Option Read). go_on o (λ r. goes version r more)) e;
 }
 
--- what there is where nothing is told, of another thing
+-- another fact if there is no position
 pub ended : (P Q : Type 0) (R : ErrorPosition → Type 0) (o : Option ErrorPosition) → (P → Q) → MatchOption o P R → MatchOption o Q R
 ended P Q R None f h = f h
 ended P Q R (Some stop) f h = h
@@ -74,7 +74,7 @@ module _ (version : Version) (expected : First) (first line rest : List ℕ) (co
       subst (λ (v : Word). HaveForm version (Bare f.word.now ∷ (f.others ++ v ∷ others)) → ⊥) (sym same)
       (unformed version f.word.now (f.others ++ w ∷ others) (fine_both f.others (w ∷ others) f.fine (fine, fine_text others texts)) (form_is (w ∷ others) ∙ ap (λ (o : Option Read). go_on o (λ r. goes version r others)) none))
 
-  -- what is found where such a word stands
+  -- the token that is found at a word that can't come next
   pub vain_found : (x : Token) (here behind : List ℕ) (w : Word) → IsFound x here → IsFirstWord w here behind → IsFine w → after version now w ≡ None → Ends version (Bare f.word.now ∷ f.others) here x
   vain_found found.End here behind w blank first_is fine none = absurd (blank_no_word w here behind blank first_is)
   vain_found (found.Word text) here behind w stands first_is fine none = vain_word text here behind w first_is fine none

@@ -1,4 +1,4 @@
--- The first that is asked in vain, among lists one behind the other.
+-- The first unmet check, among lists one after the other.
 use Rattle.std.proofs.Common.{◌≡◌, ℕ, zero, suc, ◌+◌, ◌-◌, ◌≢◌, Bool, true, false, cond, List, [], ◌∷◌, ◌++◌, None, Some, refl, sym, ap, subst, ◌∙◌, arith, length, take, drop, get_or, ◌≤◌}
 use Rattle.std.proofs.lemmas.Option.{none-some}
 use Rattle.tw_diagnostics.proofs.ReasonNames.{Scalar, Typing, checks_args, checks_left, checks_right, checks_value, checks_values, is_left, is_unmet, slice_set, take_all, first_unmet, value_types, without_args}
@@ -42,7 +42,7 @@ left_more (suc count) register typing some =
     let less : suc count - 1 ≡ count = omega arith in
     ap (λ (n : ℕ). is_left typing register ∷ checks_left n (register + 1) typing) (sym less)
 
--- ---- items behind a first one
+-- ---- items after a first one
 
 pub params_more : (registers : List Scalar) (given : ℕ) (ps : List Param) (p : Param) → 1 ≤ length ps → p ≡ get_or ps 0 p → is_val p.mode ≡ true
     → checks_values registers given (value_types ps) ≡ checks_value registers given p.ty.scalar ++ checks_values registers (given + 1) (value_types (take (length ps - 1) (drop 1 ps)))

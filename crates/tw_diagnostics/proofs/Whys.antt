@@ -1,4 +1,4 @@
--- Why a line is refused, by what is told of it.
+-- Why a line is rejected, by what is printed of it.
 use Rattle.std.proofs.Common.{◌≡◌, ◌+◌, ◌++◌, ℕ, Bool, true, false, Bor, List, [], codes, length, Option, None, inl, inr, refl, sym, ap, subst, ◌∙◌}
 use Rattle.tw_diagnostics.proofs.ReasonNames.{Bare, Begins, HasWords, IsExpected, IsFirstStop, IsFirstWord, IsLine, IsStop, LineFault, LinesSay, ParserState, Statement, Version, Word, append-nil, at_start, before_colon, empty, instructions, label_twice, limit, lines, operand, procedures, situation, word}
 use Rattle.tw_asm.specs.declared.fault.FaultNo.{FaultNo}
@@ -21,13 +21,13 @@ StandsThere text number now = (before others : List (List ℕ)) (said : List (Op
 situation_is : (text : List ℕ) (number : ℕ) (now : declared.ParserState) (s : ParserState) → StandsThere text number now → IsBefore text number s → now ≡ situation_of s
 situation_is text number now s stands (before, others, said, parts, count, saying, here) = stands before others said parts count saying ∙ ap situation_of (sym here)
 
--- a text of the code
+-- returns a text of the code
 abbrev pub literal : List ℕ → Bor (List ℕ)
 literal text = record { ref_ptr = (0, 0); now = text }
 
 -- ---- A01
 
--- what is said of the first word in a situation
+-- returns what is printed of the first word in a state of the parser
 abbrev pub first_said : declared.ParserState → ErrorPosition → List ℕ
 first_said now stop = expected_text (stage_text now.stage) stop.found ++ first_hint now.stage now.version (found_word stop.found)
 
@@ -47,7 +47,7 @@ first_why text number line old new stop expected hint now is one staged hinted s
 
 -- ---- A02
 
-operand_by : (number : ℕ) (s : ParserState) (line : List ℕ) (which : FaultNo) (at : ℕ) → LineFault number s line which at → which ≡ fault.Operand → (expected : First) × Begins s line expected × (HasWords s.version line → ⊥)
+pub operand_by : (number : ℕ) (s : ParserState) (line : List ℕ) (which : FaultNo) (at : ℕ) → LineFault number s line which at → which ≡ fault.Operand → (expected : First) × Begins s line expected × (HasWords s.version line → ⊥)
 operand_by number s line _ _ (word a b) e = absurd cc
 operand_by number s line _ _ (operand p a b) e = (p, a, b)
 operand_by number s line _ _ (label_twice n ws a b c d) e = absurd cc
@@ -56,11 +56,11 @@ operand_by number s line _ _ (limit p a b c d) e = absurd cc
 operand_by number s line _ _ (procedures a b c d) e = absurd cc
 operand_by number s line _ _ (instructions i ws a b c d) e = absurd cc
 
--- what holds of a line in the version that was found, where its first word lets expect something
+-- holds if this is so of a line in the version that was found, provided that its first word determines what is expected
 abbrev pub Known : Version → List ℕ → (Version → Type 0) → Type 0
 Known version line Holds = (expected : First) (first rest : List ℕ) → IsFirstWord (Bare first) line rest → IsExpected version expected first → Holds version
 
-known_there : (text : List ℕ) (number : ℕ) (line : List ℕ) (now : declared.ParserState) (s : ParserState) (Holds : Version → Type 0) → StandsThere text number now → IsBefore text number s → LineFault number s line fault.Operand number
+pub known_there : (text : List ℕ) (number : ℕ) (line : List ℕ) (now : declared.ParserState) (s : ParserState) (Holds : Version → Type 0) → StandsThere text number now → IsBefore text number s → LineFault number s line fault.Operand number
     → Known now.version line Holds → Holds s.version
 known_there text number line now s Holds stands before wrong known =
     let v = ap (λ (x : declared.ParserState). x.version) (situation_is text number now s stands before) in
@@ -78,7 +78,7 @@ no_operand_why text number line old now known stands =
 
 -- ---- A03 and A05: the last word
 
--- this of the last word, where the line has one
+-- holds for the last word, if the line has one
 abbrev pub IsLastOf : List ℕ → ErrorPosition → Type 0
 IsLastOf line stop = (words : List Word) → IsLine words line → stop.word ≡ length words
 
@@ -90,17 +90,17 @@ unknown_why line old new stop expected hint is last words none e text number =
     said : said_text (Expected expected None hint) stop.found ≡ expected_text (codes "a label of this procedure") stop.found
     said = ap (λ (t : List ℕ). expected_text expected.now stop.found ++ t) none ∙ append-nil (expected_text expected.now stop.found) ∙ ap (λ (t : List ℕ). expected_text t stop.found) words
 
--- with the line of a label behind it
+-- with the line of a label after it
 label_said : (stop : ErrorPosition) (at : Option ℕ) (expected : Bor (List ℕ)) (hint : Hint) (words : List ℕ) → expected.now ≡ words → hint_text hint ≡ [] → said_text (Expected expected at hint) stop.found ≡ expected_text words stop.found ++ line_text at
 label_said stop at expected hint words is none =
     ap (λ (t : List ℕ). expected_text expected.now stop.found ++ (line_text at ++ t)) none ∙ ap (λ (t : List ℕ). expected_text expected.now stop.found ++ t) (append-nil (line_text at))
     ∙ ap (λ (t : List ℕ). expected_text t stop.found ++ line_text at) is
 
 pub backward_why : (text : List ℕ) (number : ℕ) (line old new : List ℕ) (stop : ErrorPosition) (at : Option ℕ) (expected : Bor (List ℕ)) (hint : Hint) → IsStop line stop → IsLastOf line stop → IsLabelBefore text number (found_word stop.found) at
-    → expected.now ≡ codes "a label behind this line" → hint_text hint ≡ []
+    → expected.now ≡ codes "a label after this line" → hint_text hint ≡ []
     → new ≡ old ++ stop_line stop (said_text (Expected expected at hint) stop.found) → AddsWhy text fault.LabelNotForward number line old new
 backward_why text number line old new stop at expected hint is last label words none e =
-    (stop_line stop (said_text (Expected expected at hint) stop.found), (inr (inl (stop, Expected expected at hint, is, refl)), λ ws line_is some. (stop, said_text (Expected expected at hint) stop.found, is, last ws line_is, (at, label, label_said stop at expected hint (codes "a label behind this line") words none), refl)), e)
+    (stop_line stop (said_text (Expected expected at hint) stop.found), (inr (inl (stop, Expected expected at hint, is, refl)), λ ws line_is some. (stop, said_text (Expected expected at hint) stop.found, is, last ws line_is, (at, label, label_said stop at expected hint (codes "a label after this line") words none), refl)), e)
 
 -- ---- A04 and A06: the first word
 

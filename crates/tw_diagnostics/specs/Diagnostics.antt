@@ -1,4 +1,4 @@
--- What is told of a line of a text, behind the text's fault.
+-- Diagnostics of a line of a text, printed after the text's fault.
 use Rattle.std.specs.Prelude.{◌≡◌, ◌≢◌, ◌⊎◌, ◌&&◌, ◌==◌, true, false, ℕ, ◌+◌, ◌-◌, ◌||◌, length, nat_lt, Bool, if◌then◌else◌, List, [], ◌∷◌, ◌++◌, codes, decimal, nat_eq, Option, Some, None, slice_get}
 use Rattle.std.specs.List.{starts_with}
 use Rattle.std.specs.Str.Lines.{lines}
@@ -24,9 +24,9 @@ use Rattle.tw_diagnostics.specs.declared.error_position.ErrorPosition.{ErrorPosi
 use Rattle.tw_diagnostics.specs.declared.diagnostic.Diagnostic.{Diagnostic}
 use Rattle.tw_diagnostics.specs.declared.diagnostic.Diagnostic.TheVariants as said
 
--- ---- words that stood there
+-- ---- words that were found
 
--- these bytes have that part somewhere
+-- returns whether the bytes contain that part
 abbrev pub has_part : List ℕ → List ℕ → Bool
 has_part part [] = starts_with nat_eq [] part
 has_part part (b ∷ rest) = starts_with nat_eq (b ∷ rest) part || has_part part rest
@@ -38,18 +38,18 @@ byte_order_mark = 0xEF ∷ 0xBB ∷ 0xBF ∷ []
 abbrev pub no_break_space : List ℕ
 no_break_space = 0xC2 ∷ 0xA0 ∷ []
 
--- the name of what isn't seen in a word
+-- returns the name of an invisible character in a word
 abbrev pub hidden_text : List ℕ → List ℕ
 hidden_text word =
     if has_part byte_order_mark word then codes "a byte order mark in " else
     if has_part no_break_space word then codes "a no-break space in " else
     []
 
--- a word as it stands, behind that; of a long one the first characters
+-- returns a word as it is written, after that name; of a long one the first characters
 abbrev pub word_text : List ℕ → List ℕ
 word_text word = hidden_text word ++ shortened word
 
--- the bytes of the word that was found
+-- returns the bytes of the word that was found
 abbrev pub found_word : Token → List ℕ
 found_word found.End = []
 found_word (found.Word word) = word.now
@@ -58,9 +58,9 @@ found_word (found.Broken broken) = []
 abbrev pub break_text : Break → List ℕ
 break_text Unclosed = codes "an unclosed quote"
 break_text Escape = codes "no such escape"
-break_text Behind = codes "a word right behind a quoted text"
+break_text Behind = codes "a word right after a quoted text"
 
--- ---- what is said of it
+-- ---- what is printed of it
 
 abbrev pub expected_text : List ℕ → Token → List ℕ
 expected_text expected found.End = codes "the line ends too early, expected " ++ expected
@@ -80,7 +80,7 @@ limit_text limit found = codes "the limit is " ++ (limit ++ found_text found)
 
 -- ---- a line
 
--- at which word and column, both counted from 1
+-- returns the text for a word and a column, both counted from 1
 abbrev pub where_text : ErrorPosition → List ℕ
 where_text stop = codes "word " ++ (decimal stop.word ++ (codes ", column " ++ (decimal stop.column ++ codes ": ")))
 
@@ -88,84 +88,84 @@ abbrev pub line_text : Option ℕ → List ℕ
 line_text None = []
 line_text (Some line) = codes " of line " ++ decimal line
 
--- what was expected, with the line of a label, and what was meant; or that there is one word too many; or past which limit it is
+-- returns what was expected, with the line of a label, and what was meant; or that there is one word too many; or which limit is exceeded
 abbrev pub said_text : Diagnostic → Token → List ℕ
 said_text (said.Expected expected line hint) found = expected_text expected.now found ++ (line_text line ++ hint_text hint)
 said_text said.TooMany found = too_many_text found
 said_text (said.Limit limit) found = limit_text limit.now found
 
--- a stop, and this of it
+-- returns the line for a position, with this text about it
 abbrev pub stop_line : ErrorPosition → List ℕ → List ℕ
 stop_line stop told = where_text stop ++ (told ++ codes "\n")
 
--- nothing is told of the line, or of a stop in it, or something of the whole
+-- holds if nothing is printed of the line, or a diagnostic of a position in it, or a sentence about the whole
 abbrev pub IsLineReason : List ℕ → List ℕ → Type 0
 IsLineReason line text =
     (text ≡ [])
     ⊎ (((stop : ErrorPosition) × (say : Diagnostic) × IsStop line stop × (text ≡ stop_line stop (said_text say stop.found)))
     ⊎ ((whole : List ℕ) × (text ≡ whole ++ codes "\n")))
 
--- ---- by the situation in which the line stands
+-- ---- by the parser's state before the line
 
--- the line of this number stands in this situation
+-- holds if the parser has this state before the line with this number
 abbrev pub IsBefore : List ℕ → ℕ → ParserState → Type 0
 IsBefore text number s =
     (before : List (List ℕ)) × (others : List (List ℕ)) × (said : List (Option Statement))
     × (lines text ≡ before ++ others) × (number ≡ length before + 1) × LinesSay 1 at_start before said × (s ≡ situation said)
 
--- A01: the first word, what may begin the line there, and which instruction was meant
+-- holds for A01: the first word, what may begin the line there, and which instruction was meant
 abbrev pub TellsFirst : ParserState → List ℕ → List ℕ → Type 0
 TellsFirst s line reason =
     (stop : ErrorPosition) × IsStop line stop × (stop.word ≡ 1)
     × (reason ≡ stop_line stop (expected_text (stage_text (stage_of s.stage)) stop.found ++ first_hint (stage_of s.stage) s.version (found_word stop.found)))
 
--- what is said of the word at which the line stops, by what was due there
+-- returns what is printed of the word at which the line stops, by what may come there
 abbrev pub due_said : Option Due → Token → List ℕ
 due_said None found = too_many_text found
 due_said (Some due) found = expected_text (due_text due) found ++ word_hint (Some due) (found_word found)
 
--- A02: the first word with which the line goes on as no statement, or its end where it has too few
+-- holds for A02: the first word with which the line doesn't continue as a statement, or its end if it has too few words
 abbrev pub TellsOperand : ParserState → List ℕ → List ℕ → Type 0
 TellsOperand s line reason = (stop : ErrorPosition) × IsFirstStop s.version line stop × (reason ≡ stop_line stop (due_said stop.due stop.found))
 
 -- ---- by the line's last word, which is the goal of a skip
 
--- the last word of a line that has one, and this of it
+-- holds if this is printed of the line's last word, provided that the line has words
 abbrev pub TellsLast : List ℕ → (ErrorPosition → List ℕ → Type 0) → List ℕ → Type 0
 TellsLast line IsSaid reason =
     (words : List Word) → IsLine words line → words ≢ []
     → (stop : ErrorPosition) × (text : List ℕ) × IsStop line stop × (stop.word ≡ length words) × IsSaid stop text × (reason ≡ stop_line stop text)
 
--- A03
+-- holds for A03: there is no such label
 abbrev pub TellsUnknown : List ℕ → List ℕ → Type 0
 TellsUnknown line reason = TellsLast line (λ stop text. text ≡ expected_text (codes "a label of this procedure") stop.found) reason
 
--- A05: and the line of the label that it names
+-- holds for A05, with the line of the label that is named
 abbrev pub TellsBackward : List ℕ → ℕ → List ℕ → List ℕ → Type 0
 TellsBackward text number line reason = TellsLast line
-    (λ stop said. (at : Option ℕ) × IsLabelBefore text number (found_word stop.found) at × (said ≡ expected_text (codes "a label behind this line") stop.found ++ line_text at)) reason
+    (λ stop said. (at : Option ℕ) × IsLabelBefore text number (found_word stop.found) at × (said ≡ expected_text (codes "a label after this line") stop.found ++ line_text at)) reason
 
 -- ---- by the line's first word
 
--- A04: and the line before with the same label
+-- holds for A04, with the earlier line that has the same label
 abbrev pub TellsTwice : List ℕ → ℕ → List ℕ → List ℕ → Type 0
 TellsTwice text number line reason =
     (stop : ErrorPosition) × (at : Option ℕ) × IsStop line stop × (stop.word ≡ 1) × IsTwinBefore text number (before_colon (found_word stop.found)) at
     × (reason ≡ stop_line stop (expected_text (codes "a new label") stop.found ++ line_text at))
 
--- A06: a label that is too long
+-- returns whether a label is too long (A06)
 abbrev pub is_long_label : Option (List ℕ) → Bool
 is_long_label None = false
 is_long_label (Some name) = is_name name && nat_lt 64 (length name)
 
--- past what the text is where no word of the line is past its limit
+-- returns what the text exceeds, if no word of the line exceeds its limit
 abbrev pub whole_limit : List ℕ → List ℕ
 whole_limit first =
-    if bytes_eq first (codes "proc") then codes "the procedure has no instruction, or 64 procedures stand before it" else
+    if bytes_eq first (codes "proc") then codes "the procedure has no instruction, or 64 procedures come before it" else
     if length first == 0 then codes "the text has no procedure" else
-    codes "4096 instructions stand before it, or the text has no procedure"
+    codes "4096 instructions come before it, or the text has no procedure"
 
--- a word of the line, with the limit of what is due there, or the limit of the whole
+-- holds for a word of the line, with the limit of what may come there, or for the limit of the whole
 abbrev pub IsPast : List ℕ → List ℕ → List ℕ → Type 0
 IsPast line first reason =
     ((stop : ErrorPosition) × IsStop line stop × (reason ≡ stop_line stop (limit_text (limit_of stop.due) stop.found)))
@@ -174,7 +174,7 @@ IsPast line first reason =
 abbrev pub AddsPast : List ℕ → List ℕ → List ℕ → List ℕ → Type 0
 AddsPast line first old new = (reason : List ℕ) × IsPast line first reason × (new ≡ old ++ reason)
 
--- a label that is too long; else one of these
+-- holds for a label that is too long; else like `IsPast`
 abbrev pub IsPastFirst : List ℕ → ErrorPosition → Bool → List ℕ → Type 0
 IsPastFirst line first true reason = reason ≡ stop_line first (limit_text (codes "64 bytes") first.found)
 IsPastFirst line first false reason = IsPast line (found_word first.found) reason
@@ -182,9 +182,9 @@ IsPastFirst line first false reason = IsPast line (found_word first.found) reaso
 abbrev pub TellsPast : List ℕ → List ℕ → Type 0
 TellsPast line reason = (first : ErrorPosition) × IsStop line first × (first.word ≡ 1) × IsPastFirst line first (is_long_label (before_colon (found_word first.found))) reason
 
--- ---- a fault a line
+-- ---- each row is a fault
 
--- of the line of this number
+-- holds for the line with this number
 abbrev pub IsReasonOf : FaultNo → List ℕ → ℕ → List ℕ → List ℕ → Type 0
 IsReasonOf fault.Word text number line reason = (s : ParserState) → IsBefore text number s → LineFault number s line fault.Word number → TellsFirst s line reason
 IsReasonOf fault.Operand text number line reason = (s : ParserState) → IsBefore text number s → LineFault number s line fault.Operand number → TellsOperand s line reason
@@ -194,14 +194,14 @@ IsReasonOf fault.LabelNotForward text number line reason = TellsBackward text nu
 IsReasonOf fault.Limit text number line reason = TellsPast line reason
 IsReasonOf fault.NoMemory text number line reason = reason ≡ []
 
--- why the line of this number is refused with a fault
+-- holds if this is why the line with this number is rejected with a fault
 abbrev pub IsWhy : List ℕ → FaultNo → ℕ → List ℕ → List ℕ → Type 0
 IsWhy text which number line reason = IsLineReason line reason × IsReasonOf which text number line reason
 
 abbrev pub AddsWhy : List ℕ → FaultNo → ℕ → List ℕ → List ℕ → List ℕ → Type 0
 AddsWhy text which number line old new = (reason : List ℕ) × IsWhy text which number line reason × (new ≡ old ++ reason)
 
--- the line, shortened where it is long, where the text has one of this number, and the reason behind it
+-- holds for the line, shortened if it is long, followed by the reason; for the reason alone if the text has no line with this number
 abbrev pub IsTextReason : List ℕ → FaultNo → ℕ → List ℕ → Type 0
 IsTextReason text which number more =
     ((line : List ℕ) × (reason : List ℕ) × (slice_get (lines text) (number - 1) ≡ Some line) × IsWhy text which number line reason × (more ≡ shortened line ++ (codes "\n" ++ reason)))

@@ -1,4 +1,4 @@
--- What is said of the word that is due in a line: what may be there, and how much of it.
+-- Text for the words that may come next in a line, and for how much of them there may be.
 use Rattle.std.specs.Prelude.{ℕ, List, codes, Option, Some, None}
 use Rattle.tw_code.specs.declared.form.Form.{Form}
 use Rattle.tw_code.specs.declared.form.Form.TheVariants as form
@@ -9,7 +9,7 @@ abbrev pub operand_text : Form → List ℕ
 operand_text form.Value = codes "a value register"
 operand_text form.Right = codes "a right register"
 operand_text form.Number = codes "a number"
-operand_text form.Iterations = codes "a number of turns"
+operand_text form.Iterations = codes "a number of iterations"
 operand_text form.Callee = codes "a procedure's number"
 operand_text form.Literal = codes "a quoted text"
 operand_text form.Skip = codes "a label or +n"
@@ -47,7 +47,7 @@ due_limit due.ParamType = codes "3 containers"
 due_limit due.ParamScalar = codes "one word"
 due_limit due.Register = codes "16 registers"
 
--- where nothing more is due, the line has one statement too many
+-- returns the limit of a word; if nothing may come next, the line has one statement too many
 abbrev pub limit_of : Option Due → List ℕ
 limit_of None = codes "one statement"
 limit_of (Some d) = due_limit d

@@ -1,4 +1,4 @@
--- How a line is gone along word by word: whether some statement goes on so, its limits aside. No public clause reaches this file.
+-- Progress in a line, word by word: whether some statement continues so, limits aside. No public clause reaches this file.
 use Rattle.std.specs.Prelude.{◌+◌, ◌==◌, ◌||◌, ℕ, Bool, true, false, if◌then◌else◌, List, [], ◌∷◌, codes, Option, Some, None, Result, Ok, Err, slice_get}
 use Rattle.std.specs.Borrow.{Bor}
 use Rattle.std.specs.Option.{option_and_then}
@@ -21,7 +21,7 @@ use Rattle.tw_diagnostics.specs.declared.step.Read.TheVariants as read
 
 -- ---- words
 
--- it can be read, within its limits or not
+-- returns whether it can be read, within its limits or not
 abbrev pub has_form : {A : Type 0} → Result A TokenError → Bool
 has_form (Ok a) = true
 has_form (Err flaw.Form) = false
@@ -31,7 +31,7 @@ abbrev pub is_any : Word → Bool
 is_any (Bare text) = bytes_eq text (codes "any")
 is_any (Quoted text) = false
 
--- a number of instructions, or a name
+-- returns whether a word is a number of instructions, or a name
 abbrev pub is_goal : Word → Bool
 is_goal (Bare []) = false
 is_goal (Bare (b ∷ rest)) = if b == 43 then has_form (digits_in 0 65535 rest) else is_name (b ∷ rest)
@@ -41,7 +41,7 @@ abbrev pub is_quoted : Word → Bool
 is_quoted (Bare text) = false
 is_quoted (Quoted text) = true
 
--- an operand of a form that has one word
+-- returns whether a word is an operand of a form that has one word
 abbrev pub is_operand : Form → Word → Bool
 is_operand form.Value w = has_form (register_in 118 w)
 is_operand form.Right w = has_form (register_in 100 w)
@@ -60,7 +60,7 @@ found (Err flaw) = None
 
 -- ---- one word more
 
--- the operand that is due at a place behind a name
+-- returns the form of the operand at a place after a name
 abbrev pub form_behind : Version → List ℕ → ℕ → Option Form
 form_behind version name place = option_and_then (λ o. slice_get (forms_of o) place) (opcode_in version name)
 
@@ -83,7 +83,7 @@ after_mode (Some Closed) = Some read.RightMode
 after_mode (Some Ref) = Some read.RightMode
 after_mode (Some Write) = Some read.RightMode
 
--- what has been read with this word
+-- returns what has been read with this word
 abbrev pub after : Version → Read → Word → Option Read
 after version (read.Operands name place) w = after_operand version name place w (form_behind version name.now place)
 after version read.Version w = only_if (has_form (natural_in 1 2 w)) read.Whole
@@ -115,12 +115,12 @@ abbrev pub go_on : Option Read → (Read → Bool) → Bool
 go_on None more = false
 go_on (Some next) more = more next
 
--- these words go on and end a statement of which that has been read
+-- returns whether these words continue and end a statement of which this has been read
 abbrev pub goes : Version → Read → List Word → Bool
 goes version r [] = may_end version r
 goes version r (w ∷ ws) = go_on (after version r w) (λ next. goes version next ws)
 
--- behind the first word
+-- returns what has been read after the first word
 abbrev pub first_read : Bor (List ℕ) → Read
 first_read word =
     if bytes_eq word.now (codes "proc") then read.Head else

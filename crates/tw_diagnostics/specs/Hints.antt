@@ -1,4 +1,4 @@
--- Which word was meant by one that can't be where it is.
+-- Hints: which word was meant by one that can't be where it is.
 use Rattle.std.specs.Prelude.{ℕ, ◌==◌, ◌&&◌, ◌||◌, Bool, if◌then◌else◌, List, [], ◌∷◌, ◌++◌, codes, drop, length, map, nat_lt, is_some, take, Option, Some, None}
 use Rattle.std.specs.List.{find}
 use Rattle.std.specs.Str.{bytes_eq}
@@ -19,22 +19,22 @@ use Rattle.tw_diagnostics.specs.declared.parser_state.Stage.TheVariants as stage
 
 -- ---- words with at most one mistake
 
--- the first two letters are swapped, and nothing else is wrong
+-- returns whether the first two letters are swapped, and nothing else is wrong
 abbrev pub is_swapped : List ℕ → List ℕ → Bool
 is_swapped name word =
     (bytes_eq (take 1 name) (take 1 (drop 1 word)) && bytes_eq (take 1 (drop 1 name)) (take 1 word)) && bytes_eq (drop 1 (drop 1 name)) (drop 1 (drop 1 word))
 
--- the first letter is wrong, missing, one too many, or swapped with the next
+-- returns whether the first letter is wrong, missing, one too many, or swapped with the next
 abbrev pub is_one_edit : List ℕ → List ℕ → Bool
 is_one_edit name word = ((bytes_eq (drop 1 name) (drop 1 word) || bytes_eq (drop 1 name) word) || bytes_eq name (drop 1 word)) || is_swapped name word
 
--- at most one letter is wrong, missing, one too many, or swapped with the next
+-- returns whether at most one letter is wrong, missing, one too many, or swapped with the next
 abbrev pub is_near : List ℕ → List ℕ → Bool
 is_near [] word = nat_lt (length word) 2
 is_near (a ∷ name) [] = is_one_edit (a ∷ name) []
 is_near (a ∷ name) (b ∷ word) = if a == b then is_near name word else is_one_edit (a ∷ name) (b ∷ word)
 
--- ---- as they are told
+-- ---- hints as text
 
 abbrev pub meant_text : List ℕ → List ℕ
 meant_text name = codes "; did you mean " ++ (name ++ codes "?")
@@ -46,7 +46,7 @@ hint_text (hint.Meant name) = meant_text name.now
 
 -- ---- instructions
 
--- the first one of the version that is near the word in capitals
+-- returns the first one of the version that is near the word in upper case
 unfoldable pub opcode_near : Version → List ℕ → Option Opcode
 opcode_near version word = find (λ o. has_opcode version o && is_near (word_of o) word) OPCODES
 
@@ -54,11 +54,11 @@ abbrev pub opcode_text : Option Opcode → List ℕ
 opcode_text None = []
 opcode_text (Some o) = meant_text (word_of o)
 
--- where an instruction may be: the word is one of version 2, or near one of this version
+-- returns the hint where an instruction may be: the word is one of version 2, or near one of this version
 abbrev pub instruction_hint : Version → List ℕ → List ℕ
 instruction_hint version word = if is_some (opcode_in Two word) then codes "; version 2 has it" else opcode_text (opcode_near version (map to_ascii_uppercase word))
 
--- of a line's first word
+-- returns the hint for a line's first word
 abbrev pub first_hint : Stage → Version → List ℕ → List ℕ
 first_hint stage.Start version word = []
 first_hint stage.AfterVersion version word = []
@@ -67,7 +67,7 @@ first_hint stage.InBody version word = instruction_hint version word
 
 -- ---- words of heads and types
 
--- the name, where the word is near it
+-- returns the hint for the name if the word is near it, else the other text
 abbrev pub near_text : List ℕ → List ℕ → List ℕ → List ℕ
 near_text name word other = if is_near name word then meant_text name else other
 
@@ -80,7 +80,7 @@ container_hint word = near_text (codes "cont") word (near_text (codes "tcont") w
 abbrev pub known_hint : List ℕ → List ℕ
 known_hint word = scalar_hint word (container_hint word)
 
--- version 1 has no container by texts
+-- returns the hint for a type; version 1 has no container by texts
 abbrev pub type_hint : List ℕ → List ℕ
 type_hint word = if bytes_eq word (codes "tcont") then codes "; version 2 has it" else known_hint word
 
@@ -88,7 +88,7 @@ abbrev pub operand_hint : Form → List ℕ → List ℕ
 operand_hint form.TypeOf word = type_hint word
 operand_hint f word = []
 
--- of a word in small letters, where this is due
+-- returns the hint for a word in lower case, by what may come there
 abbrev pub due_hint : Due → List ℕ → List ℕ
 due_hint (due.Operand f) word = operand_hint f word
 due_hint due.Version word = []
@@ -98,7 +98,7 @@ due_hint due.ParamType word = type_hint word
 due_hint due.ParamScalar word = scalar_hint word []
 due_hint due.Register word = scalar_hint word []
 
--- of any word
+-- returns the hint for any word
 abbrev pub word_hint : Option Due → List ℕ → List ℕ
 word_hint None word = []
 word_hint (Some d) word = due_hint d (map to_ascii_lowercase word)

@@ -1,4 +1,4 @@
--- Whether a word is a label. No public clause reaches this file.
+-- Words that are labels. No public clause reaches this file.
 use Rattle.std.specs.Prelude.{ℕ, Bool, false, List}
 use Rattle.std.specs.Option.{option_map_or}
 use Rattle.std.specs.Str.{bytes_eq}

@@ -1,10 +1,10 @@
--- Where a label is, among the lines before one.
+-- Lines of labels, among the lines before one.
 use Rattle.std.specs.Prelude.{◌≡◌, ℕ, ◌+◌, List, [], ◌∷◌, ◌++◌, codes, length, Option, Some, None}
 use Rattle.std.specs.List.{AllByRecursion}
 use Rattle.std.specs.Str.Lines.{lines}
 use Rattle.tw_lexer.specs.Words.{Bare, IsFirstWord}
 
--- the line begins with the label of this name
+-- holds if the line begins with the label with this name
 abbrev pub IsLabelLine : List ℕ → List ℕ → Type 0
 IsLabelLine name line = (rest : List ℕ) × IsFirstWord (Bare (name ++ codes ":")) line rest
 
@@ -25,12 +25,12 @@ abbrev pub IsLabelIn : List ℕ → List (List ℕ) → Option ℕ → Type 0
 IsLabelIn name ls None = HaveNoLabel name ls
 IsLabelIn name ls (Some number) = IsLastLabel name ls number
 
--- among the lines before the one of this number
+-- holds for the last one among the lines before the one with this number
 abbrev pub IsLabelBefore : List ℕ → ℕ → List ℕ → Option ℕ → Type 0
 IsLabelBefore text number name found =
     (before others : List (List ℕ)) → lines text ≡ before ++ others → number ≡ length before + 1 → IsLabelIn name before found
 
--- and of a word that may be a label
+-- like `IsLabelBefore`, for a word that may be a label
 abbrev pub IsTwinBefore : List ℕ → ℕ → Option (List ℕ) → Option ℕ → Type 0
 IsTwinBefore text number None found = found ≡ None
 IsTwinBefore text number (Some name) found = IsLabelBefore text number name found

@@ -1,4 +1,4 @@
--- What stands behind a refusal. RegisterCheck has what an instruction asks of its registers, and Words how that is told.
+-- Diagnostics of errors. RegisterCheck has what an instruction requires of its registers, Words the text for it.
 pub mod RegisterCheck
 pub mod Bringing
 pub mod DueWords
@@ -12,4 +12,6 @@ pub mod Same
 pub mod LineRole
 pub mod Stops
 pub mod Diagnostics
+-- The word of an error, in numbers.
+pub mod ErrorWord
 pub mod Words

@@ -1,4 +1,4 @@
--- What a line says that can follow the ones before it, as far as its first word tells.
+-- Roles of lines that can follow the lines before them, by their first words.
 use Rattle.std.specs.Prelude.{◌≡◌, ℕ, ◌+◌, Bool, true, false, List, ◌∷◌, ◌++◌, length, codes, Option, Some, None}
 use Rattle.std.specs.List.{AllByRecursion}
 use Rattle.std.specs.Str.Lines.{lines}
@@ -22,7 +22,7 @@ says_of (Some (Registers registers)) = says.Registers
 says_of (Some (Label name)) = says.Label
 says_of (Some (Code i)) = says.Code
 
--- ---- situations
+-- ---- the parser's state
 
 abbrev pub stage_of : asm.Stage → Stage
 stage_of asm.Start = stage.Start
@@ -30,18 +30,18 @@ stage_of asm.AfterVersion = stage.AfterVersion
 stage_of asm.AfterHead = stage.AfterHead
 stage_of asm.InBody = stage.InBody
 
--- the version, and what may follow
+-- returns the version, and what may follow
 abbrev pub situation_of : ParserState → declared.ParserState
 situation_of s = record { version = s.version; stage = stage_of s.stage }
 
--- what may begin the next line
+-- returns the text for what may begin the next line
 abbrev pub stage_text : Stage → List ℕ
 stage_text stage.Start = codes "proc or version"
 stage_text stage.AfterVersion = codes "proc"
 stage_text stage.AfterHead = codes "regs"
 stage_text stage.InBody = codes "proc, a label or an instruction"
 
--- behind a line that says this
+-- returns the stage after a line with this role
 abbrev pub stage_after : Stage → LineRole → Stage
 stage_after now says.Nothing = now
 stage_after now (says.Version version) = stage.AfterVersion
@@ -67,11 +67,11 @@ is_head says.Registers = false
 is_head says.Label = false
 is_head says.Code = false
 
--- no line of these begins a procedure
+-- holds if none of these lines begins a procedure
 abbrev pub HasNoHead : List (Option Statement) → Type 0
 HasNoHead said = AllByRecursion (λ s. is_head (says_of s) ≡ false) said
 
--- the line of this number, counted from 1, is the first that begins a procedure
+-- the number of the first line that begins a procedure, counted from 1
 pub record IsFirstHead (text : List ℕ) (number : ℕ) : Type 0 where
   pub said : List (Option Statement)
   pub say : LinesSay 1 at_start (lines text) said

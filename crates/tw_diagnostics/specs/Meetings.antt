@@ -1,4 +1,4 @@
--- Where typings differ that are to be one: where ways meet, which register differs and what each way brings; and which register a loop changes.
+-- Typings that differ but have to be one: where ways meet, which register differs and what each way brings; and which register a loop changes.
 use Rattle.std.specs.Prelude.{◌≡◌, ◌≢◌, ℕ, ◌<◌, List, Some, slice_get}
 use Rattle.tw_code.specs.declared.instr.Instr.{Instr}
 use Rattle.tw_code.specs.declared.procedure.Procedure.{Procedure}
@@ -7,7 +7,7 @@ use Rattle.tw_code.specs.machine.Rights.{Typing, right_at}
 use Rattle.tw_diagnostics.specs.declared.meeting.Difference.{Difference}
 use Rattle.tw_diagnostics.specs.declared.meeting.Meeting.{Meeting}
 
--- the first of the 16 registers of which two typings say something else, and what each says
+-- the first of the 16 registers on which two typings differ, and what each holds
 pub record IsDifference (first second : Typing) (d : Difference) : Type 0 where
   pub inside : d.register < 16
   pub first_is : d.first ≡ right_at first d.register
@@ -15,7 +15,7 @@ pub record IsDifference (first second : Typing) (d : Difference) : Type 0 where
   pub differs : d.first ≢ d.second
   pub alike : (k : ℕ) → k < d.register → right_at first k ≡ right_at second k
 
--- Two earlier places lead to this one, and what the second brings differs from what is there.
+-- two earlier places that lead to this one, of which the second brings what differs from what is here
 pub record IsMeeting (program : List Procedure) (p : Procedure) (typings : List Typing) (place : ℕ) (m : Meeting) : Type 0 where
   pub here : Typing
   pub typing : slice_get typings place ≡ Some here
@@ -24,7 +24,7 @@ pub record IsMeeting (program : List Procedure) (p : Procedure) (typings : List 
   pub second : Brings program p typings m.second place other
   pub difference : IsDifference here other m.difference
 
--- The place is the END of a loop with this first place, and its typing differs from the one with which the loop begins.
+-- the END of a loop with this first place, whose typing differs from the one with which the loop begins
 pub record IsChange (code : List Instr) (typings : List Typing) (first place : ℕ) (d : Difference) : Type 0 where
   pub end : IsEndOf code first place
   pub begun : Typing

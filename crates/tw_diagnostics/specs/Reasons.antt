@@ -1,4 +1,4 @@
--- What is told of a refusal of the verifier, behind its line.
+-- Diagnostics of the verifier's errors, printed after the line of the error.
 use Rattle.std.specs.Prelude.{◌≡◌, ◌⊎◌, ℕ, ◌+◌, ◌-◌, ◌==◌, Bool, true, false, if◌then◌else◌, List, [], ◌∷◌, ◌++◌, codes, decimal, length, nat_lt, Option, Some, None, slice_get}
 use Rattle.tw_types.specs.Mode.{is_val}
 use Rattle.tw_types.specs.declared.actor.Kind.{Kind}
@@ -32,7 +32,7 @@ abbrev pub told_line : Option RegisterCheck → List ℕ
 told_line None = []
 told_line (Some a) = asked_line a
 
--- the first register that is asked in vain with this number, where a typing is known
+-- returns the line of the first unmet check with this code, if a typing is known
 abbrev pub vain_line : ℕ → List Procedure → Procedure → ℕ → Instr → Option Typing → List ℕ
 vain_line number program p place i None = []
 vain_line number program p place i (Some typing) = told_line (first_unmet number (checks_at program p place i typing))
@@ -43,16 +43,16 @@ abbrev pub holding_text : Option RightType → List ℕ
 holding_text None = codes "empty"
 holding_text (Some right) = right_text right
 
--- a place, by its line of the text where that is known
+-- returns the text for a place: its line of the text if that is known
 abbrev pub place_text : Option ℕ → ℕ → List ℕ
 place_text None place = codes "place " ++ decimal place
 place_text (Some line) place = codes "line " ++ decimal line
 
--- what a way brings
+-- returns what a way brings
 abbrev pub side_text : List (List ℕ) → ℕ → ℕ → Option RightType → List ℕ
-side_text lines procedure place right = holding_text right ++ (codes " behind " ++ place_text (at_place lines procedure place) place)
+side_text lines procedure place right = holding_text right ++ (codes " after " ++ place_text (at_place lines procedure place) place)
 
--- the register, and what each of two ways brings
+-- returns the register, and what each of two ways brings
 abbrev pub meeting_line : List (List ℕ) → ℕ → Meeting → List ℕ
 meeting_line lines procedure m =
     codes "d" ++ (decimal m.difference.register ++ (codes " is " ++ (side_text lines procedure m.first m.difference.first
@@ -61,20 +61,20 @@ meeting_line lines procedure m =
 abbrev pub TellsMeeting : List (List ℕ) → List Procedure → Procedure → ℕ → List Typing → ℕ → List ℕ → Type 0
 TellsMeeting lines program p procedure typings place text = (m : Meeting) × IsMeeting program p typings place m × (text ≡ meeting_line lines procedure m)
 
--- no two ways bring different typings
+-- holds if no two ways bring different typings
 abbrev pub HasNoMeeting : List Procedure → Procedure → List Typing → ℕ → Type 0
 HasNoMeeting program p typings place = (m : Meeting) → IsMeeting program p typings place m → ⊥
 
 -- ---- V08
 
--- what the register holds, and what it held where the loop begins
+-- returns what the register holds, and what it held where the loop begins
 abbrev pub changed_line : Difference → List ℕ
-changed_line d = held_text d.register (held.Right d.first) ++ (codes ", asked: " ++ (holding_text d.second ++ codes ", as where the loop begins\n"))
+changed_line d = held_text d.register (held.Right d.first) ++ (codes ", required: " ++ (holding_text d.second ++ codes ", as where the loop begins\n"))
 
 abbrev pub TellsChange : Procedure → List Typing → ℕ → List ℕ → Type 0
 TellsChange p typings place text = (first : ℕ) × (d : Difference) × IsChange p.code typings first place d × (text ≡ changed_line d)
 
--- no loop that ends here changes a register
+-- holds if no loop that ends here changes a register
 abbrev pub HasNoChange : Procedure → List Typing → ℕ → Type 0
 HasNoChange p typings place = (first : ℕ) (d : Difference) → IsChange p.code typings first place d → ⊥
 
@@ -94,7 +94,7 @@ outside_text goal count = if nat_lt goal count then codes ", which is not in the
 abbrev pub goal_line : ℕ → ℕ → List ℕ
 goal_line goal count = codes "the goal is place " ++ (decimal goal ++ outside_text goal count)
 
--- the procedure that is named, and how many arguments stand behind it
+-- returns the procedure that is named, and how many arguments follow it
 abbrev pub named_by : Instr → ℕ × ℕ
 named_by (instr.Local i) = (0, 0)
 named_by (instr.Data i) = (0, 0)
@@ -103,27 +103,27 @@ named_by (instr.Put action) = (action.procedure, length action.args)
 named_by instr.Ret = (0, 0)
 
 abbrev pub unknown_line : ℕ → ℕ → List ℕ
-unknown_line procedure last = codes "procedure " ++ (decimal procedure ++ (codes " is asked, the last one is " ++ (decimal last ++ codes "\n")))
+unknown_line procedure last = codes "procedure " ++ (decimal procedure ++ (codes " doesn't exist, the last one is " ++ (decimal last ++ codes "\n")))
 
 abbrev pub arguments_text : ℕ → List ℕ
 arguments_text args = if args == 1 then codes " argument" else codes " arguments"
 
 abbrev pub count_line : ℕ → ℕ → List ℕ
-count_line args params = decimal args ++ (arguments_text args ++ (codes ", asked: " ++ (decimal params ++ codes "\n")))
+count_line args params = decimal args ++ (arguments_text args ++ (codes ", required: " ++ (decimal params ++ codes "\n")))
 
 -- ---- V06, V11
 
 abbrev pub unmatched_line : Flow → List ℕ
 unmatched_line Close = codes "it has no REPEAT\n"
-unmatched_line flow = codes "it has no END, or stands in four loops\n"
+unmatched_line flow = codes "it has no END, or is in four loops already\n"
 
 abbrev pub misplaced_line : Flow → List ℕ
-misplaced_line Stop = codes "it stands in a loop\n"
+misplaced_line Stop = codes "it is in a loop\n"
 misplaced_line flow = codes "the last instruction must be RET\n"
 
--- ---- a number a line
+-- ---- each row is a code
 
--- what may be told of a refusal at the place of an instruction, whose procedure has these typings as far as they are known
+-- holds for a diagnostic of an error at the place of an instruction, whose procedure has these typings as far as they are known
 abbrev pub IsReason : VerifyError → List (List ℕ) → List Procedure → Procedure → ℕ → ℕ → Instr → List Typing → List ℕ → Type 0
 IsReason rejection.UndeclaredValue lines program p procedure place i typings text = text ≡ vain_line 1 program p place i (slice_get typings place)
 IsReason rejection.WrongValueType lines program p procedure place i typings text = text ≡ vain_line 2 program p place i (slice_get typings place)
@@ -133,44 +133,44 @@ IsReason rejection.SkipLeavesBlock lines program p procedure place i typings tex
 IsReason rejection.Unmatched lines program p procedure place i typings text = text ≡ unmatched_line (flow_of i)
 IsReason rejection.TypingsDiffer lines program p procedure place i typings text = TellsMeeting lines program p procedure typings place text ⊎ ((text ≡ []) × HasNoMeeting program p typings place)
 IsReason rejection.TypingChanged lines program p procedure place i typings text = TellsChange p typings place text ⊎ ((text ≡ []) × HasNoChange p typings place)
-IsReason rejection.Unreached lines program p procedure place i typings text = text ≡ codes "no way leads here\n"
+IsReason rejection.Unreached lines program p procedure place i typings text = text ≡ codes "no path leads here\n"
 IsReason rejection.RightLeft lines program p procedure place i typings text = text ≡ vain_line 10 program p place i (slice_get typings place)
 IsReason rejection.MisplacedRet lines program p procedure place i typings text = text ≡ misplaced_line (flow_of i)
 IsReason rejection.UnknownProcedure lines program p procedure place i typings text = text ≡ unknown_line (named_by i).0 (length program - 1)
 IsReason rejection.ArgumentCount lines program p procedure place i typings text = text ≡ count_line (named_by i).1 (length (params_of program (named_by i).0))
-IsReason rejection.ActionInLeaf lines program p procedure place i typings text = text ≡ codes "the procedure is a leaf, asked: control\n"
+IsReason rejection.ActionInLeaf lines program p procedure place i typings text = text ≡ codes "the procedure is a leaf, required: control\n"
 IsReason rejection.ScalarWrite lines program p procedure place i typings text = text ≡ vain_line 15 program p place i (slice_get typings place)
 IsReason rejection.MainShape lines program p procedure place i typings text = text ≡ []
 IsReason rejection.BudgetTooLarge lines program p procedure place i typings text = text ≡ codes "some walk is longer than 1000000000 instructions\n"
 IsReason rejection.NoMemory lines program p procedure place i typings text = text ≡ []
 
--- some reason is added to what stands there
+-- holds if such a diagnostic is added to the output
 abbrev pub AddsReason : VerifyError → List (List ℕ) → List Procedure → Procedure → ℕ → ℕ → Instr → List Typing → List ℕ → List ℕ → Type 0
 AddsReason which lines program p procedure place i typings old new = (text : List ℕ) × IsReason which lines program p procedure place i typings text × (new ≡ old ++ text)
 
--- this is told at the refused place, by the typings that are known of its procedure
+-- holds if this is printed for the rejected place, by the typings that are known of its procedure
 abbrev pub TellsReason : VerifyError → List (List ℕ) → List Procedure → ℕ → ℕ → List ℕ → Type 0
 TellsReason which lines program procedure place text = (p : Procedure) (i : Instr) → slice_get program procedure ≡ Some p → slice_get p.code place ≡ Some i
     → (typings : List Typing) × AreFound program (verify_error_code which) procedure procedure typings × IsReason which lines program p procedure place i typings text
 
--- it is added to what stands there
+-- holds if that is added to the output
 abbrev pub AddsDiagnostic : VerifyError → List (List ℕ) → List Procedure → ℕ → ℕ → List ℕ → List ℕ → Type 0
 AddsDiagnostic which lines program procedure place old new = (text : List ℕ) × TellsReason which lines program procedure place text × (new ≡ old ++ text)
 
 -- ---- V16
 
 abbrev pub unwanted_text : Bool → List ℕ
-unwanted_text true = codes ", asked: no value\n"
-unwanted_text false = codes ", asked: a scalar or a container of scalars\n"
+unwanted_text true = codes ", required: no value\n"
+unwanted_text false = codes ", required: a scalar or a container of scalars\n"
 
 abbrev pub param_line : ℕ → Param → List ℕ
 param_line number param = codes "parameter " ++ (decimal number ++ (codes " is " ++ (param_text param ++ unwanted_text (is_val param.mode))))
 
--- the first parameter from this number on that main may not have
+-- returns the line of the first parameter from this number on that main may not have
 abbrev pub params_line : ℕ → List Param → List ℕ
 params_line number [] = []
 params_line number (param ∷ params) = if is_main_param param then params_line (number + 1) params else param_line number param
 
 abbrev pub shape_line : Kind → List Param → List ℕ
-shape_line Leaf params = codes "main is a leaf, asked: control\n"
+shape_line Leaf params = codes "main is a leaf, required: control\n"
 shape_line Control params = params_line 1 params

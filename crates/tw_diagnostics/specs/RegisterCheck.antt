@@ -1,5 +1,5 @@
--- What an instruction asks of its registers at a typing: of each register in the order of the questions, what it holds and what is
--- wanted of it. The questions are those of right typing, register by register (Same says so); these here have the register besides.
+-- Checks of an instruction's registers at a typing: what each holds and what is required of it, in the order of the questions. The questions are
+-- those of right typing (see Same); these also have the register.
 use Rattle.std.specs.Prelude.{ℕ, zero, suc, ◌+◌, ◌==◌, Bool, true, false, not, ◌&&◌, ◌||◌, if◌then◌else◌, List, [], ◌∷◌, ◌++◌, Option, Some, None, is_none, is_some, slice_get, slice_set}
 use Rattle.std.specs.List.{find}
 use Rattle.std.specs.Option.{option_and_then}
@@ -29,11 +29,11 @@ use Rattle.tw_diagnostics.specs.declared.register_check.RegisterState.TheVariant
 use Rattle.tw_diagnostics.specs.declared.register_check.Requirement.{Requirement}
 use Rattle.tw_diagnostics.specs.declared.register_check.Requirement.TheVariants as wanted
 
--- the question, without its register
+-- returns the question, without its register
 abbrev pub question_of : RegisterCheck → Question
 question_of a = (a.number, a.is_met)
 
--- its answer is no, and this number is told
+-- returns whether the check is unmet and has this code
 abbrev pub is_unmet : ℕ → RegisterCheck → Bool
 is_unmet number a = (a.number == number) && not a.is_met
 
@@ -67,7 +67,7 @@ has_type registers register ty = passes (λ declared. same_scalar declared ty) (
 abbrev pub checks_value : List Scalar → ℕ → Scalar → List RegisterCheck
 checks_value registers register ty = is_declared registers register (Some ty) ∷ is_of registers register (has_type registers register ty) (Some ty) ∷ []
 
--- of two that are to be of one type, the first is told
+-- checks that two registers have one type; if they differ, the first is reported
 abbrev pub checks_alike : List Scalar → ℕ → ℕ → List RegisterCheck
 checks_alike registers first second =
     is_declared registers first None ∷ is_declared registers second None
@@ -94,7 +94,7 @@ abbrev pub right_scalar : Option RightType → Option Scalar
 right_scalar None = None
 right_scalar (Some r) = Some r.ty.scalar
 
--- a right in the one register that passes, and its datum's type in the other
+-- checks that the one register has a right that passes, and the other its datum's type
 abbrev pub checks_value_of : List Scalar → ℕ → (RightType → Bool) → Typing → ℕ → Requirement → List RegisterCheck
 checks_value_of registers register test typing datum want =
     holds 4 typing datum (passes test (right_at typing datum)) want
@@ -112,7 +112,7 @@ checks_container_write typing register =
     holds 4 typing register (passes writes (right_at typing register)) wanted.AnyWrite
     ∷ holds 15 typing register (not (passes writes_scalar (right_at typing register))) wanted.AnyContainerWrite ∷ []
 
--- what members a container has
+-- returns the type of a container's members
 abbrev pub member_type : Option RightType → Option NestedScalar
 member_type right = option_and_then (λ r. element_of r.ty) right
 
@@ -120,7 +120,7 @@ abbrev pub checks_member : Typing → ℕ → ℕ → RegisterCheck
 checks_member typing container member =
     holds 4 typing member (passes (λ right. passes (reads_member_of right) (right_at typing member)) (right_at typing container)) (wanted.ReadOf (member_type (right_at typing container)))
 
--- ---- a line an instruction
+-- ---- each row is an instruction
 
 abbrev pub checks_local : List Scalar → LocalInstr → List RegisterCheck
 checks_local registers (local.Int to n) = checks_value registers to scalar.Int
@@ -154,7 +154,7 @@ checks_data registers (on_data.DropWrite right) typing = checks_container_write 
 
 -- ---- RULE and PUT
 
--- what an argument's register holds, where the arguments before have left these rights; it was named before where it held one at first
+-- returns what an argument's register holds, if the arguments before it have left these rights; it was named before if it held one at first
 abbrev pub argument_held : ℕ → Typing → Typing → RegisterState
 argument_held arg typing left = if is_none (right_at left arg) && is_some (right_at typing arg) then held.Twice else held.Right (right_at left arg)
 
@@ -188,12 +188,12 @@ checks_action waits program registers action typing =
 abbrev pub is_left : Typing → ℕ → RegisterCheck
 is_left typing register = holds 10 typing register (is_none (right_at typing register)) wanted.Empty
 
--- so many registers from this one on are to be empty at RET
+-- checks that this many registers from this one on are empty at RET
 abbrev pub checks_left : ℕ → ℕ → Typing → List RegisterCheck
 checks_left zero register typing = []
 checks_left (suc count) register typing = is_left typing register ∷ checks_left count (register + 1) typing
 
--- the registers from this one on are to be of these types
+-- checks that the registers from this one on have these types
 abbrev pub checks_values : List Scalar → ℕ → List Scalar → List RegisterCheck
 checks_values registers register [] = []
 checks_values registers register (ty ∷ types) = checks_value registers register ty ++ checks_values registers (register + 1) types
@@ -205,10 +205,10 @@ checks_instr program registers (instr.Rule action) typing = checks_action true p
 checks_instr program registers (instr.Put action) typing = checks_action false program registers action typing
 checks_instr program registers instr.Ret typing = checks_left 16 0 typing
 
--- at a place of a procedure; the parameters' values are asked at the first
+-- checks a place of a procedure; the parameters' values are checked at the first
 abbrev pub checks_at : List Procedure → Procedure → ℕ → Instr → Typing → List RegisterCheck
 checks_at program p place i typing = (if place == 0 then checks_values p.registers 0 (value_types p.params) else []) ++ checks_instr program p.registers i typing
 
--- the first that is asked in vain with this number
+-- returns the first unmet check with this code
 abbrev pub first_unmet : ℕ → List RegisterCheck → Option RegisterCheck
 first_unmet number check = find (is_unmet number) check

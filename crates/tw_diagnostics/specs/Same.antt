@@ -1,4 +1,4 @@
--- That registers are asked what right typing asks: each question of a register is the definition's, in its order.
+-- Agreement of the checks with right typing: each check of a register is a question of the definition, in its order.
 use Rattle.std.specs.Prelude.{◌≡◌, ℕ, Bool, List, map}
 use Rattle.tw_types.specs.declared.data_type.Scalar.{Scalar}
 use Rattle.tw_types.specs.declared.param.Param.{Param}

@@ -1,4 +1,4 @@
--- Where a line of a text is told to stop: at which word, at which column, and what stands there.
+-- Positions at which a line of a text stops: at which word, at which column, and what is there.
 use Rattle.std.specs.Prelude.{◌≡◌, ℕ, ◌+◌, List, ◌∷◌, ◌++◌, length, count_by, IsUtf8}
 use Rattle.std.specs.List.{AllByRecursion}
 use Rattle.tw_asm.specs.Statement.{HaveForm}
@@ -12,28 +12,28 @@ use Rattle.tw_diagnostics.specs.declared.error_position.ErrorPosition.{ErrorPosi
 
 -- ---- columns
 
--- the column behind these bytes, counted in characters from 1
+-- returns the column after these bytes, counted in characters from 1
 abbrev pub column_after : List ℕ → ℕ
 column_after front = count_by begins_character front + 1
 
 -- ---- words
 
--- these words stand first in the line, behind them a gap or none, then this rest, all behind these bytes
+-- the line's first words, then a gap or none, then the rest; `front` is all before the rest
 pub record Stands (line : List ℕ) (before : List Word) (front rest : List ℕ) : Type 0 where
   pub parts : line ≡ front ++ rest
   pub after : List ℕ
   pub words : AreFirstWords before line after
   pub gap : IsAfterGap after rest
 
--- what stands first in the rest: nothing, a word as it stands there, or something that is no word
+-- holds for what is first in the rest: nothing, a word as it is written, or something that is no word
 abbrev pub IsFound : Token → List ℕ → Type 0
 IsFound found.End rest = IsBlank rest
 IsFound (found.Word text) rest = (word : Word) × (after : List ℕ) × IsFirstWord word rest after × (rest ≡ text.now ++ after)
 IsFound (found.Broken broken) rest = IsBroken rest
 
--- ---- a stop
+-- ---- a position
 
--- a stop in a line: which word it is, from 1, its column, and what stands there
+-- a position in a line: which word it is, from 1, its column, and what is there
 pub record IsStop (line : List ℕ) (stop : ErrorPosition) : Type 0 where
   pub before : List Word
   pub front : List ℕ
@@ -45,22 +45,22 @@ pub record IsStop (line : List ℕ) (stop : ErrorPosition) : Type 0 where
 
 -- ---- words that begin no statement
 
--- each text between quotes is UTF-8, as in a text all are
+-- holds for a bare word, and for a quoted one whose text is UTF-8; all words of a text are so
 abbrev pub IsText : Word → Type 0
 IsText (Bare word) = Unit {0}
 IsText (Quoted text) = IsUtf8 text
 
--- a statement of the version begins with these words, or is just these
+-- holds if a statement of the version begins with these words, or is just these
 abbrev pub Begin : Version → List Word → Type 0
 Begin version words = (others : List Word) × HaveForm version (words ++ others)
 
--- with what stands first in the rest these words begin none, or where nothing stands there are none
+-- holds if these words and the one that is first in the rest begin no statement; or, if the rest is blank, are none
 abbrev pub Ends : Version → List Word → List ℕ → Token → Type 0
 Ends version before rest found.End = HaveForm version before → ⊥
 Ends version before rest (found.Word text) = (word : Word) (after : List ℕ) (others : List Word) → IsFirstWord word rest after → AllByRecursion IsText others → HaveForm version (before ++ word ∷ others) → ⊥
 Ends version before rest (found.Broken broken) = Unit {0}
 
--- the first stop at which the line goes on as no statement
+-- the first position at which the line doesn't continue as a statement
 pub record IsFirstStop (version : Version) (line : List ℕ) (stop : ErrorPosition) : Type 0 where
   pub stands : IsStop line stop
   pub begin : Begin version stands.before

@@ -1,4 +1,4 @@
--- How a question about a register is told: what the register holds, and what is wanted of it.
+-- Text for a check of a register: what the register holds, and what is required of it.
 use Rattle.std.specs.Prelude.{ℕ, Bool, List, ◌++◌, codes, decimal, Option, Some, None, if◌then◌else◌}
 use Rattle.std.specs.List.{join_with_byte}
 use Rattle.tw_types.specs.Nesting.{NestedScalar}
@@ -16,7 +16,7 @@ use Rattle.tw_diagnostics.specs.declared.register_check.Requirement.TheVariants 
 
 -- ---- types and rights
 
--- the words of a type, with a space between
+-- returns the words of a type, with a space between
 abbrev pub type_text : NestedScalar → List ℕ
 type_text ty = join_with_byte 32 (type_words ty)
 
@@ -26,7 +26,7 @@ param_text param = mode_word param.mode ++ (codes " " ++ type_text param.ty)
 abbrev pub right_text : RightType → List ℕ
 right_text right = mode_word right.mode ++ (codes " " ++ type_text right.ty)
 
--- a scalar, or any
+-- returns the text for a scalar, or for any
 abbrev pub scalar_text : Option Scalar → List ℕ
 scalar_text None = codes "int or text"
 scalar_text (Some ty) = scalar_word ty
@@ -40,9 +40,9 @@ held_text register (held.Right None) = codes "d" ++ (decimal register ++ codes "
 held_text register (held.Right (Some right)) = codes "d" ++ (decimal register ++ (codes " holds " ++ right_text right))
 held_text register held.Twice = codes "d" ++ (decimal register ++ codes " is named twice")
 
--- ---- what is wanted
+-- ---- what is required
 
--- the mode of a right that may stand for a parameter; a task that waits takes any read for a closed one
+-- returns the mode of a right that a parameter accepts; a task that waits takes any read for a closed one
 abbrev pub stand_in_text : Bool → Mode → List ℕ
 stand_in_text waits Val = codes "val"
 stand_in_text waits Closed = if waits then codes "closed or ref" else codes "closed"
@@ -66,6 +66,6 @@ wanted_text (wanted.ReadOf None) = codes "closed or ref"
 wanted_text (wanted.ReadOf (Some ty)) = codes "closed or ref " ++ type_text ty
 wanted_text (wanted.Param waits param) = stand_in_text waits param.mode ++ (codes " " ++ type_text param.ty)
 
--- the line of a question that is asked in vain
+-- returns the line of an unmet check
 abbrev pub asked_line : RegisterCheck → List ℕ
-asked_line a = held_text a.register a.held ++ (codes ", asked: " ++ (wanted_text a.wanted ++ codes "\n"))
+asked_line a = held_text a.register a.held ++ (codes ", required: " ++ (wanted_text a.wanted ++ codes "\n"))

@@ -1,18 +1,18 @@
-//! Why something that begins with a quote is no word.
+//! Finds why bytes that begin with a quote are no word.
 
 ghost use Rattle.std.specs.Prelude.{IsUtf8};
 
 use std::alloc::{AllocError, Global};
 use tw_lexer::quoted_text;
 
-/// Why something is no word.
+/// A reason why something is no word.
 #[derive(Clone, Copy, PartialEq, Eq)]
 pub(crate) enum Break {
-    /// The second quote isn't there.
+    /// The second quote is missing.
     Unclosed,
-    /// A `\` stands before something that it doesn't go with.
+    /// A `\` precedes something that it can't escape.
     Escape,
-    /// No word ends behind the second quote.
+    /// Something directly follows the second quote, so that no word ends there.
     Behind,
 }
 
@@ -20,7 +20,7 @@ fn is_hex(byte: u8) -> bool {
     byte.is_ascii_hexdigit()
 }
 
-/// Whether a `\` stands before something that it doesn't go with, up to a quote or the end.
+/// Returns whether a `\` precedes something that it can't escape, before the next quote or the end.
 fn has_other_escape(inside: &[u8]) -> bool {
     let mut rest = inside;
     'bytes: loop {
@@ -34,7 +34,7 @@ fn has_other_escape(inside: &[u8]) -> bool {
     }
 }
 
-/// Why what begins with a quote is no word.
+/// Returns why bytes that begin with a quote are no word.
 pub(crate) fn break_of(alloc: Global, here: &[u8]) -> Result<Break, AllocError>
     requires { IsUtf8 here.now }
 {

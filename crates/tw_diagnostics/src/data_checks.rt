@@ -1,4 +1,4 @@
-//! What an instruction on data asks.
+//! Checks of instructions on data: what they require of their registers.
 
 ghost use Rattle.std.specs.Prelude.{◌≡◌, ◌<◌, not, slice_get};
 ghost use Rattle.tw_code.specs.format.Program.{IsDataInstr};
@@ -23,7 +23,7 @@ fn right_scalar(right: Option<RightType>) -> Option<Scalar>
     }
 }
 
-/// Whether a value register has the type of a right's datum.
+/// Returns whether a value register has the type of a right's datum.
 fn has_type_of(registers: &[Scalar], register: u8, right: Option<RightType>) -> bool
     ensures { result ≡ passes (λ r. has_type registers.now register r.ty.scalar) right }
 {
@@ -33,7 +33,7 @@ fn has_type_of(registers: &[Scalar], register: u8, right: Option<RightType>) -> 
     }
 }
 
-/// STORE: a right to write a scalar, and a value of its type.
+/// Returns the first unmet check of STORE: a right to write a scalar, and a value of its type.
 fn unmet_by_store(
     number: u8,
     registers: &[Scalar],
@@ -67,7 +67,7 @@ fn unmet_by_store(
     )
 }
 
-/// GET: a right to read a closed scalar, and a register of its type.
+/// Returns the first unmet check of GET: a right to read a closed scalar, and a register of its type.
 fn unmet_by_get(
     number: u8,
     registers: &[Scalar],
@@ -160,7 +160,7 @@ fn any_write(typing: &Typing, register: u8) -> RegisterCheck
     holds(4, typing, register, met, Requirement::AnyWrite)
 }
 
-/// Of a scalar's write right V15 alone is said.
+/// Returns the check that a register holds no right to write a scalar; of such a right, only V15 is reported.
 fn no_scalar_write(typing: &Typing, register: u8) -> RegisterCheck
     requires { register < 16 }
     ensures { result ≡ holds 15 typing.now register (not (passes writes_scalar (right_at typing.now register))) Requirement.AnyContainerWrite }
@@ -169,7 +169,7 @@ fn no_scalar_write(typing: &Typing, register: u8) -> RegisterCheck
     holds(15, typing, register, met, Requirement::AnyContainerWrite)
 }
 
-/// What an instruction on data asks, a row an instruction.
+/// Returns the first unmet check of an instruction on data; each row is an instruction.
 #[rattlefmt::skip]
 pub(crate) fn unmet_by_data(number: u8, registers: &[Scalar], instr: DataInstr, typing: &Typing) -> Option<RegisterCheck>
     requires { IsDataInstr instr }

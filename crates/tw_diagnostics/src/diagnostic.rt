@@ -1,4 +1,4 @@
-//! What is told of the place at which a line stops.
+//! Diagnostics of the position at which a line stops being a statement.
 
 ghost use Rattle.std.specs.Prelude.{◌≡◌, ◌++◌, OnOk, codes};
 ghost use Rattle.tw_diagnostics.specs.Diagnostics.{break_text, expected_text, found_text, has_part, hidden_text, line_text, said_text, stop_line, where_text, word_text};
@@ -9,9 +9,9 @@ use crate::hints::{Hint, put_hint};
 use std::alloc::{AllocError, Global};
 use tw_lexer::{put, put_both, put_numbered, put_shortened};
 
-// ---- words that stood there
+// ---- words that were found
 
-/// Whether bytes have a part somewhere.
+/// Returns whether bytes contain a part.
 #[tactic(auto, using(crate::proofs::Lines::has_part_here))]
 fn has_part(part: &[u8], bytes: &[u8]) -> bool
     ensures { result ≡ has_part part.now bytes.now }
@@ -28,7 +28,7 @@ fn has_part(part: &[u8], bytes: &[u8]) -> bool
     }
 }
 
-/// The name of what isn't seen in a word.
+/// Returns what to print for an invisible character in a word; it is empty if there is none.
 fn hidden_text(word: &[u8]) -> &'static str
     ensures { result.now ≡ hidden_text word.now }
 {
@@ -41,7 +41,7 @@ fn hidden_text(word: &[u8]) -> &'static str
     }
 }
 
-/// Adds a word, shortened if it is long, after the name of what isn't seen in it.
+/// Adds a word, shortened if it is long, after the name of an invisible character in it.
 fn put_word(out: &mut Vec<u8>, word: &[u8]) -> Result<(), AllocError>
     ensures { OnOk result (out.new.items ≡ out.old.items ++ word_text word.now) }
 {
@@ -55,11 +55,11 @@ fn break_text(broken: Break) -> &'static str
     match broken {
         Break::Unclosed => "an unclosed quote",
         Break::Escape => "no such escape",
-        Break::Behind => "a word right behind a quoted text",
+        Break::Behind => "a word right after a quoted text",
     }
 }
 
-// ---- what is said of them
+// ---- what is printed of them
 
 /// Adds at which word and column a line stops.
 fn put_where(alloc: Global, out: &mut Vec<u8>, stop: &ErrorPosition<'_>) -> Result<(), AllocError>
@@ -70,7 +70,7 @@ fn put_where(alloc: Global, out: &mut Vec<u8>, stop: &ErrorPosition<'_>) -> Resu
     put(out, ": ")
 }
 
-/// Adds what was expected, and what stood there.
+/// Adds what was expected, and what was found.
 fn put_expected(out: &mut Vec<u8>, expected: &str, found: &Token<'_>) -> Result<(), AllocError>
     ensures { OnOk result (out.new.items ≡ out.old.items ++ expected_text expected.now found.now) }
 {
@@ -102,10 +102,10 @@ fn put_found(out: &mut Vec<u8>, found: &Token<'_>) -> Result<(), AllocError>
     }
 }
 
-/// What is said of a stop.
+/// A diagnostic of the position at which a line stops.
 #[derive(Clone, Copy)]
 pub(crate) enum Diagnostic<'a> {
-    /// This was expected; the line of a label; and the word that was meant.
+    /// This was expected, with the line of a label, and the word that was meant.
     Expected(&'a str, Option<usize>, Hint),
     TooMany,
     Limit(&'a str),
@@ -145,7 +145,7 @@ fn put_diagnostic(
     }
 }
 
-/// Adds where a line stops, and what is said of it.
+/// Adds the position at which a line stops, and its diagnostic.
 pub(crate) fn put_stop(
     alloc: Global,
     out: &mut Vec<u8>,
@@ -159,7 +159,7 @@ pub(crate) fn put_stop(
     put(out, "\n")
 }
 
-/// Adds a sentence on the whole.
+/// Adds a sentence about the whole line or text, and ends the printed line.
 pub(crate) fn put_whole(out: &mut Vec<u8>, whole: &str) -> Result<(), AllocError>
     ensures { OnOk result (out.new.items ≡ out.old.items ++ (whole.now ++ codes "\n")) }
 {

@@ -1,11 +1,11 @@
-//! What a line may go on with.
+//! Words that may come next in a line.
 
 ghost use Rattle.std.specs.Prelude.{◌≡◌};
 ghost use Rattle.tw_diagnostics.specs.DueWords.{due_limit, due_text, limit_of, operand_limit, operand_text};
 
 use tw_code::Form;
 
-/// What is due next in a line.
+/// A kind of words that may come next in a line.
 #[derive(Clone, Copy, PartialEq, Eq)]
 pub(crate) enum Due {
     /// An operand of this form.
@@ -31,7 +31,7 @@ fn operand_text(form: Form) -> &'static str
         Form::Value => "a value register",
         Form::Right => "a right register",
         Form::Number => "a number",
-        Form::Iterations => "a number of turns",
+        Form::Iterations => "a number of iterations",
         Form::Callee => "a procedure's number",
         Form::Literal => "a quoted text",
         Form::Skip => "a label or +n",
@@ -59,7 +59,7 @@ fn operand_limit(form: Form) -> &'static str
 }
 
 impl Due {
-    /// Names the words that are due.
+    /// Names the words that may come next.
     pub(crate) fn text(self) -> &'static str
         ensures { result.now ≡ due_text self }
     {
@@ -73,7 +73,7 @@ impl Due {
         }
     }
 
-    /// Names how much of that there may be.
+    /// Names the limit of how much of this there may be.
     pub(crate) fn limit(self) -> &'static str
         ensures { result.now ≡ due_limit self }
     {
@@ -88,7 +88,7 @@ impl Due {
     }
 }
 
-/// Names the limit at a word where this is due.
+/// Names the limit of a word, by what may come there. If nothing may, the limit is one statement.
 pub(crate) fn limit_of(due: Option<Due>) -> &'static str
     ensures { result.now ≡ limit_of due }
 {

@@ -1,4 +1,4 @@
-//! Where a line stops being a statement.
+//! Positions at which a line stops being a statement.
 
 ghost use Rattle.std.specs.Prelude.{◌≡◌, ◌+◌, ◌≤◌, [], ℕ, List, false, true, IfOk, IfSome, IsUtf8, MatchOption, length};
 ghost use Rattle.tw_lexer.specs.Words.{AreFirstWords, Bare, IsBlank, IsFirstWord, IsLine, Word as AWord};
@@ -22,30 +22,30 @@ use std::alloc::{AllocError, Global};
 use tw_code::Version;
 use tw_lexer::{Next, Word, before_colon, begins_character, is_name, next_word, without_gap};
 
-/// What stands where a line stops.
+/// A token at which a line stops.
 #[derive(Clone, Copy)]
 pub(crate) enum Token<'a> {
     /// The line's end, or a comment.
     End,
-    /// A word, as it stands in the line.
+    /// A word, as it is written in the line.
     Word(&'a [u8]),
     /// Something that is no word.
     Broken(Break),
 }
 
-/// Where a line stops.
+/// A position at which a line stops.
 #[derive(Clone, Copy)]
 pub(crate) struct ErrorPosition<'a> {
-    /// The number of the word that would stand there, from 1.
+    /// The number of the word at this position, from 1.
     pub(crate) word: usize,
-    /// Counted in characters, from 1.
+    /// The column, counted in characters from 1.
     pub(crate) column: usize,
     pub(crate) found: Token<'a>,
-    /// What may stand there; nothing but the line's end, where it is none.
+    /// The words that may come there; if it is `None`, only the line's end may.
     pub(crate) due: Option<Due>,
 }
 
-/// The column behind these bytes.
+/// Returns the column after these bytes, counted in characters from 1.
 fn column_after(front: &[u8]) -> usize
     ensures { result ≡ column_after front.now }
 {
@@ -58,7 +58,7 @@ fn column_after(front: &[u8]) -> usize
     column
 }
 
-/// The stop behind so many words, where this is found.
+/// Returns the position after `before` words of `line`, at which `found` was found.
 fn stop_with<'a>(
     line: &'a [u8],
     here: &'a [u8],
@@ -83,14 +83,14 @@ fn stop_with<'a>(
     }
 }
 
-/// The word that is followed by this, as it stands.
+/// Returns the word of `here` that `after` follows, as it is written.
 fn word_found<'a>(here: &'a [u8], after: &[u8]) -> Token<'a>
     ensures { (word : AWord) → IsFirstWord word here.entry.now after.now → IsFound result here.entry.now }
 {
     Token::Word(&here[..here.len().saturating_sub(after.len())])
 }
 
-/// The stop at the line's end behind so many words, where it may not end there.
+/// Returns the position of the line's end after `before` words, if the line may not end there.
 fn end_stop<'a>(
     version: Version,
     line: &'a [u8],
@@ -112,7 +112,7 @@ fn end_stop<'a>(
     Some(stop_with(line, here, before, Token::End, due))
 }
 
-/// Where a line stops behind its first word, if it does.
+/// Returns the position at which a line stops after its first word, if it does.
 fn position_after<'a>(
     alloc: Global,
     ask: Ask,
@@ -154,7 +154,7 @@ fn position_after<'a>(
     }
 }
 
-/// What stands first where no gap does.
+/// Returns the first token of bytes that don't begin with a gap.
 fn found_in<'a>(alloc: Global, here: &'a [u8]) -> Result<Token<'a>, AllocError>
     requires { IsUtf8 here.now }
     ensures { IfOk result (λ found. IsFound found here.entry.now) }
@@ -166,7 +166,7 @@ fn found_in<'a>(alloc: Global, here: &'a [u8]) -> Result<Token<'a>, AllocError>
     }
 }
 
-/// Where the bytes of a line stop in its first word.
+/// Returns the position of the first word in a line's bytes.
 fn first_word<'a>(alloc: Global, line: &'a [u8]) -> Result<ErrorPosition<'a>, AllocError>
     requires { IsUtf8 line.now }
     ensures stands { IfOk result (λ stop. IsStop line.entry.now stop) }
@@ -177,7 +177,7 @@ fn first_word<'a>(alloc: Global, line: &'a [u8]) -> Result<ErrorPosition<'a>, Al
     Ok(stop_with(line, here, 0, found, None))
 }
 
-/// Where a line stops in its first word.
+/// Returns the position of a line's first word. Call it if the line stops there.
 pub(crate) fn first_stop<'a>(alloc: Global, line: &'a str) -> Result<ErrorPosition<'a>, AllocError>
     ensures stands { IfOk result (λ stop. IsStop line.entry.now stop) }
     ensures word { IfOk result (λ stop. stop.word ≡ 1) }
@@ -185,7 +185,7 @@ pub(crate) fn first_stop<'a>(alloc: Global, line: &'a str) -> Result<ErrorPositi
     first_word(alloc, line.as_bytes())
 }
 
-/// Where a line stops behind this first word, if it does.
+/// Returns the position at which a line stops after this first word, if it does.
 fn word_stop<'a>(
     alloc: Global,
     ask: Ask,
@@ -206,7 +206,7 @@ fn word_stop<'a>(
     }
 }
 
-/// Where the bytes of a line that begins as a statement stop being one, if they do.
+/// Returns the position at which the bytes of a line that begins as a statement stop being one, if they do.
 fn bytes_stop<'a>(
     alloc: Global,
     ask: Ask,
@@ -225,7 +225,7 @@ fn bytes_stop<'a>(
     }
 }
 
-/// Where a line that begins as a statement stops being one, if it does.
+/// Returns the position at which a line that begins as a statement stops being one, if it does.
 pub(crate) fn line_stop<'a>(
     alloc: Global,
     ask: Ask,
@@ -239,7 +239,7 @@ pub(crate) fn line_stop<'a>(
     bytes_stop(alloc, ask, version, line.as_bytes())
 }
 
-/// The last word of the bytes of a line.
+/// Returns the position of the last word in a line's bytes, if there is one.
 fn last_word<'a>(alloc: Global, line: &'a [u8]) -> Result<Option<ErrorPosition<'a>>, AllocError>
     requires { IsUtf8 line.now }
     ensures stands { IfOk result (λ stop. IfSome stop (IsStop line.entry.now)) }
@@ -262,7 +262,7 @@ fn last_word<'a>(alloc: Global, line: &'a [u8]) -> Result<Option<ErrorPosition<'
     }
 }
 
-/// The last word of a line.
+/// Returns the position of the last word of a line, if there is one.
 pub(crate) fn last_stop<'a>(
     alloc: Global,
     line: &'a str,
@@ -284,7 +284,7 @@ pub(crate) fn found_word<'a>(found: &Token<'a>) -> &'a [u8]
     }
 }
 
-/// Tells whether a word is a label that is too long.
+/// Returns whether a word is a label that is too long.
 pub(crate) fn is_long_label(word: &[u8]) -> bool
     ensures { result ≡ is_long_label (before_colon word.now) }
 {

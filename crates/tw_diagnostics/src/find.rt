@@ -1,4 +1,4 @@
-//! Which register an instruction asks in vain.
+//! Finds the first register that doesn't meet what an instruction requires.
 
 ghost use Rattle.std.specs.Prelude.{◌≡◌, ◌≤◌, ◌<◌, ◌+◌, ◌++◌, [], ◌∷◌, ℕ, List, length};
 ghost use Rattle.std.specs.List.{AllByRecursion};
@@ -16,7 +16,7 @@ use tw_code::{Action, Instr, Priority, Procedure};
 use tw_types::{Param, Scalar};
 use tw_verify::Typing;
 
-/// The first of two, if there is one, else the second.
+/// Returns the first check if there is one, else the second.
 fn first_or(first: Option<RegisterCheck>, second: Option<RegisterCheck>) -> Option<RegisterCheck>
     ensures { (number : ℕ) (xs ys : List RegisterCheck) → first ≡ first_unmet number xs → second ≡ first_unmet number ys → result ≡ first_unmet number (xs ++ ys) }
 {
@@ -26,7 +26,7 @@ fn first_or(first: Option<RegisterCheck>, second: Option<RegisterCheck>) -> Opti
     }
 }
 
-/// What the register of an argument holds, where the ones before it have left their registers.
+/// Returns what the register of an argument holds, if the arguments before it have left the rights `left`.
 fn held_by(arg: u8, typing: &Typing, left: &Typing) -> RegisterState
     requires { IsRegister arg }
     ensures { result ≡ argument_held arg typing.now left.now }
@@ -38,7 +38,7 @@ fn held_by(arg: u8, typing: &Typing, left: &Typing) -> RegisterState
     }
 }
 
-/// What is asked of an argument that is a right.
+/// Returns the check of an argument that is a right.
 fn right_check(waits: bool, param: &Param, arg: u8, typing: &Typing, left: &Typing) -> RegisterCheck
     requires { IsRegister arg }
     ensures { result ≡ checks_right waits param.now arg typing.now left.now }
@@ -71,7 +71,7 @@ fn unmet_by_argument(
     }
 }
 
-/// What is asked of the arguments in order, where those before them have left these rights.
+/// Returns the first unmet check of the arguments in order, if those before them have left these rights.
 fn unmet_by_arguments(
     number: u8,
     waits: bool,
@@ -137,7 +137,7 @@ fn unmet_by_action(
     )
 }
 
-/// RET asks that a right register is empty.
+/// Returns the check of RET that a right register is empty.
 fn is_left(typing: &Typing, register: u8) -> RegisterCheck
     requires { register < 16 }
     ensures { result ≡ is_left typing.now register }
@@ -151,7 +151,7 @@ fn is_left(typing: &Typing, register: u8) -> RegisterCheck
     )
 }
 
-/// RET asks that so many right registers from one on are empty.
+/// Returns the first unmet check of RET that `count` right registers from `register` on are empty.
 #[tactic(auto, using(crate::proofs::Telling::left_more))]
 fn unmet_at_end(number: u8, count: u8, register: u8, typing: &Typing) -> Option<RegisterCheck>
     requires { register + count ≤ 16 }
@@ -167,7 +167,7 @@ fn unmet_at_end(number: u8, count: u8, register: u8, typing: &Typing) -> Option<
     unmet_at_end(number, count - 1, register + 1, typing)
 }
 
-/// What is asked of the registers from one on, of the values that a procedure is given.
+/// Returns the first unmet check of the registers from one on, which receive the values that are passed to a procedure.
 fn unmet_by_params(
     number: u8,
     registers: &[Scalar],
@@ -209,7 +209,7 @@ fn unmet_by_instr(
     }
 }
 
-/// The first register that is asked in vain with this number, at a place of a procedure with its typing.
+/// Returns the first unmet check with this code, at a place of a procedure with its typing.
 pub(crate) fn unmet_at(
     number: u8,
     procedures: &[Procedure],

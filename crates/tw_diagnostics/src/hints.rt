@@ -1,4 +1,4 @@
-//! Which word was meant by one that can't stand where it does.
+//! Hints: which word was meant by one that can't be where it is.
 
 ghost use Rattle.std.specs.Prelude.{◌≡◌, ◌++◌, IfOk, OnOk, drop, take};
 ghost use Rattle.tw_diagnostics.specs.Hints.{container_hint, due_hint, first_hint, hint_text, instruction_hint, is_near, is_one_edit, is_swapped, known_hint, meant_text, near_text, opcode_near, opcode_text, operand_hint, scalar_hint, type_hint, word_hint};
@@ -10,7 +10,7 @@ use std::alloc::{AllocError, Global};
 use tw_code::{Form, OPCODES, Opcode, Version, opcode_in, word_of};
 use tw_lexer::put;
 
-/// What a message says of the word that was meant.
+/// A hint at the word that was meant.
 #[derive(Clone, Copy)]
 pub(crate) enum Hint {
     Nothing,
@@ -34,7 +34,7 @@ fn later_letters(word: &[u8]) -> &[u8]
     if word.is_empty() { word } else { &word[1..] }
 }
 
-/// Tells whether the first two letters are swapped, and nothing else is wrong.
+/// Returns whether the first two letters are swapped, and nothing else is wrong.
 fn is_swapped(name: &[u8], word: &[u8]) -> bool
     ensures { result ≡ is_swapped name.now word.now }
 {
@@ -45,7 +45,7 @@ fn is_swapped(name: &[u8], word: &[u8]) -> bool
         && later_letters(name_rest) == later_letters(word_rest)
 }
 
-/// Tells whether the first letter alone is wrong, missing, one too many, or swapped with the next.
+/// Returns whether the first letter alone is wrong, missing, one too many, or swapped with the next.
 fn is_one_edit(name: &[u8], word: &[u8]) -> bool
     ensures { result ≡ is_one_edit name.now word.now }
 {
@@ -54,7 +54,7 @@ fn is_one_edit(name: &[u8], word: &[u8]) -> bool
     name_rest == word_rest || name_rest == word || name == word_rest || is_swapped(name, word)
 }
 
-/// Tells whether a word is this name with at most one mistake.
+/// Returns whether a word is this name with at most one mistake.
 fn is_near(name: &[u8], word: &[u8]) -> bool
     ensures { result ≡ is_near name.now word.now }
 {
@@ -73,7 +73,7 @@ fn is_near(name: &[u8], word: &[u8]) -> bool
     }
 }
 
-/// Returns the first instruction of the version that is near a word in capitals.
+/// Returns the first instruction of the version that is near a word in upper case.
 #[tactic(auto, unfolding(crate::specs::Hints::opcode_near))]
 fn opcode_near(version: Version, word: &[u8]) -> Option<Opcode>
     ensures { result ≡ opcode_near version word.now }
@@ -91,7 +91,7 @@ fn opcode_hint(opcode: Option<Opcode>) -> Hint
     }
 }
 
-/// Returns which instruction was meant by a word.
+/// Returns the instruction that was meant by a word.
 fn instruction_hint(alloc: Global, version: Version, word: &[u8]) -> Result<Hint, AllocError>
     ensures { IfOk result (λ hint. hint_text hint ≡ instruction_hint version word.now) }
 {
@@ -189,7 +189,7 @@ fn small_hint(due: Due, word: &[u8]) -> Hint
     }
 }
 
-/// Returns what was meant by a word where this is due.
+/// Returns what was meant by a word, if this may come there.
 pub(crate) fn word_hint(alloc: Global, due: Option<Due>, word: &[u8]) -> Result<Hint, AllocError>
     ensures { IfOk result (λ hint. hint_text hint ≡ word_hint due word.now) }
 {
@@ -216,7 +216,7 @@ fn put_meant(out: &mut Vec<u8>, name: &str) -> Result<(), AllocError>
     put_around(out, "; did you mean ", name, "?")
 }
 
-/// Adds what was meant.
+/// Adds the text of a hint.
 pub(crate) fn put_hint(out: &mut Vec<u8>, hint: Hint) -> Result<(), AllocError>
     ensures { OnOk result (out.new.items ≡ out.old.items ++ hint_text hint) }
 {

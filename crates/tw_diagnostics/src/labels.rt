@@ -1,4 +1,4 @@
-//! Where a label is.
+//! Finds the line of a label.
 
 ghost use Rattle.std.specs.Prelude.{◌≡◌, false, IfOk, IsTrue, IsUtf8, if◌then◌else◌, Some};
 ghost use Rattle.tw_lexer.specs.Seen.{seen};
@@ -19,7 +19,7 @@ fn is_label(word: &[u8], name: &[u8]) -> bool
     }
 }
 
-/// Tells whether a word is the label of this name.
+/// Returns whether a word is the label with this name.
 fn is_label_word(word: &Word<'_>, name: &[u8]) -> bool
     ensures { result ≡ is_label name.now (seen word.now) }
 {
@@ -29,7 +29,7 @@ fn is_label_word(word: &Word<'_>, name: &[u8]) -> bool
     }
 }
 
-/// Tells whether a line begins with the label of this name.
+/// Returns whether a line begins with the label with this name.
 fn is_label_line(alloc: Global, line: &str, name: &[u8]) -> Result<bool, AllocError>
     ensures is { IfOk result (λ is. IsTrue is → IsLabelLine name.now line.now) }
     ensures not { IfOk result (λ is. is ≡ false → IsLabelLine name.now line.now → ⊥) }
@@ -41,14 +41,14 @@ fn is_label_line(alloc: Global, line: &str, name: &[u8]) -> Result<bool, AllocEr
     }
 }
 
-/// Returns this line, if it begins with the label, or else the last one that does.
+/// Returns this line if it begins with the label, else the last one that does.
 fn later(last: Option<usize>, begins: bool, number: usize) -> Option<usize>
     ensures { result ≡ (if begins then Some number else last) }
 {
     if begins { Some(number) } else { last }
 }
 
-/// Returns the last line before this one that begins with the label of this name.
+/// Returns the last line before this one that begins with the label with this name.
 pub(crate) fn label_before(
     alloc: Global,
     text: &str,

@@ -1,7 +1,7 @@
-//! Why an assembly text, or the program of one, was refused: lines of text that stand behind the refusal.
+//! Diagnostics of a rejected assembly text or program: lines that are printed after the error.
 //!
-//! * Of a text: `put_text_diagnostic` tells the line, and at which word and column it stops being a statement.
-//! * Of a program: `put_program_diagnostic` tells the register that is wrong, what it holds and what was asked of it.
+//! * Of a text: `put_text_diagnostic` adds the line, and at which word and column it stops being a statement.
+//! * Of a program: `put_program_diagnostic` adds the register that is wrong, what it holds and what is required of it.
 #![tactic(auto)]
 
 mod breaks;
@@ -9,6 +9,7 @@ mod data_checks;
 mod diagnostic;
 mod due;
 mod error_position;
+mod error_words;
 mod find;
 mod hints;
 mod labels;
@@ -27,6 +28,7 @@ mod text_diagnostic;
 mod theorems;
 mod words;
 
+pub use error_words::error_word;
 pub use main_diagnostic::put_main_diagnostic;
 pub use parser_state::{LineRole, head_line, line_role};
 pub use program_diagnostic::put_program_diagnostic;

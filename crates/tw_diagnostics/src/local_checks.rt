@@ -1,4 +1,4 @@
-//! What an instruction asks of value registers.
+//! Checks of what instructions require of value registers.
 
 ghost use Rattle.std.specs.Prelude.{◌≡◌, Some, slice_get};
 ghost use Rattle.tw_code.specs.accepting.Question.{passes};
@@ -14,14 +14,14 @@ pub(crate) fn is_unmet(number: u8, check: &RegisterCheck) -> bool
     check.number == number && !check.is_met
 }
 
-/// The first of these that is asked in vain with a number.
+/// Returns the first of these checks that is unmet and has this code.
 pub(crate) fn first_of(number: u8, check: &[RegisterCheck]) -> Option<RegisterCheck>
     ensures { result ≡ first_unmet number check.now }
 {
     check.iter().copied().find(|check| is_unmet(number, check))
 }
 
-/// Whether two value registers are declared, and of one type.
+/// Returns whether two value registers are declared and have one type.
 fn are_alike(registers: &[Scalar], first: u8, second: u8) -> bool
     ensures { result ≡ passes (λ ty. has_type registers.now second ty) (slice_get registers.now first) }
 {
@@ -91,7 +91,7 @@ fn alike(number: u8, registers: &[Scalar], first: u8, second: u8) -> Option<Regi
     ])
 }
 
-/// What a local instruction asks, a row an instruction.
+/// Returns the first unmet check of a local instruction; each row is an instruction.
 #[rattlefmt::skip]
 pub(crate) fn unmet_by_local(number: u8, registers: &[Scalar], instr: &LocalInstr) -> Option<RegisterCheck>
     ensures { result ≡ first_unmet number (checks_local registers.now instr.now) }

@@ -1,4 +1,4 @@
-//! Which register a loop changes.
+//! Finds the register that a loop changes.
 
 ghost use Rattle.std.specs.Prelude.{◌≡◌, ◌<◌, ◌≤◌, ◌+◌, ◌^◌, false, ℕ, IsTrue, MatchOption, Some, length, slice_get};
 ghost use Rattle.tw_code.specs.accepting.Flow.{flows};
@@ -13,7 +13,7 @@ use crate::meeting::{Difference, first_difference};
 use tw_code::{Flow, Instr, flow_at};
 use tw_verify::Typing;
 
-/// Tells whether an instruction ends the loop outside so many others.
+/// Returns whether an instruction ends the loop outside `inner` others.
 fn is_end(inner: usize, flow: Flow) -> bool
     ensures { result ≡ is_end inner flow }
 {
@@ -23,7 +23,7 @@ fn is_end(inner: usize, flow: Flow) -> bool
     }
 }
 
-/// Returns how many loops are begun and not ended after one more instruction.
+/// Returns how many loops have begun and not ended after one more instruction.
 fn inner_after(inner: usize, flow: Flow) -> usize
     requires { inner < 2 ^ 62 }
     ensures is { result ≡ inner_after inner flow }
@@ -36,7 +36,7 @@ fn inner_after(inner: usize, flow: Flow) -> usize
     }
 }
 
-/// Returns the END of the loop with this first place.
+/// Returns the place of the END of the loop with this first place.
 fn loop_end(code: &[Instr], first: usize) -> Option<usize>
     requires { length code.now ≤ 4096 }
     ensures { result ≡ end_of (flows code.now) first }
@@ -52,7 +52,7 @@ fn loop_end(code: &[Instr], first: usize) -> Option<usize>
     None
 }
 
-/// Tells whether the END at a place is that of the loop which a place begins.
+/// Returns whether the END at one place ends the loop that begins at another.
 fn begins_loop(code: &[Instr], begin: usize, place: usize) -> bool
     requires short { length code.now ≤ 4096 }
     requires inside { begin < length code.now }
@@ -65,7 +65,7 @@ fn begins_loop(code: &[Instr], begin: usize, place: usize) -> bool
     }
 }
 
-/// Returns where what is at the END of a loop differs from what is at its first place.
+/// Returns the difference between the typings at the END of a loop and at its first place.
 fn difference_at_end(typings: &[Typing], first: usize, place: usize) -> Option<Difference>
     ensures { MatchOption result
         ((begun here : HeldBy) (d : ADifference) → slice_get typings.now first ≡ Some begun → slice_get typings.now place ≡ Some here → IsDifference here begun d → ⊥)
@@ -76,7 +76,7 @@ fn difference_at_end(typings: &[Typing], first: usize, place: usize) -> Option<D
     first_difference(here, begun)
 }
 
-/// Returns what the loop changes that begins at one place and ends at another.
+/// Returns what is changed by the loop that begins at one place and ends at another.
 fn change_by(code: &[Instr], typings: &[Typing], begin: usize, place: usize) -> Option<Difference>
     requires short { length code.now ≤ 4096 }
     requires inside { begin < length code.now }
@@ -91,7 +91,7 @@ fn change_by(code: &[Instr], typings: &[Typing], begin: usize, place: usize) -> 
     }
 }
 
-/// Returns what the loop changes whose END is at a place.
+/// Returns what is changed by the loop whose END is at a place.
 pub(crate) fn changed_at(code: &[Instr], typings: &[Typing], place: usize) -> Option<Difference>
     requires { length code.now ≤ 4096 }
     ensures { MatchOption result

@@ -1,4 +1,4 @@
-//! Why a procedure can't be main.
+//! Finds why a procedure can't be main.
 
 ghost use Rattle.std.specs.Prelude.{◌≡◌, ◌<◌, ◌+◌, ◌++◌, length, OnOk};
 ghost use Rattle.tw_diagnostics.specs.Reasons.{param_line, params_line, shape_line, unwanted_text};
@@ -13,9 +13,9 @@ fn unwanted_text(is_val: bool) -> &'static str
     ensures { result.now ≡ unwanted_text is_val }
 {
     if is_val {
-        ", asked: no value\n"
+        ", required: no value\n"
     } else {
-        ", asked: a scalar or a container of scalars\n"
+        ", required: a scalar or a container of scalars\n"
     }
 }
 
@@ -33,7 +33,7 @@ fn put_param_line(
     put(out, unwanted_text(param.mode.is_val()))
 }
 
-/// Tells the first parameter from one on that main may not have.
+/// Adds the first parameter from one on that main may not have.
 fn put_params_line(
     alloc: Global,
     out: &mut Vec<u8>,
@@ -65,7 +65,7 @@ pub fn put_main_diagnostic(
     ensures { OnOk result (out.new.items ≡ out.old.items ++ shape_line main.now.kind main.now.params) }
 {
     match main.kind {
-        Kind::Leaf => put(out, "main is a leaf, asked: control\n"),
+        Kind::Leaf => put(out, "main is a leaf, required: control\n"),
         Kind::Control => put_params_line(alloc, out, 1, main.params.as_slice()),
     }
 }

@@ -1,4 +1,4 @@
-//! Typings that differ where ways meet.
+//! Typings that differ where two ways meet.
 
 ghost use Rattle.std.specs.Prelude.{◌≡◌, ◌≢◌, ◌<◌, ◌≤◌, ◌^◌, ℕ, false, Some, IsTrue, MatchOption, length};
 ghost use Rattle.tw_code.specs.accepting.Flow.{flow_of, onward};
@@ -17,7 +17,7 @@ ghost use Rattle.tw_diagnostics.specs.declared.meeting.Difference.{Difference as
 use tw_code::{Instr, Procedure, Way};
 use tw_verify::{RightType, Typing, next_place};
 
-/// A register of which two typings say something else.
+/// A register on which two typings differ.
 #[derive(Clone, Copy)]
 pub(crate) struct Difference {
     pub(crate) register: u8,
@@ -25,14 +25,14 @@ pub(crate) struct Difference {
     pub(crate) second: Option<RightType>,
 }
 
-/// Whether two rights are the same.
+/// Returns whether two rights are the same.
 fn is_same(first: RightType, second: RightType) -> bool
     ensures { result ≡ same_right first second }
 {
     first.mode() == second.mode() && first.ty() == second.ty()
 }
 
-/// Whether two registers hold the same.
+/// Returns whether two registers hold the same.
 fn hold_same(first: Option<RightType>, second: Option<RightType>) -> bool
     ensures { result ≡ option_eq same_right first second }
 {
@@ -45,7 +45,7 @@ fn hold_same(first: Option<RightType>, second: Option<RightType>) -> bool
     }
 }
 
-/// Whether two typings say something else of a register.
+/// Returns whether two typings differ on a register.
 fn differ(first: &Typing, second: &Typing, register: u8) -> bool
     requires { register < 16 }
     ensures alike { result ≡ false → right_at first.now register ≡ right_at second.now register }
@@ -54,7 +54,7 @@ fn differ(first: &Typing, second: &Typing, register: u8) -> bool
     !hold_same(first.right_at(register), second.right_at(register))
 }
 
-/// The first register of which two typings say something else.
+/// Returns the first register on which two typings differ.
 pub(crate) fn first_difference(first: &Typing, second: &Typing) -> Option<Difference>
     ensures { MatchOption result ((d : ADifference) → IsDifference first.now second.now d → ⊥) (IsDifference first.now second.now) }
 {
@@ -70,7 +70,7 @@ pub(crate) fn first_difference(first: &Typing, second: &Typing) -> Option<Differ
     None
 }
 
-/// Whether an instruction at a place goes on at another by this outcome.
+/// Returns whether an instruction at one place continues at another with this outcome.
 fn goes_on(way: Way, before: usize, instr: &Instr, place: usize) -> bool
     requires { before < 2 ^ 32 }
     ensures goes { IsTrue result → onward way before (flow_of instr.now) ≡ Some place }
@@ -82,7 +82,7 @@ fn goes_on(way: Way, before: usize, instr: &Instr, place: usize) -> bool
     }
 }
 
-/// The first place that leads to one.
+/// Returns the first place that leads to this one.
 fn first_leading(code: &[Instr], place: usize) -> Option<usize>
     requires { length code.now ≤ 4096 }
     ensures { MatchOption result ((before : ℕ) → LeadsTo code.now before place → ⊥) (λ before. LeadsTo code.now before place) }
@@ -100,7 +100,7 @@ fn first_leading(code: &[Instr], place: usize) -> Option<usize>
     None
 }
 
-/// Where what a place brings by this outcome differs from what is at another.
+/// Returns the difference between what a place brings with this outcome and the typing of another place.
 fn brought(
     procedures: &[Procedure],
     procedure: &Procedure,
@@ -127,7 +127,7 @@ fn brought(
     }
 }
 
-/// Two places that lead to one, of which the second brings another typing than is there.
+/// Two places that lead to a third. The second brings a typing that differs from the one there.
 #[derive(Clone, Copy)]
 pub(crate) struct Meeting {
     pub(crate) first: usize,
@@ -135,7 +135,7 @@ pub(crate) struct Meeting {
     pub(crate) difference: Difference,
 }
 
-/// The first place before one that brings another typing than is there.
+/// Returns the first place that leads to this one and brings a typing that differs from the one here.
 fn second_of(
     procedures: &[Procedure],
     procedure: &Procedure,
@@ -176,7 +176,7 @@ fn second_of(
     None
 }
 
-/// The first place that leads to one, and the first that brings another typing than is there.
+/// Returns the first place that leads to this one, and the first that brings a typing that differs from the one here.
 pub(crate) fn meeting_at(
     procedures: &[Procedure],
     procedure: &Procedure,

@@ -1,6 +1,6 @@
-//! What is told where ways meet whose typings differ.
+//! Diagnostics of ways that meet with different typings.
 
-ghost use Rattle.std.specs.Prelude.{◌≡◌, ◌++◌, OnOk};
+ghost use Rattle.std.specs.Prelude.{◌≡◌, ◌++◌, OnOk, codes};
 ghost use Rattle.tw_asm.specs.Origins.{at_place};
 ghost use Rattle.tw_diagnostics.specs.Reasons.{changed_line, holding_text, meeting_line, place_text, side_text};
 
@@ -12,7 +12,7 @@ use tw_asm::LineNumbers;
 use tw_lexer::{put, put_numbered};
 use tw_verify::RightType;
 
-/// Adds the line of the text from which the instruction at a place comes, or the place.
+/// Adds the line of the text from which the instruction at a place comes; if it isn't known, adds the place.
 fn put_place(
     alloc: Global,
     out: &mut Vec<u8>,
@@ -37,7 +37,7 @@ fn put_holding(out: &mut Vec<u8>, right: Option<RightType>) -> Result<(), AllocE
     }
 }
 
-/// What a way brings.
+/// Adds what a way brings.
 fn put_side(
     alloc: Global,
     out: &mut Vec<u8>,
@@ -49,11 +49,11 @@ fn put_side(
     ensures { OnOk result (out.new.items ≡ out.old.items ++ side_text lines.now.procedures procedure place right) }
 {
     put_holding(out, right)?;
-    put(out, " behind ")?;
+    put(out, " after ")?;
     put_place(alloc, out, lines, procedure, place)
 }
 
-/// Which register differs where ways meet, and what each way brings.
+/// Adds which register differs where ways meet, and what each way brings.
 pub(crate) fn put_meeting(
     alloc: Global,
     out: &mut Vec<u8>,
@@ -85,6 +85,15 @@ pub(crate) fn put_meeting(
     put(out, "\n")
 }
 
+/// Adds the end of a line: what a register held where the loop begins.
+fn put_held_before(out: &mut Vec<u8>, right: Option<RightType>) -> Result<(), AllocError>
+    ensures { OnOk result (out.new.items ≡ out.old.items ++ (codes ", required: " ++ (holding_text right ++ codes ", as where the loop begins\n"))) }
+{
+    put(out, ", required: ")?;
+    put_holding(out, right)?;
+    put(out, ", as where the loop begins\n")
+}
+
 /// Adds what a register holds, and what it held where the loop begins.
 pub(crate) fn put_changed(
     alloc: Global,
@@ -99,7 +108,5 @@ pub(crate) fn put_changed(
         found.register,
         RegisterState::Right(found.first),
     )?;
-    put(out, ", asked: ")?;
-    put_holding(out, found.second)?;
-    put(out, ", as where the loop begins\n")
+    put_held_before(out, found.second)
 }

@@ -1,4 +1,4 @@
-//! What lines say, by their first words.
+//! Roles of lines by their first words, and the parser's state before a line.
 
 ghost use Rattle.std.specs.Prelude.{◌≡◌, ◌≢◌, ◌+◌, ◌++◌, [], ◌∷◌, ℕ, List, Option, None, Some, IfOk, MatchOption, length, map};
 ghost use Rattle.std.specs.Str.Lines.{lines};
@@ -15,24 +15,24 @@ use std::alloc::{AllocError, Global};
 use tw_code::Version;
 use tw_lexer::{Word, digits, words_of};
 
-/// What a line says that can follow the ones before it.
+/// A role of a line that can follow the lines before it.
 #[derive(Clone, Copy)]
 pub enum LineRole {
-    /// Nothing: it is empty, or a comment.
+    /// No role: the line is empty, or a comment.
     Nothing,
-    /// The version of the language.
+    /// The line has the version of the language.
     Version(Version),
-    /// A procedure begins.
+    /// A procedure begins in the line.
     Head,
-    /// The types of its value registers.
+    /// The line has the types of its procedure's value registers.
     Registers,
-    /// A label.
+    /// The line is a label.
     Label,
-    /// An instruction.
+    /// The line is an instruction.
     Code,
 }
 
-/// What may begin a line.
+/// A stage of a text: what may begin its next line.
 #[derive(Clone, Copy, PartialEq, Eq)]
 pub(crate) enum Stage {
     Start,
@@ -54,7 +54,7 @@ impl Stage {
     }
 }
 
-/// What the lines so far have said.
+/// The parser's state after the lines so far.
 #[derive(Clone, Copy)]
 pub(crate) struct ParserState {
     pub(crate) version: Version,
@@ -71,7 +71,7 @@ fn version_by(number: u64) -> Version
     }
 }
 
-/// The version of a number, 1 or 2.
+/// Returns the version with this number, 1 or 2.
 fn version_in(text: &[u8]) -> Version
     ensures { (number : ℕ) → SpellsDigits number text.now → IsWithin 1 2 number → result ≡ version_by number }
 {
@@ -81,7 +81,7 @@ fn version_in(text: &[u8]) -> Version
     }
 }
 
-/// The version of the number behind `version`.
+/// Returns the version with the number after `version`.
 fn version_after(others: &[Word<'_>]) -> Version
     ensures { (number : ℕ) (text : List ℕ) → map seen others.now ≡ Bare text ∷ [] → SpellsDigits number text → IsWithin 1 2 number → result ≡ version_by number }
 {
@@ -94,7 +94,7 @@ fn version_after(others: &[Word<'_>]) -> Version
     }
 }
 
-/// What stands before a `:` that stands last.
+/// Returns what precedes a `:` at the end of a word.
 fn before_colon(word: &[u8]) -> Option<&[u8]>
     ensures { MatchOption result
         ((front : List ℕ) → word.now ≢ front ++ 58 ∷ [])
@@ -103,7 +103,7 @@ fn before_colon(word: &[u8]) -> Option<&[u8]>
     word.strip_suffix(b":")
 }
 
-/// What these words say, if they are a statement.
+/// Returns the role of these words, if they are a statement.
 fn words_role(first: &[u8], others: &[Word<'_>]) -> LineRole
     ensures { (version : AVersion) (statement : Statement) → Say version statement (Bare first.now ∷ map seen others.now) → result ≡ says_of (Some statement) }
 {
@@ -135,7 +135,7 @@ fn said_in(words: &[Word<'_>]) -> LineRole
     }
 }
 
-/// What a line says, if it can follow the ones before it.
+/// Returns the role of a line, if it can follow the lines before it.
 pub fn line_role(alloc: Global, line: &str) -> Result<LineRole, AllocError>
     ensures { IfOk result (λ says. (s : Standing) (said : Option Statement) → LineSays s line.now said → says ≡ says_of said) }
 {
@@ -168,7 +168,7 @@ fn version_after_line(version: Version, says: LineRole) -> Version
     }
 }
 
-/// The situation behind a line that says this.
+/// Returns the parser's state after a line with this role.
 fn behind(situation: ParserState, says: LineRole) -> ParserState
     ensures { result ≡ behind situation says }
 {
@@ -178,7 +178,7 @@ fn behind(situation: ParserState, says: LineRole) -> ParserState
     }
 }
 
-/// The situation before the line of this number, from 1.
+/// Returns the parser's state before the line with this number, from 1.
 pub(crate) fn situation_before(
     alloc: Global,
     text: &str,
@@ -214,7 +214,7 @@ fn is_head(says: LineRole) -> bool
     }
 }
 
-/// The number of the line that begins the first procedure, from 1, if one does.
+/// Returns the number of the line that begins the first procedure, from 1, if there is one.
 pub fn head_line(alloc: Global, text: &str) -> Result<Option<usize>, AllocError>
     ensures { IfOk result (λ found. (said : List (Option Statement)) → LinesSay 1 at_start (lines text.now) said → MatchOption found (HasNoHead said) (IsFirstHead text.now)) }
 {

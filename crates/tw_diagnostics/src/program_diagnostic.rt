@@ -1,6 +1,6 @@
-//! Why a program isn't accepted.
+//! Diagnostics of a program that the verifier rejects.
 
-ghost use Rattle.std.specs.Prelude.{◌≡◌, ◌<◌, ◌+◌, ◌-◌, ◌++◌, Some, length, nat_lt, OnOk, slice_get};
+ghost use Rattle.std.specs.Prelude.{◌≡◌, ◌<◌, ◌+◌, ◌-◌, ◌++◌, Some, codes, decimal, length, nat_lt, OnOk, slice_get};
 ghost use Rattle.tw_code.specs.format.Program.{IsInstr, IsProcedure};
 ghost use Rattle.tw_code.specs.machine.Arguments.{params_of};
 ghost use Rattle.tw_verify.specs.declared.rejection.VerifyError.TheVariants as rejection;
@@ -17,7 +17,7 @@ use tw_code::{Flow, Instr, Procedure};
 use tw_lexer::{put, put_decimal, put_numbered};
 use tw_verify::{Refused, Typing, VerifyError};
 
-// ---- a register that is asked in vain
+// ---- a register with an unmet check
 
 fn put_unmet(
     alloc: Global,
@@ -32,7 +32,7 @@ fn put_unmet(
     }
 }
 
-/// What a place asks a register in vain.
+/// Adds the first unmet check at a place.
 #[rattlefmt::skip]
 fn put_unmet_at(alloc: Global, out: &mut Vec<u8>, number: u8, procedures: &[Procedure], procedure: &Procedure, place: usize, instr: &Instr, typings: &[Typing]) -> Result<(), AllocError>
     requires is { IsProcedure procedure.now }
@@ -63,7 +63,7 @@ fn is_inside(goal: usize, count: usize) -> bool
     goal < count
 }
 
-/// Why a goal isn't one.
+/// Adds why a goal is invalid: it is outside the loop, or outside the code.
 fn put_outside(
     alloc: Global,
     out: &mut Vec<u8>,
@@ -92,7 +92,7 @@ fn put_unmatched(out: &mut Vec<u8>, flow: Flow) -> Result<(), AllocError>
 {
     match flow {
         Flow::Close => put(out, "it has no REPEAT\n"),
-        _ => put(out, "it has no END, or stands in four loops\n"),
+        _ => put(out, "it has no END, or is in four loops already\n"),
     }
 }
 
@@ -100,12 +100,12 @@ fn put_misplaced(out: &mut Vec<u8>, flow: Flow) -> Result<(), AllocError>
     ensures { OnOk result (out.new.items ≡ out.old.items ++ misplaced_line flow) }
 {
     match flow {
-        Flow::Stop => put(out, "it stands in a loop\n"),
+        Flow::Stop => put(out, "it is in a loop\n"),
         _ => put(out, "the last instruction must be RET\n"),
     }
 }
 
-/// The procedure that an instruction names, and how many arguments it has for it.
+/// Returns the procedure that an instruction names, and how many arguments it passes.
 fn named_by(instr: &Instr) -> (usize, usize)
     ensures { result ≡ named_by instr.now }
 {
@@ -114,6 +114,14 @@ fn named_by(instr: &Instr) -> (usize, usize)
         Instr::Put(action) => (action.procedure as usize, action.args.as_slice().len()),
         Instr::Local(_) | Instr::Data(_) | Instr::Ret => (0, 0),
     }
+}
+
+/// Adds the end of a line: the number of the last procedure.
+fn put_last(alloc: Global, out: &mut Vec<u8>, last: usize) -> Result<(), AllocError>
+    ensures { OnOk result (out.new.items ≡ out.old.items ++ (codes " doesn't exist, the last one is " ++ (decimal last ++ codes "\n"))) }
+{
+    put_numbered(alloc, out, " doesn't exist, the last one is ", last)?;
+    put(out, "\n")
 }
 
 fn put_unknown(
@@ -125,11 +133,10 @@ fn put_unknown(
     ensures { OnOk result (out.new.items ≡ out.old.items ++ unknown_line procedure last) }
 {
     put_numbered(alloc, out, "procedure ", procedure)?;
-    put_numbered(alloc, out, " is asked, the last one is ", last)?;
-    put(out, "\n")
+    put_last(alloc, out, last)
 }
 
-/// The number of the last procedure.
+/// Returns the number of the last procedure.
 fn last_of(procedures: &[Procedure]) -> usize
     ensures { result ≡ length procedures.now - 1 }
 {
@@ -151,13 +158,20 @@ fn arguments_text(args: usize) -> &'static str
     if args == 1 { " argument" } else { " arguments" }
 }
 
+/// Adds the end of a line: how many parameters there are.
+fn put_params(alloc: Global, out: &mut Vec<u8>, params: usize) -> Result<(), AllocError>
+    ensures { OnOk result (out.new.items ≡ out.old.items ++ (codes ", required: " ++ (decimal params ++ codes "\n"))) }
+{
+    put_numbered(alloc, out, ", required: ", params)?;
+    put(out, "\n")
+}
+
 fn put_count(alloc: Global, out: &mut Vec<u8>, args: usize, params: usize) -> Result<(), AllocError>
     ensures { OnOk result (out.new.items ≡ out.old.items ++ count_line args params) }
 {
     put_decimal(alloc, out, args)?;
     put(out, arguments_text(args))?;
-    put_numbered(alloc, out, ", asked: ", params)?;
-    put(out, "\n")
+    put_params(alloc, out, params)
 }
 
 // ---- a place
@@ -186,7 +200,7 @@ fn put_loop(alloc: Global, out: &mut Vec<u8>, lines: &LineNumbers, procedures: &
     }
 }
 
-/// Adds what a refusal of the verifier means, a refusal a line.
+/// Adds the meaning of the verifier's error; each row is an error.
 #[rattlefmt::skip]
 fn put_at(alloc: Global, out: &mut Vec<u8>, lines: &LineNumbers, refused: &Refused, procedure: &Procedure, instr: &Instr, typings: &[Typing]) -> Result<(), AllocError>
     requires is { IsProcedure procedure.now }
@@ -205,12 +219,12 @@ fn put_at(alloc: Global, out: &mut Vec<u8>, lines: &LineNumbers, refused: &Refus
         VerifyError::Unmatched => put_unmatched(out, instr.flow()),
         VerifyError::TypingsDiffer => put_differing(alloc, out, lines, procedures, refused.procedure, procedure, place, instr, typings),
         VerifyError::TypingChanged => put_loop(alloc, out, lines, procedures, refused.procedure, procedure, place, instr, typings),
-        VerifyError::Unreached => put(out, "no way leads here\n"),
+        VerifyError::Unreached => put(out, "no path leads here\n"),
         VerifyError::RightLeft => put_unmet_at(alloc, out, 10, procedures, procedure, place, instr, typings),
         VerifyError::MisplacedRet => put_misplaced(out, instr.flow()),
         VerifyError::UnknownProcedure => put_unknown(alloc, out, named_by(instr).0, last_of(procedures)),
         VerifyError::ArgumentCount => put_count(alloc, out, named_by(instr).1, param_count(procedures, named_by(instr).0)),
-        VerifyError::ActionInLeaf => put(out, "the procedure is a leaf, asked: control\n"),
+        VerifyError::ActionInLeaf => put(out, "the procedure is a leaf, required: control\n"),
         VerifyError::ScalarWrite => put_unmet_at(alloc, out, 15, procedures, procedure, place, instr, typings),
         VerifyError::BudgetTooLarge => put(out, "some walk is longer than 1000000000 instructions\n"),
         VerifyError::MainShape | VerifyError::NoMemory => Ok(()),
@@ -246,7 +260,7 @@ fn put_in(
     }
 }
 
-/// Adds what is wrong at the place of a refusal, behind the line of the instruction there.
+/// Adds what is wrong at the place of an error, to be printed after the line of the instruction there.
 pub fn put_program_diagnostic(
     alloc: Global,
     out: &mut Vec<u8>,

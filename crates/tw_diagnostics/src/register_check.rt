@@ -1,4 +1,4 @@
-//! What is asked of one register, and what it holds.
+//! Checks of one register: what it holds, and what is required of it.
 
 ghost use Rattle.std.specs.Prelude.{◌≡◌, ◌<◌, ◌++◌, OnOk, codes, decimal, slice_get};
 ghost use Rattle.tw_diagnostics.specs.RegisterCheck.{are_two, has_type, holds, is_declared, is_empty, is_of, scalar_requirement};
@@ -10,27 +10,27 @@ use tw_lexer::{put, put_both, put_numbered};
 use tw_types::{DataType, Mode, Param, Scalar};
 use tw_verify::{RightType, Typing};
 
-/// What a register holds.
+/// The content of a register.
 #[derive(Clone, Copy)]
 pub(crate) enum RegisterState {
-    /// A value register, by its type; one that isn't declared has none.
+    /// A value register with its type; an undeclared one has none.
     Value(Option<Scalar>),
-    /// A right register.
+    /// A right register with the right that it holds, if any.
     Right(Option<RightType>),
     /// A register that is named a second time.
     Twice,
 }
 
-/// What is asked of it.
+/// A requirement on a register.
 #[derive(Clone, Copy)]
 pub(crate) enum Requirement {
     AnyScalar,
     Scalar(Scalar),
     Empty,
     TwoRegisters,
-    /// A right to write a scalar; of this type, where it is known.
+    /// A right to write a scalar; of this type, if it is known.
     WriteScalar(Option<Scalar>),
-    /// A right on a closed scalar; of this type, where it is known.
+    /// A right on a closed scalar; of this type, if it is known.
     ClosedScalar(Option<Scalar>),
     /// A right to write a container with such subscripts.
     WriteContainer(Scalar),
@@ -40,13 +40,13 @@ pub(crate) enum Requirement {
     AnyWrite,
     AnyContainerWrite,
     AnyRead,
-    /// A right to read data of this type; of any, where it isn't known.
+    /// A right to read data of this type; of any type, if it isn't known.
     ReadOf(Option<DataType>),
-    /// What may stand for a parameter, where the task waits for its data or not.
+    /// A right that a parameter accepts; the flag says whether the task waits for its data.
     Param(bool, Param),
 }
 
-/// A question about a register of one bank: the number of the refusal where its answer is no.
+/// A check of one register in a bank, with the code of the error if it is unmet.
 #[derive(Clone, Copy)]
 pub(crate) struct RegisterCheck {
     pub(crate) number: u8,
@@ -65,7 +65,7 @@ fn scalar_requirement(ty: Option<Scalar>) -> Requirement
     }
 }
 
-/// The type of a value register, if it is declared.
+/// Returns the type of a value register, if it is declared.
 pub(crate) fn declared(registers: &[Scalar], register: u8) -> Option<Scalar>
     ensures { result ≡ slice_get registers.now register }
 {
@@ -81,7 +81,7 @@ pub(crate) fn has_type(registers: &[Scalar], register: u8, ty: Scalar) -> bool
     }
 }
 
-/// V01: a value register is declared.
+/// Returns the check that a value register is declared (V01).
 pub(crate) fn is_declared(registers: &[Scalar], register: u8, ty: Option<Scalar>) -> RegisterCheck
     ensures { result ≡ is_declared registers.now register ty }
 {
@@ -95,7 +95,7 @@ pub(crate) fn is_declared(registers: &[Scalar], register: u8, ty: Option<Scalar>
     }
 }
 
-/// V02: a value register is of a type.
+/// Returns the check that a value register has a type (V02).
 pub(crate) fn is_of(
     registers: &[Scalar],
     register: u8,
@@ -113,7 +113,7 @@ pub(crate) fn is_of(
     }
 }
 
-/// A right register holds such a right.
+/// Returns the check that a right register holds such a right.
 pub(crate) fn holds(
     number: u8,
     typing: &Typing,
@@ -133,7 +133,7 @@ pub(crate) fn holds(
     }
 }
 
-/// V03: a right register is empty.
+/// Returns the check that a right register is empty (V03).
 pub(crate) fn is_empty(typing: &Typing, register: u8) -> RegisterCheck
     requires { register < 16 }
     ensures { result ≡ is_empty typing.now register }
@@ -147,7 +147,7 @@ pub(crate) fn is_empty(typing: &Typing, register: u8) -> RegisterCheck
     )
 }
 
-/// V03: two right registers are different.
+/// Returns the check that two right registers are different (V03).
 pub(crate) fn are_two(first: u8, second: u8) -> RegisterCheck
     ensures { result ≡ are_two first second }
 {
@@ -227,7 +227,7 @@ fn put_of_type(out: &mut Vec<u8>, front: &str, ty: DataType) -> Result<(), Alloc
     put_type(out, ty)
 }
 
-/// Adds what is wanted of a register.
+/// Adds what is required of a register.
 pub(crate) fn put_requirement(out: &mut Vec<u8>, wanted: Requirement) -> Result<(), AllocError>
     ensures { OnOk result (out.new.items ≡ out.old.items ++ wanted_text wanted) }
 {
@@ -254,7 +254,16 @@ pub(crate) fn put_requirement(out: &mut Vec<u8>, wanted: Requirement) -> Result<
     }
 }
 
-/// Adds what a register holds and what was asked of it.
+/// Adds the end of a line: what is required of a register.
+fn put_required(out: &mut Vec<u8>, wanted: Requirement) -> Result<(), AllocError>
+    ensures { OnOk result (out.new.items ≡ out.old.items ++ (codes ", required: " ++ (wanted_text wanted ++ codes "\n"))) }
+{
+    put(out, ", required: ")?;
+    put_requirement(out, wanted)?;
+    put(out, "\n")
+}
+
+/// Adds what a register holds and what is required of it.
 pub(crate) fn put_check(
     alloc: Global,
     out: &mut Vec<u8>,
@@ -263,7 +272,5 @@ pub(crate) fn put_check(
     ensures { OnOk result (out.new.items ≡ out.old.items ++ asked_line check.now) }
 {
     put_held(alloc, out, check.register, check.held)?;
-    put(out, ", asked: ")?;
-    put_requirement(out, check.wanted)?;
-    put(out, "\n")
+    put_required(out, check.wanted)
 }

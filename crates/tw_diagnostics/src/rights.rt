@@ -1,4 +1,4 @@
-//! What registers hold, as text.
+//! Text for what registers hold.
 
 ghost use Rattle.std.specs.Prelude.{◌≡◌, ◌++◌, OnOk, if◌then◌else◌};
 ghost use Rattle.tw_asm.specs.Parts.{container_word, mode_word, scalar_word};
@@ -31,7 +31,7 @@ pub(crate) fn mode_word(mode: Mode) -> &'static str
     }
 }
 
-/// The word of a container with such subscripts.
+/// Returns the word for a container with such subscripts.
 pub(crate) fn container_word(by: Scalar) -> &'static str
     ensures { result.now ≡ container_word by }
 {
@@ -41,7 +41,7 @@ pub(crate) fn container_word(by: Scalar) -> &'static str
     }
 }
 
-/// By what the members of a container are named.
+/// Returns the type of a container's subscripts.
 fn outermost(ty: DataType) -> Scalar
     ensures { result ≡ (if is_container_by Text ty then Text else Int) }
 {
@@ -67,7 +67,7 @@ pub fn put_type(out: &mut Vec<u8>, ty: DataType) -> Result<(), AllocError>
     }
 }
 
-/// A mode and a type.
+/// Adds a parameter: its mode and type.
 pub(crate) fn put_param(out: &mut Vec<u8>, param: Param) -> Result<(), AllocError>
     ensures { OnOk result (out.new.items ≡ out.old.items ++ param_text param) }
 {
@@ -76,7 +76,7 @@ pub(crate) fn put_param(out: &mut Vec<u8>, param: Param) -> Result<(), AllocErro
     put_type(out, param.ty)
 }
 
-/// What a right is.
+/// Adds a right: its mode and type.
 pub(crate) fn put_right(out: &mut Vec<u8>, right: RightType) -> Result<(), AllocError>
     ensures { OnOk result (out.new.items ≡ out.old.items ++ right_text right) }
 {

@@ -1,4 +1,4 @@
-//! One word more of a line.
+//! Progress in a line, word by word.
 
 ghost use Rattle.std.specs.Prelude.{◌≡◌, ◌<◌, IfSome, option_map};
 ghost use Rattle.tw_lexer.specs.Seen.{seen};
@@ -12,16 +12,16 @@ use tw_code::{Form, Version, form_at};
 use tw_lexer::Word;
 use tw_types::Mode;
 
-/// What has been read of a statement.
+/// The words of a statement that have been read.
 #[derive(Clone, Copy)]
 pub(crate) enum Read<'a> {
-    /// The name of an instruction, and so many of its operands; a label, which has none, counts as a name.
+    /// The name of an instruction, and this many of its operands; a label, which has none, counts as a name.
     Operands(&'a [u8], usize),
     /// `version`.
     Version,
     /// `proc`.
     Head,
-    /// The kind of a procedure, and whole parameters.
+    /// The kind of a procedure, and complete parameters.
     Params,
     /// The mode of a right, and containers around its type.
     RightMode,
@@ -33,7 +33,7 @@ pub(crate) enum Read<'a> {
     Whole,
 }
 
-/// What has been read of a line, with how many items, and how many containers in the last of them.
+/// The progress in a line: what has been read, how many items it has, and how many containers are in the last item.
 #[derive(Clone, Copy)]
 pub(crate) struct LineProgress<'a> {
     read: Read<'a>,
@@ -65,7 +65,7 @@ fn ends_at(form: Option<Form>) -> bool
 }
 
 impl<'a> LineProgress<'a> {
-    /// Behind the first word of a statement.
+    /// Returns the progress after the first word of a statement.
     pub(crate) fn after_first(word: &'a [u8]) -> LineProgress<'a>
         ensures { result.read ≡ first_read word.entry }
     {
@@ -76,7 +76,7 @@ impl<'a> LineProgress<'a> {
         }
     }
 
-    /// What is due next, if the line may go on.
+    /// Returns what may come next, if anything.
     pub(crate) fn due(self, version: Version) -> Option<Due> {
         match self.read {
             Read::Operands(name, place) => match form_at(version, name, place) {
@@ -93,7 +93,7 @@ impl<'a> LineProgress<'a> {
         }
     }
 
-    /// Whether the line may end.
+    /// Returns whether the line may end.
     pub(crate) fn may_end(self, version: Version) -> bool
         ensures { result ≡ may_end version self.entry.read }
     {
@@ -114,14 +114,14 @@ impl<'a> LineProgress<'a> {
         }
     }
 
-    /// That, if it may be.
+    /// Returns the progress with `read`, if it passes.
     fn only_if(self, passes: bool, read: Read<'a>) -> Option<LineProgress<'a>>
         ensures { option_map (λ a. a.read) result ≡ only_if passes read.entry }
     {
         if passes { Some(self.with(read)) } else { None }
     }
 
-    /// One item more of several, if it may be.
+    /// Returns the progress with one more item, if it passes and there are at most `most`.
     fn one_more(
         self,
         ask: Ask,
@@ -143,7 +143,7 @@ impl<'a> LineProgress<'a> {
         }
     }
 
-    /// One container more, if it may be.
+    /// Returns the progress with one more container, if it passes and isn't nested too deeply.
     fn deeper(self, ask: Ask, passes: bool) -> Option<LineProgress<'a>>
         ensures { ask ≡ asked.Form → option_map (λ a. a.read) result ≡ only_if passes self.entry.read }
     {
@@ -159,7 +159,7 @@ impl<'a> LineProgress<'a> {
         }
     }
 
-    /// One word more of a type, with this behind it.
+    /// Returns the progress after one more word of a type. If the word ends the type, `whole` has been read.
     fn after_type(
         self,
         ask: Ask,
@@ -213,7 +213,7 @@ impl<'a> LineProgress<'a> {
         }
     }
 
-    /// Behind one word more, if that may stand here.
+    /// Returns the progress after one more word, if that may come here.
     #[rattlefmt::skip]
     pub(crate) fn behind(self, ask: Ask, version: Version, word: &Word<'_>) -> Option<LineProgress<'a>>
         ensures { ask ≡ asked.Form → option_map (λ a. a.read) result ≡ after version self.entry.read (seen word.now) }

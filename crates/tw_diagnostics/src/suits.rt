@@ -1,4 +1,4 @@
-//! Which rights do what is asked.
+//! Tests of rights: which do what is required.
 
 ghost use Rattle.std.specs.Prelude.{◌≡◌};
 ghost use Rattle.tw_code.specs.accepting.Question.{passes};
@@ -85,7 +85,7 @@ fn is_member(container: RightType, member: RightType) -> bool
     }
 }
 
-/// Whether a right reads what the datum of the other has as members.
+/// Returns whether a right reads what the container of the other has as members.
 pub(crate) fn reads_member_of(container: Option<RightType>, member: Option<RightType>) -> bool
     ensures { result ≡ passes (λ c. passes (reads_member_of c) member) container }
 {
@@ -98,7 +98,7 @@ pub(crate) fn reads_member_of(container: Option<RightType>, member: Option<Right
     }
 }
 
-/// Whether a right may stand for a parameter; for a `closed` one any read may, if the task waits for its data.
+/// Returns whether a parameter accepts a right; a `closed` one accepts any read, if the task waits for its data.
 fn stands_for(waits: bool, param: Param, right: RightType) -> bool
     ensures { result ≡ may_stand_for waits param right }
 {

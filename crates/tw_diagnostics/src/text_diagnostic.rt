@@ -1,4 +1,4 @@
-//! Why a text spells no program.
+//! Diagnostics of a text that isn't assembled.
 
 ghost use Rattle.std.specs.Prelude.{◌≡◌, ◌++◌, ℕ, List, OnOk};
 ghost use Rattle.tw_asm.specs.declared.fault.FaultNo.TheVariants as fault;
@@ -47,7 +47,7 @@ fn said_of(due: Option<Due>, hint: Hint) -> Diagnostic<'static>
     }
 }
 
-/// Adds what may go on (A02).
+/// Adds what may come next (A02).
 fn put_operand(
     alloc: Global,
     out: &mut Vec<u8>,
@@ -67,7 +67,7 @@ fn put_operand(
     }
 }
 
-/// Adds that the label isn't there (A03).
+/// Adds that there is no such label (A03).
 fn put_unknown(alloc: Global, out: &mut Vec<u8>, line: &str) -> Result<(), AllocError>
     ensures { OnOk result ((text : List ℕ) (number : ℕ) → AddsWhy text fault.UnknownLabel number line.now out.old.items out.new.items) }
 {
@@ -82,7 +82,7 @@ fn put_unknown(alloc: Global, out: &mut Vec<u8>, line: &str) -> Result<(), Alloc
     }
 }
 
-/// Adds the line before with the same label (A04).
+/// Adds the earlier line with this label (A04).
 fn put_twice(
     alloc: Global,
     out: &mut Vec<u8>,
@@ -102,7 +102,7 @@ fn put_twice(
     )
 }
 
-/// Adds the line before with the label that is named (A05).
+/// Adds the earlier line with the label that is named (A05).
 fn put_backward(
     alloc: Global,
     out: &mut Vec<u8>,
@@ -119,23 +119,23 @@ fn put_backward(
                 alloc,
                 out,
                 &stop,
-                &Diagnostic::Expected("a label behind this line", at, Hint::Nothing),
+                &Diagnostic::Expected("a label after this line", at, Hint::Nothing),
             )
         }
         None => Ok(()),
     }
 }
 
-/// Names what is past its limit when no word of the line is.
+/// Names what exceeds its limit, if no word of the line does.
 fn whole_limit(first: &[u8]) -> &'static str
     ensures { result.now ≡ whole_limit first.now }
 {
     if first == b"proc".as_slice() {
-        "the procedure has no instruction, or 64 procedures stand before it"
+        "the procedure has no instruction, or 64 procedures come before it"
     } else if first.is_empty() {
         "the text has no procedure"
     } else {
-        "4096 instructions stand before it, or the text has no procedure"
+        "4096 instructions come before it, or the text has no procedure"
     }
 }
 
@@ -157,7 +157,7 @@ fn put_limit(
     }
 }
 
-/// Adds past which limit the line is (A06).
+/// Adds the limit that the line exceeds (A06).
 fn put_past(
     alloc: Global,
     out: &mut Vec<u8>,
@@ -175,7 +175,7 @@ fn put_past(
     }
 }
 
-/// Adds why a line is refused.
+/// Adds why a line is rejected.
 fn put_line_diagnostic(
     alloc: Global,
     out: &mut Vec<u8>,
@@ -196,7 +196,7 @@ fn put_line_diagnostic(
     }
 }
 
-/// Adds the line that is refused, shortened if it is long, and why it is refused.
+/// Adds the rejected line, shortened if it is long, and why it is rejected.
 pub fn put_text_diagnostic(
     alloc: Global,
     out: &mut Vec<u8>,

@@ -1,8 +1,8 @@
-//! Registers are asked what right typing asks.
+//! Theorem: registers are checked as right typing requires.
 
 ghost use Rattle.tw_diagnostics.specs.Same.{AsksTheSame};
 
-/// What is asked of registers is what the definition of right typing asks.
+/// Proves that the checks of registers are the questions of right typing.
 pub fn asks_the_same()
     ensures { AsksTheSame }
 {}

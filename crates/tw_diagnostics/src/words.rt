@@ -1,4 +1,4 @@
-//! What one word may stand for.
+//! Tests of one word: whether it may be there.
 
 ghost use Rattle.std.specs.Prelude.{◌≡◌, ◌||◌, Bool, true};
 ghost use Rattle.tw_lexer.specs.Words.{Bare};
@@ -13,7 +13,7 @@ use tw_code::{Form, Version};
 use tw_lexer::{TokenError, Word, digits, is_name, number};
 use tw_types::Mode;
 
-/// Whether limits are asked for too, or the form alone.
+/// A choice of what is tested: the form alone, or its limits too.
 #[derive(Clone, Copy)]
 pub(crate) enum Ask {
     Form,
@@ -21,7 +21,7 @@ pub(crate) enum Ask {
 }
 
 impl Ask {
-    /// Whether a number that is past its limits passes.
+    /// Returns whether a number that exceeds its limits passes.
     fn takes_any(self) -> bool
         ensures { self ≡ Ask.Form → result ≡ true }
     {
@@ -31,7 +31,7 @@ impl Ask {
         }
     }
 
-    /// Whether a number passes.
+    /// Returns whether a number passes.
     fn takes<N: Drop>(self, read: Result<N, TokenError>) -> bool
         ensures { self ≡ Ask.Form → result ≡ has_form read }
     {
@@ -42,7 +42,7 @@ impl Ask {
         }
     }
 
-    /// Whether there may be so many.
+    /// Returns whether `count` items pass, of which `most` are allowed.
     pub(crate) fn has_room(self, count: usize, most: usize) -> bool
         ensures { self ≡ Ask.Form → result ≡ true }
     {
@@ -85,7 +85,7 @@ fn is_number(ask: Ask, word: &Word<'_>) -> bool
     }
 }
 
-/// The number of a register, behind its letter.
+/// Returns whether text is this letter and the number of a register.
 fn spells_register(ask: Ask, letter: u8, text: &[u8]) -> bool
     ensures { ask ≡ Ask.Form → result ≡ has_form (register_in letter (Bare text.now)) }
 {
@@ -95,7 +95,7 @@ fn spells_register(ask: Ask, letter: u8, text: &[u8]) -> bool
     }
 }
 
-/// A register, by its letter and its number.
+/// Returns whether a word is a register with this letter.
 fn is_register(ask: Ask, letter: u8, word: &Word<'_>) -> bool
     ensures { ask ≡ Ask.Form → result ≡ has_form (register_in letter (seen word.now)) }
 {
@@ -107,7 +107,7 @@ fn is_register(ask: Ask, letter: u8, word: &Word<'_>) -> bool
 
 // ---- names
 
-/// A name that isn't too long.
+/// Returns whether text is a name that isn't too long.
 fn is_short_name(ask: Ask, text: &[u8]) -> bool
     ensures { ask ≡ Ask.Form → result ≡ is_name text.now }
 {
@@ -154,7 +154,7 @@ fn is_target(ask: Ask, word: &Word<'_>) -> bool
     is_any(word) || is_natural(ask, 0, 15, word)
 }
 
-/// A text between quotes.
+/// Returns whether a word is a text between quotes.
 fn is_literal(ask: Ask, word: &Word<'_>) -> bool
     ensures { ask ≡ Ask.Form → result ≡ is_quoted (seen word.now) }
 {
@@ -164,7 +164,7 @@ fn is_literal(ask: Ask, word: &Word<'_>) -> bool
     }
 }
 
-/// Whether a word is an operand of a form that has one word; a type and arguments may have more.
+/// Returns whether a word is an operand of a form that has one word; a type and arguments may have more.
 #[rattlefmt::skip]
 pub(crate) fn is_operand(ask: Ask, form: Form, word: &Word<'_>) -> bool
     ensures { ask ≡ Ask.Form → result ≡ is_operand form (seen word.now) }
@@ -226,7 +226,7 @@ pub(crate) fn is_scalar(word: &Word<'_>) -> bool
     }
 }
 
-/// Version 1 has no container whose subscripts are texts.
+/// Returns whether a version has containers with texts as subscripts; version 1 has none.
 fn has_text_container(version: Version) -> bool
     ensures { result ≡ has_form (text_container version) }
 {
@@ -273,7 +273,7 @@ fn spelled_mode(text: &[u8]) -> Option<Mode>
     }
 }
 
-/// How a parameter is held.
+/// Returns the mode of a parameter that a word names, if it names one.
 pub(crate) fn mode_of(word: &Word<'_>) -> Option<Mode>
     ensures { result ≡ found (mode_in (seen word.now)) }
 {

@@ -2,7 +2,7 @@ use Rattle.std.proofs.Common.{◌+◌, ◌≤◌, length, map}
 use Rattle.tw_diagnostics.specs.Labels.{IsLabelIn}
 use Rattle.tw_diagnostics.proofs.labels.label_before.Given as goal
 
--- the last label of the lines that are read, which stand before the line
+-- the last label of the lines that are read, which are before the line
 abbrev pub invariant-loop-index : goal.invariant-loop-index
 invariant-loop-index l = record {
   next : (goal.iterator-loop-index).can_next l.index-iterator;
