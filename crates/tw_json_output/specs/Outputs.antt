@@ -1,0 +1,79 @@
+-- Outputs as JSON values: an integer is a number, a text a string, and a container an object of its members.
+use Rattle.std.specs.Prelude.{ℕ, Bool, true, false, List, [], ◌∷◌, codes, map, Option, Some, None}
+use Rattle.std.specs.FinMap as fin
+use Rattle.std.specs.Fmt.{signed_decimal}
+use Rattle.std.specs.Option.{option_and_then}
+use Rattle.serde_json.specs.Data as json
+use Rattle.serde_json.specs.Find.{of_integer}
+use Rattle.tw_types.specs.DataType.{is_container_by}
+use Rattle.tw_types.specs.declared.data_type.Scalar.{Scalar}
+use Rattle.tw_types.specs.declared.data_type.Scalar.TheVariants as scalar
+use Rattle.tw_types.specs.declared.value.Value.{Value}
+use Rattle.tw_types.specs.declared.value.Value.TheVariants as value
+use Rattle.tw_types.specs.Store.{Content, Unset, Set, Contains, Datum, Data, is_closed}
+use Rattle.tw_types.specs.StoreCalls.{members_in, value_in}
+use Rattle.tw_types.specs.ValueOrder.{Subscript}
+
+abbrev pub scalar_json : Value → json.Data
+scalar_json (value.Int n) = json.number (of_integer n)
+scalar_json (value.Text text) = json.string text
+
+-- returns a scalar's value, if it has one, else null
+abbrev pub value_json : Option Value → json.Data
+value_json None = json.null
+value_json (Some v) = scalar_json v
+
+abbrev pub datum_json : Option Datum → json.Data
+datum_json x = value_json (option_and_then (λ d. value_in d.content) x)
+
+-- returns the key of a member: its subscript, in decimal digits if that is an integer
+abbrev pub key_of : Subscript → List ℕ
+key_of (value.Int n) = signed_decimal n
+key_of (value.Text text) = text
+
+-- adds members to an object, one after the other
+abbrev pub with_members : Data → json.Members → List (Subscript × ℕ) → json.Members
+with_members live members [] = members
+with_members live members (e ∷ es) = with_members live (json.put (key_of e.0) (datum_json (fin.get live e.1)) members) es
+
+-- returns the members of a container, which are scalars, each by its subscript
+abbrev pub members_json : Data → List (Subscript × ℕ) → json.Members
+members_json live members = with_members live json.no_members members
+
+abbrev pub content_json : Data → Content → json.Data
+content_json live Unset = json.null
+content_json live (Set v) = scalar_json v
+content_json live (Contains members) = json.object (members_json live (fin.entries members))
+
+-- returns an output's value; null if it is unset or was freed
+abbrev pub output_json : Data → Option Datum → json.Data
+output_json live None = json.null
+output_json live (Some x) = content_json live x.content
+
+abbrev pub outputs_json : Data → List ℕ → List json.Data
+outputs_json live ids = map (λ id. output_json live (fin.get live id)) ids
+
+-- ---- kinds, which distinguish an unset output from a freed one, and an open container from a closed one
+
+abbrev pub container_kind : Bool → Scalar → Bool → List ℕ
+container_kind false scalar.Int false = codes "cont int open"
+container_kind false scalar.Int true = codes "cont int closed"
+container_kind false scalar.Text false = codes "cont text open"
+container_kind false scalar.Text true = codes "cont text closed"
+container_kind true scalar.Int false = codes "tcont int open"
+container_kind true scalar.Int true = codes "tcont int closed"
+container_kind true scalar.Text false = codes "tcont text open"
+container_kind true scalar.Text true = codes "tcont text closed"
+
+abbrev pub content_kind : Datum → Content → List ℕ
+content_kind x Unset = codes "unset"
+content_kind x (Set (value.Int n)) = codes "int"
+content_kind x (Set (value.Text text)) = codes "text"
+content_kind x (Contains members) = container_kind (is_container_by scalar.Text x.ty) x.ty.scalar (is_closed x)
+
+abbrev pub datum_kind : Option Datum → List ℕ
+datum_kind None = codes "gone"
+datum_kind (Some x) = content_kind x x.content
+
+abbrev pub kinds_json : Data → List ℕ → List json.Data
+kinds_json live ids = map (λ id. json.string (datum_kind (fin.get live id))) ids

@@ -1,0 +1,62 @@
+//! Kinds of outputs, as words.
+
+ghost use Rattle.std.specs.Prelude.{◌≡◌, IfOk, map, option_map};
+ghost use Rattle.std.specs.Option.{option_copied};
+ghost use Rattle.serde_json.specs.View.{view};
+ghost use Rattle.tw_json_output.specs.Outputs.{container_kind, datum_kind, kinds_json};
+
+use serde_json::Value as Json;
+use std::alloc::{AllocError, Global};
+use tw_datum::{Datum, Member};
+use tw_report::ReportSource;
+use tw_types::{Scalar, Value};
+
+/// Returns the kind of a container, by whether its subscripts are texts, by its members' type, and by whether it is closed.
+fn container_kind(by_text: bool, scalar: Scalar, closed: bool) -> &'static str
+    ensures { result.now ≡ container_kind by_text scalar closed }
+{
+    match (by_text, scalar, closed) {
+        (false, Scalar::Int, false) => "cont int open",
+        (false, Scalar::Int, true) => "cont int closed",
+        (false, Scalar::Text, false) => "cont text open",
+        (false, Scalar::Text, true) => "cont text closed",
+        (true, Scalar::Int, false) => "tcont int open",
+        (true, Scalar::Int, true) => "tcont int closed",
+        (true, Scalar::Text, false) => "tcont text open",
+        (true, Scalar::Text, true) => "tcont text closed",
+    }
+}
+
+/// Returns the kind of an output, in the words of the report's lines.
+fn datum_kind<M: Member>(datum: Option<&Datum<M>>) -> &'static str
+    ensures { result.now ≡ datum_kind (option_map (λ d. d.datum) (option_copied datum.entry)) }
+{
+    let Some(datum) = datum else {
+        return "gone";
+    };
+    match datum.value() {
+        Some(Value::Int(_)) => "int",
+        Some(Value::Text(_)) => "text",
+        None if datum.is_unset() => "unset",
+        None => {
+            let ty = datum.ty();
+            container_kind(
+                ty.is_container_by(Scalar::Text),
+                ty.scalar(),
+                datum.closed(),
+            )
+        }
+    }
+}
+
+/// Returns the kinds of the outputs, from number 0 on.
+pub fn output_kinds<T: ReportSource>(alloc: Global, shown: &T) -> Result<Vec<Json>, AllocError>
+    ensures { IfOk result (λ v. map view v.items ≡ kinds_json (T.live shown.now) (T.ids shown.now)) }
+{
+    let mut kinds = Vec::new(alloc);
+    for id in shown.outputs() {
+        let kind = datum_kind(shown.datum(*id));
+        kinds.push(Json::try_from_str(alloc, kind)?)?;
+    }
+    Ok(kinds)
+}
