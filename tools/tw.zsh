@@ -16,7 +16,7 @@ case $words[2]:$PREFIX in
     asm:-*) compadd -- --names --plain --help ;;
     disasm:-*) compadd -- --text --places --help ;;
     check:-*) compadd -- --text --places --bounds --help ;;
-    run:-*) compadd -- --engines --servers --workers --limit --from --to --trace --stats --picture --in-turn --quiet --text --inputs --help ;;
+    run:-*) compadd -- --engines --servers --workers --limit --from --to --trace --stats --json --picture --in-turn --quiet --text --inputs --help ;;
     replay:-*) compadd -- --engines --servers --workers --stats --text --inputs --help ;;
     picture:-*) compadd -- --engines --servers --workers --from --to --text --inputs --help ;;
     explain:-*) compadd -- --help ;;

@@ -1,4 +1,4 @@
--- What the readers of input words find is what the words spell.
+-- The readers of input words find what the words encode.
 use Rattle.std.proofs.Common.{◌≡◌, w64, to_z, of_z, ◌≢◌, inl, inr, ◌<◌, ℕ, ℤ, List, [], ◌∷◌, ◌++◌, refl, sym, ap, subst, ◌∙◌, append_assoc, arith}
 use Rattle.std.specs.Prelude.{Err, IsUtf8}
 use Rattle.std.specs.List.{AllByRecursion}
@@ -19,7 +19,7 @@ use Rattle.tw_cli.proofs.Members.{one_cut}
 
 -- ---- integers
 
--- an integer that is passed on is itself
+-- an integer that is passed on is unchanged
 pub same_int : (n : ℤ) → IsIn64 n → to_z w64 (of_z w64 n) ≡ n
 same_int n h = grind (arith, to_z-of_z)
 
@@ -30,7 +30,7 @@ no_int text Limit (m, spells, out) = λ n h. out (subst IsIn64 (one_number n m t
 pub one_int : (n m : ℤ) (text : List ℕ) → SpellsInt n text → SpellsInt m text → n ≡ m
 one_int n m text h k = one_number n m text h.0 k.0
 
--- ---- a number before a mark
+-- ---- a number before a marker
 
 plain_digit : (mark b : ℕ) → IsMark mark → digit_value b < 10 → b ≢ mark
 plain_digit mark b (inl m) h = let d = digit_from_value b h in λ e. absurd (omega (arith, d.0, d.1, e, m))
@@ -44,12 +44,12 @@ plain_minus : (mark : ℕ) → IsMark mark → 45 ≢ mark
 plain_minus mark (inl m) = λ e. absurd (omega (arith, e, m))
 plain_minus mark (inr m) = λ e. absurd (omega (arith, e, m))
 
--- it has no mark inside
+-- it has no marker inside
 plain_number : (mark : ℕ) (n : ℤ) (text : List ℕ) → IsMark mark → SpellsNumber n text → AllByRecursion (λ b. b ≢ mark) text
 plain_number mark n text m (inl (size, h, e)) = plain_digits mark text m h.digits.1
 plain_number mark n text m (inr (size, digits, is, h, e)) = subst (AllByRecursion (λ b. b ≢ mark)) (sym is) (plain_minus mark m, plain_digits mark digits m h.digits.1)
 
--- the cut is where another number ends
+-- the cut is at the end of another number
 cut_number : (mark : ℕ) (bytes digits rest : List ℕ) (m : ℤ) (other after : List ℕ) → IsMark mark → IsCut mark bytes digits rest → SpellsInt m other → IsStop mark after → bytes ≡ other ++ after → (digits ≡ other) × (rest ≡ after)
 cut_number mark bytes digits rest m other after is cut spells stop parts =
     one_cut mark digits other rest after cut.clean (plain_number mark m other is spells.0) cut.stop stop (sym cut.parts ∙ parts)
@@ -90,7 +90,7 @@ after_equals : (xs ys : List ℕ) → 61 ∷ xs ≡ 61 ∷ ys → xs ≡ ys
 after_equals xs ys e = cc
 
 module _ {S A : Type 0} (SpellsSubscript : S → List ℕ → Type 0) (Spells : A → List ℕ → Type 0) where
-  -- its subscript stands first before `=`
+  -- its subscript is before the first `=`
   member_parts : (bytes subscript value other after : List ℕ) → other ≡ subscript ++ 61 ∷ value → bytes ≡ other ++ after → bytes ≡ subscript ++ 61 ∷ (value ++ after)
   member_parts bytes subscript value other after e parts = parts ∙ ap (λ (t : List ℕ). t ++ after) e ∙ append_assoc subscript (61 ∷ value) after
 
@@ -121,7 +121,7 @@ module _ {S A : Type 0} (SpellsSubscript : S → List ℕ → Type 0) (Spells : 
 
 -- ---- UTF-8
 
--- what follows the mark behind what stands first
+-- the rest after the marker
 pub mark_utf8 : {A : Type 0} (mark : ℕ) (Spells : A → List ℕ → Type 0) (bytes rest behind : List ℕ) (x : A) → IsMark mark → IsUtf8 bytes → IsFirst mark Spells bytes x rest → rest ≡ mark ∷ behind → IsUtf8 behind
 mark_utf8 mark Spells bytes rest behind x is u found e = cut_rest found.first mark behind (low is) (subst IsUtf8 (found.parts ∙ ap (λ (t : List ℕ). found.first ++ t) e) u)
   where
@@ -129,13 +129,13 @@ mark_utf8 mark Spells bytes rest behind x is u found e = cut_rest found.first ma
     low (inl m) = omega (arith, m)
     low (inr m) = omega (arith, m)
 
--- what follows the colon of a head
+-- the rest after the colon of a head
 pub head_utf8 : (head bytes rest : List ℕ) → IsUtf8 bytes → bytes ≡ (head ++ 58 ∷ []) ++ rest → IsUtf8 rest
 head_utf8 head bytes rest u e = cut_rest head 58 rest (omega arith) (subst IsUtf8 (e ∙ append_assoc head (58 ∷ []) rest) u)
 
 -- ---- one member alone
 
--- two that stand before a mark or the end of one text are one
+-- two values before a marker or the end of one text are equal
 abbrev pub IsOne : {A : Type 0} → ℕ → (A → List ℕ → Type 0) → Type 0
 IsOne {A} mark Spells = (x y : A) (first other rest after : List ℕ) → Spells x first → Spells y other → IsStop mark rest → IsStop mark after → first ++ rest ≡ other ++ after → (x ≡ y) × (rest ≡ after)
 

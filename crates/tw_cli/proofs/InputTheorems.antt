@@ -1,4 +1,4 @@
--- A word spells one input alone, and one input word alone is the first that spells none.
+-- A word encodes at most one input, and at most one input word is the first that encodes none.
 use Rattle.std.proofs.Common.{◌≡◌, ◌<◌, ◌+◌, ℕ, suc, false, eqb, Bor, List, [], ◌∷◌, ◌++◌, drop, get_or, length, map, take, Some, None, refl, sym, ap, subst, ◌∙◌, append_assoc, arith, codes, inl, inr}
 use Rattle.std.proofs.lemmas.List.{append_cancel_left, length-map, length-take, map-append, take-append-drop, take-map, take_more}
 use Rattle.std.proofs.lemmas.Bool.{eqb-false}
@@ -63,11 +63,11 @@ one_members SpellsSubscript Spells one only xs ys list other e h k =
 
 -- ---- a word
 
--- words whose letters differ somewhere
+-- words with different letters at one index
 apart : {xs ys : List ℕ} {Z : Type 0} (k : ℕ) → eqb (get_or xs k 0) (get_or ys k 0) ≡ false → xs ≡ ys → Z
 apart {xs} {ys} k differ e = absurd (eqb-false (get_or xs k 0) (get_or ys k 0) differ (ap (λ (t : List ℕ). get_or t k 0) e))
 
--- what two heads are followed by in one word
+-- the rests after two heads of one word
 one_rest : (given other : Input) (x y : List ℕ) → head_of given ++ x ≡ head_of other ++ y → SpellsRest given x → SpellsRest other y → given ≡ other
 one_rest (input.Int n) (input.Int m) x y e h k = ap input.Int (one_int n m y (subst (SpellsInt n) (append_cancel_left (codes "int:") x y e) h) k)
 one_rest (input.Int n) (input.Text text) x y e h k = apart 0 refl e
@@ -114,7 +114,7 @@ one_input word given other (x, e, h) (y, f, k) = one_rest given other x y (sym e
 heads : (w v : List ℕ) (ws vs : List (List ℕ)) → w ∷ ws ≡ v ∷ vs → (w ≡ v) × (ws ≡ vs)
 heads w v ws vs e = (cc, cc)
 
--- the words before two words that spell nothing are as many, where each of them spells an input
+-- two words that encode nothing have equally many words before them, if each of those encodes an input
 as_many : (before others : List (List ℕ)) (word other : List ℕ) (later after : List (List ℕ)) (inputs given : List Input) → before ++ word ∷ later ≡ others ++ other ∷ after
     → AreSpelled inputs before → AreSpelled given others → ((x : Input) → SpellsInput x word → ⊥) → ((x : Input) → SpellsInput x other → ⊥) → length before ≡ length others
 as_many [] [] word other later after inputs given e h k none nothing = refl
@@ -127,7 +127,7 @@ as_many (w ∷ before) (v ∷ others) word other later after (x ∷ inputs) [] e
 as_many (w ∷ before) (v ∷ others) word other later after (x ∷ inputs) (y ∷ given) e h k none nothing =
     ap suc (as_many before others word other later after inputs given (heads w v (before ++ word ∷ later) (others ++ other ∷ after) e).1 h.1 k.1 none nothing)
 
--- words behind as many are the same
+-- words at the same index are equal
 same_word : (before others : List (List ℕ)) (word other : List ℕ) (later after : List (List ℕ)) → before ++ word ∷ later ≡ others ++ other ∷ after → length before ≡ length others → word ≡ other
 same_word [] [] word other later after e l = (heads word other later after e).0
 same_word [] (w ∷ others) word other later after e l = absurd (omega (arith, l))
@@ -140,7 +140,7 @@ one_refused_word words refused other (before, inputs, word, later, e, h, none, i
     let same = same_word before others word second later after (sym e ∙ f) many in
     is ∙ ap (λ (n : ℕ). refused_word (suc n) (diagnostic_line (suc n) word)) many ∙ ap (λ (w : List ℕ). refused_word (suc (length others)) (diagnostic_line (suc (length others)) w)) same ∙ sym also
 
--- where each word spells an input, none is refused
+-- if each word encodes an input, none is rejected
 pub none_refused : (words : List (List ℕ)) (inputs : List Input) (number : RefusedWord) → AreSpelled inputs words → IsRefusedWord words number → ⊥
 none_refused words inputs number all (before, given, word, later, e, h, none, is) = by before inputs (subst (AreSpelled inputs) e all)
   where
@@ -150,7 +150,7 @@ none_refused words inputs number all (before, given, word, later, e, h, none, is
     by (w ∷ before) [] k = k
     by (w ∷ before) (x ∷ inputs) k = by before inputs k.1
 
--- ---- as they are read
+-- ---- in the order of reading
 
 -- one word more
 pub spelled_more : (inputs : List Input) (words : List (List ℕ)) (x : Input) (word : List ℕ) → AreSpelled inputs words → SpellsInput x word → AreSpelled (inputs ++ x ∷ []) (words ++ word ∷ [])
@@ -159,7 +159,7 @@ spelled_more [] (w ∷ words) x word h k = absurd h
 spelled_more (y ∷ inputs) [] x word h k = absurd h
 spelled_more (y ∷ inputs) (w ∷ words) x word h k = (h.0, spelled_more inputs words x word h.1 k)
 
--- the words that were read, and the one that comes
+-- the words that were read, and the next one
 word_at : (words : List (Bor (List ℕ))) (i : ℕ) (d : Bor (List ℕ)) → i < length words → take (i + 1) (map (λ w. w.now) words) ≡ take i (map (λ w. w.now) words) ++ (get_or words i d).now ∷ []
 word_at words i d lt =
     take-map (λ w. w.now) (i + 1) words
@@ -173,7 +173,7 @@ one_word_more inputs new words i d x lt h k is =
     subst (λ (xs : List Input). AreSpelled xs (take (i + 1) (map (λ w. w.now) words))) (sym is)
     (subst (AreSpelled (inputs ++ x ∷ [])) (sym (word_at words i d lt)) (spelled_more inputs (take i (map (λ w. w.now) words)) x (get_or words i d).now h k))
 
--- the first word that spells no input
+-- the first word that encodes no input
 pub refused_at : (inputs : List Input) (words : List (Bor (List ℕ))) (i : ℕ) (d : Bor (List ℕ)) → i < length words → AreSpelled inputs (take i (map (λ w. w.now) words))
     → ((given : Input) → SpellsInput given (get_or words i d).now → ⊥) → (why : NoOrder) → IsRejection (i + 1) (get_or words i d).now why → IsInputReason (map (λ w. w.now) words) why
 refused_at inputs words i d lt h none why rejection =
@@ -201,7 +201,7 @@ refused_at inputs words i d lt h none why rejection =
     by (Explanation text) all h = absurd h
     by NoMemory all h = tt
 
--- what is asked for is no refused word, and one word alone is refused
+-- a request has no rejected word, and one word alone is rejected
 pub never_refused : (asked : Asked) (order : Order) (number : RefusedWord) → IsAsked asked order → IsRefusedInput asked number → ⊥
 never_refused (Assembles what) order number is_asked h = h
 never_refused (Disassembles source listed) order number is_asked h = h

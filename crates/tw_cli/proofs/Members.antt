@@ -7,7 +7,7 @@ use Rattle.tw_cli.specs.reading.Members.{HasNoFirst, IsFirst, IsStop}
 
 -- ---- cuts
 
--- what stands before the first such byte is one thing alone, and so is what stands from there on
+-- there is one split before the first such byte
 pub one_cut : (byte : ℕ) (xs ys rest after : List ℕ) → AllByRecursion (λ b. b ≢ byte) xs → AllByRecursion (λ b. b ≢ byte) ys → IsStop byte rest → IsStop byte after
     → xs ++ rest ≡ ys ++ after → (xs ≡ ys) × (rest ≡ after)
 one_cut byte [] [] rest after p q r s e = (refl, e)
@@ -40,17 +40,17 @@ one_cut byte (x ∷ xs) (y ∷ ys) rest after p q r s e =
 not_true : false ≡ true → ⊥
 not_true e = cc
 
--- a test for none failed
+-- the test for an empty list was false
 pub some_bytes : (xs : List ℕ) → false ≡ (length xs == 0) → xs ≢ []
 some_bytes xs h e = not_true (h ∙ ap (λ (ys : List ℕ). length ys == 0) e)
 
 module _ {A : Type 0} (Spells : A → List ℕ → Type 0) where
-  -- one or more
+  -- one or more members
   abbrev pub AreSome : List A → List ℕ → Type 0
   AreSome [] text = ⊥
   AreSome (x ∷ xs) text = AreJoined Spells (x ∷ xs) text
 
-  -- so many members have been read, and what is left is read for more: together they are the list
+  -- these members have been read, and the rest is read for more: together they are the list
   pub record AreRead (list : List ℕ) (members : List A) (rest : List ℕ) : Type 0 where
     pub sound : (xs : List A) → AreSome xs rest → AreJoined Spells (members ++ xs) list
     pub complete : (ys : List A) → AreJoined Spells ys list → (xs : List A) × (ys ≡ members ++ xs) × AreSome xs rest
@@ -66,12 +66,12 @@ module _ {A : Type 0} (Spells : A → List ℕ → Type 0) where
       to [] h = absurd (some h)
       to (y ∷ ys) h = (y ∷ ys, refl, h)
 
-  -- a comma or the end stands before what is behind
+  -- a comma or the end is before the rest
   pub stops : (xs : List A) (rest : List ℕ) → AreBehind Spells xs rest → IsStop 44 rest
   stops [] rest h = subst (IsStop 44) (sym h) tt
   stops (x ∷ xs) rest h = subst (IsStop 44) (sym h.4) refl
 
-  -- what comes behind a member that was found
+  -- the rest, after a member that was found
   behind : (rest after : List ℕ) (x : A) (xs : List A) → IsFirst 44 Spells rest x after → AreSome xs rest → (ys : List A) × (xs ≡ x ∷ ys) × AreBehind Spells ys after
   behind rest after x [] found h = absurd h
   behind rest after x (y ∷ ys) found h =
@@ -84,7 +84,7 @@ module _ {A : Type 0} (Spells : A → List ℕ → Type 0) where
   never_comma : {Z : Type 0} (others : List ℕ) → 44 ∷ others ≡ [] → Z
   never_comma others e = absurd cc
 
-  -- one more, with a comma behind it
+  -- one member more, and a comma after it
   pub one_read : (list rest after others : List ℕ) (members : List A) (x : A) → AreRead list members rest → IsFirst 44 Spells rest x after → after ≡ 44 ∷ others → AreRead list (members ++ x ∷ []) others
   one_read list rest after others members x h found comma = record {
     sound = λ xs more. subst (λ (ys : List A). AreJoined Spells ys list) (sym (append_assoc members (x ∷ []) xs)) (h.sound (x ∷ xs) (longer xs more));
@@ -106,7 +106,7 @@ module _ {A : Type 0} (Spells : A → List ℕ → Type 0) where
       rest_of [] b = never_comma others b
       rest_of (y ∷ ys) b = (b.0, b.1, b.2, b.3, comma_is others (b.0 ++ b.1) b.4)
 
-  -- none stands there
+  -- no member is there
   pub missing : (list rest : List ℕ) (members : List A) → AreRead list members rest → HasNoFirst 44 Spells rest → (ys : List A) → AreJoined Spells ys list → ⊥
   missing list rest members h none ys joined = let left = h.complete ys joined in by left.0 left.2
     where

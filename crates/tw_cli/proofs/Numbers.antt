@@ -1,4 +1,4 @@
--- What is found among rows.
+-- The values that are found among rows.
 use Rattle.std.proofs.Common.{◌≡◌, ◌==◌, ℕ, Bool, true, false, List, [], ◌∷◌, length, Result, Ok, Err, IfOk, IfSome, refl, sym, subst}
 use Rattle.std.specs.Prelude.{is_some, MatchOption, Option, Some, None}
 use Rattle.clap.specs.Words.{Text}
@@ -26,7 +26,7 @@ found_passes {X} p (x ∷ xs) = by (p x) refl (found_passes p xs)
 none_some : {X : Type 0} {x : X} {Z : Type 0} → Some x ≡ None → Z
 none_some e = absurd cc
 
--- a name and rows that are had of one thing are had together
+-- a name and rows that come from one value come together
 pub both_had : {B N R : Type 0} (name : B → N) (rows : B → R) (o : Option B) (n : N) (r : R) → Some n ≡ option_map name o → Some r ≡ option_map (λ (p : N × R). p.1) (option_map {U = N × R} (λ (b : B). (name b, rows b)) o)
     → option_map {U = N × R} (λ (b : B). (name b, rows b)) o ≡ Some (n, r)
 both_had name rows None n r a b = none_some a
@@ -35,7 +35,7 @@ both_had name rows (Some x) n r a b =
     let q : rows x ≡ r = cc in
     rw (p, q) refl
 
--- ---- what is told of a word after `explain`
+-- ---- the explanation of an argument after `explain`
 
 pub told_word : {V E : Type 0} (items : V → List ℕ) (word : Text) (r : Result (Option V) E) → (length word == 0) ≡ false
     → IfOk r (λ told. MatchOption told (is_number (meant word) ≡ false) (λ text. (is_number (meant word) ≡ true) × IsExplanation (meant word) (items text)))

@@ -1,4 +1,4 @@
--- The number of an option, by what the reader of digits answers; and what is read of a flag.
+-- The number of an option, from the result of the reader of digits; and the value of a flag.
 use Rattle.std.proofs.Common.{arith, ◌≡◌, ◌<◌, ◌∙◌, ◌&&◌, ℕ, Bool, true, false, List, [], ◌∷◌, length, get_or, inl, refl, sym, ap, cond, subst, Option, Some, None, codes, unwrap_or, inr}
 use Rattle.std.specs.Prelude.{nat_le, nat_lt, is_some, not, Result, Ok, Err}
 use Rattle.std.specs.Char.{digit_value}
@@ -54,7 +54,7 @@ spelled most text e =
     let range = both _ _ parts.1 in
     (record { digits = (ltb-true _ _ digits.0, digits_found text digits.1); value = refl }, (leb-true _ _ range.0, leb-true _ _ range.1))
 
--- ---- the word of an option
+-- ---- the value of an option
 
 read_number : (most n : ℕ) (text : Text) → SpellsDigits n text → IsInRange 1 most n → number_in most text ≡ Some n
 read_number most n text h inside =
@@ -72,7 +72,7 @@ no_number most text flaw h = go (passes most text) refl flaw h
         let value = k.value in
         absurd (out (rw (← value) is.1))
 
--- what is read of the word is its number
+-- the reader's result for the value is its number
 pub number_read : (most : ℕ) (text : Text) (read : Result ℕ TokenError) (o : Option ℕ) → IsRead (λ n. SpellsDigits n text) (IsInRange 1 most) read → o ≡ result_ok read → o ≡ number_in most text
 number_read most text (Ok n) o h e = e ∙ sym (read_number most n text h.0 h.1)
 number_read most text (Err flaw) o h e = e ∙ sym (no_number most text flaw h)
@@ -94,7 +94,7 @@ one_refused options rows i lt e = ap (λ (b : Bool). cond b [] (ValueValidation 
 pub limit_refused : (rows : List Row) → None ≡ number_of limit rows → option_faults number_options rows ≡ ValueValidation ∷ []
 limit_refused rows e = one_refused number_options rows 3 (omega arith) (sym e)
 
--- what is wrong with an actor's number is wrong with `run` too
+-- a wrong number of an actor is a fault of `run` too
 pub actors_refused : (rows : List Row) → option_faults actor_options rows ≡ ValueValidation ∷ [] → option_faults number_options rows ≡ ValueValidation ∷ []
 actors_refused rows e =
     by (is_some (number_of engines rows)) (is_some (number_of servers rows)) (is_some (number_of workers rows)) (is_some (number_of limit rows) && (is_some (number_of first_shown rows) && (is_some (number_of last_shown rows) && true))) e
@@ -105,7 +105,7 @@ actors_refused rows e =
     by true false w more e = refl
     by false s w more e = refl
 
--- so is what is wrong with the number of an event that is shown
+-- a wrong number of an event in the range is one too
 pub events_refused : (rows : List Row) → option_faults stretch_options rows ≡ ValueValidation ∷ [] → option_faults number_options rows ≡ ValueValidation ∷ []
 events_refused rows e =
     by (is_some (number_of engines rows)) (is_some (number_of servers rows)) (is_some (number_of workers rows)) (is_some (number_of limit rows)) (is_some (number_of first_shown rows) && (is_some (number_of last_shown rows) && true)) e
@@ -135,13 +135,13 @@ has_conflict kinds asked e = has_kind ArgumentConflict kinds asked other e
     other (inl e) = cc
     other (inr e) = cc
 
--- ---- a picture
+-- ---- a timeline
 
--- which ends before it begins
+-- its range is reversed
 pub events_backward : (rows : List Row) (s : EventRange) → HasStretch rows s → nat_lt s.to s.from ≡ true → stretch_faults rows ≡ ArgumentConflict ∷ []
 events_backward rows s h back = rw (h.0, h.1, back) refl
 
--- what is wrong with it is wrong with `run`, where the options are right
+-- what is wrong with it is wrong with `run`, if the options are right
 pub picture_refused : (rows : List Row) (layout : ActorCounts) (most : ℕ) (s : EventRange) → HasActors rows layout → Some most ≡ number_of limit rows → HasStretch rows s → picture_faults rows ≡ ArgumentConflict ∷ []
     → run_faults rows ≡ ArgumentConflict ∷ []
 picture_refused rows layout most s actors is shown refused =
@@ -149,7 +149,7 @@ picture_refused rows layout most s actors is shown refused =
     ap (λ (k : Kinds). or_else k (or_else (picture_faults rows) (input_faults rows))) fit
     ∙ ap (λ (k : Kinds). or_else k (input_faults rows)) refused
 
--- and with `picture`
+-- it is wrong with `picture` too
 pub unnumbered_refused : (rows : List Row) → option_faults stretch_options rows ≡ ValueValidation ∷ [] → drawing_faults rows ≡ ValueValidation ∷ []
 unnumbered_refused rows e = ap (λ (k : Kinds). or_else k (or_else (stretch_faults rows) (replay_faults rows))) e
 
@@ -160,11 +160,11 @@ backward_refused rows s shown refused =
 
 -- ---- the inputs
 
--- where they are to be read and there are words
+-- `--inputs` and input arguments are a fault
 pub both_refused : (rows : List Row) (asked : Asked) → is_given inputs rows ≡ true → not (is_empty (given_words rows)) ≡ true → HasReason (input_faults rows) asked Refused
 both_refused rows asked read given = has_conflict (input_faults rows) asked (rw (read, given) refl)
 
--- what is wrong with an option is wrong with the command, and else what is wrong with the inputs
+-- a fault of an option is a fault of the command; without one, a fault of the inputs is
 pub run_refused : (rows : List Row) → option_faults number_options rows ≡ ValueValidation ∷ [] → run_faults rows ≡ ValueValidation ∷ []
 run_refused rows e = ap (λ (k : Kinds). or_else k (or_else (picture_faults rows) (input_faults rows))) e
 
@@ -173,7 +173,7 @@ replay_refused rows e = ap (λ (k : Kinds). or_else k (input_faults rows)) e
 
 -- ---- a flag
 
--- what is read of its text, where there is one, is whether it is given
+-- the value of the flag's text, if there is one, is whether it is given
 pub flag_read : (E : Type 0) (text : Option Text) (read : Option Bool) → (text ≡ None → read ≡ None)
     → ((t : Text) → text ≡ Some t → ReadsOne (ParsesBool {E = E}) t read)
     → unwrap_or read false ≡ option_map_or (λ t. bytes_eq t (codes "true")) text false

@@ -1,4 +1,4 @@
--- What words ask for, with its run in turn.
+-- The requests of arguments, with the run single-threaded.
 use Rattle.std.proofs.Common.{Some, None, true, refl, ap}
 use Rattle.clap.specs.Words.{Kinds}
 use Rattle.tw_cli.specs.CommandLine.{Asked, Assembles, Disassembles, Checks, Runs, Replays, Explains, IsAsked}
@@ -27,7 +27,7 @@ asked_in_turn (Replays source answer layout (Some words)) order (replay, is, ans
 asked_in_turn (Replays source answer layout None) order (replay, is, answer_is, layout_is) = (replay, ap order_in_turn is, answer_is, layout_is)
 asked_in_turn (Explains number) order is = absurd is
 
--- and gives no order for the same reasons
+-- there is no order for the same reasons
 pub reason_in_turn : (kinds : Kinds) (asked : Asked) (reason : NoOrder) → HasReason kinds asked reason → HasReason kinds (turned asked) reason
 reason_in_turn kinds asked NoMemory h = h
 reason_in_turn kinds asked (Help text) h = h
@@ -46,7 +46,7 @@ reason_in_turn kinds (Runs source answer layout most traced turns words) (Explan
 reason_in_turn kinds (Replays source answer layout words) (Explanation text) h = h
 reason_in_turn kinds (Explains other) (Explanation text) h = h
 
--- ---- an order with its run in turn
+-- ---- an order with its run single-threaded
 
 verified_is : (order : VerifiedOrder) → IsVerifiedInTurn (verified_in_turn order)
 verified_is (Check told) = tt

@@ -1,4 +1,4 @@
--- What the program reads of clap's matches.
+-- How the program reads clap's matches.
 use Rattle.std.proofs.Common.{◌≡◌, true, List, [], ◌∷◌, refl, sym, ap, ap₂, subst, inl, inr, ◌∙◌}
 use Rattle.clap.specs.Kinds.{or_else}
 use Rattle.clap.specs.Words.{App, IsAmong, HasKind, Kinds, HasMatchesOf, Text, fault_of, is_simple, is_simple_and_free, kind_of, subcommand_of, subcommand_rows_of}
@@ -18,7 +18,7 @@ simple_and_free : is_simple_and_free command_line ≡ true
 unfolding clap_on_literals command_line
 simple_and_free = refl
 
--- what a parse that gives matches says, where the command is the program's
+-- the facts about a parse with matches, if the command is the program's
 matched : (a : App) (words : List Text) (m : ArgMatches) → a ≡ command_line
     → (is_simple_and_free a ≡ true → fault_of a words ≡ []) → HasMatchesOf a words m
     → (fault_of command_line words ≡ []) × (subcommand_rows_of m ≡ subcommand_of command_line words)
@@ -27,7 +27,7 @@ matched a words m line kinds matches =
     let plain : is_simple a ≡ true = ap is_simple line ∙ simple in
     (ap₂ fault_of (sym line) refl ∙ kinds free, (matches plain).1 ∙ ap₂ subcommand_of line refl)
 
--- its faults are then those of the options
+-- the remaining faults are those of the options
 pub faults_are : (a : App) (words : List Text) (m : ArgMatches) → a ≡ command_line
     → (is_simple_and_free a ≡ true → fault_of a words ≡ []) → HasMatchesOf a words m
     → word_faults words ≡ faults_behind (subcommand_rows_of m)
@@ -40,7 +40,7 @@ pub asked_are : (a : App) (words : List Text) (m : ArgMatches) → a ≡ command
     → asked_by_words words ≡ asked_of (subcommand_rows_of m)
 asked_are a words m line kinds matches = ap asked_of (sym (matched a words m line kinds matches).1)
 
--- and one that gives none
+-- the facts about a parse without matches
 pub refused : (a : App) (words : List Text) (e : Error) (n : NoOrder) (asked : Asked) → a ≡ command_line
     → (is_simple_and_free a ≡ true → HasKind (fault_of a words) e) → IsReason (kind_of e) n
     → HasReason (word_faults words) asked n

@@ -1,4 +1,4 @@
--- The command line: what clap is told of it, and what the words then ask for.
+-- The command line: how clap is set up, and what the arguments request.
 use Rattle.std.specs.Prelude.{◌≡◌, ◌||◌, ◌&&◌, ℕ, Bool, true, false, not, List, [], ◌∷◌, Option, Some, None, codes, bytes_eq, fold, if◌then◌else◌, is_some, map, nat_lt, unwrap_or}
 use Rattle.clap.specs.Kinds.{or_else}
 use Rattle.clap.specs.Lexer.{usize_max}
@@ -8,10 +8,12 @@ use Rattle.clap.specs.declared.error.ErrorKind.TheVariants.{ArgumentConflict}
 use Rattle.tw_types.specs.declared.input.Input.{Input}
 use Rattle.tw_types.specs.Layout.{ActorCounts}
 use Rattle.tw_cli.specs.InputWords.{AreSpelled, IsRefusedWord, RefusedWord}
-use Rattle.tw_cli.specs.Options.{NumberOption, actor_options, given_actors, given_assembling, first_shown, flag_rule, in_turn, inputs, bounds, given_check, checking, is_given, last_shown, limit, names, number_options, option_faults, option_rule, picture, picture_options, places, given_places, plain, quiet, given_source, stats, stretch_options, given_range, text, told, trace}
+use Rattle.tw_cli.specs.Options.{NumberOption, actor_options, given_actors, given_assembling, first_shown, flag_rule, in_turn, inputs, bounds, given_check, checking, is_given, json, last_shown, limit, names, number_options, option_faults, option_rule, picture, picture_options, places, given_places, plain, quiet, given_source, stats, stretch_options, given_range, text, told, trace}
 use Rattle.tw_cli.specs.Explanations.{IsTold, number_faults, number_rule, number_word}
 use Rattle.tw_cli.specs.declared.command.Answer.{Answer}
 use Rattle.tw_cli.specs.declared.command.Answer.TheVariants.{Numbers, Picture, Report}
+use Rattle.tw_cli.specs.declared.command.RunAnswer.{RunAnswer}
+use Rattle.tw_cli.specs.declared.command.RunAnswer.TheVariants as written
 use Rattle.tw_cli.specs.declared.command.Order.{Order}
 use Rattle.tw_cli.specs.declared.command.Assembling.{Assembling}
 use Rattle.tw_cli.specs.declared.command.InputsOrder.TheVariants.{ToReplay, ToRun}
@@ -28,15 +30,15 @@ use Rattle.tw_cli.specs.declared.command.RunOrder.{RunOrder}
 use Rattle.tw_cli.specs.declared.command.Source.{Source}
 use Rattle.tw_cli.specs.declared.command.Source.TheVariants.{Hex}
 
--- a command without options
+-- returns a command without options
 abbrev pub plain_line : Text → App
 plain_line name = new_app name
 
--- the command that assembles, with whether names are read, and whether assembly text is written
+-- the command that assembles: symbolic assembly may be read, and expanded text written
 abbrev pub asm_line : App
 asm_line = with_rule (with_rule (new_app (codes "asm")) (flag_rule names)) (flag_rule plain)
 
--- a command that reads a program, and has options for how that is written and whether places are listed
+-- returns a command that reads a program, with options for its format and for listing the places
 abbrev pub program_line : Text → App
 program_line name = with_rule (with_rule (new_app name) (flag_rule text)) (flag_rule places)
 
@@ -47,37 +49,37 @@ check_line = with_rule (program_line (codes "check")) (flag_rule bounds)
 abbrev pub explain_line : App
 explain_line = with_rule (new_app (codes "explain")) number_rule
 
--- the words behind `run`, `replay` or `picture`, however many
+-- the input arguments after `run`, `replay` or `picture`, any number of them
 abbrev pub input_rule : Rule
 input_rule = record (new_rule (codes "input")) { range = Some (record { start_inclusive = 0; end_inclusive = usize_max }) }
 
--- a command with these options
+-- returns a command with these options, which take numbers
 abbrev pub numbers_line : Text → List NumberOption → App
 numbers_line name options = fold with_rule (new_app name) (map (λ o. option_rule o.name) options)
 
--- and these flags
+-- adds flags to a command
 abbrev pub flags_line : App → List Text → App
 flags_line line flags = fold with_rule line (map flag_rule flags)
 
--- and how its program and inputs are read, and input words
+-- adds the options for how the program and its inputs are read, and the input arguments
 abbrev pub reading_line : App → App
 reading_line line = with_rule (flags_line line (text ∷ inputs ∷ [])) input_rule
 
--- `run` with its numbers, and with what may be written of it
+-- `run` with its options that take numbers, and the flags for its output
 abbrev pub written_line : App
-written_line = flags_line (numbers_line (codes "run") number_options) (trace ∷ stats ∷ picture ∷ [])
+written_line = flags_line (numbers_line (codes "run") number_options) (trace ∷ stats ∷ json ∷ picture ∷ [])
 
 abbrev pub run_line : App
 run_line = reading_line (flags_line written_line (in_turn ∷ quiet ∷ []))
 
--- the commands that are given a history
+-- the commands that are given a trace
 abbrev pub replay_line : App
 replay_line = reading_line (flags_line (numbers_line (codes "replay") actor_options) (stats ∷ []))
 
 abbrev pub picture_line : App
 picture_line = reading_line (numbers_line (codes "picture") picture_options)
 
--- the words come without the program's own name, and a command must be among them, or what asks for help or the version
+-- the program without its commands: the arguments come without its own name, and must name a command, or request help or the version
 abbrev pub bare_line : App
 bare_line = record (new_app (codes "tw")) {
   top = record (new_app (codes "tw")).top {
@@ -93,40 +95,44 @@ command_line = fold (λ line command. with_subcommand line command.top) bare_lin
     (asm_line ∷ program_line (codes "disasm") ∷ check_line ∷ run_line
     ∷ replay_line ∷ picture_line ∷ explain_line ∷ [])
 
--- ---- what the words ask for
+-- ---- what the arguments request
 
--- the input words among what clap found
+-- returns the input arguments that clap found
 abbrev pub given_words : List Row → List Text
 given_words rows = unwrap_or (all_of (codes "input") rows) []
 
--- these, where they don't stand in what is read
+-- returns these arguments, or none if the inputs are part of what is read
 abbrev pub words_told : List Row → Option (List Text)
 words_told rows = if is_given inputs rows then None else Some (given_words rows)
 
--- the command that was named; `asm` with what it assembles, and the others with how the program is written that they read; `disasm` with
--- whether places are listed, `check` with that and whether bounds are told; `run`, by what is written, with its actors, the most events of the run, whether its history is written, whether it is in turn,
--- and the input words, if they don't stand in what is read; `replay` or `picture`, by what is written, with its actors and these; `explain` with its number
+-- what a command requests. Each that reads a program has its format; `disasm` and `check` have which listings and bounds they print. `run` has its
+-- output, its actors, its maximum number of events, whether its trace is written, whether it is single-threaded, and its input arguments. `replay`
+-- and `picture` have their output, their actors and their input arguments. Without input arguments the inputs are read after the program. `explain`
+-- has its code.
 pub data Asked : Type 0 where
   Assembles : Assembling → Asked
   Disassembles : Source → Places → Asked
   Checks : Source → CheckOrder → Asked
-  Runs : Source → Answer → ActorCounts → ℕ → Bool → Bool → Option (List Text) → Asked
+  Runs : Source → RunAnswer → ActorCounts → ℕ → Bool → Bool → Option (List Text) → Asked
   Replays : Source → Answer → ActorCounts → Option (List Text) → Asked
   Explains : Text → Asked
 
--- what `replay` writes, and what `run` does
+-- return what `replay` and `run` write
 abbrev pub given_answer : List Row → Answer
 given_answer rows = if is_given stats rows then Numbers else Report
 
-abbrev pub run_answer : List Row → Answer
-run_answer rows = if is_given picture rows then Picture (given_range rows) else given_answer rows
+abbrev pub written_answer : List Row → RunAnswer
+written_answer rows = if is_given json rows then written.Json else if is_given stats rows then written.Numbers else written.Report
 
--- `run`, by what clap found behind it
+abbrev pub run_answer : List Row → RunAnswer
+run_answer rows = if is_given picture rows then written.Picture (given_range rows) else written_answer rows
+
+-- returns the request of `run`, from what clap found after it
 abbrev pub run_asked : List Row → Asked
 run_asked rows =
     Runs (given_source rows) (run_answer rows) (given_actors rows) (told limit rows) (is_given trace rows) (is_given in_turn rows) (words_told rows)
 
--- `replay` or `picture`, by what clap found behind it
+-- returns the request of `replay` or `picture`, from what clap found after it
 abbrev pub replay_asked : Answer → List Row → Asked
 replay_asked answer rows = Replays (given_source rows) answer (given_actors rows) (words_told rows)
 
@@ -141,18 +147,18 @@ asked_of (Some named) =
     if bytes_eq named.0 (codes "explain") then Explains (number_word named.1) else
     Checks (given_source named.1) (given_check named.1)
 
--- what the program's words ask for
+-- returns what the program's arguments request
 abbrev pub asked_by_words : List Text → Asked
 asked_by_words words = asked_of (subcommand_of command_line words)
 
--- how a program is run, or a history replayed, with these inputs
+-- return how a program is run, or a trace replayed, with these inputs
 abbrev pub run_with : RunOptions → List Input → RunOrder
 run_with options given = record { answer = options.answer; layout = options.layout; limit = options.limit; trace = options.trace; in_turn = options.in_turn; inputs = given }
 
 abbrev pub replay_with : ReplayOptions → List Input → ReplayOrder
 replay_with options given = record { answer = options.answer; layout = options.layout; inputs = given }
 
--- the order that is asked for: each input word spells its input, or the inputs are to be read
+-- holds if the order is what was requested: each input argument encodes its input, or the inputs are to be read
 abbrev pub IsAsked : Asked → Order → Type 0
 IsAsked (Assembles what) order = order ≡ Assemble what
 IsAsked (Disassembles source listed) order = order ≡ Program source (Disassemble listed)
@@ -168,7 +174,7 @@ IsAsked (Replays source answer layout None) order =
     (replay : ReplayOptions) × (order ≡ Inputs source (ToReplay replay)) × (replay.answer ≡ answer) × (replay.layout ≡ layout)
 IsAsked (Explains number) order = ⊥
 
--- or this word is the first that spells no input
+-- holds if the request has input arguments, and this one is the first that encodes no input
 abbrev pub IsRefusedInput : Asked → RefusedWord → Type 0
 IsRefusedInput (Assembles what) refused = ⊥
 IsRefusedInput (Disassembles source listed) refused = ⊥
@@ -179,7 +185,7 @@ IsRefusedInput (Replays source answer layout (Some words)) refused = IsRefusedWo
 IsRefusedInput (Replays source answer layout None) refused = ⊥
 IsRefusedInput (Explains other) refused = ⊥
 
--- or numbers are to be explained, and this is told of them
+-- holds if an explanation of a code is requested, and this is it
 abbrev pub IsExplained : Asked → List ℕ → Type 0
 IsExplained (Assembles what) explanation = ⊥
 IsExplained (Disassembles source listed) explanation = ⊥
@@ -188,29 +194,37 @@ IsExplained (Runs source answer layout most traced turns words) explanation = �
 IsExplained (Replays source answer layout words) explanation = ⊥
 IsExplained (Explains number) explanation = IsTold number explanation
 
--- ---- what refuses the words
+-- ---- why the arguments are rejected
 
--- where input words are given, and are to be read besides
+-- returns the fault of input arguments with `--inputs`
 abbrev pub input_faults : List Row → Kinds
 input_faults rows = if is_given inputs rows && not (is_empty (given_words rows)) then ArgumentConflict ∷ [] else []
 
--- the last event that a picture shows is before the first
+-- returns the fault of a range whose last event is before its first
 abbrev pub stretch_faults : List Row → Kinds
 stretch_faults rows = if nat_lt (told last_shown rows) (told first_shown rows) then ArgumentConflict ∷ [] else []
 
--- one of them is named
+-- returns whether `--from` or `--to` is given
 abbrev pub is_cut : List Row → Bool
 is_cut rows = is_some (first_of first_shown.name rows) || is_some (first_of last_shown.name rows)
 
--- a picture is written alone: no history before it, and no numbers behind it
+-- holds if a trace or statistics are requested, which precede or follow a report
+abbrev pub has_more : List Row → Bool
+has_more rows = is_given trace rows || is_given stats rows
+
+-- returns the fault of a JSON line that is not alone
+abbrev pub json_faults : List Row → Kinds
+json_faults rows = if is_given json rows && has_more rows then ArgumentConflict ∷ [] else []
+
+-- returns the fault of a timeline that is not alone: with a trace before it, with statistics after it, or with a JSON line
 abbrev pub drawn_faults : List Row → Kinds
-drawn_faults rows = if is_given trace rows || is_given stats rows then ArgumentConflict ∷ [] else stretch_faults rows
+drawn_faults rows = if is_given json rows || has_more rows then ArgumentConflict ∷ [] else stretch_faults rows
 
--- events are named for a picture alone
+-- returns the fault of a range without a timeline, and those of a timeline
 abbrev pub picture_faults : List Row → Kinds
-picture_faults rows = if is_given picture rows then drawn_faults rows else if is_cut rows then ArgumentConflict ∷ [] else []
+picture_faults rows = if is_given picture rows then drawn_faults rows else if is_cut rows then ArgumentConflict ∷ [] else json_faults rows
 
--- of `run`, of `replay`, and of `picture`
+-- return the faults of `run`, `replay` and `picture`
 abbrev pub run_faults : List Row → Kinds
 run_faults rows = or_else (option_faults number_options rows) (or_else (picture_faults rows) (input_faults rows))
 
@@ -220,7 +234,7 @@ replay_faults rows = or_else (option_faults actor_options rows) (input_faults ro
 abbrev pub drawing_faults : List Row → Kinds
 drawing_faults rows = or_else (option_faults stretch_options rows) (or_else (stretch_faults rows) (replay_faults rows))
 
--- of the options, or of the number behind `explain`
+-- returns the faults of the options, or of the code after `explain`
 abbrev pub faults_behind : Option (Text × List Row) → Kinds
 faults_behind None = []
 faults_behind (Some named) =
@@ -230,6 +244,6 @@ faults_behind (Some named) =
     if bytes_eq named.0 (codes "explain") then number_faults (number_word named.1) else
     []
 
--- nothing where they are taken; the faults that clap finds go before these
+-- returns no faults if the arguments are accepted; clap's own faults come before the others
 abbrev pub word_faults : List Text → Kinds
 word_faults words = or_else (fault_of command_line words) (faults_behind (subcommand_of command_line words))

@@ -1,4 +1,4 @@
--- The numbers of refusals and traps, which `explain` explains.
+-- The codes of errors and traps, which `explain` explains.
 use Rattle.std.specs.Prelude.{◌≡◌, ◌++◌, ◌==◌, ◌&&◌, ◌||◌, not, ℕ, Bool, true, false, List, [], ◌∷◌, codes, drop, if◌then◌else◌, length, map, nat_eq, take, unwrap_or, ⊤}
 use Rattle.std.specs.List.{list_any, starts_with}
 use Rattle.std.specs.Char.{to_ascii_uppercase}
@@ -6,38 +6,38 @@ use Rattle.std.specs.Str.{bytes_eq}
 use Rattle.clap.specs.Words.{Kinds, Row, Rule, Text, first_of, new_rule}
 use Rattle.clap.specs.declared.error.ErrorKind.TheVariants.{ValueValidation}
 
--- ---- all that there are, as refusals and traps name them
+-- ---- all codes, as errors and traps name them
 
--- of what is read, of openings, histories and runs
+-- the codes of input, openings, traces and runs
 abbrev pub session_numbers : List Text
 session_numbers =
     codes "H01" ∷ codes "H02" ∷ codes "H03" ∷ codes "O01" ∷ codes "O02" ∷ codes "O03" ∷ codes "O04" ∷ codes "O05" ∷
     codes "O06" ∷ codes "E01" ∷ codes "X01" ∷ []
 
--- of assembly text
+-- the codes of assembly text
 abbrev pub assembly_numbers : List Text
 assembly_numbers =
     codes "A01" ∷ codes "A02" ∷ codes "A03" ∷ codes "A04" ∷ codes "A05" ∷ codes "A06" ∷ codes "A07" ∷ []
 
--- of texts with names
+-- the codes of symbolic assembly
 abbrev pub name_numbers : List Text
 name_numbers =
     codes "N01" ∷ codes "N02" ∷ codes "N03" ∷ codes "N04" ∷ codes "N05" ∷ codes "N06" ∷ codes "N07" ∷ []
 
--- of a program's bytes
+-- the codes of a program's bytes
 abbrev pub byte_numbers : List Text
 byte_numbers =
     codes "F01" ∷ codes "F02" ∷ codes "F03" ∷ codes "F04" ∷ codes "F05" ∷ codes "F06" ∷ codes "F07" ∷ codes "F08" ∷
     codes "F09" ∷ []
 
--- of the verifier
+-- the codes of the verifier
 abbrev pub verifier_numbers : List Text
 verifier_numbers =
     codes "V01" ∷ codes "V02" ∷ codes "V03" ∷ codes "V04" ∷ codes "V05" ∷ codes "V06" ∷ codes "V07" ∷ codes "V08" ∷
     codes "V09" ∷ codes "V10" ∷ codes "V11" ∷ codes "V12" ∷ codes "V13" ∷ codes "V14" ∷ codes "V15" ∷ codes "V16" ∷
     codes "V17" ∷ codes "V18" ∷ []
 
--- of traps
+-- the codes of traps
 abbrev pub trap_numbers : List Text
 trap_numbers =
     codes "C1" ∷ codes "C2" ∷ codes "C3" ∷ codes "C4" ∷ codes "C5" ∷ codes "C6" ∷ codes "C7" ∷ codes "C8" ∷
@@ -49,23 +49,24 @@ is_among numbers word = list_any (λ number. bytes_eq number word) numbers
 abbrev pub is_number : Text → Bool
 is_number word = is_among session_numbers word || (is_among assembly_numbers word || (is_among name_numbers word || (is_among byte_numbers word || (is_among verifier_numbers word || is_among trap_numbers word))))
 
--- ---- as they may be written
+-- ---- how a code may be written
 
--- a letter and one digit have a 0 between them, but for a trap
+-- inserts a 0 between a letter and a single digit, except in the code of a trap
 abbrev pub full_number : Text → Text
 full_number word = if (length word == 2) && not (starts_with nat_eq word (codes "C")) then take 1 word ++ (codes "0" ++ drop 1 word) else word
 
--- the number that a word means, in letters of either case
+-- returns the code that an argument names, in letters of either case
 abbrev pub meant : Text → Text
 meant word = full_number (map to_ascii_uppercase word)
 
 -- ---- what is written
 
--- what is written for a number: it stands first, and something follows
+-- holds if the text is an explanation of the code: it begins with the code, and more follows
 abbrev pub IsExplanation : Text → List ℕ → Type 0
 IsExplanation number text = (more : List ℕ) × (text ≡ number ++ (codes ": " ++ more))
 
--- for no word a list of all numbers, of which nothing more is said; for another the number that it means
+-- holds if the text is what an argument requests: any text for an empty argument, which requests the list of all codes, and else the explanation of
+-- its code
 abbrev pub IsToldBy : Bool → Text → List ℕ → Type 0
 IsToldBy true word text = ⊤
 IsToldBy false word text = IsExplanation (meant word) text
@@ -73,13 +74,13 @@ IsToldBy false word text = IsExplanation (meant word) text
 abbrev pub IsTold : Text → List ℕ → Type 0
 IsTold word text = IsToldBy (length word == 0) word text
 
--- the word after `explain`, which may be missing
+-- the argument after `explain`, which may be missing
 abbrev pub number_rule : Rule
 number_rule = new_rule (codes "number")
 
 abbrev pub number_word : List Row → Text
 number_word rows = unwrap_or (first_of (codes "number") rows) []
 
--- the fault where it means none of the numbers
+-- returns the fault of an argument that names no code
 abbrev pub number_faults : Text → Kinds
 number_faults word = if length word == 0 then [] else if is_number (meant word) then [] else ValueValidation ∷ []

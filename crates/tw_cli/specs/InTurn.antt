@@ -1,4 +1,4 @@
--- Orders whose runs are in turn.
+-- Orders whose runs are single-threaded.
 use Rattle.std.specs.Prelude.{◌≡◌, true}
 use Rattle.tw_cli.specs.CommandLine.{Asked, Assembles, Disassembles, Checks, Runs, Replays, Explains}
 use Rattle.tw_cli.specs.declared.command.InputsOrder.{InputsOrder}
@@ -10,7 +10,7 @@ use Rattle.tw_cli.specs.declared.command.ProgramOrder.TheVariants.{Disassemble, 
 use Rattle.tw_cli.specs.declared.command.VerifiedOrder.{VerifiedOrder}
 use Rattle.tw_cli.specs.declared.command.VerifiedOrder.TheVariants.{Check, Run}
 
--- the same is asked for, but that a run is in turn
+-- returns the same request, with its run single-threaded
 abbrev pub turned : Asked → Asked
 turned (Assembles what) = Assembles what
 turned (Disassembles source listed) = Disassembles source listed
@@ -19,7 +19,7 @@ turned (Runs source answer layout most traced turns words) = Runs source answer 
 turned (Replays source answer layout words) = Replays source answer layout words
 turned (Explains number) = Explains number
 
--- a run that is ordered is in turn
+-- hold if the order's run, if there is one, is single-threaded
 abbrev pub IsVerifiedInTurn : VerifiedOrder → Type 0
 IsVerifiedInTurn (Check told) = Unit {0}
 IsVerifiedInTurn (Run run) = run.in_turn ≡ true
@@ -38,7 +38,7 @@ IsInTurn (Program source order) = IsProgramInTurn order
 IsInTurn (Replay source order) = Unit {0}
 IsInTurn (Inputs source order) = IsInputsInTurn order
 
--- the order with its run in turn
+-- return the order with its run single-threaded
 abbrev pub verified_in_turn : VerifiedOrder → VerifiedOrder
 verified_in_turn (Check told) = Check told
 verified_in_turn (Run run) = Run (record run { in_turn = true })

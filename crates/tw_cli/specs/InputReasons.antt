@@ -1,4 +1,4 @@
--- Why a word spells no input, and how that is told.
+-- Why a word encodes no input, and the line that says so.
 use Rattle.std.specs.Prelude.{ℕ, ℤ, ◌==◌, Bool, true, false, not, ◌&&◌, if◌then◌else◌, List, ◌++◌, codes, decimal, drop, nat_eq, Result, Ok, Err}
 use Rattle.std.specs.List.{ends_with, list_any, starts_with}
 use Rattle.tw_lexer.specs.Digits.{signed_in}
@@ -14,13 +14,13 @@ has byte text = list_any (λ b. b == byte) text
 abbrev pub begins : List ℕ → List ℕ → Bool
 begins front word = starts_with nat_eq word front
 
--- a number after `int:`
+-- returns what is wrong with a number after `int:`
 abbrev pub int_diagnostic : Result ℤ TokenError → List ℕ
 int_diagnostic (Ok n) = codes "expected a number in decimal digits after int:"
 int_diagnostic (Err Form) = codes "expected a number in decimal digits after int:"
 int_diagnostic (Err Limit) = codes "the number isn't within 64 bits"
 
--- members, of which some have texts or none has
+-- returns what is wrong with members; `texts` is true if some have texts
 abbrev pub list_diagnostic : Bool → List ℕ → List ℕ
 list_diagnostic texts list =
     if ends_with nat_eq list (codes ",") then codes "nothing follows the last comma, and a list has no blanks outside of quotes; expected " else
@@ -28,7 +28,7 @@ list_diagnostic texts list =
     if texts && not (has 34 list) then codes "a text is between quotes; expected " else
     codes "expected "
 
--- the form of members, by whether their values are texts
+-- return the form of members, by whether their values are texts
 unfoldable pub form_by_int : Bool → List ℕ
 form_by_int false = codes "NUMBER=NUMBER,NUMBER=NUMBER with numbers within 64 bits"
 form_by_int true = codes "NUMBER=\"TEXT\",NUMBER=\"TEXT\" with \\\", \\\\, \\n or \\xHH in a text"
@@ -40,7 +40,7 @@ form_by_text true = codes "\"TEXT\"=\"TEXT\",\"TEXT\"=\"TEXT\" with \\\", \\\\, 
 abbrev pub no_head : List ℕ
 no_head = codes "expected int:, ints:, text:, texts:, tints: or ttexts: before it"
 
--- what is wrong with a word, by its head
+-- return what is wrong with a word, by its head
 abbrev pub text_diagnostic : List ℕ → List ℕ
 text_diagnostic word =
     if begins (codes "tints:") word then list_diagnostic true (drop 6 word) ++ form_by_text false else
@@ -56,7 +56,7 @@ word_diagnostic word =
 
 -- ---- the line
 
--- the line for the word of this number, counted from 1
+-- returns the line for the word with this number, counted from 1
 abbrev pub input_text : ℕ → List ℕ → List ℕ
 input_text number word = codes "input " ++ (decimal number ++ (codes ": " ++ (shortened_quoted word ++ codes ": ")))
 

@@ -1,6 +1,6 @@
--- What a reader must believe of the command line: which words are taken and what they ask for (CommandLine, Options),
--- which input a word spells (InputWords), why words give no order (Order), whether it is told what is wrong with them (Complaint), and orders whose runs are in turn (InTurn). What the readers of words keep to
--- themselves is in reading.
+-- The definitions that a reader has to trust for the command line. CommandLine and Options define which arguments are accepted, and what they
+-- request. InputWords defines which input a word encodes. Order says why there is no order, and Complaint and InputReasons which text says so. InTurn
+-- is about orders whose runs are single-threaded. The definitions for private clauses are in reading.
 pub mod InputReasons
 pub mod InputWords
 pub mod Options

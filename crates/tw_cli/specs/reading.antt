@@ -1,4 +1,4 @@
--- What the readers of words keep to themselves: no public clause reaches this folder.
+-- The definitions for the readers of words, which no public clause uses.
 pub mod Members
 pub mod Inputs
 pub mod Runs

@@ -1,4 +1,4 @@
-//! The commands' arguments and options, and the commands that take no inputs.
+//! The arguments and options of the commands, and the commands that take no inputs.
 
 ghost use Rattle.std.specs.Prelude.{◌≡◌, false, IfOk};
 ghost use Rattle.clap.specs.Words.{app_of, rule_of};
@@ -14,7 +14,7 @@ use crate::help::{
 use clap::{Arg, ArgAction, Command};
 use std::alloc::{AllocError, Global};
 
-/// A command without options.
+/// Makes a command without options.
 pub(crate) fn plain_command<'a>(alloc: Global, name: &'a str, help: &CommandHelp<'a>) -> Command<'a>
     ensures app { app_of result ≡ plain_line name.entry.now }
     ensures local { (out-Command result).has_globals ≡ false }
@@ -31,7 +31,7 @@ pub(crate) fn option_arg<'a>(alloc: Global, name: &'a str, help: &'a str) -> Arg
     Arg::new(alloc, name).long(name).help(help)
 }
 
-/// An option without a value.
+/// Makes an option without a value.
 pub(crate) fn flag_arg<'a>(alloc: Global, name: &'a str, help: &'a str) -> Arg<'a>
     ensures rule { rule_of result ≡ flag_rule name.entry.now }
     ensures local { result.global ≡ false }
@@ -39,7 +39,7 @@ pub(crate) fn flag_arg<'a>(alloc: Global, name: &'a str, help: &'a str) -> Arg<'
     option_arg(alloc, name, help).action(ArgAction::SetTrue)
 }
 
-/// The option that says how the program is written.
+/// Makes the option that the program is assembly text.
 pub(crate) fn text_arg<'a>(alloc: Global) -> Arg<'a>
     ensures rule { rule_of result ≡ flag_rule text }
     ensures local { result.global ≡ false }
@@ -47,7 +47,7 @@ pub(crate) fn text_arg<'a>(alloc: Global) -> Arg<'a>
     flag_arg(alloc, "text", TEXT_HELP)
 }
 
-/// The option that asks for the places of instructions.
+/// Makes the option to list the places of instructions.
 pub(crate) fn places_arg<'a>(alloc: Global) -> Arg<'a>
     ensures rule { rule_of result ≡ flag_rule places }
     ensures local { result.global ≡ false }
@@ -55,7 +55,7 @@ pub(crate) fn places_arg<'a>(alloc: Global) -> Arg<'a>
     flag_arg(alloc, "places", PLACES_HELP)
 }
 
-/// The option that says that the inputs are to be read.
+/// Makes the option to read the inputs after the program.
 pub(crate) fn inputs_arg<'a>(alloc: Global) -> Arg<'a>
     ensures rule { rule_of result ≡ flag_rule inputs }
     ensures local { result.global ≡ false }
@@ -77,7 +77,7 @@ pub(crate) fn input_arg<'a>(alloc: Global) -> Arg<'a>
     Arg::new(alloc, "input").num_args(0..).help(INPUT_HELP)
 }
 
-/// A command that reads a program and writes something of it.
+/// Makes a command that reads a program and writes something about it.
 pub(crate) fn program_command<'a>(
     alloc: Global,
     name: &'a str,
@@ -102,7 +102,7 @@ pub(crate) fn check_command<'a>(alloc: Global) -> Result<Command<'a>, AllocError
     Ok(whole)
 }
 
-/// The command that assembles.
+/// Makes the command that assembles.
 pub(crate) fn asm_command<'a>(alloc: Global) -> Result<Command<'a>, AllocError>
     ensures app { IfOk result (λ c. app_of c ≡ asm_line) }
     ensures local { IfOk result (λ c. (out-Command c).has_globals ≡ false) }
@@ -113,7 +113,7 @@ pub(crate) fn asm_command<'a>(alloc: Global) -> Result<Command<'a>, AllocError>
     Ok(whole)
 }
 
-/// The command that explains a number.
+/// Makes the command that explains a code.
 pub(crate) fn explain_command<'a>(alloc: Global) -> Result<Command<'a>, AllocError>
     ensures app { IfOk result (λ c. app_of c ≡ explain_line) }
     ensures local { IfOk result (λ c. (out-Command c).has_globals ≡ false) }

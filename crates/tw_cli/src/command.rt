@@ -1,4 +1,4 @@
-//! The command line: what it may order, and the commands.
+//! The orders that a command line gives, and the commands.
 
 ghost use Rattle.std.specs.Prelude.{◌≡◌, false, codes, IfOk};
 ghost use Rattle.clap.specs.Words.{App, app_of, with_subcommand};
@@ -12,9 +12,9 @@ use crate::arguments::{
     plain_command, program_command, text_arg,
 };
 use crate::help::{
-    ABOUT, CommandHelp, DISASM, ENGINES_HELP, FROM_HELP, IN_TURN_HELP, LIMIT_HELP, PICTURE,
-    PICTURE_HELP, QUIET_HELP, REPLAY, RUN, SERVERS_HELP, STATS_HELP, TO_HELP, TRACE_HELP, VERSION,
-    WORKERS_HELP,
+    ABOUT, CommandHelp, DISASM, ENGINES_HELP, FROM_HELP, IN_TURN_HELP, JSON_HELP, LIMIT_HELP,
+    PICTURE, PICTURE_HELP, QUIET_HELP, REPLAY, RUN, SERVERS_HELP, STATS_HELP, TO_HELP, TRACE_HELP,
+    VERSION, WORKERS_HELP,
 };
 use crate::limit::EventLimit;
 use crate::shown::EventRange;
@@ -22,20 +22,20 @@ use clap::Command;
 use std::alloc::{AllocError, AllocFailed, Global};
 use tw_types::{Input, Items, Layout};
 
-/// How a program is run.
+/// The order to run a program.
 #[derive(Drop)]
 pub struct RunOrder {
-    /// What is written of the run.
-    pub answer: Answer,
+    /// The output of the run.
+    pub answer: RunAnswer,
     /// The actors.
     pub layout: Layout,
-    /// How many events may be made.
+    /// The maximum number of events.
     pub limit: EventLimit,
-    /// Whether the history is written before the report.
+    /// Whether the trace is written before the report.
     pub trace: bool,
-    /// Whether the actors have their turns in one thread.
+    /// Whether all actors run in one thread.
     pub in_turn: bool,
-    /// Main's inputs, one for each input word, in their order.
+    /// Main's inputs, one for each input argument, in their order.
     pub inputs: Items<Input>,
 }
 
@@ -46,25 +46,25 @@ pub enum Places {
     Shown,
 }
 
-/// What a check tells besides the budgets.
+/// The output of a check in addition to the budgets.
 #[derive(Clone, Copy)]
 pub struct CheckOrder {
-    /// Whether the instructions are listed before them.
+    /// Whether the instructions are listed before the budgets.
     pub places: Places,
-    /// Whether the bounds of whole runs come after them.
+    /// Whether the bounds of whole runs are printed after the budgets.
     pub bounds: bool,
 }
 
-/// What is asked for of a program that is accepted.
+/// An action on an accepted program.
 #[derive(Drop)]
 pub enum VerifiedOrder {
-    /// Tell its budgets, and this besides.
+    /// Prints its budgets, and the rest of the order.
     Check(CheckOrder),
-    /// Run it.
+    /// Runs it.
     Run(RunOrder),
 }
 
-/// How the program is written that is read.
+/// The format of the program that is read.
 #[derive(Clone, Copy, PartialEq, Eq)]
 pub enum Source {
     /// As hex text of its bytes.
@@ -73,67 +73,80 @@ pub enum Source {
     Assembly,
 }
 
-/// What is assembled, and what is written of it.
+/// The input and the output of `asm`.
 #[derive(Clone, Copy, PartialEq, Eq)]
 pub enum Assembling {
-    /// The bytes of an assembly text's program.
+    /// The bytes of a program in assembly text.
     Text,
-    /// The same of a text that may have names.
+    /// The bytes of a program in assembly text, which may be symbolic.
     Names,
-    /// The assembly text for which such a text stands.
+    /// The expanded text of symbolic assembly.
     Plain,
 }
 
-/// What is asked for of a program that is read.
+/// An action on a program that is read.
 #[derive(Drop)]
 pub enum ProgramOrder {
-    /// Write its assembly text, with the number of each place where they are shown.
+    /// Writes its assembly text, with the number of each place if they are shown.
     Disassemble(Places),
-    /// Verify it, and where it is accepted do this.
+    /// Verifies it, and does this if it is accepted.
     Verified(VerifiedOrder),
 }
 
-/// What is written of a run, or of a history whose events all go.
+/// The output of a run.
 #[derive(Clone, Copy, PartialEq, Eq)]
-pub enum Answer {
-    /// The report of the state that they leave.
+pub enum RunAnswer {
+    /// The report.
     Report,
-    /// The report, and behind it the numbers of the events.
+    /// The report, followed by statistics.
     Numbers,
-    /// The picture of these of them.
+    /// The run as a JSON object on one line.
+    Json,
+    /// The timeline of these events.
     Picture(EventRange),
 }
 
-/// How a history is replayed.
+/// The output of a trace whose events all succeed.
+#[derive(Clone, Copy, PartialEq, Eq)]
+pub enum Answer {
+    /// The report of the state to which the events lead.
+    Report,
+    /// The report, followed by the statistics of the events.
+    Numbers,
+    /// The timeline of the events in this range.
+    Picture(EventRange),
+}
+
+/// The order to replay a trace.
 #[derive(Drop)]
 pub struct ReplayOrder {
-    /// What is written of it.
+    /// The output of the replay.
     pub answer: Answer,
     /// The actors.
     pub layout: Layout,
-    /// Main's inputs, one for each input word, in their order.
+    /// Main's inputs, one for each input argument, in their order.
     pub inputs: Items<Input>,
 }
 
-/// How a program is run whose inputs are to be read.
+/// The options of a run whose program is followed by its inputs.
 #[derive(Clone, Copy)]
 pub struct RunOptions {
-    /// What is written of the run.
-    pub answer: Answer,
+    /// The output of the run.
+    pub answer: RunAnswer,
     /// The actors.
     pub layout: Layout,
-    /// How many events may be made.
+    /// The maximum number of events.
     pub limit: EventLimit,
-    /// Whether the history is written before the report.
+    /// Whether the trace is written before the report.
     pub trace: bool,
-    /// Whether the actors have their turns in one thread.
+    /// Whether all actors run in one thread.
     pub in_turn: bool,
 }
 
-/// How a history is replayed whose program's inputs are to be read.
+/// The options of a replay whose program is followed by its inputs.
 #[derive(Clone, Copy)]
 pub struct ReplayOptions {
-    /// What is written of it.
+    /// The output of the replay.
     pub answer: Answer,
     /// The actors.
     pub layout: Layout,
@@ -166,39 +179,39 @@ impl ReplayOptions {
     }
 }
 
-/// What is asked for of a program behind which its inputs stand.
+/// An action on a program that is followed by its inputs.
 #[derive(Clone, Copy)]
 pub enum InputsOrder {
     ToRun(RunOptions),
     ToReplay(ReplayOptions),
 }
 
-/// What the words ask for.
+/// The order that the arguments give.
 #[derive(Drop)]
 pub enum Order {
-    /// Write this of the text that is read.
+    /// Reads assembly text, and writes this.
     Assemble(Assembling),
-    /// Do this with the program that is read, which is written so.
+    /// Reads a program written in this way, and does this with it.
     Program(Source, ProgramOrder),
-    /// Replay the history that is read behind a program, which is written so.
+    /// Reads a program written in this way and a trace, and replays it.
     Replay(Source, ReplayOrder),
-    /// Do this with the program that is read, which is written so, and with the inputs that are read behind it.
+    /// Reads a program written in this way and its inputs, and does this with them.
     Inputs(Source, InputsOrder),
 }
 
-/// Why the words give no order.
+/// The reason why the arguments give no order.
 #[derive(Drop)]
 pub enum NoOrder {
-    /// They ask for this help, or for the version.
+    /// They request this help, or the version.
     Help(String),
-    /// No command of `tw` takes them, an option has no number in its range, or inputs are given in two ways.
+    /// No command of `tw` accepts them, an option has no number in its range, or inputs are given in two ways.
     Refused,
-    /// The input word of this number, counted from 1, is the first that spells no input, for the reason that this line
-    /// gives; all else is taken.
+    /// The input argument with this number is the first that encodes no input. Input arguments count from 1. The line says why. All other arguments
+    /// are accepted.
     InputWord(usize, Vec<u8>),
-    /// They ask what a number means, and this is told of it.
+    /// They request this explanation of a code.
     Explanation(Vec<u8>),
-    /// Memory was refused on the way.
+    /// An allocation failed.
     NoMemory,
 }
 
@@ -218,7 +231,7 @@ impl<T: Drop> From<AllocFailed<T>> for NoOrder {
     }
 }
 
-/// A command with the options that say how many actors there are.
+/// Makes a command with the options for the numbers of actors.
 fn actors_command<'a>(
     alloc: Global,
     name: &'a str,
@@ -234,7 +247,7 @@ fn actors_command<'a>(
     Ok(whole)
 }
 
-/// Adds how the program and its inputs are read, and the input words.
+/// Adds the options for how the program and its inputs are read, and the input arguments.
 fn reading_command<'a>(alloc: Global, command: Command<'a>) -> Result<Command<'a>, AllocError>
     requires local { (out-Command command).has_globals ≡ false }
     ensures app { IfOk result (λ c. app_of c ≡ reading_line (app_of command.entry)) }
@@ -246,7 +259,7 @@ fn reading_command<'a>(alloc: Global, command: Command<'a>) -> Result<Command<'a
     Ok(whole)
 }
 
-/// `run` with its options that take a number.
+/// Makes `run` with its options that take a number.
 fn numbered_run<'a>(alloc: Global) -> Result<Command<'a>, AllocError>
     ensures app { IfOk result (λ c. app_of c ≡ numbers_line (codes "run") number_options) }
     ensures local { IfOk result (λ c. (out-Command c).has_globals ≡ false) }
@@ -258,7 +271,7 @@ fn numbered_run<'a>(alloc: Global) -> Result<Command<'a>, AllocError>
     Ok(whole)
 }
 
-/// The same with the flags that say what is written of it.
+/// Makes `run` with its numbers, and the flags that say what is written.
 fn written_run<'a>(alloc: Global) -> Result<Command<'a>, AllocError>
     ensures app { IfOk result (λ c. app_of c ≡ written_line) }
     ensures local { IfOk result (λ c. (out-Command c).has_globals ≡ false) }
@@ -266,7 +279,8 @@ fn written_run<'a>(alloc: Global) -> Result<Command<'a>, AllocError>
     let numbered = numbered_run(alloc)?;
     let trace = numbered.arg(flag_arg(alloc, "trace", TRACE_HELP))?;
     let stats = trace.arg(flag_arg(alloc, "stats", STATS_HELP))?;
-    let whole = stats.arg(flag_arg(alloc, "picture", PICTURE_HELP))?;
+    let json = stats.arg(flag_arg(alloc, "json", JSON_HELP))?;
+    let whole = json.arg(flag_arg(alloc, "picture", PICTURE_HELP))?;
     Ok(whole)
 }
 
@@ -302,7 +316,7 @@ fn picture_command<'a>(alloc: Global) -> Result<Command<'a>, AllocError>
     Ok(whole)
 }
 
-/// The program without its commands.
+/// Makes the program without its commands.
 fn bare_command<'a>(alloc: Global) -> Result<Command<'a>, AllocError>
     ensures { IfOk result (λ c. app_of c ≡ bare_line) }
 {
@@ -315,7 +329,7 @@ fn bare_command<'a>(alloc: Global) -> Result<Command<'a>, AllocError>
     Ok(named)
 }
 
-/// The program with one command more, where memory wasn't refused to that.
+/// Adds a command to the program, unless making it failed.
 fn joined<'a>(
     line: Command<'a>,
     added: Result<Command<'a>, AllocError>,

@@ -1,4 +1,4 @@
-//! What the numbers of refusals and traps mean.
+//! Explains the codes of errors and traps.
 
 ghost use Rattle.std.specs.Prelude.{◌≡◌, ◌++◌, ◌∷◌, [], true, false, codes, is_some, IfOk, IfSome, MatchOption, OnOk};
 ghost use Rattle.std.specs.List.{find, list_any};
@@ -11,53 +11,53 @@ use crate::explained_programs::{TRAPS, VERIFIER};
 use std::alloc::{AllocError, Global};
 use tw_lexer::put;
 
-/// What is told of a number.
+/// The explanation of a code.
 #[derive(Clone, Copy)]
 pub(crate) struct Explanation {
     pub number: &'static str,
-    /// What it means.
+    /// The meaning.
     pub meaning: &'static str,
-    /// What was asked there.
+    /// The requirement.
     pub asked: &'static str,
     /// The usual mistake.
     pub mistake: &'static str,
-    /// How that is mended.
+    /// How to correct it.
     pub mending: &'static str,
 }
 
-/// Of what is read, of openings, histories and runs.
+/// The codes of input, openings, traces and runs.
 #[rattlefmt::skip]
 const SESSION: [Explanation; 11] = [
     Explanation { number: "H01",
-        meaning: "what was read isn't hex text",
-        asked: "two hexadecimal digits a byte, with nothing else between them but spaces, tabs and line ends",
-        mistake: "assembly text was given where hex text is read, or `tw asm` in front of the pipe had refused its text",
+        meaning: "the input isn't hex text",
+        asked: "two hexadecimal digits a byte, with nothing between them except spaces, tabs and line ends",
+        mistake: "assembly text was given instead of hex text, or `tw asm` before the pipe had rejected its text",
         mending: "give the option --text, or look at what `tw asm` alone says" },
     Explanation { number: "H02",
-        meaning: "what was read is too long",
+        meaning: "the input is too long",
         asked: "at most 16,777,216 bytes",
-        mistake: "another file was given than was meant, or a history of very many events",
+        mistake: "the wrong file was given, or a trace of very many events",
         mending: "give the program alone, or fewer events" },
     Explanation { number: "H03",
-        meaning: "what was read as text isn't UTF-8",
-        asked: "assembly text and histories in UTF-8",
-        mistake: "a file of another encoding, or of bytes, was given where text is read",
+        meaning: "text input isn't UTF-8",
+        asked: "assembly text and traces in UTF-8",
+        mistake: "a file of another encoding, or of bytes, was given instead of text",
         mending: "save the file as UTF-8; hex text is given without --text" },
     Explanation { number: "O01",
         meaning: "there are more or fewer inputs than main takes",
-        asked: "an input word for each `closed` and `ref` parameter of main, in their order",
-        mistake: "no input word was given, or one for an output",
-        mending: "give one word for each input: int:7, text:abc, ints:1=7,2=8 or texts:1=\"a\"" },
+        asked: "an input for each `closed` and `ref` parameter of main, in order",
+        mistake: "no input was given, or one for an output",
+        mending: "give one argument for each input: int:7, text:abc, ints:1=7,2=8 or texts:1=\"a\"" },
     Explanation { number: "O02",
         meaning: "an input is of another type than its parameter, or is too large",
         asked: "the parameter's type; texts of at most 4,096 bytes; at most 1,000 members, with subscripts that rise, texts by their bytes",
-        mistake: "int: where the parameter is a container, ints: where it is a tcont, or subscripts in another order",
+        mistake: "int: for a container, ints: for a tcont, or subscripts in another order",
         mending: "use ints: or texts: for cont, tints: or ttexts: for tcont, and let the subscripts rise" },
     Explanation { number: "O03",
         meaning: "the program names an actor that isn't there",
-        asked: "as many engines and workers as the targets of RULE, PUT, RULEV and PUTV need; `tw check` tells them",
+        asked: "as many engines and workers as the targets of RULE, PUT, RULEV and PUTV need; `tw check` prints them",
         mistake: "--engines or --workers was left out",
-        mending: "give the numbers that `tw check` tells, or let targets be `any`" },
+        mending: "give the numbers that `tw check` prints, or let targets be `any`" },
     Explanation { number: "O04",
         meaning: "the limit of events is out of its range",
         asked: "1 to 1,000,000",
@@ -69,52 +69,52 @@ const SESSION: [Explanation; 11] = [
         mistake: "a limit on the process's memory",
         mending: "give it more memory" },
     Explanation { number: "O06",
-        meaning: "main has another shape than asked, told by `tw replay` and `tw picture`, which don't verify",
-        asked: "what V16 asks",
+        meaning: "main has the wrong shape, as reported by `tw replay` and `tw picture`, which don't verify",
+        asked: "what V16 requires",
         mistake: "as at V16",
         mending: "as at V16; see `tw explain V16`" },
     Explanation { number: "E01",
-        meaning: "a line of the history is no event",
+        meaning: "a line of the trace is no event",
         asked: "take w0, local w0 3, call w0, end w0, ask e0 1 0, deliver s0 2 1 0 or release e0 1",
-        mistake: "a misspelled word, local with 0 instructions, or the report behind the history without a line `end`",
-        mending: "lines count from 1 behind `events`: mend that line, or take what `tw run --trace` writes" },
+        mistake: "a misspelled word, local with 0 instructions, or the report after the trace, without a line `end`",
+        mending: "lines count from 1 after `events`: correct that line, or take what `tw run --trace` writes" },
     Explanation { number: "X01",
-        meaning: "the threads came to no end of the run",
-        asked: "that each is told its actor's events alone, until the run ends",
+        meaning: "the threads didn't finish the run",
+        asked: "that each makes the events of its own actor, until the run ends",
         mistake: "none in the program: it was verified, and this isn't expected",
-        mending: "run it again; where it comes again, tell those who made the host" },
+        mending: "run it again; if it is repeated, report it to the maintainers" },
 ];
 
-/// Of assembly text.
+/// The codes of assembly text.
 #[rattlefmt::skip]
 const ASSEMBLY: [Explanation; 7] = [
     Explanation { number: "A01",
-        meaning: "a line's first word isn't known, or can't stand there",
-        asked: "`version 2` or `proc` first, `regs` next behind each `proc`, and then labels, instructions or the next `proc`",
-        mistake: "an instruction in small letters or of version 2 in a text without that line, a comment behind # or //, no `regs` line, `const` or `let` in a text whose first line isn't `names`, `names` where `tw asm` is without --names, or a byte order mark before the first word",
-        mending: "write instructions in capitals, `version 2` first, comments behind ; and a `regs` line behind each `proc`; save the file without a byte order mark" },
+        meaning: "a line's first word is unknown or misplaced",
+        asked: "`version 2` or `proc` first, `regs` next after each `proc`, and then labels, instructions or the next `proc`",
+        mistake: "an instruction in small letters or of version 2 in a text without that line, a comment after # or //, no `regs` line, `const` or `let` in a text whose first line isn't `names`, `names` if `tw asm` is called without --names, or a byte order mark before the first word",
+        mending: "write instructions in capitals, `version 2` first, comments after ; and a `regs` line after each `proc`; save the file without a byte order mark" },
     Explanation { number: "A02",
-        meaning: "an operand has another form than asked, or there are too few or too many",
+        meaning: "an operand has the wrong form, or there are too few or too many",
         asked: "operands of their forms and in their order: v0, d0, a number, a quoted text, a type, a label or +n",
-        mistake: "no skip behind ADD or LOOK, a constant where a register stands, d2 among RULE's arguments in place of 2, no priority, a comma, a register of the other bank, \\t in a text or a quote that isn't closed, an instruction behind its label, a no-break space, tcont without `version 2`, or names in a text whose first line isn't `names`",
-        mending: "with --text the word is told, and what was expected there; take the operands from the table of instructions: +0 as a skip goes on behind the instruction, INT puts a constant into a register" },
+        mistake: "no skip after ADD or LOOK, a constant in place of a register, d2 among RULE's arguments in place of 2, no priority, a comma, a register of the other bank, \\t in a text or a quote that isn't closed, an instruction after its label, a no-break space, tcont without `version 2`, or names in a text whose first line isn't `names`",
+        mending: "with --text the word is reported, and what was expected; take the operands from the table of instructions: the skip +0 continues after the instruction, and INT puts a constant into a register" },
     Explanation { number: "A03",
         meaning: "the procedure has no label of this name",
         asked: "a label line `name:` in the same procedure",
         mistake: "a name that is spelled in two ways, or a label of another procedure",
         mending: "write the label in the procedure that names it; small and capital letters differ" },
     Explanation { number: "A04",
-        meaning: "a label of this name stands in the procedure already",
+        meaning: "the procedure already has a label of this name",
         asked: "each label once in its procedure",
         mistake: "lines were copied with their labels",
         mending: "give the second label another name" },
     Explanation { number: "A05",
-        meaning: "the label isn't behind the instruction that names it",
+        meaning: "the label isn't after the instruction that names it",
         asked: "skips that lead forward",
         mistake: "a loop was written as a skip back to its first line",
         mending: "write loops with REPEAT and END" },
     Explanation { number: "A06",
-        meaning: "a number, a count, a nesting, a name or a text is past its limit, no such version, or a procedure has no instruction",
+        meaning: "a number, a count, a nesting, a name or a text is past its limit, there is no such version, or a procedure has no instruction",
         asked: "v0 to v15, d0 to d15, at most 8 parameters, 16 registers, 4,096 instructions, 64 procedures, 3 containers, version 1 or 2",
         mistake: "a procedure that is still empty, REPEAT 0 or REPEAT past 1000, or a number past 64 bits",
         mending: "end each procedure with RET, and keep to the limit" },
@@ -125,18 +125,18 @@ const ASSEMBLY: [Explanation; 7] = [
         mending: "give it more memory" },
 ];
 
-/// Of a program's bytes.
+/// The codes of a program's bytes.
 #[rattlefmt::skip]
 const BYTES: [Explanation; 9] = [
     Explanation { number: "F01",
-        meaning: "the bytes don't begin as a program",
+        meaning: "the bytes don't begin like a program",
         asked: "54 57 42 first",
         mistake: "the hex text of something else was given",
         mending: "make the bytes by `tw asm`" },
     Explanation { number: "F02",
         meaning: "the bytes are of another version",
-        asked: "01 or 02 behind the first three bytes",
-        mistake: "a byte was left out or added in front",
+        asked: "01 or 02 after the first three bytes",
+        mistake: "a byte was left out or added before it",
         mending: "make the bytes by `tw asm`" },
     Explanation { number: "F03",
         meaning: "bytes are missing at the end",
@@ -144,28 +144,28 @@ const BYTES: [Explanation; 9] = [
         mistake: "the text was cut off, or a count is too great",
         mending: "take the whole text; a count of instructions counts instructions, and not bytes" },
     Explanation { number: "F04",
-        meaning: "a count, a register, a target, a number of turns or the length of a text is out of its limits",
+        meaning: "a count, a register, a target, a number of iterations or the length of a text is out of its limits",
         asked: "1 to 64 procedures, 0 to 8 parameters, 0 to 16 registers, 1 to 4,096 instructions, registers 0 to 15",
         mistake: "bytes that were written by hand are one byte off",
-        mending: "look at the byte that is told, and at the item before it" },
+        mending: "look at the byte that is reported, and at the item before it" },
     Explanation { number: "F05",
         meaning: "a kind, a mode, a type or the code of an instruction isn't known in the program's version",
         asked: "a byte of the table; int or text alone under `val` and as the type of a register",
-        mistake: "bytes that were written by hand are one byte off; or tcont or a code from 50 on where the version is 01",
-        mending: "look at the byte that is told, at the item before it, and at the version" },
+        mistake: "bytes that were written by hand are one byte off; or tcont or a code from 50 on although the version is 01",
+        mending: "look at the byte that is reported, at the item before it, and at the version" },
     Explanation { number: "F06",
         meaning: "a type has a fourth `cont` or `tcont`",
         asked: "containers nested at most three deep",
         mistake: "a container more than was meant",
-        mending: "keep what lies deeper in a container of its own" },
+        mending: "put the inner containers into a container of their own" },
     Explanation { number: "F07",
         meaning: "a text in the program isn't UTF-8",
         asked: "UTF-8",
         mistake: "bytes of another encoding, or a text that ends in the middle of a character",
         mending: "write the text in UTF-8; its length counts bytes" },
     Explanation { number: "F08",
-        meaning: "bytes stand behind the last procedure",
-        asked: "nothing behind it",
+        meaning: "there are bytes after the last procedure",
+        asked: "nothing after it",
         mistake: "two programs were joined, or the number of procedures is too small",
         mending: "give one program; count its procedures" },
     Explanation { number: "F09",
@@ -175,7 +175,7 @@ const BYTES: [Explanation; 9] = [
         mending: "give it more memory" },
 ];
 
-/// Returns the first of these rows with this number.
+/// Returns the first of these rows with this code.
 fn first_named(rows: &[Explanation], word: &[u8]) -> Option<Explanation>
     ensures { result ≡ find (λ row. bytes_eq row.number.now word.now) rows.now }
 {
@@ -184,7 +184,7 @@ fn first_named(rows: &[Explanation], word: &[u8]) -> Option<Explanation>
         .find(|row| row.number.as_bytes() == word)
 }
 
-/// Returns the row of a number among these.
+/// Returns the row of a code among these.
 fn found(rows: &[Explanation], word: &[u8]) -> Option<Explanation>
     ensures known { is_some result ≡ list_any (λ row. bytes_eq row.number.now word.now) rows.now }
     ensures number { IfSome result (λ row. row.number.now ≡ word.now) }
@@ -234,7 +234,7 @@ fn trap_row(word: &[u8]) -> Option<Explanation>
     found(&TRAPS, word)
 }
 
-/// Returns the row of a number, if it is one.
+/// Returns the row of a code, if it is one.
 fn row_of(word: &[u8]) -> Option<Explanation>
     ensures known { is_some result ≡ is_number word.now }
     ensures number { IfSome result (λ row. row.number.now ≡ word.now) }
@@ -247,7 +247,7 @@ fn row_of(word: &[u8]) -> Option<Explanation>
         .or(trap_row(word))
 }
 
-/// Adds a line of an explanation, behind its first.
+/// Appends a line of an explanation: its name, and its text.
 fn put_line(out: &mut Vec<u8>, name: &str, text: &str) -> Result<(), AllocError>
     ensures { OnOk result (out.new.items ≡ out.old.items ++ (name.now ++ (text.now ++ codes "\n"))) }
 {
@@ -256,7 +256,7 @@ fn put_line(out: &mut Vec<u8>, name: &str, text: &str) -> Result<(), AllocError>
     put(out, "\n")
 }
 
-/// Adds each number with its meaning, a line each.
+/// Appends each code with its meaning, one line each.
 fn put_rows(out: &mut Vec<u8>, rows: &[Explanation]) -> Result<(), AllocError> {
     for row in rows {
         put(out, row.number)?;
@@ -265,7 +265,7 @@ fn put_rows(out: &mut Vec<u8>, rows: &[Explanation]) -> Result<(), AllocError> {
     Ok(())
 }
 
-/// Returns all numbers with their meanings, a line each.
+/// Returns all codes with their meanings, one line each.
 fn listing(alloc: Global) -> Result<Vec<u8>, AllocError> {
     let mut text = Vec::new(alloc);
     put_rows(&mut text, &SESSION)?;
@@ -277,7 +277,7 @@ fn listing(alloc: Global) -> Result<Vec<u8>, AllocError> {
     Ok(text)
 }
 
-/// Puts a 0 between a letter and a digit alone, except for a trap's number.
+/// Inserts a 0 between a letter and a single digit, except in the code of a trap.
 fn full_number(alloc: Global, word: &[u8]) -> Result<Vec<u8>, AllocError>
     ensures { IfOk result (λ number. number.items ≡ full_number word.now) }
 {
@@ -292,20 +292,20 @@ fn full_number(alloc: Global, word: &[u8]) -> Result<Vec<u8>, AllocError>
     }
 }
 
-/// Returns the text of a row: its number stands first.
+/// Returns the text of a row, which begins with its code.
 fn text_of(alloc: Global, row: &Explanation) -> Result<Vec<u8>, AllocError>
     ensures { IfOk result (λ text. IsExplanation row.now.number.now text.items) }
 {
     let mut text = Vec::new(alloc);
     put(&mut text, row.number)?;
     put_line(&mut text, ": ", row.meaning)?;
-    put_line(&mut text, "  asked: ", row.asked)?;
+    put_line(&mut text, "  required: ", row.asked)?;
     put_line(&mut text, "  usual mistake: ", row.mistake)?;
-    put_line(&mut text, "  mending: ", row.mending)?;
+    put_line(&mut text, "  correction: ", row.mending)?;
     Ok(text)
 }
 
-/// Returns what a number means, if it is one.
+/// Returns the explanation of a code, if it is one.
 fn row_meaning(alloc: Global, number: &[u8]) -> Result<Option<Vec<u8>>, AllocError>
     ensures { IfOk result (λ told. MatchOption told (is_number number.now ≡ false) (λ text. (is_number number.now ≡ true) × IsExplanation number.now text.items)) }
 {
@@ -315,7 +315,7 @@ fn row_meaning(alloc: Global, number: &[u8]) -> Result<Option<Vec<u8>>, AllocErr
     }
 }
 
-/// Returns what the number means that a word means, if it means one.
+/// Returns the explanation of the code that an argument names, if it names one. Accepts either case, and codes without their 0.
 fn word_meaning(alloc: Global, word: &[u8]) -> Result<Option<Vec<u8>>, AllocError>
     ensures { IfOk result (λ told. MatchOption told (is_number (meant word.now) ≡ false) (λ text. (is_number (meant word.now) ≡ true) × IsExplanation (meant word.now) text.items)) }
 {
@@ -324,7 +324,8 @@ fn word_meaning(alloc: Global, word: &[u8]) -> Result<Option<Vec<u8>>, AllocErro
     row_meaning(alloc, &number)
 }
 
-/// Returns what a word after `explain` asks for: what a number means, or for no word all numbers; none if it means no number.
+/// Returns the explanation that the argument of `explain` requests. An empty argument requests the list of all codes. Returns none if it names no
+/// code.
 pub fn explained(alloc: Global, word: &str) -> Result<Option<Vec<u8>>, AllocError>
     ensures { IfOk result (λ told. MatchOption told (number_faults word.now ≡ ValueValidation ∷ []) (λ text. (number_faults word.now ≡ []) × IsTold word.now text.items)) }
 {

@@ -1,4 +1,4 @@
-//! What was found behind a command: its options, and the input words.
+//! Reads the options and input arguments that clap found after a command.
 
 ghost use Rattle.std.specs.Prelude.{◌≡◌, false, not, [], ◌∷◌, map, IfOk, IfErr, IfSome, MatchOption};
 ghost use Rattle.clap.specs.Walk.{is_empty};
@@ -21,7 +21,7 @@ use std::alloc::Global;
 use tw_lexer::digits;
 use tw_types::{Input, Items, Layout};
 
-/// The number from 1 to `most` that an option has, or `default` where it isn't given.
+/// Returns the number from 1 to `most` of an option, or `default` if it isn't given. Returns none if its value is no number in this range.
 pub(crate) fn number_given(
     matches: &ArgMatches<'_>,
     name: &str,
@@ -39,7 +39,7 @@ pub(crate) fn number_given(
     digits(word.as_bytes(), 1, most).ok()
 }
 
-/// The actors that the options tell.
+/// Returns the numbers of actors from the options. Returns none if one of them is out of its range.
 pub(crate) fn layout_given(matches: &ArgMatches<'_>) -> Option<Layout>
     ensures { MatchOption result
         (option_faults actor_options (rows_of (found_of matches.now)) ≡ ValueValidation ∷ [])
@@ -51,7 +51,7 @@ pub(crate) fn layout_given(matches: &ArgMatches<'_>) -> Option<Layout>
     Layout::new(engines as u8, servers as u8, workers as u8).ok()
 }
 
-/// The most events that the options tell.
+/// Returns the maximum number of events from `--limit`. Returns none if it is out of its range.
 pub(crate) fn limit_given(matches: &ArgMatches<'_>) -> Option<EventLimit>
     ensures { result ≡ number_of limit (rows_of (found_of matches.now)) }
 {
@@ -59,14 +59,14 @@ pub(crate) fn limit_given(matches: &ArgMatches<'_>) -> Option<EventLimit>
     EventLimit::new(events as usize)
 }
 
-/// Whether a flag is given. `get_flag` promises nothing where the text found is neither `true` nor `false`.
+/// Returns whether a flag is given. `get_flag` can't be used: it promises nothing for a text that is neither `true` nor `false`.
 pub(crate) fn flag_given(matches: &ArgMatches<'_>, name: &str) -> bool
     ensures { result ≡ is_given name.now (rows_of (found_of matches.now)) }
 {
     matches.get_one(name).unwrap_or(false)
 }
 
-/// How the program is written that is read.
+/// Returns how the program in the input is written: `--text` is for assembly text.
 pub(crate) fn source_given(matches: &ArgMatches<'_>) -> Source
     ensures { result ≡ given_source (rows_of (found_of matches.now)) }
 {
@@ -77,7 +77,7 @@ pub(crate) fn source_given(matches: &ArgMatches<'_>) -> Source
     }
 }
 
-/// Whether the places of instructions are listed.
+/// Returns whether the instructions are listed by their places.
 pub(crate) fn places_given(matches: &ArgMatches<'_>) -> Places
     ensures { result ≡ given_places (rows_of (found_of matches.now)) }
 {
@@ -88,7 +88,7 @@ pub(crate) fn places_given(matches: &ArgMatches<'_>) -> Places
     }
 }
 
-/// Returns what a check tells besides the budgets.
+/// Returns what a check prints in addition to the budgets.
 pub(crate) fn check_given(matches: &ArgMatches<'_>) -> CheckOrder
     ensures { result ≡ given_check (rows_of (found_of matches.now)) }
 {
@@ -98,7 +98,7 @@ pub(crate) fn check_given(matches: &ArgMatches<'_>) -> CheckOrder
     }
 }
 
-/// Returns what a check tells without options.
+/// Returns the order of a check without options, which prints the budgets alone.
 pub(crate) fn bare_check() -> CheckOrder
     ensures { result ≡ checking Places.Hidden false }
 {
@@ -108,7 +108,7 @@ pub(crate) fn bare_check() -> CheckOrder
     }
 }
 
-/// What is assembled, and what is written of it.
+/// Returns what `asm` reads, and what it writes.
 pub(crate) fn assembling_given(matches: &ArgMatches<'_>) -> Assembling
     ensures { result ≡ given_assembling (rows_of (found_of matches.now)) }
 {
@@ -121,7 +121,7 @@ pub(crate) fn assembling_given(matches: &ArgMatches<'_>) -> Assembling
     }
 }
 
-/// What `replay` writes.
+/// Returns what `replay` writes: the report, with statistics if they are requested.
 pub(crate) fn answer_given(matches: &ArgMatches<'_>) -> Answer
     ensures { result ≡ given_answer (rows_of (found_of matches.now)) }
 {
@@ -132,7 +132,7 @@ pub(crate) fn answer_given(matches: &ArgMatches<'_>) -> Answer
     }
 }
 
-/// The inputs that words spell, one each; or `NoOrder::InputWord`, or want of memory.
+/// Returns the inputs that words encode, one each. The errors are `NoOrder::InputWord` for the first word that encodes none, and `NoOrder::NoMemory`.
 pub fn inputs_of(alloc: Global, words: &[&str]) -> Result<Items<Input>, NoOrder>
     ensures spelled { IfOk result (λ inputs. AreSpelled inputs (map (λ word. word.now) words.now)) }
     ensures refused { IfErr result (IsInputReason (map (λ word. word.now) words.now)) }
@@ -147,7 +147,7 @@ pub fn inputs_of(alloc: Global, words: &[&str]) -> Result<Items<Input>, NoOrder>
     Ok(Items::from(inputs))
 }
 
-/// The inputs that the words behind `run`, `replay` or `picture` spell.
+/// Returns the inputs that the arguments after `run`, `replay` or `picture` encode.
 fn inputs_in_words(alloc: Global, matches: &ArgMatches<'_>) -> Result<Items<Input>, NoOrder>
     ensures spelled { IfOk result (λ inputs. AreSpelled inputs (given_words (rows_of (found_of matches.now)))) }
     ensures refused { IfErr result (IsInputReason (given_words (rows_of (found_of matches.now)))) }
@@ -158,7 +158,7 @@ fn inputs_in_words(alloc: Global, matches: &ArgMatches<'_>) -> Result<Items<Inpu
     }
 }
 
-/// Whether there are such words.
+/// Returns whether there are input arguments.
 fn has_words(matches: &ArgMatches<'_>) -> bool
     ensures { result ≡ not (is_empty (given_words (rows_of (found_of matches.now)))) }
 {
@@ -168,7 +168,7 @@ fn has_words(matches: &ArgMatches<'_>) -> bool
     }
 }
 
-/// The inputs, where they don't stand in what is read.
+/// Returns the inputs from the arguments. Returns none if `--inputs` says that they are part of what is read.
 pub(crate) fn inputs_given(
     alloc: Global,
     matches: &ArgMatches<'_>,

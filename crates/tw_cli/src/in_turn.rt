@@ -1,4 +1,4 @@
-//! Orders whose runs are in turn.
+//! Orders whose runs are single-threaded.
 
 ghost use Rattle.std.specs.Prelude.{◌≡◌};
 ghost use Rattle.tw_cli.specs.InTurn.{inputs_in_turn, order_in_turn, program_in_turn, verified_in_turn};
@@ -45,7 +45,7 @@ impl InputsOrder {
 }
 
 impl Order {
-    /// The same order, but that a run is in turn.
+    /// Returns the same order, with its run single-threaded.
     pub fn in_turn(self) -> Order
         ensures { result ≡ order_in_turn self }
     {

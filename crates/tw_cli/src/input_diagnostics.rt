@@ -1,4 +1,4 @@
-//! Why a word spells no input.
+//! Says why a word encodes no input.
 
 ghost use Rattle.std.specs.Prelude.{◌≡◌, ◌++◌, IfOk, OnOk};
 ghost use Rattle.tw_lexer.specs.Digits.{signed_in};
@@ -19,7 +19,7 @@ fn int_diagnostic(read: Result<i64, TokenError>) -> &'static str
     }
 }
 
-/// Names what is wrong with the number after `int:`.
+/// Says what is wrong with the number after `int:`.
 fn number_diagnostic(text: &[u8]) -> &'static str
     ensures { result.now ≡ int_diagnostic (signed_in text.now) }
 {
@@ -32,7 +32,7 @@ fn has(byte: u8, text: &[u8]) -> bool
     text.contains(&byte)
 }
 
-/// Names what is wrong with the members of a container, of which some have texts or none has.
+/// Says what is wrong with the members of a container. `texts` is set if subscripts or values are texts.
 fn list_diagnostic(texts: bool, list: &[u8]) -> &'static str
     ensures { result.now ≡ list_diagnostic texts list.now }
 {
@@ -47,7 +47,7 @@ fn list_diagnostic(texts: bool, list: &[u8]) -> &'static str
     }
 }
 
-/// Adds what is wrong with members, and their form.
+/// Appends what is wrong with members, and the expected form.
 fn put_members(out: &mut Vec<u8>, texts: bool, list: &[u8], form: &str) -> Result<(), AllocError>
     ensures { OnOk result (out.new.items ≡ out.old.items ++ (list_diagnostic texts list.now ++ form.now)) }
 {
@@ -55,7 +55,7 @@ fn put_members(out: &mut Vec<u8>, texts: bool, list: &[u8], form: &str) -> Resul
 }
 
 #[tactic(auto, unfolding(crate::specs::InputReasons::form_by_text))]
-/// Names the form of members with texts as subscripts, with texts as values or not.
+/// Returns the form of members whose subscripts are texts. `texts` is set if their values are texts too.
 fn form_by_text(texts: bool) -> &'static str
     ensures { result.now ≡ form_by_text texts }
 {
@@ -67,7 +67,7 @@ fn form_by_text(texts: bool) -> &'static str
 }
 
 #[tactic(auto, unfolding(crate::specs::InputReasons::form_by_int))]
-/// Names the form of members with numbers as subscripts, with texts as values or not.
+/// Returns the form of members whose subscripts are numbers. `texts` is set if their values are texts.
 fn form_by_int(texts: bool) -> &'static str
     ensures { result.now ≡ form_by_int texts }
 {
@@ -78,7 +78,7 @@ fn form_by_int(texts: bool) -> &'static str
     }
 }
 
-/// Adds what is wrong with a word that begins with none of the heads of numbers and of containers by numbers.
+/// Appends what is wrong with a word that begins with none of `int:`, `ints:` and `texts:`.
 fn put_text_diagnostic(out: &mut Vec<u8>, word: &[u8]) -> Result<(), AllocError>
     ensures { OnOk result (out.new.items ≡ out.old.items ++ text_diagnostic word.now) }
 {
@@ -94,7 +94,7 @@ fn put_text_diagnostic(out: &mut Vec<u8>, word: &[u8]) -> Result<(), AllocError>
     }
 }
 
-/// Adds what is wrong with a word.
+/// Appends what is wrong with a word.
 fn put_diagnostic(out: &mut Vec<u8>, word: &[u8]) -> Result<(), AllocError>
     ensures { OnOk result (out.new.items ≡ out.old.items ++ word_diagnostic word.now) }
 {
@@ -109,7 +109,7 @@ fn put_diagnostic(out: &mut Vec<u8>, word: &[u8]) -> Result<(), AllocError>
     }
 }
 
-/// Adds the number and the word of an input.
+/// Appends the number of an input, and its word.
 fn put_input(alloc: Global, out: &mut Vec<u8>, number: usize, word: &[u8]) -> Result<(), AllocError>
     ensures { OnOk result (out.new.items ≡ out.old.items ++ input_text number word.now) }
 {
@@ -129,7 +129,7 @@ fn diagnostic_line(alloc: Global, number: usize, word: &[u8]) -> Result<Vec<u8>,
     Ok(line)
 }
 
-/// Refuses the input word of this number, counted from 1.
+/// Returns the error for an input word with this number. Input words count from 1.
 pub(crate) fn refused_word(alloc: Global, number: usize, word: &str) -> NoOrder
     ensures { IsRejection number word.now result }
 {

@@ -1,4 +1,4 @@
-//! The words that spell a program's inputs.
+//! The words that encode a program's inputs.
 
 ghost use Rattle.std.specs.Prelude.{◌≡◌, ◌≢◌, ◌++◌, ℕ, List, IfOk, IsUtf8, MatchOption, codes};
 ghost use Rattle.tw_types.specs.declared.input.Input.{Input as GivenInput};
@@ -9,7 +9,7 @@ use std::alloc::{AllocError, Global};
 use tw_lexer::after;
 use tw_types::{Input, InputText, Items};
 
-/// A text as it stands.
+/// Copies a text as it is.
 fn text_of(alloc: Global, bytes: &[u8]) -> Result<InputText, AllocError>
     requires { IsUtf8 bytes.now }
     ensures { IfOk result (λ text. text ≡ bytes.now) }
@@ -20,7 +20,7 @@ fn text_of(alloc: Global, bytes: &[u8]) -> Result<InputText, AllocError>
     }
 }
 
-/// The container that a word spells which has neither of the heads of scalars.
+/// Returns the container that a word encodes, if it encodes one. The word begins with neither `int:` nor `text:`.
 fn container_of(alloc: Global, word: &[u8]) -> Result<Option<Input>, AllocError>
     requires int { (rest : List ℕ) → word.now ≢ codes "int:" ++ rest }
     requires text { (rest : List ℕ) → word.now ≢ codes "text:" ++ rest }
@@ -56,10 +56,10 @@ fn container_of(alloc: Global, word: &[u8]) -> Result<Option<Input>, AllocError>
     Ok(None)
 }
 
-/// The input that a word spells, if it spells one; refused where memory is.
+/// Returns the input that a word encodes, if it encodes one. The error is that an allocation fails.
 ///
-/// A word is `int:`, `text:`, `ints:`, `texts:`, `tints:` or `ttexts:`, and its value. A container's subscripts need not
-/// rise here, and a text or container may have any length: that is asked when the program is opened.
+/// A word is `int:`, `text:`, `ints:`, `texts:`, `tints:` or `ttexts:`, and its value. This function doesn't check that a container's subscripts
+/// rise, nor how long a text or container is. They are checked when the program is opened.
 pub fn input_of(alloc: Global, word: &str) -> Result<Option<Input>, AllocError>
     ensures { IfOk result (λ read. MatchOption read
         ((given : GivenInput) → SpellsInput given word.now → ⊥)

@@ -1,6 +1,6 @@
-//! The command line of `tw`: which words give which order.
+//! The command line of `tw`: which order the arguments give.
 //!
-//! `read_order` takes all words, and `input_of` one word that is to spell an input. Nothing is read or written here.
+//! `read_order` takes all arguments, and `input_of` one argument that encodes an input. This crate reads and writes nothing.
 #![tactic(auto)]
 
 mod arguments;
@@ -22,7 +22,7 @@ mod wrong_words;
 
 pub use command::{
     Answer, Assembling, CheckOrder, InputsOrder, NoOrder, Order, Places, ProgramOrder,
-    ReplayOptions, ReplayOrder, RunOptions, RunOrder, Source, VerifiedOrder,
+    ReplayOptions, ReplayOrder, RunAnswer, RunOptions, RunOrder, Source, VerifiedOrder,
 };
 pub use found::inputs_of;
 pub use input_words::input_of;

@@ -1,11 +1,11 @@
-//! How many events a run may have.
+//! The limit on the events of a run.
 
 ghost use Rattle.std.specs.Prelude.{◌≡◌, ◌≤◌};
 ghost use Rattle.std.specs.Option.{SomeIff};
 
 use std::marker::Model;
 
-/// The most events of a run: 1 to 1,000,000.
+/// The maximum number of events of a run: 1 to 1,000,000.
 #[derive(Clone, Copy, PartialEq, Eq)]
 pub struct EventLimit {
     events: usize,
@@ -24,10 +24,10 @@ impl Model for EventLimit {
 }
 
 impl EventLimit {
-    /// The greatest limit; the least is 1.
+    /// The largest limit. The smallest is 1.
     pub const MAX: usize = 1_000_000;
 
-    /// So many events, if a run may have them.
+    /// Returns the limit of this many events, if it is in the range.
     pub fn new(events: usize) -> Option<EventLimit>
         ensures { SomeIff result ((1 ≤ events) × (events ≤ 1000000)) events }
     {
@@ -38,7 +38,7 @@ impl EventLimit {
         }
     }
 
-    /// How many events a run may have.
+    /// Returns the maximum number of events.
     pub fn events(self) -> usize
         ensures value { result ≡ self }
         ensures most { result ≤ 1000000 }

@@ -1,4 +1,4 @@
-//! The members of a container, with commas between them.
+//! Reads the members of a container, with commas between them.
 
 ghost use Rattle.std.specs.Prelude.{ℕ, ℤ, List, IfOk, IsUtf8, MatchOption};
 ghost use Rattle.tw_lexer.specs.Quoted.{SpellsQuoted};
@@ -9,11 +9,11 @@ use std::alloc::{AllocError, Global};
 use tw_lexer::{after, number, quoted_text};
 use tw_types::InputText;
 
-/// What stands before or behind the `=` of a member.
+/// A subscript or a value of a member: the text before or after its `=`.
 pub trait Part: Drop {
     ghost Spells: { Self → List ℕ → Type 0 };
 
-    /// The one that stands first, where it ends at this mark, and what follows it.
+    /// Returns the value at the start that ends at this marker, and the rest. Returns none if there is no such value.
     fn first(alloc: Global, mark: u8, bytes: &[u8]) -> Result<Option<(Self, &[u8])>, AllocError>
         requires mark { IsMark mark }
         requires utf8 { IsUtf8 bytes.now }
@@ -49,7 +49,7 @@ impl Part for InputText {
     }
 }
 
-/// The number of 64 bits that a text spells.
+/// Returns the number of 64 bits that a text encodes, if it encodes one.
 pub fn int_of(text: &[u8]) -> Option<i64>
     ensures { MatchOption result ((n : ℤ) → SpellsInt n text.now → ⊥) (λ n. SpellsInt n text.now) }
 {
@@ -59,7 +59,7 @@ pub fn int_of(text: &[u8]) -> Option<i64>
     }
 }
 
-/// The bytes before the first one that is this, and those from there on.
+/// Splits the bytes before the first one that equals this byte. Without such a byte the second part is empty.
 fn cut(byte: u8, bytes: &[u8]) -> (&[u8], &[u8])
     ensures { IsCut byte bytes.now result.0.now result.1.now }
 {
@@ -71,7 +71,7 @@ fn cut(byte: u8, bytes: &[u8]) -> (&[u8], &[u8])
     bytes.split_at(bytes.len())
 }
 
-/// The member that stands first, and what follows it.
+/// Returns the first member, and the rest. Returns none if the bytes don't begin with a member.
 fn first_member<S: Part, V: Part>(
     alloc: Global,
     bytes: &[u8],
@@ -93,7 +93,7 @@ fn first_member<S: Part, V: Part>(
     Ok(Some(((subscript, value), rest)))
 }
 
-/// The members that a list spells.
+/// Returns the members that a list encodes, if it encodes some. An empty list has no members.
 pub fn members<S: Part, V: Part>(
     alloc: Global,
     list: &[u8],

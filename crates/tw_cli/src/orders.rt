@@ -1,4 +1,4 @@
-//! The order that the words give.
+//! Makes the order of the arguments.
 
 ghost use Rattle.std.specs.Prelude.{◌≡◌, [], map, IfOk, IfErr, MatchOption, string_bytes};
 ghost use Rattle.clap.specs.Words.{found_of, kind_of, rows_of, subcommand_rows_of};
@@ -39,7 +39,7 @@ pub(crate) fn reason_of(alloc: Global, error: &Error) -> NoOrder
     }
 }
 
-/// How a program is run, by what was found behind `run`.
+/// Returns how a program is run, from the options of `run`. Returns none if an option is out of its range, or options exclude each other.
 fn run_options(matches: &ArgMatches<'_>) -> Option<RunOptions>
     ensures { MatchOption result
         (HasReason (run_faults (rows_of (found_of matches.now))) (run_asked (rows_of (found_of matches.now))) Refused)
@@ -60,7 +60,7 @@ fn run_options(matches: &ArgMatches<'_>) -> Option<RunOptions>
     })
 }
 
-/// The order to run, by what was found behind `run`.
+/// Returns the order to run, from what clap found after `run`.
 fn run_order(alloc: Global, matches: &ArgMatches<'_>) -> Result<Order, NoOrder>
     ensures taken { IfOk result (λ order. (run_faults (rows_of (found_of matches.now)) ≡ [])
         × IsAsked (run_asked (rows_of (found_of matches.now))) order) }
@@ -79,7 +79,7 @@ fn run_order(alloc: Global, matches: &ArgMatches<'_>) -> Result<Order, NoOrder>
     }
 }
 
-/// The order to replay and write this, by what was found behind the command.
+/// Returns the order to replay a trace and write this answer, from what clap found after the command.
 fn replay_order(alloc: Global, answer: Answer, matches: &ArgMatches<'_>) -> Result<Order, NoOrder>
     ensures taken { IfOk result (λ order. (replay_faults (rows_of (found_of matches.now)) ≡ [])
         × IsAsked (replay_asked answer (rows_of (found_of matches.now))) order) }
@@ -96,7 +96,7 @@ fn replay_order(alloc: Global, answer: Answer, matches: &ArgMatches<'_>) -> Resu
     }
 }
 
-/// The order to draw a history, by what was found behind `picture`.
+/// Returns the order to draw a trace, from what clap found after `picture`.
 fn picture_order(alloc: Global, matches: &ArgMatches<'_>) -> Result<Order, NoOrder>
     ensures taken { IfOk result (λ order. (drawing_faults (rows_of (found_of matches.now)) ≡ [])
         × IsAsked (replay_asked (Answers.Picture (given_range (rows_of (found_of matches.now)))) (rows_of (found_of matches.now))) order) }
@@ -123,7 +123,7 @@ fn explanation_of(alloc: Global, word: &str) -> NoOrder
     }
 }
 
-/// What is told of the number behind `explain`.
+/// Returns the explanation of the code after `explain`, or an error.
 fn explanation_given(alloc: Global, matches: &ArgMatches<'_>) -> NoOrder
     ensures { HasReason (number_faults (number_word (rows_of (found_of matches.now)))) (Explains (number_word (rows_of (found_of matches.now)))) result }
 {
@@ -133,7 +133,7 @@ fn explanation_given(alloc: Global, matches: &ArgMatches<'_>) -> NoOrder
     }
 }
 
-/// No order: what is told of the number behind `explain`.
+/// Returns the explanation of the code after `explain`, which is no order, in the shape of the other commands.
 fn explained_order(alloc: Global, matches: &ArgMatches<'_>) -> Result<Order, NoOrder>
     ensures taken { IfOk result (λ order. (number_faults (number_word (rows_of (found_of matches.now))) ≡ [])
         × IsAsked (Explains (number_word (rows_of (found_of matches.now)))) order) }
@@ -173,10 +173,10 @@ pub(crate) fn order_of(alloc: Global, matches: &ArgMatches<'_>) -> Result<Order,
     }
 }
 
-/// Reads the order from the program's words, without its own name.
+/// Reads the order from the program's arguments, without its own name.
 ///
-/// What clap finds wrong goes first, then an option without a number in its range, then the first input word that spells
-/// no input. What a help text says, no clause tells; nor that memory was refused where that is answered.
+/// If several things are wrong, clap's error comes first, then an option without a number in its range, then the first input argument that encodes no
+/// input. No clause says what a help text is, nor that an allocation failed if that is the error.
 pub fn read_order(alloc: Global, words: &[String]) -> Result<Order, NoOrder>
     ensures taken { IfOk result (λ order. (word_faults (map string_bytes words.now) ≡ [])
         × IsAsked (asked_by_words (map string_bytes words.now)) order) }

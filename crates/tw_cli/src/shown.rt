@@ -1,16 +1,16 @@
-//! Which events a picture shows.
+//! Which events a timeline shows.
 
 ghost use Rattle.std.specs.Prelude.{◌≡◌, [], ◌∷◌, is_some, nat_lt, IfErr, IfOk, MatchOption};
 ghost use Rattle.clap.specs.Words.{first_of, found_of, rows_of};
 ghost use Rattle.clap.specs.declared.error.ErrorKind.TheVariants.{ArgumentConflict, ValueValidation};
-ghost use Rattle.tw_cli.specs.CommandLine.{is_cut, picture_faults, run_answer, stretch_faults};
+ghost use Rattle.tw_cli.specs.CommandLine.{has_more, is_cut, json_faults, picture_faults, run_answer, stretch_faults, written_answer};
 ghost use Rattle.tw_cli.specs.Options.{HasStretch, option_faults, stretch_options, given_range};
 
-use crate::command::Answer;
-use crate::found::{answer_given, flag_given, number_given};
+use crate::command::RunAnswer;
+use crate::found::{flag_given, number_given};
 use clap::ArgMatches;
 
-/// The events from one number to another, which a picture shows. They count from 1; past the last event there are none.
+/// The events from one number to another, which a timeline shows. They count from 1. Past the last event there are none.
 #[derive(Clone, Copy, PartialEq, Eq)]
 pub struct EventRange {
     pub from: u32,
@@ -18,7 +18,7 @@ pub struct EventRange {
 }
 
 impl EventRange {
-    /// Whether the last event is before the first.
+    /// Returns whether the last event is before the first.
     pub(crate) fn is_reversed(self) -> bool
         ensures { result ≡ nat_lt self.to self.from }
     {
@@ -26,18 +26,20 @@ impl EventRange {
     }
 }
 
-/// Which options can't stand together.
+/// Options that exclude each other.
 #[derive(Clone, Copy)]
 pub(crate) enum Conflict {
-    /// A picture isn't written alone.
+    /// A JSON line, together with a trace or statistics.
+    JsonWithMore,
+    /// A timeline, together with a trace, statistics or a JSON line.
     PictureWithMore,
-    /// Events are named, and no picture is asked for.
+    /// A range of events without a timeline.
     RangeAlone,
-    /// The last event is before the first.
+    /// A range whose last event is before its first.
     Reversed,
 }
 
-/// The events that the options tell; none where one has no number in its range.
+/// Returns the range of events from the options `--from` and `--to`. Returns none if either is not a number in its range.
 pub(crate) fn event_range_given(matches: &ArgMatches<'_>) -> Option<EventRange>
     ensures { MatchOption result
         (option_faults stretch_options (rows_of (found_of matches.now)) ≡ ValueValidation ∷ [])
@@ -57,31 +59,59 @@ fn is_named(matches: &ArgMatches<'_>, name: &str) -> bool
     matches.get_str(name).is_some()
 }
 
-/// Whether an option names an event.
+/// Returns whether `--from` or `--to` is given.
 fn is_cut(matches: &ArgMatches<'_>) -> bool
     ensures { result ≡ is_cut (rows_of (found_of matches.now)) }
 {
     is_named(matches, "from") || is_named(matches, "to")
 }
 
-/// What `run` writes, where these are the events of a picture.
-pub(crate) fn run_answer(matches: &ArgMatches<'_>, stretch: EventRange) -> Result<Answer, Conflict>
+/// Returns whether a trace or statistics are requested.
+fn has_more(matches: &ArgMatches<'_>) -> bool
+    ensures { result ≡ has_more (rows_of (found_of matches.now)) }
+{
+    flag_given(matches, "trace") || flag_given(matches, "stats")
+}
+
+/// Returns what `run` prints if that is no timeline.
+fn written_answer(matches: &ArgMatches<'_>) -> Result<RunAnswer, Conflict>
+    ensures taken { IfOk result (λ answer. (json_faults (rows_of (found_of matches.now)) ≡ [])
+        × (answer ≡ written_answer (rows_of (found_of matches.now)))) }
+    ensures refused { IfErr result (λ conflict. json_faults (rows_of (found_of matches.now)) ≡ ArgumentConflict ∷ []) }
+{
+    if flag_given(matches, "json") {
+        if has_more(matches) {
+            return Err(Conflict::JsonWithMore);
+        }
+        return Ok(RunAnswer::Json);
+    }
+    if flag_given(matches, "stats") {
+        return Ok(RunAnswer::Numbers);
+    }
+    Ok(RunAnswer::Report)
+}
+
+/// Returns what `run` writes. `stretch` are the events for a timeline.
+pub(crate) fn run_answer(
+    matches: &ArgMatches<'_>,
+    stretch: EventRange,
+) -> Result<RunAnswer, Conflict>
     requires { HasStretch (rows_of (found_of matches.now)) stretch }
     ensures taken { IfOk result (λ answer. (picture_faults (rows_of (found_of matches.now)) ≡ [])
         × (answer ≡ run_answer (rows_of (found_of matches.now)))) }
     ensures refused { IfErr result (λ conflict. picture_faults (rows_of (found_of matches.now)) ≡ ArgumentConflict ∷ []) }
 {
     if flag_given(matches, "picture") {
-        if flag_given(matches, "trace") || flag_given(matches, "stats") {
+        if flag_given(matches, "json") || has_more(matches) {
             return Err(Conflict::PictureWithMore);
         }
         if stretch.is_reversed() {
             return Err(Conflict::Reversed);
         }
-        return Ok(Answer::Picture(stretch));
+        return Ok(RunAnswer::Picture(stretch));
     }
     if is_cut(matches) {
         return Err(Conflict::RangeAlone);
     }
-    Ok(answer_given(matches))
+    written_answer(matches)
 }

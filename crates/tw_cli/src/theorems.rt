@@ -1,9 +1,10 @@
-//! What the reading of words says at some words.
+//! Theorems: what `read_order` returns for some command lines.
 
 ghost use Rattle.std.specs.Prelude.{◌≡◌, ℕ, true, false, List, [], ◌∷◌, Some, None, codes};
 ghost use Rattle.clap.specs.declared.error.ErrorKind.TheVariants.{ArgumentConflict, DisplayHelp, DisplayVersion, InvalidSubcommand, InvalidValue, TooManyValues, UnknownArgument, ValueValidation};
 ghost use Rattle.tw_cli.specs.CommandLine.{Assembles, Checks, Disassembles, Explains, Replays, Runs, asked_by_words, word_faults};
 ghost use Rattle.tw_cli.specs.declared.command.Answer.TheVariants.{Numbers, Picture, Report};
+ghost use Rattle.tw_cli.specs.declared.command.RunAnswer.TheVariants as written;
 ghost use Rattle.tw_cli.specs.declared.command.Assembling.TheVariants.{Names, Plain, Text};
 ghost use Rattle.tw_cli.specs.declared.command.Places.TheVariants.{Hidden, Shown};
 ghost use Rattle.tw_cli.specs.declared.command.Source.TheVariants.{Assembly, Hex};
@@ -11,7 +12,7 @@ ghost use Rattle.tw_cli.specs.Options.{actors, checking, stretch};
 ghost use Rattle.tw_cli.specs.Explanations.{meant};
 ghost use Rattle.tw_cli.specs.InputWords.{OneInput, OneRefusedWord};
 
-/// Each command is taken, and asks for what its name says, with the options and words behind it.
+/// Each command is accepted, and gives the order that it names, with the options and arguments after it.
 pub fn commands_are_taken()
     ensures asm { (word_faults (codes "asm" ∷ []) ≡ []) × (asked_by_words (codes "asm" ∷ []) ≡ Assembles Text) }
     ensures names { (word_faults (codes "asm" ∷ codes "--names" ∷ []) ≡ []) × (asked_by_words (codes "asm" ∷ codes "--names" ∷ []) ≡ Assembles Names) }
@@ -22,40 +23,42 @@ pub fn commands_are_taken()
     ensures bounds { (word_faults (codes "check" ∷ codes "--bounds" ∷ codes "--text" ∷ []) ≡ [])
         × (asked_by_words (codes "check" ∷ codes "--bounds" ∷ codes "--text" ∷ []) ≡ Checks Assembly (checking Hidden true)) }
     ensures run { (word_faults (codes "run" ∷ []) ≡ [])
-        × (asked_by_words (codes "run" ∷ []) ≡ Runs Hex Report (actors 1 1 1) 10000 false false (Some [])) }
+        × (asked_by_words (codes "run" ∷ []) ≡ Runs Hex written.Report (actors 1 1 1) 10000 false false (Some [])) }
     ensures inputs { (word_faults (codes "run" ∷ codes "int:7" ∷ codes "text:a" ∷ []) ≡ [])
         × (asked_by_words (codes "run" ∷ codes "int:7" ∷ codes "text:a" ∷ [])
-        ≡ Runs Hex Report (actors 1 1 1) 10000 false false (Some (codes "int:7" ∷ codes "text:a" ∷ []))) }
+        ≡ Runs Hex written.Report (actors 1 1 1) 10000 false false (Some (codes "int:7" ∷ codes "text:a" ∷ []))) }
     ensures first { (rest : List ℕ) → (word_faults (codes "run" ∷ (105 ∷ rest) ∷ []) ≡ [])
-        × (asked_by_words (codes "run" ∷ (105 ∷ rest) ∷ []) ≡ Runs Hex Report (actors 1 1 1) 10000 false false (Some ((105 ∷ rest) ∷ []))) }
+        × (asked_by_words (codes "run" ∷ (105 ∷ rest) ∷ []) ≡ Runs Hex written.Report (actors 1 1 1) 10000 false false (Some ((105 ∷ rest) ∷ []))) }
     ensures before { (word_faults (codes "run" ∷ codes "--workers" ∷ codes "16" ∷ codes "int:7" ∷ []) ≡ [])
         × (asked_by_words (codes "run" ∷ codes "--workers" ∷ codes "16" ∷ codes "int:7" ∷ [])
-        ≡ Runs Hex Report (actors 1 1 16) 10000 false false (Some (codes "int:7" ∷ []))) }
+        ≡ Runs Hex written.Report (actors 1 1 16) 10000 false false (Some (codes "int:7" ∷ []))) }
     ensures between { (word_faults (codes "run" ∷ codes "int:7" ∷ codes "--servers=3" ∷ codes "int:8" ∷ []) ≡ [])
         × (asked_by_words (codes "run" ∷ codes "int:7" ∷ codes "--servers=3" ∷ codes "int:8" ∷ [])
-        ≡ Runs Hex Report (actors 1 3 1) 10000 false false (Some (codes "int:7" ∷ codes "int:8" ∷ []))) }
+        ≡ Runs Hex written.Report (actors 1 3 1) 10000 false false (Some (codes "int:7" ∷ codes "int:8" ∷ []))) }
     ensures behind { (word_faults (codes "run" ∷ codes "int:7" ∷ codes "--limit" ∷ codes "9" ∷ codes "--engines=2" ∷ [])
         ≡ [])
         × (asked_by_words (codes "run" ∷ codes "int:7" ∷ codes "--limit" ∷ codes "9" ∷ codes "--engines=2" ∷ [])
-        ≡ Runs Hex Report (actors 2 1 1) 9 false false (Some (codes "int:7" ∷ []))) }
+        ≡ Runs Hex written.Report (actors 2 1 1) 9 false false (Some (codes "int:7" ∷ []))) }
     ensures trace { (word_faults (codes "run" ∷ codes "--trace" ∷ codes "int:7" ∷ []) ≡ [])
         × (asked_by_words (codes "run" ∷ codes "--trace" ∷ codes "int:7" ∷ [])
-        ≡ Runs Hex Report (actors 1 1 1) 10000 true false (Some (codes "int:7" ∷ []))) }
+        ≡ Runs Hex written.Report (actors 1 1 1) 10000 true false (Some (codes "int:7" ∷ []))) }
     ensures in_turn { (word_faults (codes "run" ∷ codes "--in-turn" ∷ codes "int:7" ∷ []) ≡ [])
         × (asked_by_words (codes "run" ∷ codes "--in-turn" ∷ codes "int:7" ∷ [])
-        ≡ Runs Hex Report (actors 1 1 1) 10000 false true (Some (codes "int:7" ∷ []))) }
+        ≡ Runs Hex written.Report (actors 1 1 1) 10000 false true (Some (codes "int:7" ∷ []))) }
     ensures run_stats { (word_faults (codes "run" ∷ codes "--stats" ∷ codes "--trace" ∷ []) ≡ [])
-        × (asked_by_words (codes "run" ∷ codes "--stats" ∷ codes "--trace" ∷ []) ≡ Runs Hex Numbers (actors 1 1 1) 10000 true false (Some [])) }
+        × (asked_by_words (codes "run" ∷ codes "--stats" ∷ codes "--trace" ∷ []) ≡ Runs Hex written.Numbers (actors 1 1 1) 10000 true false (Some [])) }
+    ensures run_json { (word_faults (codes "run" ∷ codes "--json" ∷ []) ≡ [])
+        × (asked_by_words (codes "run" ∷ codes "--json" ∷ []) ≡ Runs Hex written.Json (actors 1 1 1) 10000 false false (Some [])) }
     ensures run_picture { (word_faults (codes "run" ∷ codes "--picture" ∷ codes "--in-turn" ∷ []) ≡ [])
-        × (asked_by_words (codes "run" ∷ codes "--picture" ∷ codes "--in-turn" ∷ []) ≡ Runs Hex (Picture (stretch 1 4294967295)) (actors 1 1 1) 10000 false true (Some [])) }
+        × (asked_by_words (codes "run" ∷ codes "--picture" ∷ codes "--in-turn" ∷ []) ≡ Runs Hex (written.Picture (stretch 1 4294967295)) (actors 1 1 1) 10000 false true (Some [])) }
     ensures run_stretch { (word_faults (codes "run" ∷ codes "--from=5" ∷ codes "--picture" ∷ codes "--to" ∷ codes "9" ∷ []) ≡ [])
         × (asked_by_words (codes "run" ∷ codes "--from=5" ∷ codes "--picture" ∷ codes "--to" ∷ codes "9" ∷ [])
-        ≡ Runs Hex (Picture (stretch 5 9)) (actors 1 1 1) 10000 false false (Some [])) }
+        ≡ Runs Hex (written.Picture (stretch 5 9)) (actors 1 1 1) 10000 false false (Some [])) }
     ensures quiet { (word_faults (codes "run" ∷ codes "--quiet" ∷ []) ≡ [])
         × (asked_by_words (codes "run" ∷ codes "--quiet" ∷ []) ≡ asked_by_words (codes "run" ∷ [])) }
     ensures last { (word_faults (codes "run" ∷ codes "int:7" ∷ codes "--limit" ∷ codes "100" ∷ codes "--trace" ∷ []) ≡ [])
         × (asked_by_words (codes "run" ∷ codes "int:7" ∷ codes "--limit" ∷ codes "100" ∷ codes "--trace" ∷ [])
-        ≡ Runs Hex Report (actors 1 1 1) 100 true false (Some (codes "int:7" ∷ []))) }
+        ≡ Runs Hex written.Report (actors 1 1 1) 100 true false (Some (codes "int:7" ∷ []))) }
     ensures replay { (word_faults (codes "replay" ∷ codes "--workers" ∷ codes "2" ∷ codes "int:7" ∷ []) ≡ [])
         × (asked_by_words (codes "replay" ∷ codes "--workers" ∷ codes "2" ∷ codes "int:7" ∷ [])
         ≡ Replays Hex Report (actors 1 1 2) (Some (codes "int:7" ∷ []))) }
@@ -73,11 +76,11 @@ pub fn commands_are_taken()
         × (asked_by_words (codes "disasm" ∷ codes "--places" ∷ []) ≡ Disassembles Hex Shown) }
     ensures run_text { (word_faults (codes "run" ∷ codes "int:7" ∷ codes "--text" ∷ []) ≡ [])
         × (asked_by_words (codes "run" ∷ codes "int:7" ∷ codes "--text" ∷ [])
-        ≡ Runs Assembly Report (actors 1 1 1) 10000 false false (Some (codes "int:7" ∷ []))) }
+        ≡ Runs Assembly written.Report (actors 1 1 1) 10000 false false (Some (codes "int:7" ∷ []))) }
     ensures replay_text { (word_faults (codes "replay" ∷ codes "--text" ∷ []) ≡ [])
         × (asked_by_words (codes "replay" ∷ codes "--text" ∷ []) ≡ Replays Assembly Report (actors 1 1 1) (Some [])) }
     ensures run_inputs { (word_faults (codes "run" ∷ codes "--inputs" ∷ codes "--text" ∷ []) ≡ [])
-        × (asked_by_words (codes "run" ∷ codes "--inputs" ∷ codes "--text" ∷ []) ≡ Runs Assembly Report (actors 1 1 1) 10000 false false None) }
+        × (asked_by_words (codes "run" ∷ codes "--inputs" ∷ codes "--text" ∷ []) ≡ Runs Assembly written.Report (actors 1 1 1) 10000 false false None) }
     ensures replay_stats { (word_faults (codes "replay" ∷ codes "--stats" ∷ []) ≡ [])
         × (asked_by_words (codes "replay" ∷ codes "--stats" ∷ []) ≡ Replays Hex Numbers (actors 1 1 1) (Some [])) }
     ensures replay_inputs { (word_faults (codes "replay" ∷ codes "--inputs" ∷ []) ≡ [])
@@ -88,8 +91,8 @@ pub fn commands_are_taken()
     ensures numbers { (word_faults (codes "explain" ∷ []) ≡ []) × (asked_by_words (codes "explain" ∷ []) ≡ Explains []) }
 {}
 
-/// Words are refused that name no command, or come after `check`; so is an option that isn't known, comes twice, or has
-/// no number in its range, a flag with a value, inputs in two ways, and a number that isn't one to be explained.
+/// Arguments are rejected that name no command, or come after `check`. The same holds for an option that is unknown, is repeated, or has no number in
+/// its range. It also holds for a flag with a value, for inputs given in two ways, and for a code that `explain` doesn't know.
 pub fn strangers_are_refused()
     ensures command { word_faults (codes "walk" ∷ []) ≡ UnknownArgument ∷ InvalidSubcommand ∷ [] }
     ensures help { word_faults (codes "run" ∷ codes "--help" ∷ []) ≡ DisplayHelp ∷ [] }
@@ -123,7 +126,7 @@ pub fn strangers_are_refused()
     ensures word { word_faults (codes "run" ∷ codes "--engines" ∷ codes "+1" ∷ []) ≡ ValueValidation ∷ [] }
 {}
 
-/// A word spells one input alone, and one input word alone is the first that spells none.
+/// A word encodes at most one input, and at most one input word is the first that encodes none.
 pub fn words_spell_one_input()
     ensures input { OneInput }
     ensures refused { OneRefusedWord }

@@ -1,4 +1,4 @@
-//! What is wrong with a command line, in words for whoever wrote it.
+//! Says what is wrong with a command line, in English.
 
 ghost use Rattle.std.specs.Prelude.{IfOk, map, string_bytes};
 ghost use Rattle.clap.specs.Words.{Kinds};
@@ -15,7 +15,7 @@ use clap::{ArgMatches, Error};
 use std::alloc::{AllocError, Global};
 use tw_lexer::{put, put_shortened_quoted};
 
-/// Which option has no number in its range, if one hasn't.
+/// Returns the line for the first option whose value is not a number in its range, if there is one.
 fn range_line(given: &ArgMatches<'_>) -> Option<&'static str> {
     if number_given(given, "engines", 4, 1).is_none() {
         Some("error: --engines takes a number from 1 to 4\n")
@@ -34,13 +34,14 @@ fn range_line(given: &ArgMatches<'_>) -> Option<&'static str> {
 
 fn conflict_line(conflict: Conflict) -> &'static str {
     match conflict {
-        Conflict::PictureWithMore => "error: --picture stands without --trace and --stats\n",
-        Conflict::RangeAlone => "error: --from and --to stand with --picture\n",
-        Conflict::Reversed => "error: --to takes no number before that of --from\n",
+        Conflict::JsonWithMore => "error: --json excludes --trace and --stats\n",
+        Conflict::PictureWithMore => "error: --picture excludes --trace, --stats and --json\n",
+        Conflict::RangeAlone => "error: --from and --to need --picture\n",
+        Conflict::Reversed => "error: --to takes no number below that of --from\n",
     }
 }
 
-/// Which options can't stand together behind a command, if any can't.
+/// Returns which options after a command exclude each other, if any do.
 fn conflict_of(command: &str, given: &ArgMatches<'_>) -> Option<Conflict> {
     let stretch = event_range_given(given)?;
     match command {
@@ -50,15 +51,15 @@ fn conflict_of(command: &str, given: &ArgMatches<'_>) -> Option<Conflict> {
     }
 }
 
-/// What is wrong besides behind a command that clap takes.
+/// Returns the line for an error after a command that clap accepts, if each option's number is in its range.
 fn other_line(command: &str, given: &ArgMatches<'_>) -> &'static str {
     if let Some(conflict) = conflict_of(command, given) {
         return conflict_line(conflict);
     }
     if flag_given(given, "inputs") {
-        "error: with --inputs all inputs stand in what is read, and none is a word\n"
+        "error: with --inputs all inputs are read, and none is an argument\n"
     } else {
-        "error: there is no such number; it is one as A02, V04 or C5\n"
+        "error: there is no such code; expected one such as A02, V04 or C5\n"
     }
 }
 
@@ -76,7 +77,7 @@ fn is_negative(word: &[u8]) -> bool {
     }
 }
 
-/// Returns the first word that begins with a negative number, as an option can't.
+/// Returns the first argument that begins with a negative number. No option can begin so.
 fn negative_word(words: &[String]) -> Option<&str> {
     for word in words {
         if is_negative(word.as_bytes()) {
@@ -86,7 +87,7 @@ fn negative_word(words: &[String]) -> Option<&str> {
     None
 }
 
-/// Returns what is wrong with a word that begins with a negative number. Clap takes it for an option.
+/// Returns the line for an argument that begins with a negative number. Clap takes it for an option.
 fn negative_line(alloc: Global, word: &str) -> Result<String, AllocError> {
     let mut line = Vec::new(alloc);
     put(&mut line, "error: ")?;
@@ -98,7 +99,7 @@ fn negative_line(alloc: Global, word: &str) -> Result<String, AllocError> {
     String::from_utf8(line).map_err(|_| AllocError)
 }
 
-/// Returns what is wrong with words that clap refuses.
+/// Returns the line for arguments that clap rejects.
 fn refused_line(alloc: Global, words: &[String], error: &Error) -> Result<String, AllocError> {
     match negative_word(words) {
         Some(word) if error.kind() == ErrorKind::UnknownArgument => negative_line(alloc, word),
@@ -106,7 +107,7 @@ fn refused_line(alloc: Global, words: &[String], error: &Error) -> Result<String
     }
 }
 
-/// The line, where the words give no order since they are refused.
+/// Returns the line, if the arguments give no order because they are rejected.
 fn complaint_of(alloc: Global, no_order: NoOrder, line: &str) -> Result<Option<String>, AllocError>
     ensures { (kinds : Kinds) (asked : Asked) → HasReason kinds asked no_order → IfOk result (HasComplaint kinds) }
 {
@@ -120,8 +121,8 @@ fn complaint_of(alloc: Global, no_order: NoOrder, line: &str) -> Result<Option<S
     }
 }
 
-/// What is wrong with the program's words, without its own name, where they are refused: clap's own words, or which option has no
-/// number in its range, or what can't stand together. What they say, no clause tells.
+/// Returns what is wrong with the program's arguments, without its own name. Returns none if they are accepted, or request help or the version. The
+/// text is clap's own, or names the option without a number in its range, or the options that exclude each other. No clause says what the text is.
 pub fn complaint(alloc: Global, words: &[String]) -> Result<Option<String>, AllocError>
     ensures { IfOk result (HasComplaint (word_faults (map string_bytes words.now))) }
 {

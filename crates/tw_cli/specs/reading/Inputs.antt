@@ -1,10 +1,10 @@
--- What is found of the inputs.
+-- The inputs that are found.
 use Rattle.std.specs.Prelude.{List, Option, Some, None}
 use Rattle.clap.specs.Words.{Text}
 use Rattle.tw_types.specs.declared.input.Input.{Input}
 use Rattle.tw_cli.specs.InputWords.{AreSpelled}
 
--- those that words spell, where there are words
+-- holds if these are the inputs that the words encode, or there are neither
 abbrev pub HasInputs : Option (List Text) → Option (List Input) → Type 0
 HasInputs None None = Unit {0}
 HasInputs None (Some given) = ⊥

@@ -1,11 +1,11 @@
--- What is found of a run's options.
+-- The options of a run that are found.
 use Rattle.std.specs.Prelude.{◌≡◌, List, []}
 use Rattle.clap.specs.Words.{Row}
 use Rattle.tw_cli.specs.CommandLine.{picture_faults, run_answer}
 use Rattle.tw_cli.specs.Options.{given_actors, in_turn, is_given, limit, number_options, option_faults, told, trace}
 use Rattle.tw_cli.specs.declared.command.RunOptions.{RunOptions}
 
--- each has its number, they can stand together, and these are they
+-- the options of a run: each has its number, and none excludes another
 pub record IsRunBy (rows : List Row) (o : RunOptions) : Type 0 where
   pub numbers : option_faults number_options rows ≡ []
   pub picture : picture_faults rows ≡ []

@@ -4,7 +4,7 @@ use Rattle.clap.specs.Words.{App, app_of, with_subcommand}
 use Rattle.tw_cli.specs.CommandLine.{asm_line, bare_line, check_line, command_line, explain_line, picture_line, program_line, replay_line, run_line}
 use Rattle.tw_cli.proofs.command.command.Goals as goal
 
--- a program with one command more
+-- the program with one more command
 abbrev with_line : App → App → App
 with_line line command = with_subcommand line command.top
 

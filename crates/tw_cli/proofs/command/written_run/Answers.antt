@@ -6,4 +6,5 @@ pub returns-clause-app : goal.returns-clause-app
 returns-clause-app c =
     let trace = c.in_ok-trace.ensures.shape c.flag_arg.ensures.local ∙ ap₂ with_rule c.in_ok-numbered.ensures.app c.flag_arg.ensures.rule in
     let stats = c.in_ok-stats.ensures.shape c.flag_arg-2.ensures.local ∙ ap₂ with_rule trace c.flag_arg-2.ensures.rule in
-    c.in_ok-whole.ensures.shape c.flag_arg-3.ensures.local ∙ ap₂ with_rule stats c.flag_arg-3.ensures.rule
+    let json = c.in_ok-json.ensures.shape c.flag_arg-3.ensures.local ∙ ap₂ with_rule stats c.flag_arg-3.ensures.rule in
+    c.in_ok-whole.ensures.shape c.flag_arg-4.ensures.local ∙ ap₂ with_rule json c.flag_arg-4.ensures.rule
