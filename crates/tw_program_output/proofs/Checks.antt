@@ -23,7 +23,7 @@ lines_more names number budget (q ∷ ps) p lines (own, rest, has, is, others) f
       lines_more names (suc number) budget ps p rest others found,
     )
 
--- what has been added after so many procedures
+-- holds for what has been added after this many procedures
 abbrev pub HasLines : List (List ℕ) → List Procedure → ℕ → List ℕ → List ℕ → Type 0
 HasLines names program count old now = (lines : List ℕ) × AreProcedureLines names 0 (take count program) lines × (now ≡ old ++ lines)
 
@@ -36,7 +36,7 @@ one_line names program i budget p old now next (lines, are, is) inside here foun
     let longer = take_more program i p inside ∙ ap (λ (q : Procedure). take i program ++ q ∷ []) (sym here) in
     (lines ++ line, subst (λ (ps : List Procedure). AreProcedureLines names 0 ps (lines ++ line)) (sym longer) more, added ∙ ap (λ (text : List ℕ). text ++ line) is ∙ append_assoc old lines line)
 
--- the same, as a loop over the procedures reads them
+-- the same line, as a loop over the procedures reads it
 pub read_line : (names : List (List ℕ)) (program items : List Procedure) (i budget : ℕ) (p : Procedure) (old now next : List ℕ) → items ≡ program → HasLines names program i old now → i < length items → p ≡ get_or items i p
     → IsSomeAnd (slice_get program i) (λ q. IsBudget (flows q.code) budget) → next ≡ now ++ procedure_line (name_at names i) i p.kind budget → HasLines names program (i + 1) old next
 read_line names program items i budget p old now next same has inside here found added =

@@ -1,4 +1,4 @@
--- A program and the inputs behind it, line by line.
+-- A program and the inputs after it, line by line.
 use Rattle.std.proofs.Common.{◌≡◌, ◌==◌, ◌++◌, ℕ, Bool, true, false, List, [], ◌∷◌, length, codes, cond, refl, sym, ◌∙◌, append_assoc}
 use Rattle.std.specs.Str.{bytes_eq}
 use Rattle.tw_program_output.proofs.ReplyNames.{Inputs, Program, Rest, append-nil}

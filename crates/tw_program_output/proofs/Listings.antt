@@ -6,14 +6,16 @@ use Rattle.std.proofs.lemmas.Bool.Decides.{eqb_tells}
 use Rattle.tw_code.specs.machine.Holders.{Typings}
 use Rattle.tw_verify.specs.Known.{AreFound}
 
-pub one_right : (typing : Typing) (register : ℕ) (right : Option RightType) (now next : List ℕ) → now ≡ rights_below typing register → right ≡ right_at typing register → next ≡ now ++ right_column register right → next ≡ rights_below typing (register + 1)
-one_right typing register right now next before is added =
+pub one_right : (names : ℕ → List ℕ) (typing : Typing) (register : ℕ) (name : List ℕ) (right : Option RightType) (now next : List ℕ) → now ≡ rights_below names typing register → name ≡ names register → right ≡ right_at typing register
+    → next ≡ now ++ right_column name register right → next ≡ rights_below names typing (register + 1)
+one_right names typing register name right now next before named is added =
     added
-    ∙ ap (λ (text : List ℕ). text ++ right_column register right) before
-    ∙ ap (λ (r : Option RightType). rights_below typing register ++ right_column register r) is
-    ∙ ap (rights_below typing) (sym (add-one register))
+    ∙ ap (λ (text : List ℕ). text ++ right_column name register right) before
+    ∙ ap (λ (n : List ℕ). rights_below names typing register ++ right_column n register right) named
+    ∙ ap (λ (r : Option RightType). rights_below names typing register ++ right_column (names register) register r) is
+    ∙ ap (rights_below names typing) (sym (add-one register))
 
--- what is left to be listed stands behind what is listed
+-- holds if what is left to be listed follows what is listed
 abbrev pub IsLeft : Typings → List Procedure → ℕ → List ℕ → Type 0
 IsLeft typings program i now = now ++ listing_from typings i (drop i program) ≡ listing_from typings 0 program
 
@@ -35,9 +37,9 @@ all_listed typings program items i now same before all =
     let past : length program ≤ i = subst (λ (ps : List Procedure). length ps ≤ i) same all in
     sym (append-nil now) ∙ ap (λ (ps : List Procedure). now ++ listing_from typings i ps) (sym (drop_all i program past)) ∙ before
 
--- ---- a refused program
+-- ---- a rejected program
 
--- one procedure's typings in the place of what there were
+-- returns one procedure's typings in place of the ones before
 with_own : Typings → ℕ → List Typing → Typings
 with_own typings i own k = if k == i then own else typings k
 
@@ -57,7 +59,7 @@ others_there typings i k own below = by (eqb_tells k i)
     by (inl (_, is)) = absurd (omega (arith, is))
     by (inr (e, _)) = ap (λ (b : Bool). if b then own else typings k) e
 
--- so many procedures are listed with what is known of them, whatever may be said of the others
+-- this many procedures are listed with what is known of them, whatever may be known of the others
 pub record AreListed (program : List Procedure) (number refused i : ℕ) (now : List ℕ) : Type 0 where
   pub typings : Typings
   pub found : (k : ℕ) → k < i → AreFound program number refused k (typings k)

@@ -1,4 +1,4 @@
--- What stands behind the line that tells why there is no program.
+-- Details after the line with the reason why there is no program.
 use Rattle.std.proofs.Common.{◌≡◌, ◌≢◌, ◌++◌, ℕ, List, [], IsUtf8, inr, refl, sym}
 use Rattle.tw_program_output.proofs.ReplyNames.{Assembly, Hex, AreFaultDetails, AreParseErrorDetails, NoProgram, Refused, RepliesBySource, SpellsNone, Spoken as Reply, StandsFor, Versioned, append-nil, name_details, no_program_line, reply}
 use Rattle.tw_asm.specs.declared.fault.AsmFault.{AsmFault}
@@ -26,7 +26,7 @@ nothing_added input old (Text f) other unnamed source none = absurd (other f ref
 nothing_added input old (Named f) other unnamed source none = absurd (unnamed f refl)
 nothing_added input old NoMemory other unnamed source none = ([], refl, sym (append-nil old))
 
--- what a reply tells that there is none
+-- holds if a reply has the reason why there is none
 abbrev pub Tells : List ℕ → NoProgram → Reply → Type 0
 Tells input why r = (why ≢ NoMemory) × ((source : Source) → SpellsNone source input why → (more : List ℕ) × AreParseErrorDetails input why more × (r ≡ reply (no_program_line why ++ more) Refused))
 

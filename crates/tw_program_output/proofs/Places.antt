@@ -1,4 +1,4 @@
--- A refused place is one of the program's.
+-- A rejected place is one of the program's.
 use Rattle.std.proofs.Common.{◌≡◌, ℕ, List, [], ◌∷◌, Option, Some, None, inl, inr, sym, subst, ap, ◌∙◌, arith}
 use Rattle.tw_soundness.proofs.Accepted.{all_found}
 use Rattle.tw_verify.proofs.Lists.{get_none}
@@ -35,7 +35,7 @@ inside program number procedure place fits (inl main) none =
 inside program number procedure place fits (inr later) none =
     procedure_there program later.p number place (all_found IsProcedure program procedure later.p fits.1 later.here) later.rejection (sym (instr_is program procedure place later.p later.here) ∙ none)
 
--- a refused place of a program that was read from a text is one of the program's
+-- a rejected place of a program that was read from a text is one of the program's
 pub placed : (source : Option SourceText) (program : List Procedure) (number procedure place : ℕ) → MayBeSource source program → IsFirstRejection program number procedure place
     → MayBeSourceAt source program procedure place
 placed None program number procedure place is refused = tt

@@ -1,4 +1,4 @@
--- Which line of a text is told.
+-- The line of a text that is printed.
 use Rattle.std.proofs.Common.{◌≡◌, ℕ, zero, suc, ◌+◌, ◌-◌, ◌<◌, List, [], ◌∷◌, length, Option, Some, None, MatchOption, refl, subst, ap, ◌∙◌, arith}
 use Rattle.tw_program_output.proofs.ReplyNames.{AreOrigins, ComesFrom, ArePlaceDetails, AreTextDetails, LinesSay, Procedure, ParserState, StandsFor, after_line, at_place, at_start, instr_at, length-append, lines}
 use Rattle.std.specs.List.{slice_get}
@@ -9,7 +9,7 @@ use Rattle.tw_symbols.proofs.LineByLine.{as_many}
 use Rattle.tw_verify.specs.declared.rejection.VerifyError.{VerifyError}
 use Rattle.tw_verify.specs.declared.rejection.VerifyError.TheVariants as rejection
 
--- lines that say so many things are so many
+-- the lines are as many as their statements
 pub said_length : (number : ℕ) (s : ParserState) (ls : List (List ℕ)) (said : List (Option Statement)) → LinesSay number s ls said → length said ≡ length ls
 said_length number s [] [] h = refl
 said_length number s [] (x ∷ said) h = absurd h
@@ -29,7 +29,7 @@ line_there text plain procedure place number stands c none =
     let long = ap length c.parts ∙ length-append c.before (Some (Code c.i) ∷ c.after) in
     absurd (omega (arith, past, all, long, c.number_is))
 
--- what stands at a place
+-- the line of an instruction at a place
 pub comes_from : (text : List ℕ) (program : List Procedure) (numbers : List (List ℕ)) (procedure place number : ℕ) → AreOrigins text program numbers → at_place numbers procedure place ≡ Some number
     → ComesFrom text procedure place number
 comes_from text program numbers procedure place number o e =

@@ -1,4 +1,4 @@
--- What `check --bounds` says of a program's runs.
+-- Output of `check --bounds` about a program's runs.
 use Rattle.std.specs.Prelude.{◌≡◌, ◌⊎◌, ℕ, Bool, true, false, List, [], ◌++◌, codes, decimal, Option, Some, None, slice_get}
 use Rattle.tw_code.specs.declared.procedure.Procedure.{Procedure}
 use Rattle.tw_bounds.specs.Bounds.{CallsEnd}
@@ -15,7 +15,7 @@ bound_text (Some (AtMost n)) = decimal n
 bound_text (Some Over) = codes "over"
 bound_text (Some Endless) = codes "none"
 
--- the bound of main's tasks, in a line of this kind
+-- returns the line of this kind for the bound of main's tasks
 abbrev pub bound_line : List ℕ → List Bound → List ℕ
 bound_line kind bounds = codes "bound " ++ (kind ++ (codes " " ++ (bound_text (slice_get bounds 0) ++ codes "\n")))
 
@@ -27,17 +27,17 @@ bound_lines bounds =
     ++ (bound_line (codes "rules") bounds.rules.items
     ++ bound_line (codes "events") bounds.events.items)))
 
--- why there are no bounds
+-- returns why there are no bounds
 abbrev pub circle_line : Circle → List ℕ
 circle_line circle = codes "bound none: procedure " ++ (decimal circle.procedure ++ (codes " at place " ++ (decimal circle.place ++ codes " leads back to itself\n")))
 
--- main's bounds if its calls come to an end; else a call to which they lead, and which leads back to its own procedure
+-- holds for main's bounds if its calls end; else for a call to which they lead, and which leads back to its own procedure
 abbrev pub IsBoundsText : List Procedure → List ℕ → Type 0
 IsBoundsText program text =
     (CallsEnd program 0 × ((bounds : RunBounds) × AreRunBounds program bounds × (text ≡ bound_lines bounds)))
     ⊎ ((circle : Circle) × IsCircle program circle × (text ≡ circle_line circle))
 
--- nothing, or main's bounds if they are asked for
+-- holds for nothing, or for main's bounds if they are requested
 abbrev pub MayTellBounds : Bool → List Procedure → List ℕ → Type 0
 MayTellBounds false program lines = lines ≡ []
 MayTellBounds true program lines = IsBoundsText program lines

@@ -1,4 +1,4 @@
--- What `check` says of a program.
+-- Output of `check` about a program.
 use Rattle.std.specs.Prelude.{◌≡◌, ℕ, suc, List, [], ◌∷◌, ◌++◌, codes, decimal, Option}
 use Rattle.tw_types.specs.declared.actor.Kind.{Kind}
 use Rattle.tw_types.specs.declared.actor.Kind.TheVariants.{Control, Leaf}
@@ -24,31 +24,31 @@ abbrev pub kind_text : Kind → List ℕ
 kind_text Control = codes " control"
 kind_text Leaf = codes " leaf"
 
--- the number of a procedure, its kind and its budget, and its name in brackets if it has one
+-- returns the number of a procedure, its kind and its budget, and its name in brackets if it has one
 abbrev pub procedure_line : List ℕ → ℕ → Kind → ℕ → List ℕ
 procedure_line name number kind budget = codes "proc " ++ (decimal number ++ (kind_text kind ++ (codes " budget " ++ (decimal budget ++ (bracketed name ++ codes "\n")))))
 
--- a line for each procedure, with the first number
+-- holds for a line for each procedure, with the first number
 abbrev pub AreProcedureLines : List (List ℕ) → ℕ → List Procedure → List ℕ → Type 0
 AreProcedureLines names number [] text = text ≡ []
 AreProcedureLines names number (p ∷ others) text =
     (budget : ℕ) × (rest : List ℕ) × IsBudget (flows p.code) budget × (text ≡ procedure_line (name_at names number) number p.kind budget ++ rest) × AreProcedureLines names (suc number) others rest
 
--- how many engines and workers the targets need
+-- returns how many engines and workers the targets need
 abbrev pub needs_line : ℕ → ℕ → List ℕ
 needs_line engines workers = codes "needs engines " ++ (decimal engines ++ (codes " workers " ++ (decimal workers ++ codes "\n")))
 
--- the whole text: the line `accepted`, the procedures, where they have these names, and the actors that the targets need
+-- holds for the whole text: the line `accepted`, the procedures, which have these names, and the actors that the targets need
 abbrev pub IsCheckText : List (List ℕ) → List Procedure → List ℕ → Type 0
 IsCheckText names program text = (lines : List ℕ) × AreProcedureLines names 0 program lines × (text ≡ codes "accepted\n" ++ (lines ++ needs_line (needed Control program) (needed Leaf program)))
 
--- what a check tells of an accepted program, behind its listing where that is asked for: there also by the names that a text gives
+-- holds for the check of an accepted program; after the listing, if that is requested, it has the names of the text
 abbrev pub IsChecked : Places → Option (List ℕ) → List Procedure → List ℕ → Type 0
 IsChecked Hidden source program text = IsCheckText [] program text
 IsChecked Shown source program text =
     (listing : List ℕ) × (told : List ℕ) × (names : List (List ℕ)) × IsListing source program listing × AreSymbols source names × IsCheckText names program told × (text ≡ listing ++ told)
 
--- and what else is asked for
+-- holds for the check and what else is requested
 abbrev pub IsToldByCheck : CheckOrder → Option (List ℕ) → List Procedure → List ℕ → Type 0
 IsToldByCheck order source program text =
     (check : List ℕ) × (lines : List ℕ) × IsChecked order.places source program check × MayTellBounds order.bounds program lines × (text ≡ check ++ lines)
@@ -56,12 +56,12 @@ IsToldByCheck order source program text =
 abbrev pub RepliesByCheck : CheckOrder → Option (List ℕ) → List Procedure → Reply → Type 0
 RepliesByCheck order source program r = (text : List ℕ) × IsToldByCheck order source program text × (r ≡ reply text Success)
 
--- what stands before a refusal: the program's listing where that is asked for
+-- holds for what precedes an error: the program's listing if that is requested
 abbrev pub StandsBefore : Places → Option (List ℕ) → List Procedure → ℕ → ℕ → List ℕ → Type 0
 StandsBefore Hidden text program number procedure before = before ≡ []
 StandsBefore Shown text program number procedure before = IsRefusedListing text program number procedure before
 
--- what is written of the first refusal, with what stands before and behind its line
+-- holds for the reply to the first error, with what precedes and follows its line
 abbrev pub IsRefused : Places → Option (List ℕ) → List Procedure → Reply → Type 0
 IsRefused places text program r =
     (which : VerifyError) × (procedure : ℕ) × (place : ℕ) × (before : List ℕ) × (more : List ℕ) × IsFirstRejection program (verify_error_code which) procedure place

@@ -1,4 +1,4 @@
--- Inputs that stand in what is read: behind the program a line `inputs`, and then a word a line.
+-- Inputs that follow the program in what is read: after it a line `inputs`, and then a line for each word.
 use Rattle.std.specs.Prelude.{◌≡◌, ◌⊎◌, ◌==◌, ◌++◌, ℕ, List, [], ◌∷◌, codes, length, if◌then◌else◌}
 use Rattle.std.specs.Str.{bytes_eq}
 use Rattle.std.specs.Str.Lines.{lines}
@@ -12,33 +12,33 @@ use Rattle.tw_program_output.specs.declared.close.Close.TheVariants.{CommandLine
 
 -- ---- lines
 
--- the program's, each with a line feed
+-- returns the program's lines, each with a line feed
 abbrev pub before_inputs : List Text → List ℕ
 before_inputs [] = []
 before_inputs (line ∷ others) = if bytes_eq line (codes "inputs") then [] else (line ++ 10 ∷ []) ++ before_inputs others
 
--- those behind the line `inputs`
+-- returns those after the line `inputs`
 abbrev pub after_inputs : List Text → List Text
 after_inputs [] = []
 after_inputs (line ∷ others) = if bytes_eq line (codes "inputs") then others else after_inputs others
 
--- the words: the lines up to `end`, without the empty ones
+-- returns the words: the lines up to `end`, without the empty ones
 abbrev pub words_in : List Text → List Text
 words_in [] = []
 words_in (line ∷ others) = if bytes_eq line (codes "end") then [] else if length line == 0 then words_in others else line ∷ words_in others
 
 -- ---- replies
 
--- the line that tells the first input word that spells no input, and the one that says why
+-- holds for the line with the first input word that can't be parsed, and the one with the reason
 abbrev pub TellsInputWord : RefusedWord → Reply → Type 0
 TellsInputWord refused r = r ≡ reply (input_word_line refused.number ++ refused.reason) CommandLine
 
--- each word spells its input, and with these it is answered so; or one spells none
+-- holds if each word encodes its input, and this is the reply to these; or if one encodes none
 abbrev pub RepliesByWords : List Text → (List Input → Reply → Type 0) → Reply → Type 0
 RepliesByWords words Answers r =
     ((given : List Input) × AreSpelled given words × Answers given r) ⊎ ((refused : RefusedWord) × IsRefusedWord words refused × TellsInputWord refused r)
 
--- What is read is UTF-8; the program's lines and the inputs are answered so.
+-- holds if what is read is UTF-8, and this is the reply to the program's lines and the inputs; or if it isn't UTF-8
 abbrev pub RepliesByInputs : List ℕ → (List ℕ → List Input → Reply → Type 0) → Reply → Type 0
 RepliesByInputs text Answers r =
     RepliesByUtf8 text (RepliesByWords (words_in (after_inputs (lines text))) (Answers (before_inputs (lines text))) r) r

@@ -1,5 +1,5 @@
--- What is told of programs: a reply is Reply; the lines of refusals Lines; the program that is read and what is assembled Program, text Text, a text
--- with names Names, inputs that are read Inputs; a check and its refusal are Check, the bounds of runs Bounds, a program with its places Listing.
+-- Output about programs. Replies are in Reply, lines of errors in Lines, text in Text and symbolic assembly in Names. Program has the program that is
+-- read and what is assembled, Inputs the inputs. Check has a check and its errors, Bounds the bounds of runs, Listing a program with its places.
 pub mod Input
 pub mod Reply
 pub mod Lines
@@ -10,7 +10,7 @@ pub mod Inputs
 pub mod Check
 pub mod Bounds
 pub mod Listing
--- What the code keeps of a text, and of lines with inputs.
+-- The model of what the code keeps of a text, and of lines with inputs.
 pub mod Source
 pub mod Parts
 pub mod Listed

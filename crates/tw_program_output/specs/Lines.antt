@@ -1,7 +1,7 @@
--- The lines that tell why nothing is read or run.
+-- Lines with the reason why nothing is read or run.
 use Rattle.std.specs.Prelude.{◌+◌, ◌/◌, ◌%◌, ℕ, List, [], ◌∷◌, ◌++◌, codes, decimal}
 
--- a number below 100 in two digits
+-- returns a number below 100 in two digits
 abbrev pub two_digits : ℕ → List ℕ
 two_digits n = (48 + n / 10) ∷ (48 + n % 10) ∷ []
 

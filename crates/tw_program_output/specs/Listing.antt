@@ -1,5 +1,5 @@
--- What `--places` lists of a program: each instruction with its place, and where the program is checked, with what the right
--- registers hold there, as far as that is known.
+-- Listing by `--places`: each instruction of a program with its place. If the program is checked, the listing has also what the right registers hold
+-- there, as far as that is known, by name if they have names.
 use Rattle.std.specs.Prelude.{◌≡◌, ℕ, zero, suc, ◌+◌, ◌-◌, ◌<◌, List, [], ◌∷◌, ◌++◌, codes, decimal, length, replicate, Option, Some, None, slice_get}
 use Rattle.tw_code.specs.declared.instr.Instr.{Instr}
 use Rattle.tw_code.specs.declared.procedure.Procedure.{Procedure}
@@ -10,6 +10,7 @@ use Rattle.std.specs.Str.Lines.{lines}
 use Rattle.tw_asm.specs.Fault.{LinesSay, ParserState, after_line, at_start}
 use Rattle.tw_asm.specs.Statement.{Statement}
 use Rattle.tw_symbols.specs.Expansion.{StandsFor}
+use Rattle.tw_symbols.specs.RightNames.{AreRightNames, named_text, unnamed}
 use Rattle.tw_diagnostics.specs.LineRole.{says_of}
 use Rattle.tw_diagnostics.specs.declared.parser_state.LineRole.{LineRole}
 use Rattle.tw_diagnostics.specs.declared.parser_state.LineRole.TheVariants as says
@@ -22,42 +23,43 @@ use Rattle.tw_verify.specs.Known.{AreFound}
 
 -- ---- columns
 
--- what a text leaves free of so many columns
+-- returns the spaces that fill a text up to this width
 abbrev pub gap : ℕ → List ℕ → List ℕ
 gap width text = replicate (width - length text) 32
 
--- a place, at the right end of its columns
+-- returns a place, right-aligned in its columns
 abbrev pub place_column : ℕ → List ℕ
 place_column place = gap 5 (decimal place) ++ (decimal place ++ codes "  ")
 
--- a text, and in columns of their own what stands beside it, if anything does
+-- returns a text, and in columns of their own what is beside it, if anything is
 abbrev pub beside : List ℕ → List ℕ → List ℕ
 beside text [] = text
 beside text (b ∷ more) = text ++ (gap 30 text ++ (b ∷ more))
 
 -- ---- rights
 
-abbrev pub right_column : ℕ → Option RightType → List ℕ
-right_column register None = []
-right_column register (Some right) = codes "  " ++ right_text register (record { mode = right.mode; ty = right.ty })
+-- a register of this name, and what it holds
+abbrev pub right_column : List ℕ → ℕ → Option RightType → List ℕ
+right_column name register None = []
+right_column name register (Some right) = codes "  " ++ named_text name (right_text register (record { mode = right.mode; ty = right.ty }))
 
--- what the registers below this one hold
-abbrev pub rights_below : Typing → ℕ → List ℕ
-rights_below typing zero = []
-rights_below typing (suc register) = rights_below typing register ++ right_column register (right_at typing register)
+-- returns what the registers below this one hold
+abbrev pub rights_below : (ℕ → List ℕ) → Typing → ℕ → List ℕ
+rights_below names typing zero = []
+rights_below names typing (suc register) = rights_below names typing register ++ right_column (names register) register (right_at typing register)
 
--- what all 16 hold, where a typing is known
-abbrev pub rights_text : Option Typing → List ℕ
-rights_text None = []
-rights_text (Some typing) = rights_below typing 16
+-- returns what all 16 hold, if a typing is known
+abbrev pub rights_text : (ℕ → List ℕ) → Option Typing → List ℕ
+rights_text names None = []
+rights_text names (Some typing) = rights_below names typing 16
 
 -- ---- lines
 
--- the line of the instruction at a place; the labels stand at these places
+-- returns the line of the instruction at a place; the labels are at these places
 abbrev pub place_line : List ℕ → ℕ → Instr → Option Typing → List ℕ
-place_line labels place i typing = place_column place ++ (beside (instr_text labels place i) (rights_text typing) ++ codes "\n")
+place_line labels place i typing = place_column place ++ (beside (instr_text labels place i) (rights_text unnamed typing) ++ codes "\n")
 
--- the instructions from a place on, with the labels between them and after them
+-- returns the instructions from a place on, with the labels between them and after them
 abbrev pub place_lines : List ℕ → List Typing → ℕ → List Instr → List ℕ
 place_lines labels typings place [] = label_line (label_at labels place)
 place_lines labels typings place (i ∷ others) =
@@ -67,50 +69,51 @@ abbrev pub procedure_listing : ℕ → Procedure → List Typing → List ℕ
 procedure_listing number p typings =
     (codes "procedure " ++ decimal number) ++ (codes "\n" ++ (head_lines p ++ place_lines (label_places p.code) typings 0 p.code))
 
--- the procedures from this number on
+-- returns the procedures from this number on
 abbrev pub listing_from : Typings → ℕ → List Procedure → List ℕ
 listing_from typings number [] = []
 listing_from typings number (p ∷ others) = procedure_listing number p (typings number) ++ listing_from typings (number + 1) others
 
 -- ---- programs
 
--- nothing is known of the registers
+-- returns no typings: nothing is known of the registers
 abbrev pub no_typings : Typings
 no_typings procedure = []
 
--- the program's assembly text, or its listing
+-- returns the program's assembly text, or its listing
 abbrev pub disassembled : Places → Versioned → List ℕ
 disassembled Hidden program = disassembly program
 disassembled Shown program = listing_from no_typings 0 program.procedures
 
 -- ---- a text's own lines
 
--- a line by what it says, in its situation: an instruction with its place and what the right registers hold there, and behind the
--- number of a procedure its first line
-abbrev pub said_line : Typings → ParserState → List ℕ → LineRole → List ℕ
-said_line typings s line says.Head = (codes "procedure " ++ decimal s.procedures) ++ (codes "\n" ++ (line ++ codes "\n"))
-said_line typings s line says.Code = place_column s.instructions ++ (beside line (rights_text (slice_get (typings (s.procedures - 1)) s.instructions)) ++ codes "\n")
-said_line typings s line other = line ++ codes "\n"
+-- returns a line by its role, in this state of the parser: an instruction with its place and what the right registers of these names hold there; after
+-- the number of a procedure its first line
+abbrev pub said_line : (ℕ → List ℕ) → Typings → ParserState → List ℕ → LineRole → List ℕ
+said_line names typings s line says.Head = (codes "procedure " ++ decimal s.procedures) ++ (codes "\n" ++ (line ++ codes "\n"))
+said_line names typings s line says.Code = place_column s.instructions ++ (beside line (rights_text names (slice_get (typings (s.procedures - 1)) s.instructions)) ++ codes "\n")
+said_line names typings s line other = line ++ codes "\n"
 
--- the lines from this number on, which say this
-abbrev pub said_lines : Typings → ℕ → ParserState → List (List ℕ) → List (Option Statement) → List ℕ
-said_lines typings number s [] said = []
-said_lines typings number s (line ∷ ls) [] = []
-said_lines typings number s (line ∷ ls) (x ∷ said) = said_line typings s line (says_of x) ++ said_lines typings (number + 1) (after_line number x s) ls said
+-- returns the lines from this number on, which have these statements, with the names at each line
+abbrev pub said_lines : (ℕ → ℕ → List ℕ) → Typings → ℕ → ParserState → List (List ℕ) → List (Option Statement) → List ℕ
+said_lines names typings number s [] said = []
+said_lines names typings number s (line ∷ ls) [] = []
+said_lines names typings number s (line ∷ ls) (x ∷ said) = said_line (names number) typings s line (says_of x) ++ said_lines names typings (number + 1) (after_line number x s) ls said
 
 -- ---- programs that are checked
 
--- the program's listing, or the lines of the text from which it was read, as they are written; each says what the line says for which it stands
+-- holds for the program's listing, or for the lines of the text from which it was read, as they are written; the expanded lines give their roles
 abbrev pub IsListed : Option (List ℕ) → List Procedure → Typings → List ℕ → Type 0
 IsListed None program typings listing = listing ≡ listing_from typings 0 program
 IsListed (Some text) program typings listing =
-    (plain : List ℕ) × (said : List (Option Statement)) × StandsFor text plain × LinesSay 1 at_start (lines plain) said × (listing ≡ said_lines typings 1 at_start (lines text) said)
+    (plain : List ℕ) × (said : List (Option Statement)) × (names : ℕ → ℕ → List ℕ) × StandsFor text plain × LinesSay 1 at_start (lines plain) said × AreRightNames text names
+    × (listing ≡ said_lines names typings 1 at_start (lines text) said)
 
--- with what the registers of an accepted program hold
+-- holds for the listing with what the registers of an accepted program hold
 abbrev pub IsListing : Option (List ℕ) → List Procedure → List ℕ → Type 0
 IsListing text program listing = (typings : Typings) × AreRight program typings × IsListed text program typings listing
 
--- with what is known of the registers of one that is refused with a number in a procedure
+-- holds for the listing with what is known of the registers of a program that is rejected with a code in a procedure
 abbrev pub IsRefusedListing : Option (List ℕ) → List Procedure → ℕ → ℕ → List ℕ → Type 0
 IsRefusedListing text program number refused listing =
     (typings : Typings) × ((procedure : ℕ) → procedure < length program → AreFound program number refused procedure (typings procedure)) × IsListed text program typings listing

@@ -1,4 +1,4 @@
--- What is told of texts with names, and of the assembly texts for which they stand.
+-- Output about symbolic assembly and its expanded text.
 use Rattle.std.specs.Prelude.{◌≡◌, ◌⊎◌, ◌++◌, ◌-◌, ℕ, Bool, false, if◌then◌else◌, List, [], codes, decimal, slice_get, Option, Some, None}
 use Rattle.std.specs.Str.{bytes_eq}
 use Rattle.std.specs.Str.Lines.{lines}
@@ -18,24 +18,24 @@ use Rattle.tw_program_output.specs.Reply.{Reply, reply}
 use Rattle.tw_program_output.specs.Text.{RepliesByUtf8}
 use Rattle.tw_program_output.specs.declared.close.Close.TheVariants.{Refused, Success}
 
--- a line of a text, shortened if it is long, where it has one of this number
+-- returns a line of a text, shortened if it is long, if there is one
 abbrev pub line_text : Option (List ℕ) → List ℕ
 line_text None = []
 line_text (Some line) = shortened line ++ codes "\n"
 
--- ---- a refusal of a text with names
+-- ---- a name error
 
 abbrev pub name_line : NameNo → ℕ → List ℕ
 name_line which line = codes "refused N0" ++ (decimal (name_number which) ++ (codes " at line " ++ (decimal line ++ codes "\n")))
 
--- what a name means
+-- returns what a name means
 abbrev pub binding_words : Binding → List ℕ
 binding_words (binding.Constant number) = codes "a constant"
 binding_words (binding.Register bank.Value number by) = codes "a value register"
 binding_words (binding.Register bank.Right number by) = codes "a right register"
 binding_words (binding.Procedure number) = codes "a procedure"
 
--- what is required in a name's place
+-- returns what is required in a name's place
 abbrev pub expected_words : Expected → List ℕ
 expected_words asked.Value = codes "a value register"
 expected_words asked.ValueArgument = codes "a value register"
@@ -49,47 +49,47 @@ abbrev pub kind_diagnostic : Binding → Expected → List ℕ
 kind_diagnostic x a = (codes "it is " ++ binding_words x) ++ ((codes ", " ++ expected_words a) ++ codes " is required")
 
 abbrev pub fixed_diagnostic : NameNo → List ℕ
-fixed_diagnostic no.Form = codes "expected const NAME = NUMBER, let NAME = REGISTER, or NAME: with a mode or type behind it"
+fixed_diagnostic no.Form = codes "expected const NAME = NUMBER, let NAME = REGISTER, or NAME: with a mode or type after it"
 fixed_diagnostic no.NoName = codes "this can't be a name"
 fixed_diagnostic no.Twice = codes "the name is taken"
 fixed_diagnostic no.Listed = codes "its register has a name already"
 fixed_diagnostic no.Unknown = codes "the name means nothing here"
-fixed_diagnostic no.Limit = codes "it would be a register past the last"
+fixed_diagnostic no.Limit = codes "there is no register left for it"
 fixed_diagnostic other = []
 
 abbrev pub name_diagnostic : NameNo → List ℕ
 name_diagnostic (no.Kind x a) = kind_diagnostic x a
 name_diagnostic other = fixed_diagnostic other
 
--- the line as it was written, and the word and what is wrong with it
+-- returns the line as it was written, and the word with what is wrong with it
 abbrev pub name_details : List ℕ → NameNo → ℕ → List ℕ → List ℕ
 name_details text which line word = line_text (slice_get (lines text) (line - 1)) ++ (shortened word ++ (codes ": " ++ (name_diagnostic which ++ codes "\n")))
 
--- ---- a fault of the assembly text for which it stands
+-- ---- a fault of the expanded text
 
--- two lines are the same
+-- returns whether two lines are the same
 abbrev pub is_same_line : Option (List ℕ) → Option (List ℕ) → Bool
 is_same_line None other = false
 is_same_line (Some line) None = false
 is_same_line (Some line) (Some other) = bytes_eq line other
 
--- the line as it was written, where it isn't the one for which it stands
+-- returns the line as it was written, if its expanded line is another
 abbrev pub written_text : Option (List ℕ) → Option (List ℕ) → List ℕ
-written_text line other = if is_same_line line other then [] else line_text line ++ codes "stands for: "
+written_text line other = if is_same_line line other then [] else line_text line ++ codes "expands to: "
 
--- what stands before its reason: that line, where there are names
+-- holds for what precedes the reason: that line, if there are names
 abbrev pub IsWrittenBefore : List ℕ → List ℕ → ℕ → List ℕ → Type 0
 IsWrittenBefore text plain line before =
     ((HasNames (lines text) → ⊥) × (before ≡ [])) ⊎ (HasNames (lines text) × (before ≡ written_text (slice_get (lines text) (line - 1)) (slice_get (lines plain) (line - 1))))
 
--- that, and why the line is refused for which it stands
+-- holds for that, and for why the expanded line is rejected
 abbrev pub AreFaultDetails : List ℕ → FaultNo → ℕ → List ℕ → Type 0
 AreFaultDetails text which line more =
     (plain : List ℕ) × (before : List ℕ) × (reason : List ℕ) × StandsFor text plain × IsWrittenBefore text plain line before × IsTextReason plain which line reason × (more ≡ before ++ reason)
 
--- ---- the assembly text itself
+-- ---- the expanded text itself
 
--- it is written, or the first refusal is told
+-- holds if it is printed, or the first name error
 abbrev pub RepliesByPlain : List ℕ → Reply → Type 0
 RepliesByPlain text r =
     RepliesByUtf8 text (((plain : List ℕ) × StandsFor text plain × (r ≡ reply plain Success))

@@ -1,4 +1,4 @@
--- How contracts see the reading of a program and the inputs behind it, line by line.
+-- The model of how a program and the inputs after it are read, line by line.
 use Rattle.std.specs.Prelude.{◌==◌, ◌++◌, ℕ, List, [], ◌∷◌, codes, length, map, if◌then◌else◌}
 use Rattle.std.specs.Str.{bytes_eq}
 use Rattle.clap.specs.Words.{Text}
@@ -6,7 +6,7 @@ use Rattle.tw_program_output.specs.declared.inputs.InputParts.{InputParts}
 use Rattle.tw_program_output.specs.declared.inputs.Section.{Section}
 use Rattle.tw_program_output.specs.declared.inputs.Section.TheVariants.{Program, Inputs, Rest}
 
--- the section in which the next line stands, the program's lines, and the words
+-- the section of the next line, the program's lines, and the words
 pub record Parts : Type 0 where
   pub section : Section
   pub program : List ℕ
@@ -24,7 +24,7 @@ after_in Inputs program words line =
     if bytes_eq line (codes "end") then parts Rest program words else if length line == 0 then parts Inputs program words else parts Inputs program (words ++ line ∷ [])
 after_in Rest program words line = parts Rest program words
 
--- with one line more
+-- returns the parts after one more line
 abbrev pub after_line : Parts → Text → Parts
 after_line p line = after_in p.section p.program p.words line
 

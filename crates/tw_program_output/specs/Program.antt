@@ -25,19 +25,19 @@ use Rattle.tw_program_output.specs.declared.program.NoProgram.{NoProgram}
 use Rattle.tw_program_output.specs.declared.program.NoProgram.TheVariants.{NotHex, NotUtf8, Bytes, Text, Named, NoMemory}
 use Rattle.tw_program_output.specs.declared.close.Close.TheVariants.{Refused, Success}
 
--- the assembly text for which a text stands spells it
+-- holds if the expanded text encodes the program
 abbrev pub SpellsText : List ℕ → Versioned → Type 0
 SpellsText text program = (plain : List ℕ) × StandsFor text plain × SpellsProgram program plain
 
 abbrev pub TextHasFault : List ℕ → FaultNo → ℕ → Type 0
 TextHasFault text which line = (plain : List ℕ) × StandsFor text plain × HasFault plain which line
 
--- it is spelled
+-- holds if the input encodes the program
 abbrev pub Spells : Source → List ℕ → Versioned → Type 0
 Spells Hex input program = (bytes : List ℕ) × (decode_of (digits_in input) ≡ Ok bytes) × (program_of bytes ≡ Ok program)
 Spells Assembly input program = IsUtf8 input × SpellsText input program
 
--- or none is, for this reason
+-- holds if it encodes none, for this reason
 abbrev pub SpellsNone : Source → List ℕ → NoProgram → Type 0
 SpellsNone Hex input NotHex = IsErr (decode_of (digits_in input))
 SpellsNone Hex input (Bytes f) = (bytes : List ℕ) × (decode_of (digits_in input) ≡ Ok bytes) × (program_of bytes ≡ Err f)
@@ -60,7 +60,7 @@ no_program_line (Text f) = asm_line (asm.fault_number f.no) f.line
 no_program_line (Named f) = name_line f.no f.line
 no_program_line NoMemory = codes "memory\n"
 
--- what stands behind that line: the line of a text that is refused, and why it is
+-- holds for what follows that line: the line of a rejected text, and the reason
 abbrev pub AreParseErrorDetails : List ℕ → NoProgram → List ℕ → Type 0
 AreParseErrorDetails input NotHex more = more ≡ []
 AreParseErrorDetails input NotUtf8 more = more ≡ []
@@ -69,28 +69,28 @@ AreParseErrorDetails input (Text f) more = AreFaultDetails input f.no f.line mor
 AreParseErrorDetails input (Named f) more = more ≡ name_details input f.no f.line f.word.now
 AreParseErrorDetails input NoMemory more = more ≡ []
 
--- the program is answered so; or it is told why there is none
+-- holds if this is the reply to the program, or has the reason why there is none
 abbrev pub RepliesBySource : Source → List ℕ → (Versioned → Reply → Type 0) → Reply → Type 0
 RepliesBySource source input Answers r =
     ((program : Versioned) × Spells source input program × Answers program r)
     ⊎ ((why : NoProgram) × (more : List ℕ) × SpellsNone source input why × AreParseErrorDetails input why more × (r ≡ reply (no_program_line why ++ more) Refused))
 
--- the same of an assembly text whose bytes are asked for: it has no names, and no more is told than that line
+-- like `RepliesBySource`, for an assembly text whose bytes are requested: it has no names, and an error prints only its line
 abbrev pub RepliesByText : List ℕ → (Versioned → Reply → Type 0) → Reply → Type 0
 RepliesByText input Answers r =
     RepliesByUtf8 input (((program : Versioned) × SpellsProgram program input × Answers program r)
     ⊎ ((which : FaultNo) × (line : ℕ) × HasFault input which line × (r ≡ reply (asm_line (asm.fault_number which) line) Refused))) r
 
--- the text as it is written, where it was one
+-- returns the text as it is written, if the program was read from one
 abbrev pub source_text : Source → List ℕ → Option (List ℕ)
 source_text Hex input = None
 source_text Assembly input = Some input
 
--- a program's bytes, in hex digits
+-- holds for a program's bytes, in hex digits
 abbrev pub IsWritten : Versioned → Reply → Type 0
 IsWritten program r = r ≡ reply (encode_lower (spelling program) ++ codes "\n") Success
 
--- what is assembled: the bytes of an assembly text, or of one that may have names, or the assembly text for which such a text stands
+-- holds for what is assembled: the bytes of an assembly text, or of one that may be symbolic, or the expanded text of such a text
 abbrev pub RepliesByAssembling : Assembling → List ℕ → Reply → Type 0
 RepliesByAssembling assembling.Text input r = RepliesByText input IsWritten r
 RepliesByAssembling assembling.Names input r = RepliesBySource Assembly input IsWritten r

@@ -1,8 +1,8 @@
--- What a session writes.
+-- Output of a session.
 use Rattle.std.specs.Prelude.{ℕ, List}
 use Rattle.tw_program_output.specs.declared.close.Close.{Close}
 
--- the text that is written, and how the session ends
+-- the output of a session, and how it ends
 pub record Reply : Type 0 where
   pub text : List ℕ
   pub close : Close

@@ -1,4 +1,4 @@
--- How contracts see what the code keeps of a text beside its program.
+-- The model of what the code keeps of a text next to its program.
 use Rattle.std.specs.Prelude.{◌≡◌, ℕ, List, Option, Some, None, IfSome, String, string_bytes}
 use Rattle.std.specs.declared.alloc.Global.{Global}
 use Rattle.tw_symbols.specs.Expansion.{StandsFor}
@@ -9,25 +9,25 @@ use Rattle.tw_asm.specs.Origins.{AreOrigins, instr_at}
 use Rattle.tw_asm.specs.Spelling.{SpellsProgram}
 use Rattle.tw_program_output.specs.declared.source.SourceText.{SourceText}
 
--- the text as it is written, where there is one
+-- returns the text as it is written, if there is one
 abbrev pub text_of : Option SourceText → Option (List ℕ)
 text_of None = None
 text_of (Some source) = Some source.text.now
 
--- this text, or else that one
+-- returns the expanded text if there is one, else the text itself
 abbrev pub plain_or : List ℕ → Option (String Global) → List ℕ
 plain_or text None = text
 plain_or text (Some plain) = string_bytes plain
 
--- the assembly text for which it stands
+-- returns the expanded text of a source
 abbrev pub plain_of : SourceText → List ℕ
 plain_of source = plain_or source.text.now source.plain
 
--- the text spells a program of these procedures
+-- holds if the text encodes a program of these procedures
 abbrev pub IsSpelled : List ℕ → List Procedure → Type 0
 IsSpelled text program = (version : Version) × SpellsProgram (record { version = version; procedures = program }) text
 
--- the text and the lines are those of the program
+-- holds if the text and the lines are those of the program
 abbrev pub IsSource : SourceText → List Procedure → Type 0
 IsSource source program =
     IsProgram program × AreOrigins (plain_of source) program source.lines.procedures × IsSpelled (plain_of source) program × StandsFor source.text.now (plain_of source)
@@ -35,7 +35,7 @@ IsSource source program =
 abbrev pub MayBeSource : Option SourceText → List Procedure → Type 0
 MayBeSource source program = IfSome source (λ s. IsSource s program)
 
--- and the program has an instruction at the place
+-- holds if they are, and the program has an instruction at the place
 abbrev pub IsSourceAt : SourceText → List Procedure → ℕ → ℕ → Type 0
 IsSourceAt source program procedure place =
     AreOrigins (plain_of source) program source.lines.procedures × (instr_at program procedure place ≡ None → ⊥) × StandsFor source.text.now (plain_of source)

@@ -1,4 +1,4 @@
--- What a session answers to text, and the line of a text that a refusal of its program tells.
+-- Output about text, and the line of a text at which its program has an error.
 use Rattle.std.specs.Prelude.{◌≡◌, ◌⊎◌, ◌++◌, ◌-◌, ℕ, List, [], ◌∷◌, codes, decimal, slice_get, IsUtf8, Option, Some, None}
 use Rattle.std.specs.Str.{IsTrimAscii}
 use Rattle.std.specs.Str.Lines.{lines}
@@ -17,17 +17,17 @@ use Rattle.tw_program_output.specs.declared.close.Close.TheVariants.{Refused}
 
 -- ---- a text
 
--- what is to be text is UTF-8, and is answered so, or it isn't
+-- holds if what is to be text is UTF-8, and this is the reply to it; or if it isn't UTF-8
 abbrev pub RepliesByUtf8 : List ℕ → Type 0 → Reply → Type 0
 RepliesByUtf8 bytes Answers r = (IsUtf8 bytes × Answers) ⊎ ((IsUtf8 bytes → ⊥) × (r ≡ reply (codes "refused H03\n") Refused))
 
--- ---- where a refused place stands in it
+-- ---- the line of a rejected place
 
--- the number of a line of the text, and as much of the line as a diagnostic shows
+-- returns the number of a line of the text, and as much of the line as a diagnostic shows
 abbrev pub text_line : ℕ → List ℕ → List ℕ
 text_line number line = codes "at line " ++ (decimal number ++ (codes ": " ++ (shortened line ++ codes "\n")))
 
--- the same with the name of the procedure in which the line is, if it has one
+-- returns the name of the procedure in which a line is, if it has one
 abbrev pub in_name : List ℕ → List ℕ
 in_name [] = []
 in_name (b ∷ name) = codes " in " ++ (b ∷ name)
@@ -35,17 +35,17 @@ in_name (b ∷ name) = codes " in " ++ (b ∷ name)
 abbrev pub line_in_text : List ℕ → ℕ → List ℕ → List ℕ
 line_in_text name number line = codes "at line " ++ (decimal number ++ (in_name name ++ (codes ": " ++ (shortened line ++ codes "\n"))))
 
--- the line of this number, counted from 1, without white space around it
+-- holds for the line with this number, counted from 1, without white space around it
 abbrev pub IsLineAt : List (List ℕ) → ℕ → List ℕ → Type 0
 IsLineAt all number trimmed = (line : List ℕ) × (slice_get all (number - 1) ≡ Some line) × IsTrimAscii line trimmed
 
 abbrev pub IsLineOf : List ℕ → ℕ → List ℕ → Type 0
 IsLineOf text number trimmed = IsLineAt (lines text) number trimmed
 
--- ---- what stands behind the line of a refusal
+-- ---- details of an error
 
--- The line from which the instruction at the refused place comes, as it is written, with its procedure's name; and why it is refused, where the
--- register that is told has its name beside it.
+-- holds for the line from which the instruction at the rejected place comes, as it is written, with its procedure's name; then for the reason, in
+-- which the register has its name beside it
 abbrev pub ArePlaceDetails : List ℕ → VerifyError → List Procedure → ℕ → ℕ → List ℕ → Type 0
 ArePlaceDetails text which program procedure place more =
     (plain : List ℕ) × (number : ℕ) × (line : List ℕ) × (numbers : List (List ℕ)) × (reason : List ℕ) × (told : List ℕ) × (names : List (List ℕ))
@@ -53,7 +53,7 @@ ArePlaceDetails text which program procedure place more =
     × AreOrigins plain program numbers × TellsReason which numbers program procedure place reason × IsWithName text number reason told × AreNames text names
     × (more ≡ line_in_text (name_at names procedure) number line ++ told)
 
--- the line that begins main, and what is wrong with its shape
+-- holds for the line that begins main, and what is wrong with its shape
 abbrev pub AreMainDetails : List ℕ → List Procedure → List ℕ → Type 0
 AreMainDetails text program more =
     (plain : List ℕ) × (number : ℕ) × (line : List ℕ) × (main : Procedure) × StandsFor text plain × IsFirstHead plain number × IsLineOf text number line
@@ -63,7 +63,7 @@ abbrev pub AreTextDetails : List ℕ → VerifyError → List Procedure → ℕ 
 AreTextDetails text rejection.MainShape program procedure place more = AreMainDetails text program more
 AreTextDetails text which program procedure place more = ArePlaceDetails text which program procedure place more
 
--- where the program was read from a text
+-- holds for the details of an error; without a text there are none
 abbrev pub IsBehind : Option (List ℕ) → VerifyError → List Procedure → ℕ → ℕ → List ℕ → Type 0
 IsBehind None which program procedure place more = more ≡ []
 IsBehind (Some text) which program procedure place more = AreTextDetails text which program procedure place more

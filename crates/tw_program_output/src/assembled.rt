@@ -1,4 +1,4 @@
-//! What is assembled.
+//! Output of `asm`: a program in hex, or expanded text.
 
 ghost use Rattle.std.specs.Prelude.{◌≡◌, IfOk};
 ghost use Rattle.tw_asm.specs.Fault.{fault_number};
@@ -20,7 +20,7 @@ use tw_cli::{Assembling, Source};
 use tw_code::Program;
 use tw_lexer::put;
 
-/// A program as hex digits, in one line.
+/// Returns a program as hex digits, in one line.
 fn hex_reply(alloc: Global, program: &Program) -> Result<Reply, AllocError>
     ensures { IfOk result (λ r. IsWritten program.now (reply r.text.items r.close)) }
 {
@@ -35,7 +35,7 @@ fn hex_reply(alloc: Global, program: &Program) -> Result<Reply, AllocError>
     })
 }
 
-/// The line of a text's first fault.
+/// Returns the line of a text's first fault.
 fn fault_reply(alloc: Global, fault: AsmFault) -> Result<Reply, AllocError>
     ensures { IfOk result (λ r. reply r.text.items r.close ≡ reply (asm_line (fault_number fault.no) fault.line) Refused) }
 {
@@ -44,7 +44,7 @@ fn fault_reply(alloc: Global, fault: AsmFault) -> Result<Reply, AllocError>
     Ok(refused_by(text))
 }
 
-/// The program of an assembly text as hex digits, or the text's first fault.
+/// Returns the program of an assembly text as hex digits, or the text's first fault.
 fn text_reply(alloc: Global, text: &str) -> Result<Reply, AllocError>
     ensures { IfOk result (λ r. RepliesByText text.now IsWritten (reply r.text.items r.close)) }
 {
@@ -57,7 +57,7 @@ fn text_reply(alloc: Global, text: &str) -> Result<Reply, AllocError>
     }
 }
 
-/// The same of what is to be text.
+/// Like `text_reply`, for bytes that may not be UTF-8.
 fn written_reply(alloc: Global, input: &[u8]) -> Result<Reply, AllocError>
     ensures { IfOk result (λ r. RepliesByText input.now IsWritten (reply r.text.items r.close)) }
 {
@@ -67,7 +67,7 @@ fn written_reply(alloc: Global, input: &[u8]) -> Result<Reply, AllocError>
     }
 }
 
-/// The program of a text that may have names as hex digits, or why there is none.
+/// Returns the program of a text that may be symbolic as hex digits, or why there is none.
 fn named_reply(alloc: Global, input: &[u8]) -> Result<Reply, AllocError>
     ensures { IfOk result (λ r. RepliesBySource Assembly input.now IsWritten (reply r.text.items r.close)) }
 {
@@ -77,7 +77,7 @@ fn named_reply(alloc: Global, input: &[u8]) -> Result<Reply, AllocError>
     }
 }
 
-/// What is assembled, or why that can't be.
+/// Returns what is assembled, or why nothing is.
 pub fn assembled_reply(alloc: Global, what: Assembling, input: &[u8]) -> Result<Reply, AllocError>
     ensures { IfOk result (λ r. RepliesByAssembling what input.now (reply r.text.items r.close)) }
 {

@@ -1,4 +1,4 @@
-//! What `check --bounds` says of a program's runs.
+//! Output of `check --bounds` about a program's runs.
 
 ghost use Rattle.std.specs.Prelude.{◌≡◌, ◌++◌, IfOk, OnOk, List, codes, ℕ};
 ghost use Rattle.tw_program_output.specs.Bounds.{IsBoundsText, MayTellBounds, bound_line, bound_lines, bound_text, circle_line};
@@ -19,7 +19,7 @@ fn put_bound(alloc: Global, out: &mut Vec<u8>, bound: Option<Bound>) -> Result<(
     }
 }
 
-/// Adds the line of main's bound of this kind.
+/// Adds the line for main's bound of this kind.
 fn put_bound_line(
     alloc: Global,
     out: &mut Vec<u8>,
@@ -35,7 +35,7 @@ fn put_bound_line(
     put(out, "\n")
 }
 
-/// Adds the lines of main's bounds.
+/// Adds the lines for main's bounds.
 fn put_bound_lines(alloc: Global, out: &mut Vec<u8>, bounds: &RunBounds) -> Result<(), AllocError>
     ensures { OnOk result (out.new.items ≡ out.old.items ++ bound_lines bounds.now) }
 {
@@ -46,7 +46,7 @@ fn put_bound_lines(alloc: Global, out: &mut Vec<u8>, bounds: &RunBounds) -> Resu
     put_bound_line(alloc, out, "events", &bounds.events)
 }
 
-/// Adds the line that says why there are no bounds.
+/// Adds the line with the reason why there are no bounds.
 fn put_circle_line(alloc: Global, out: &mut Vec<u8>, circle: Circle) -> Result<(), AllocError>
     ensures { OnOk result (out.new.items ≡ out.old.items ++ circle_line circle) }
 {
@@ -66,7 +66,7 @@ fn put_bounds(alloc: Global, out: &mut Vec<u8>, verified: &Verified) -> Result<(
     }
 }
 
-/// Adds that if it is asked for.
+/// Adds main's bounds, or why there are none, if they are requested.
 pub(crate) fn put_requested_bounds(
     alloc: Global,
     out: &mut Vec<u8>,

@@ -1,4 +1,4 @@
-//! What `check` says of a program.
+//! Output of `check` about a program.
 
 ghost use Rattle.std.specs.Prelude.{◌≡◌, ◌++◌, ℕ, List, IfOk, OnOk, decimal};
 ghost use Rattle.tw_code.specs.accepting.WellTyped.{IsFirstRejection};
@@ -66,7 +66,7 @@ fn put_procedure_lines(
     Ok(())
 }
 
-/// Adds the line of what the targets need.
+/// Adds the line with what the targets need.
 fn put_needs(alloc: Global, out: &mut Vec<u8>, engines: u8, workers: u8) -> Result<(), AllocError>
     ensures { OnOk result (out.new.items ≡ out.old.items ++ needs_line engines workers) }
 {
@@ -75,7 +75,7 @@ fn put_needs(alloc: Global, out: &mut Vec<u8>, engines: u8, workers: u8) -> Resu
     put(out, "\n")
 }
 
-/// The whole text of the check of an accepted program.
+/// Returns the whole text of the check of an accepted program.
 fn check_text(alloc: Global, names: &Symbols, verified: &Verified) -> Result<Vec<u8>, AllocError>
     ensures { IfOk result (λ text. IsCheckText names.now verified.now.program text.items) }
 {
@@ -87,7 +87,7 @@ fn check_text(alloc: Global, names: &Symbols, verified: &Verified) -> Result<Vec
     Ok(text)
 }
 
-/// The listing of an accepted program: of its text's lines, where it was read from a text.
+/// Returns the listing of an accepted program; of its text's lines, if it was read from a text.
 fn accepted_listing(
     alloc: Global,
     source: &Option<SourceText<'_>>,
@@ -102,7 +102,7 @@ fn accepted_listing(
     }
 }
 
-/// The same of a refused program.
+/// Like `accepted_listing`, for a rejected program.
 fn refused_listing(
     alloc: Global,
     source: &Option<SourceText<'_>>,
@@ -117,7 +117,7 @@ fn refused_listing(
     }
 }
 
-/// Lists an accepted program, and tells what a check tells of it, with the names of its procedures.
+/// Returns the listing of an accepted program, then its check with the names of its procedures.
 fn listed_text(
     alloc: Global,
     source: &Option<SourceText<'_>>,
@@ -133,7 +133,7 @@ fn listed_text(
     Ok(text)
 }
 
-/// Tells the budgets, after the listing if that is asked for.
+/// Returns the budgets, after the listing if that is requested.
 fn budgets_text(
     alloc: Global,
     source: &Option<SourceText<'_>>,
@@ -149,7 +149,7 @@ fn budgets_text(
     }
 }
 
-/// Tells what a check says of an accepted program: its budgets, and what else is asked for.
+/// Returns the output of a check of an accepted program: its budgets, and what else is requested.
 pub fn checked_text(
     alloc: Global,
     source: &Option<SourceText<'_>>,
@@ -164,7 +164,7 @@ pub fn checked_text(
     Ok(text)
 }
 
-/// What stands before a refusal.
+/// Returns what precedes an error: the listing, if it is requested.
 fn text_before(
     alloc: Global,
     source: &Option<SourceText<'_>>,
@@ -180,7 +180,7 @@ fn text_before(
     }
 }
 
-/// The reply where a program isn't accepted.
+/// Returns the reply to a program that isn't accepted.
 pub fn rejection_reply(
     alloc: Global,
     source: &Option<SourceText<'_>>,

@@ -1,17 +1,17 @@
-//! How a session ends whose reads, writes and allocations succeeded.
+//! Ends of a session in which reads, writes and allocations succeeded.
 
-/// How a session ends whose reads, writes and allocations succeeded.
+/// An end of a session in which reads, writes and allocations succeeded.
 #[derive(Clone, Copy, PartialEq, Eq)]
 pub enum Close {
-    /// What was ordered is written, and a run was quiet; or the help was asked.
+    /// All output is written, and a run was quiet; or the help was requested.
     Success,
-    /// Text, bytes, program, inputs or layout were refused.
+    /// Text, bytes, program, inputs or layout were rejected.
     Refused,
-    /// The words were refused.
+    /// The arguments of the command line were rejected.
     CommandLine,
     /// Nothing was left to do, and rules were pending.
     Stuck,
-    /// The run came to its event limit.
+    /// The run reached its event limit.
     Limit,
     /// The run met a trap.
     Trapped,

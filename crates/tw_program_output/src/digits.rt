@@ -1,4 +1,4 @@
-//! The digits of hex text.
+//! Digits of hex text.
 
 ghost use Rattle.std.specs.Prelude.{◌≡◌};
 ghost use Rattle.tw_program_output.specs.Input.{digits_in, is_gap_byte};

@@ -1,4 +1,4 @@
-//! Inputs that stand in what is read, behind the program.
+//! Inputs that follow the program in what is read.
 
 ghost use Rattle.std.specs.Prelude.{◌≡◌, ◌++◌, ◌∷◌, [], List, map, IfOk, OnOk};
 ghost use Rattle.std.specs.Str.Lines.{lines};
@@ -17,16 +17,16 @@ use std::alloc::{AllocError, Global};
 use tw_cli::NoOrder;
 use tw_lexer::put;
 
-/// Where a line stands.
+/// A section of what is read, by its lines.
 #[derive(Clone, Copy)]
 pub enum Section {
     Program,
     Inputs,
-    /// Behind the inputs' line `end`.
+    /// All after the inputs' line `end`.
     Rest,
 }
 
-/// A program's text and the input words behind it, as far as their lines are read.
+/// A program's text and the input words after it, as far as their lines have been read.
 #[derive(Drop)]
 pub struct InputParts<'a> {
     pub section: Section,
@@ -84,7 +84,7 @@ fn take_line<'a>(parts: InputParts<'a>, line: &'a str) -> Result<InputParts<'a>,
     }
 }
 
-/// The lines of the program, and the input words behind them.
+/// Splits a text into the lines of the program and the input words after them.
 pub fn input_parts<'a>(alloc: Global, text: &'a str) -> Result<InputParts<'a>, AllocError>
     ensures program { IfOk result (λ p. p.program.items ≡ before_inputs (lines text.entry.now)) }
     ensures words { IfOk result (λ p. map (λ word. word.now) p.words.items ≡ words_in (after_inputs (lines text.entry.now))) }
@@ -100,7 +100,7 @@ pub fn input_parts<'a>(alloc: Global, text: &'a str) -> Result<InputParts<'a>, A
     Ok(parts)
 }
 
-/// Prints the number of the input word that spells no input, and the line that says why.
+/// Returns the reply with the number of the input word that can't be parsed, and the line with the reason.
 pub fn input_word_reply(alloc: Global, number: usize, reason: &[u8]) -> Result<Reply, AllocError>
     ensures { IfOk result (λ r. TellsInputWord (refused_word number reason.now) (reply r.text.items r.close)) }
 {
@@ -113,7 +113,7 @@ pub fn input_word_reply(alloc: Global, number: usize, reason: &[u8]) -> Result<R
     })
 }
 
-/// The reply where a word spells no input; the other reason that there is is want of memory.
+/// Returns the reply to input words of which one can't be parsed. The only other reason is that an allocation failed.
 pub fn refused_words_reply(alloc: Global, why: NoOrder) -> Result<Reply, AllocError>
     ensures { IfOk result (λ r. (words : List Text) → IsInputReason words why
         → (refused : RefusedWord) × IsRefusedWord words refused × TellsInputWord refused (reply r.text.items r.close)) }

@@ -1,4 +1,4 @@
-//! What is told of programs: what is assembled, checks, listings, and refusals with their reasons.
+//! Output about programs: what is assembled, checks, listings, and errors with their diagnostics.
 #![tactic(auto)]
 
 mod assembled;
@@ -22,7 +22,7 @@ pub use close::Close;
 pub use inputs::{input_parts, input_word_reply, refused_words_reply};
 pub use lines::put_opening_line;
 pub use listing::disassembled;
-pub use program::{ReadProgram, parse_error_reply, read_program};
+pub use program::{NoProgram, ReadProgram, parse_error_reply, read_program};
 pub use reply::{Reply, fixed_reply, not_utf8_reply, refused_by};
 pub use source::{SourceText, line_in, put_text_line, symbols_of};
 pub use text_lines::TextLines;

@@ -1,4 +1,4 @@
-//! The lines that tell why nothing is read or run, added to the end of a text.
+//! Lines with the reason why nothing is read or run, added to the end of a text.
 
 ghost use Rattle.std.specs.Prelude.{◌≡◌, ◌++◌, ◌<◌, OnOk, codes, decimal};
 ghost use Rattle.tw_program_output.specs.Lines.{asm_line, fault_line, input_word_line, opening_line, place_text, two_digits, verify_line};
@@ -13,7 +13,7 @@ fn put_two_digits(out: &mut Vec<u8>, n: u8) -> Result<(), AllocError>
     out.extend_from_slice(&[b'0' + n / 10, b'0' + n % 10])
 }
 
-/// Adds the line of a refusal: its number in two digits, and where it was met.
+/// Adds the line of an error: its code in two digits, and where it is.
 fn put_refused(
     alloc: Global,
     out: &mut Vec<u8>,
@@ -31,7 +31,7 @@ fn put_refused(
     put(out, "\n")
 }
 
-/// Adds the line of bytes that are no program.
+/// Adds the line for bytes that are no program.
 pub fn put_fault_line(
     alloc: Global,
     out: &mut Vec<u8>,
@@ -44,7 +44,7 @@ pub fn put_fault_line(
     put_refused(alloc, out, "refused F", number, " at byte ", offset)
 }
 
-/// Adds the line of an assembly text that spells no program.
+/// Adds the line for an assembly text that isn't assembled.
 pub fn put_asm_line(
     alloc: Global,
     out: &mut Vec<u8>,
@@ -70,7 +70,7 @@ fn put_place(
     put(out, "\n")
 }
 
-/// Adds the line of a program that isn't accepted.
+/// Adds the line for a program that isn't accepted.
 pub fn put_verify_line(
     alloc: Global,
     out: &mut Vec<u8>,
@@ -86,7 +86,7 @@ pub fn put_verify_line(
     put_place(alloc, out, procedure, place)
 }
 
-/// Adds the line of a program that isn't opened.
+/// Adds the line for a program that isn't opened.
 pub fn put_opening_line(out: &mut Vec<u8>, number: u8) -> Result<(), AllocError>
     requires { number < 100 }
     ensures { OnOk result (out.new.items ≡ out.old.items ++ opening_line number) }
@@ -96,7 +96,7 @@ pub fn put_opening_line(out: &mut Vec<u8>, number: u8) -> Result<(), AllocError>
     put(out, "\n")
 }
 
-/// Adds the line of an input word that spells no input; the words count from 1.
+/// Adds the line for an input word that can't be parsed; the words count from 1.
 pub fn put_input_word_line(
     alloc: Global,
     out: &mut Vec<u8>,

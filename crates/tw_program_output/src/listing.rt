@@ -1,10 +1,12 @@
-//! What is disassembled, and what `--places` lists of a program.
+//! Disassembly of a program, and its listing by `--places`.
 
 ghost use Rattle.std.specs.Prelude.{◌≡◌, ◌<◌, ◌++◌, ◌^◌, IfOk, None, OnOk, length, replicate, slice_get, Option};
 ghost use Rattle.std.specs.List.{AllByRecursion};
 ghost use Rattle.tw_code.specs.format.Program.{IsInstr, IsProcedure};
 ghost use Rattle.tw_code.specs.machine.Rights.{right_at};
+ghost use Rattle.tw_symbols.specs.RightNames.{known_names, unnamed};
 ghost use Rattle.tw_program_output.specs.Listing.{IsListing, IsRefusedListing, beside, disassembled, listing_from, no_typings, place_column, place_line, place_lines, procedure_listing, right_column, rights_below, rights_text};
+ghost use Rattle.tw_asm.specs.Listing.{right_text};
 ghost use Rattle.tw_verify.specs.Rejection.{verify_error_code};
 
 use std::alloc::{AllocError, Global};
@@ -12,13 +14,14 @@ use tw_asm::{LabelPlaces, disassemble, put_head_lines, put_right};
 use tw_cli::Places;
 use tw_code::{Instr, Procedure, Program};
 use tw_lexer::{put, put_numbered};
+use tw_symbols::{RightNames, put_named};
 use tw_types::Param;
 use tw_verify::{Refused, RightType, Typing, Verified};
 
-/// How many columns a place has.
+/// The number of columns for a place.
 const PLACE_COLUMNS: usize = 5;
 
-/// How many columns an instruction has, where something stands beside it.
+/// The number of columns for an instruction that has something beside it.
 const TEXT_COLUMNS: usize = 30;
 
 fn put_spaces(out: &mut Vec<u8>, count: usize) -> Result<(), AllocError>
@@ -30,6 +33,7 @@ fn put_spaces(out: &mut Vec<u8>, count: usize) -> Result<(), AllocError>
     Ok(())
 }
 
+/// Adds a place, right-aligned in its columns.
 pub fn put_place(alloc: Global, out: &mut Vec<u8>, place: usize) -> Result<(), AllocError>
     ensures { OnOk result (out.new.items ≡ out.old.items ++ place_column place) }
 {
@@ -39,49 +43,73 @@ pub fn put_place(alloc: Global, out: &mut Vec<u8>, place: usize) -> Result<(), A
     put(out, "  ")
 }
 
+/// Returns a register with what it holds.
+fn right_text(alloc: Global, register: u8, right: RightType) -> Result<Vec<u8>, AllocError>
+    ensures { IfOk result (λ text. text.items ≡ right_text register (record { mode = right.mode; ty = right.ty })) }
+{
+    let mut text = Vec::new(alloc);
+    let held = Param {
+        mode: right.mode(),
+        ty: right.ty(),
+    };
+    put_right(alloc, &mut text, register, held)?;
+    Ok(text)
+}
+
 fn put_right_column(
     alloc: Global,
     out: &mut Vec<u8>,
+    name: &[u8],
     register: u8,
     right: Option<RightType>,
 ) -> Result<(), AllocError>
-    ensures { OnOk result (out.new.items ≡ out.old.items ++ right_column register right) }
+    ensures { OnOk result (out.new.items ≡ out.old.items ++ right_column name.now register right) }
 {
     match right {
         None => Ok(()),
         Some(right) => {
+            let text = right_text(alloc, register, right)?;
             put(out, "  ")?;
-            let held = Param {
-                mode: right.mode(),
-                ty: right.ty(),
-            };
-            put_right(alloc, out, register, held)
+            put_named(out, &text, name)
         }
     }
 }
 
-/// What all right registers hold.
-fn rights_of(alloc: Global, typing: &Typing) -> Result<Vec<u8>, AllocError>
-    ensures { IfOk result (λ text. text.items ≡ rights_below typing.now 16) }
+/// Returns what all right registers hold, with their names.
+fn rights_of(alloc: Global, names: &RightNames<'_>, typing: &Typing) -> Result<Vec<u8>, AllocError>
+    ensures { IfOk result (λ text. text.items ≡ rights_below (known_names names.now) typing.now 16) }
 {
     let mut text = Vec::new(alloc);
     for register in 0..16u8 {
-        put_right_column(alloc, &mut text, register, typing.right_at(register))?;
+        let name = names.name(usize::from(register));
+        put_right_column(alloc, &mut text, name, register, typing.right_at(register))?;
     }
     Ok(text)
 }
 
-/// What the right registers hold at a place, where its typing is known.
-pub fn rights_at(alloc: Global, typings: &[Typing], place: usize) -> Result<Vec<u8>, AllocError>
-    ensures { IfOk result (λ text. text.items ≡ rights_text (slice_get typings.now place)) }
+/// Returns what the right registers of these names hold at a place, if its typing is known.
+pub fn rights_at(
+    alloc: Global,
+    names: &RightNames<'_>,
+    typings: &[Typing],
+    place: usize,
+) -> Result<Vec<u8>, AllocError>
+    ensures { IfOk result (λ text. text.items ≡ rights_text (known_names names.now) (slice_get typings.now place)) }
 {
     match typings.get(place) {
-        Some(typing) => rights_of(alloc, typing),
+        Some(typing) => rights_of(alloc, names, typing),
         None => Ok(Vec::new(alloc)),
     }
 }
 
-/// Adds a text and what stands beside it.
+/// Like `rights_at`, if no register has a name.
+fn plain_rights_at(alloc: Global, typings: &[Typing], place: usize) -> Result<Vec<u8>, AllocError>
+    ensures { IfOk result (λ text. text.items ≡ rights_text unnamed (slice_get typings.now place)) }
+{
+    rights_at(alloc, &RightNames::none(), typings, place)
+}
+
+/// Adds a text and what is beside it.
 pub fn put_beside(out: &mut Vec<u8>, text: &[u8], more: &[u8]) -> Result<(), AllocError>
     ensures { OnOk result (out.new.items ≡ out.old.items ++ beside text.now more.now) }
 {
@@ -107,7 +135,7 @@ fn put_place_line(
     ensures { OnOk result (out.new.items ≡ out.old.items ++ place_line labels.now place instr.now (slice_get typings.now place)) }
 {
     let text = labels.instr_text(alloc, place, instr)?;
-    let rights = rights_at(alloc, typings, place)?;
+    let rights = plain_rights_at(alloc, typings, place)?;
     put_place(alloc, out, place)?;
     put_beside(out, &text, &rights)?;
     put(out, "\n")
@@ -149,7 +177,7 @@ fn put_procedure(
     put_place_lines(alloc, out, &labels, procedure.code.as_slice(), typings)
 }
 
-/// The listing of a program of which nothing is known.
+/// Returns the listing of a program whose typings are unknown.
 fn places_text(alloc: Global, program: &Program) -> Result<Vec<u8>, AllocError>
     ensures { IfOk result (λ text. text.items ≡ listing_from no_typings 0 program.now.procedures) }
 {
@@ -160,7 +188,7 @@ fn places_text(alloc: Global, program: &Program) -> Result<Vec<u8>, AllocError>
     Ok(text)
 }
 
-/// A program's assembly text, or its listing where that is asked for.
+/// Returns a program's assembly text, or its listing if that is requested.
 pub fn disassembled(alloc: Global, places: Places, program: &Program) -> Result<Vec<u8>, AllocError>
     ensures { IfOk result (λ text. text.items ≡ disassembled places program.now) }
 {
@@ -173,7 +201,7 @@ pub fn disassembled(alloc: Global, places: Places, program: &Program) -> Result<
     }
 }
 
-/// The listing of an accepted program.
+/// Returns the listing of an accepted program.
 pub fn typed_text(alloc: Global, verified: &Verified) -> Result<Vec<u8>, AllocError>
     ensures { IfOk result (λ text. IsListing None verified.now.program text.items) }
 {
@@ -185,7 +213,7 @@ pub fn typed_text(alloc: Global, verified: &Verified) -> Result<Vec<u8>, AllocEr
     Ok(text)
 }
 
-/// The listing of a refused program.
+/// Returns the listing of a rejected program.
 pub fn refused_text(alloc: Global, refused: &Refused) -> Result<Vec<u8>, AllocError>
     ensures { IfOk result (λ text. IsRefusedListing None refused.now.program.procedures (verify_error_code refused.now.no) refused.now.procedure text.items) }
 {

@@ -1,4 +1,4 @@
-//! What is told of texts with names, and of the assembly texts for which they stand.
+//! Output about symbolic assembly and its expanded text.
 
 ghost use Rattle.std.specs.Prelude.{◌≡◌, ◌++◌, ◌-◌, ℕ, List, IfOk, OnOk, codes, decimal, option_map, slice_get};
 ghost use Rattle.std.specs.Str.Lines.{lines};
@@ -17,7 +17,7 @@ use tw_diagnostics::put_text_diagnostic;
 use tw_lexer::{line_numbered, put, put_both, put_numbered, put_shortened};
 use tw_symbols::{Bank, Binding, Expected, NameError, NameNo, expanded_text};
 
-/// Adds the line of this number, shortened if it is long, where the text has one.
+/// Adds the line with this number, shortened if it is long, if the text has one.
 fn put_line(out: &mut Vec<u8>, text: &str, number: usize) -> Result<(), AllocError>
     ensures { OnOk result (out.new.items ≡ out.old.items ++ line_text (slice_get (lines text.now) (number - 1))) }
 {
@@ -30,7 +30,7 @@ fn put_line(out: &mut Vec<u8>, text: &str, number: usize) -> Result<(), AllocErr
     }
 }
 
-/// Adds the line of a refusal.
+/// Adds the line of a name error.
 pub fn put_name_line(
     alloc: Global,
     out: &mut Vec<u8>,
@@ -81,12 +81,12 @@ fn fixed_diagnostic(no: NameNo) -> &'static str
 {
     match no {
         NameNo::Form =>
-            "expected const NAME = NUMBER, let NAME = REGISTER, or NAME: with a mode or type behind it",
+            "expected const NAME = NUMBER, let NAME = REGISTER, or NAME: with a mode or type after it",
         NameNo::NoName => "this can't be a name",
         NameNo::Twice => "the name is taken",
         NameNo::Listed => "its register has a name already",
         NameNo::Unknown => "the name means nothing here",
-        NameNo::Limit => "it would be a register past the last",
+        NameNo::Limit => "there is no register left for it",
         NameNo::Kind(_, _) | NameNo::NoMemory => "",
     }
 }
@@ -110,7 +110,7 @@ fn put_word_diagnostic(out: &mut Vec<u8>, word: &[u8], no: NameNo) -> Result<(),
     put(out, "\n")
 }
 
-/// Adds the line that is refused as it was written, and what is wrong with which word of it.
+/// Adds the rejected line as it was written, and what is wrong with which word of it.
 pub fn put_name_details(
     out: &mut Vec<u8>,
     text: &str,
@@ -134,7 +134,7 @@ fn is_same_line(line: Option<&str>, other: Option<&str>) -> bool
     }
 }
 
-/// Adds the line as it was written, unless it is the one for which it stands.
+/// Adds the line as it was written, unless it is the same as its expanded line.
 fn put_written(out: &mut Vec<u8>, text: &str, plain: &str, number: usize) -> Result<(), AllocError>
     ensures { OnOk result (out.new.items ≡ out.old.items ++ written_text (slice_get (lines text.now) (number - 1)) (slice_get (lines plain.now) (number - 1))) }
 {
@@ -142,10 +142,10 @@ fn put_written(out: &mut Vec<u8>, text: &str, plain: &str, number: usize) -> Res
         return Ok(());
     }
     put_line(out, text, number)?;
-    put(out, "stands for: ")
+    put(out, "expands to: ")
 }
 
-/// Adds the line as it was written, and why the line is refused for which it stands.
+/// Adds the line as it was written, and why its expanded line is rejected.
 fn put_written_fault(
     alloc: Global,
     out: &mut Vec<u8>,
@@ -160,7 +160,7 @@ fn put_written_fault(
     put_text_diagnostic(alloc, out, plain, fault)
 }
 
-/// Adds the line at which what a text stands for is refused, as it was written where there are names, and why it is.
+/// Adds the line of a fault in the expanded text, with the line as it was written if there are names, and the reason.
 pub fn put_fault_details(
     alloc: Global,
     out: &mut Vec<u8>,
@@ -179,7 +179,7 @@ pub fn put_fault_details(
     }
 }
 
-/// The reply where a text with names is refused.
+/// Returns the reply to rejected symbolic assembly.
 fn named_reply(alloc: Global, text: &str, rejection: NameError<'_>) -> Result<Reply, AllocError>
     ensures { IfOk result (λ r. IsFirstRejection text.now (told rejection.entry) → RepliesByPlain text.now (reply r.text.items r.close)) }
 {
@@ -189,7 +189,7 @@ fn named_reply(alloc: Global, text: &str, rejection: NameError<'_>) -> Result<Re
     Ok(refused_by(out))
 }
 
-/// The assembly text for which a text stands.
+/// Returns the expanded text, or the first name error.
 fn text_plain_reply(alloc: Global, text: &str) -> Result<Reply, AllocError>
     ensures { IfOk result (λ r. RepliesByPlain text.now (reply r.text.items r.close)) }
 {
@@ -206,7 +206,7 @@ fn text_plain_reply(alloc: Global, text: &str) -> Result<Reply, AllocError>
     }
 }
 
-/// The same of what is to be text.
+/// Like `text_plain_reply`, for bytes that may not be UTF-8.
 pub fn plain_reply(alloc: Global, input: &[u8]) -> Result<Reply, AllocError>
     ensures { IfOk result (λ r. RepliesByPlain input.now (reply r.text.items r.close)) }
 {

@@ -1,4 +1,4 @@
-//! The program that is read.
+//! Reads a program.
 
 ghost use Rattle.std.specs.Prelude.{◌≡◌, ◌≢◌, ◌++◌, ℕ, List, Err, Ok, Some, IfErr, IfOk, IsUtf8, OnOk, string_bytes};
 ghost use Rattle.tw_asm.specs.Answers.{HasFault};
@@ -32,22 +32,22 @@ use tw_code::Program;
 use tw_lexer::put;
 use tw_symbols::{NameError, NameNo, expanded_text};
 
-/// A program, and the text from which it was read, if from one.
+/// A program, with the text from which it was read if there is one.
 #[derive(Drop)]
 pub struct ReadProgram<'a> {
     pub program: Program,
     pub source: Option<SourceText<'a>>,
 }
 
-/// Why there is no program.
+/// A reason why there is no program.
 #[derive(Clone, Copy)]
 pub enum NoProgram<'a> {
     NotHex,
     NotUtf8,
     Bytes(Fault),
-    /// The assembly text that is read, or for which what is read stands, has a fault.
+    /// The assembly text has a fault; if it is symbolic, its expanded text has.
     Text(AsmFault),
-    /// What is read stands for none.
+    /// The symbolic assembly can't be expanded.
     Named(NameError<'a>),
     NoMemory,
 }
@@ -60,7 +60,7 @@ impl From<AllocError> for NoProgram<'_> {
     }
 }
 
-/// The program that bytes spell.
+/// Returns the program that bytes encode.
 fn program_in_bytes<'a>(alloc: Global, bytes: &[u8]) -> Result<Program, NoProgram<'a>>
     ensures spells { IfOk result (λ program. program_of bytes.now ≡ Ok program) }
     ensures none { IfErr result (λ why. why ≢ NoMemory → (fault : ByteFault) × (why ≡ Bytes fault) × (program_of bytes.now ≡ Err fault)) }
@@ -74,7 +74,7 @@ fn program_in_bytes<'a>(alloc: Global, bytes: &[u8]) -> Result<Program, NoProgra
     }
 }
 
-/// The program that hex text spells.
+/// Returns the program that hex text encodes.
 fn program_in_hex<'a>(alloc: Global, input: &[u8]) -> Result<Program, NoProgram<'a>>
     ensures spells { IfOk result (λ program. Spells Hex input.now program) }
     ensures none { IfErr result (λ why. why ≢ NoMemory → SpellsNone Hex input.now why) }
@@ -87,7 +87,7 @@ fn program_in_hex<'a>(alloc: Global, input: &[u8]) -> Result<Program, NoProgram<
     }
 }
 
-/// The program that an assembly text spells, with its lines.
+/// Returns the program of an assembly text, with its lines.
 fn lined_program<'a>(alloc: Global, plain: &str) -> Result<LinedProgram, NoProgram<'a>>
     ensures lined { IfOk result (λ lined. SpellsProgram lined.program plain.now × AreOrigins plain.now lined.program.procedures lined.lines.procedures) }
     ensures none { IfErr result (λ why. why ≢ NoMemory → (fault : TextFault) × (why ≡ Text fault) × HasFault plain.now fault.no fault.line) }
@@ -101,7 +101,7 @@ fn lined_program<'a>(alloc: Global, plain: &str) -> Result<LinedProgram, NoProgr
     }
 }
 
-/// The program of a text that stands for itself.
+/// Returns the program of a text that is its own expanded text.
 fn program_of_itself<'a>(alloc: Global, text: &'a str) -> Result<ReadProgram<'a>, NoProgram<'a>>
     requires { StandsFor text.now text.now }
     ensures spells { IfOk result (λ read. SpellsText text.entry.now read.program) }
@@ -122,7 +122,7 @@ fn program_of_itself<'a>(alloc: Global, text: &'a str) -> Result<ReadProgram<'a>
     }
 }
 
-/// The program of a text that stands for this one.
+/// Returns the program of a text with this expanded text.
 fn program_of_plain<'a>(
     alloc: Global,
     text: &'a str,
@@ -156,7 +156,7 @@ fn name_refused<'a>(rejection: NameError<'a>) -> NoProgram<'a>
     }
 }
 
-/// The program that a text spells.
+/// Returns the program of a text.
 fn program_of_text<'a>(alloc: Global, text: &'a str) -> Result<ReadProgram<'a>, NoProgram<'a>>
     ensures spells { IfOk result (λ read. SpellsText text.entry.now read.program) }
     ensures source { IfOk result (λ read. MayBeSource read.source read.program.procedures) }
@@ -170,7 +170,7 @@ fn program_of_text<'a>(alloc: Global, text: &'a str) -> Result<ReadProgram<'a>, 
     }
 }
 
-/// The program that what is to be text spells.
+/// Returns the program of bytes that are to be text.
 fn program_in_text<'a>(alloc: Global, input: &'a [u8]) -> Result<ReadProgram<'a>, NoProgram<'a>>
     ensures spells { IfOk result (λ read. Spells Assembly input.entry.now read.program) }
     ensures source { IfOk result (λ read. MayBeSource read.source read.program.procedures) }
@@ -183,7 +183,7 @@ fn program_in_text<'a>(alloc: Global, input: &'a [u8]) -> Result<ReadProgram<'a>
     }
 }
 
-/// The program that is read, or why there is none.
+/// Returns the program that is read, or why there is none.
 pub fn read_program<'a>(
     alloc: Global,
     source: Source,
@@ -219,7 +219,7 @@ fn put_no_program(alloc: Global, out: &mut Vec<u8>, why: NoProgram<'_>) -> Resul
     }
 }
 
-/// Adds the line at which what is to be a text is refused, and why it is.
+/// Adds the line of a fault in what is to be text, and the reason.
 fn put_fault_diagnostic(
     alloc: Global,
     out: &mut Vec<u8>,
@@ -234,7 +234,7 @@ fn put_fault_diagnostic(
     }
 }
 
-/// Adds the line of what is to be a text with names that is refused, and why it is.
+/// Adds the rejected line of what is to be symbolic assembly, and the reason.
 fn put_rejection_diagnostic(
     out: &mut Vec<u8>,
     input: &[u8],
@@ -248,7 +248,7 @@ fn put_rejection_diagnostic(
     }
 }
 
-/// Adds what stands behind the line that tells why there is no program.
+/// Adds what follows the line with the reason why there is no program.
 fn put_parse_error_details(
     alloc: Global,
     out: &mut Vec<u8>,
@@ -264,7 +264,7 @@ fn put_parse_error_details(
     }
 }
 
-/// The reply where what was read spells no program, with the reason where it is a text.
+/// Returns the reply to input that encodes no program, with diagnostics if it is a text.
 pub fn parse_error_reply(
     alloc: Global,
     input: &[u8],

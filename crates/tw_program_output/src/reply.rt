@@ -1,4 +1,4 @@
-//! Replies.
+//! Replies of a session.
 
 ghost use Rattle.std.specs.Prelude.{◌≡◌, IfOk, codes};
 ghost use Rattle.tw_program_output.specs.Reply.{reply};
@@ -7,14 +7,14 @@ use crate::close::Close;
 use std::alloc::{AllocError, Global};
 use tw_lexer::put;
 
-/// What a session writes, and how it ends.
+/// The output of a session, and how it ends.
 #[derive(Drop)]
 pub struct Reply {
     pub text: Vec<u8>,
     pub close: Close,
 }
 
-/// What is refused by this text.
+/// Returns the reply that rejects with this text.
 pub fn refused_by(text: Vec<u8>) -> Reply
     ensures { reply result.text.items result.close ≡ reply text.items Close.Refused }
 {
@@ -24,6 +24,7 @@ pub fn refused_by(text: Vec<u8>) -> Reply
     }
 }
 
+/// Returns the reply with this text, which ends the session so.
 pub fn fixed_reply(alloc: Global, line: &str, close: Close) -> Result<Reply, AllocError>
     ensures { IfOk result (λ r. reply r.text.items r.close ≡ reply line.now close) }
 {
@@ -32,7 +33,7 @@ pub fn fixed_reply(alloc: Global, line: &str, close: Close) -> Result<Reply, All
     Ok(Reply { text, close })
 }
 
-/// The reply where what is to be text isn't UTF-8.
+/// Returns the reply to bytes that are to be text and aren't UTF-8.
 pub fn not_utf8_reply(alloc: Global) -> Result<Reply, AllocError>
     ensures { IfOk result (λ r. reply r.text.items r.close ≡ reply (codes "refused H03\n") Close.Refused) }
 {

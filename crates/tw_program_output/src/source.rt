@@ -1,4 +1,4 @@
-//! The line of a text that a refusal of its program tells.
+//! Lines of a text, by the instructions of its program.
 
 ghost use Rattle.std.specs.Prelude.{◌≡◌, ◌++◌, ◌<◌, ◌-◌, ℕ, List, MatchOption, IfOk, OnOk, None, length, map, slice_get};
 ghost use Rattle.std.specs.Str.Lines.{lines};
@@ -21,18 +21,18 @@ use tw_lexer::{line_numbered, put, put_numbered, put_shortened};
 use tw_symbols::{Symbols, put_with_name};
 use tw_verify::{Refused, VerifyError};
 
-/// A text, and the line of each instruction of its program.
+/// A text, with the line of each instruction of its program.
 #[derive(Drop)]
 pub struct SourceText<'a> {
-    /// As it is written.
+    /// The text as it is written.
     pub text: &'a str,
-    /// The assembly text for which it stands, where it has names.
+    /// The expanded text, if it has names.
     pub plain: Option<String>,
     pub lines: LineNumbers,
 }
 
 impl SourceText<'_> {
-    /// The assembly text for which it stands.
+    /// Returns the expanded text.
     pub fn plain(&self) -> &str
         ensures { result.now ≡ plain_of self.now }
     {
@@ -43,7 +43,7 @@ impl SourceText<'_> {
     }
 }
 
-/// Reads the names of a program's procedures from the text from which it was read, if from one.
+/// Returns the names of a program's procedures from the text from which it was read; without a text there are none.
 pub fn symbols_of(alloc: Global, source: &Option<SourceText<'_>>) -> Result<Symbols, AllocError>
     ensures { IfOk result (λ names. AreSymbols (text_of source.now) names) }
 {
@@ -53,7 +53,7 @@ pub fn symbols_of(alloc: Global, source: &Option<SourceText<'_>>) -> Result<Symb
     }
 }
 
-/// Returns the line of this number, counted from 1, without white space around it.
+/// Returns the line with this number, counted from 1, without white space around it.
 fn trimmed_line<'a>(text: &'a str, number: usize) -> Option<&'a str>
     ensures { MatchOption result (slice_get (lines text.entry.now) (number - 1) ≡ None) (λ line. IsLineOf text.entry.now number line.now) }
 {
@@ -61,7 +61,7 @@ fn trimmed_line<'a>(text: &'a str, number: usize) -> Option<&'a str>
     Some(line.trim_ascii())
 }
 
-/// The number of the line from which the instruction at a place comes, and the line as it is written.
+/// Returns the number of the line from which the instruction at a place comes, and the line as it is written.
 fn source_line<'b>(
     source: &'b SourceText<'_>,
     procedure: usize,
@@ -77,7 +77,7 @@ fn source_line<'b>(
     Some((number, line))
 }
 
-/// Like `source_line`, but by a table of the text's lines.
+/// Like `source_line`, but looks the line up in a table of the text's lines.
 pub fn line_in<'b>(
     source: &SourceText<'_>,
     table: &TextLines<'b>,
@@ -94,7 +94,7 @@ pub fn line_in<'b>(
     Some((number, line))
 }
 
-/// Adds the name of a procedure in which a line is, if it has one.
+/// Adds the name of the procedure in which a line is, if it has one.
 fn put_in(out: &mut Vec<u8>, name: &[u8]) -> Result<(), AllocError>
     ensures { OnOk result (out.new.items ≡ out.old.items ++ in_name name.now) }
 {
@@ -105,7 +105,7 @@ fn put_in(out: &mut Vec<u8>, name: &[u8]) -> Result<(), AllocError>
     out.extend_from_slice(name)
 }
 
-/// Adds the line of this number, with the name of its procedure, without the white space around it.
+/// Adds the line with this number, with the name of its procedure, without the white space around it.
 fn put_line_in(
     alloc: Global,
     out: &mut Vec<u8>,
@@ -122,7 +122,7 @@ fn put_line_in(
     put(out, "\n")
 }
 
-/// Adds the line of this number, without the white space around it, and cut if it is long.
+/// Adds the line with this number, without the white space around it, and cut if it is long.
 pub fn put_text_line(
     alloc: Global,
     out: &mut Vec<u8>,
@@ -137,7 +137,7 @@ pub fn put_text_line(
     put(out, "\n")
 }
 
-/// Adds why an instruction is refused, with the register's name beside its number.
+/// Adds why an instruction is rejected, with the register's name beside its number.
 fn put_diagnostic(
     alloc: Global,
     out: &mut Vec<u8>,
@@ -153,7 +153,7 @@ fn put_diagnostic(
     put_with_name(alloc, out, source.text, number, &reason)
 }
 
-/// Adds the line from which the refused instruction comes, and why it is refused.
+/// Adds the line from which the rejected instruction comes, and why it is rejected.
 fn put_place_details(
     alloc: Global,
     out: &mut Vec<u8>,
@@ -193,7 +193,7 @@ fn put_head_details(
     put_main_diagnostic(alloc, out, main)
 }
 
-/// Adds what stands behind a refusal of main's shape.
+/// Adds the details of an error in main's shape.
 fn put_main_details(
     alloc: Global,
     out: &mut Vec<u8>,
@@ -209,7 +209,7 @@ fn put_main_details(
     }
 }
 
-/// Adds what stands behind the line of a refusal of a program that was read from a text.
+/// Adds the details of an error in a program that was read from a text.
 fn put_text_details(
     alloc: Global,
     out: &mut Vec<u8>,
@@ -225,7 +225,7 @@ fn put_text_details(
     }
 }
 
-/// Adds what stands behind the line of a refusal.
+/// Adds the details of an error, to be printed after its line. Without a text there are none.
 pub fn put_rejection_details(
     alloc: Global,
     out: &mut Vec<u8>,

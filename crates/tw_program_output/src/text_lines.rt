@@ -1,4 +1,4 @@
-//! The lines of a text, to be looked up by their numbers.
+//! Lines of a text, looked up by their numbers.
 
 ghost use Rattle.std.specs.Prelude.{◌≡◌, ◌-◌, ◌<◌, None, IfOk, MatchOption, map, option_map, slice_get};
 ghost use Rattle.std.specs.Str.Lines.{lines};
@@ -6,7 +6,7 @@ ghost use Rattle.tw_program_output.specs.Text.{IsLineAt};
 
 use std::alloc::{AllocError, Global};
 
-/// A table of a text's lines, for a caller that looks up many; one line is `line_numbered` of the text.
+/// A table of a text's lines, for a caller that looks up many; for one line use `line_numbered`.
 #[derive(Drop)]
 pub struct TextLines<'a> {
     pub lines: Vec<&'a str>,
@@ -24,14 +24,14 @@ impl<'a> TextLines<'a> {
         Ok(TextLines { lines })
     }
 
-    /// Returns the line of this number, counted from 1.
+    /// Returns the line with this number, counted from 1.
     fn at(&self, number: usize) -> Option<&'a str>
         ensures { option_map (λ line. line.now) result ≡ slice_get (map (λ line. line.now) self.now.lines.items) (number - 1) }
     {
         self.lines.get(number.saturating_sub(1)).copied()
     }
 
-    /// Returns the line of this number, counted from 1, without white space around it.
+    /// Returns the line with this number, counted from 1, without white space around it.
     pub fn trimmed(&self, number: usize) -> Option<&'a str>
         ensures { MatchOption result (slice_get (map (λ line. line.now) self.now.lines.items) (number - 1) ≡ None) (λ line. IsLineAt (map (λ line. line.now) self.now.lines.items) number line.now) }
     {

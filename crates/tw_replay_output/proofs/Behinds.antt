@@ -1,4 +1,4 @@
--- What stands behind replies about programs that were read from a text.
+-- Details after replies about programs that were read from a text.
 use Rattle.std.proofs.Common.{◌≡◌, ◌≢◌, ◌≤◌, ◌++◌, ◌∙◌, ℕ, suc, List, [], ◌∷◌, length, Option, Some, None, refl, sym, ap, subst}
 use Rattle.tw_replay_output.proofs.ReplayNames.{◌>>=◌, AreShort, ClosesBy, Event, Input, AreEndingDetails, IsUndrawn, MayBeSource, MayTell, NotEnabled, Outcome, PlainView, Procedure, Spoken as Reply, Start, State, TellsCircle, Trap, Went, append-nil, open_error_code, opening_line, rejection_of, reply}
 use Rattle.tw_types.specs.declared.ending.Ending.{Ending}
@@ -20,7 +20,7 @@ use Rattle.tw_program_output.specs.declared.close.Close.TheVariants as close
 
 -- ---- a program that isn't opened
 
--- behind this refusal
+-- holds for the reply to this error, with its details
 abbrev pub IsUnopened : Option (List ℕ) → List Procedure → List Input → OpenError → Reply → Type 0
 IsUnopened text program inputs why r = (more : List ℕ) × AreRejectionDetails text program inputs why more × (r ≡ reply (opening_line (open_error_code why) ++ more) close.Refused)
 
@@ -73,7 +73,7 @@ answer_closes names Numbers first events r h other =
     counted_closes names first events (run first.program first.layout events first.state) r (played_closes first.program first.layout 1 events first.state) h
 answer_closes names (Picture shown) first events r h other = absurd other
 
--- ---- behind a replay
+-- ---- details of a replay
 
 abbrev pub Adds : (List ℕ → Type 0) → List ℕ → List ℕ → Type 0
 Adds Tells old new = (more : List ℕ) × Tells more × (new ≡ old ++ more)

@@ -1,4 +1,4 @@
--- The numbers of a replay, and the budgets of its program.
+-- Statistics of a replay, and the budgets of its program.
 use Rattle.std.proofs.Common.{arith, ◌≡◌, ◌+◌, ◌*◌, ◌<◌, ◌≤◌, ◌++◌, ℕ, zero, suc, List, [], ◌∷◌, length, length-take, get_or, take, slice_get, Option, Some, sym, ap, subst, ◌∙◌}
 use Rattle.tw_replay_output.proofs.ReplayNames.{AreBudgets, AreShort, Event, IsComing, IsSmall, IsTally, NotEnabled, Outcome, PlainView, Procedure, State, Trap, Went, size_of, slice_get-get_or, step, take_all, take_more}
 use Rattle.std.proofs.lemmas.List.Sums.{sum_by-cons}
@@ -18,7 +18,7 @@ use Rattle.tw_replay_output.proofs.Making.{one_taken}
 pub tally_on : (first : PlainView) (events : List Event) (i : ℕ) (event : Event) (s : State) (t : StatsBuilder) → i < length events → event ≡ get_or events i event → IsTally first (take i events ++ event ∷ []) s t → IsTally first (take (i + 1) events) s t
 tally_on first events i event s t inside is h = subst (λ (es : List Event). IsTally first es s t) (sym (one_taken events i event inside is)) h
 
--- no more moments than events, and no more steps than these may do
+-- no more moments than events, and no more steps than these may execute
 record AreFew (events : List Event) (ms : List Moment) : Type 0 where
   count : length ms ≤ length events
   steps : steps_in ms ≤ 1000000000 * length events
@@ -55,7 +55,7 @@ small_taken first events n all short =
 pub small_on : (first : PlainView) (events : List Event) (i : ℕ) (event : Event) → i < length events → event ≡ get_or events i event → AreShort events → length events ≤ 16777217 → IsSmall (history first (take i events ++ event ∷ []))
 small_on first events i event inside is all short = subst (λ (es : List Event). IsSmall (history first es)) (one_taken events i event inside is) (small_taken first events (i + 1) all short)
 
--- what is seen of an event where the machine stands is seen from where it began
+-- what precedes an event is the same with the program of the first machine
 pub came : (first at : PlainView) (event : Event) (c : PreState) → at ≡ record first { state = at.state } → IsComing at.program event at.state c → IsComing first.program event at.state c
 came first at event c stays h = subst (λ (ps : List Procedure). IsComing ps event at.state c) (ap (λ (v : PlainView). v.program) stays) h
 
@@ -73,7 +73,7 @@ budgets_more (q ∷ program) (b ∷ budgets) p budget h is = (h.0, budgets_more 
 budget_of : (o : Option Procedure) (p : Procedure) (budget : ℕ) → o ≡ Some p → IsSomeAnd o (λ q. IsBudget (flows q.code) budget) → IsBudget (flows p.code) budget
 budget_of o p budget is h = subst (λ (x : Option Procedure). IsSomeAnd x (λ q. IsBudget (flows q.code) budget)) is h
 
--- the first so many, and one more
+-- the budgets of this many procedures, and of one more
 pub budget_added : (program : List Procedure) (old new : List ℕ) (i budget : ℕ) → i < length program → IsSomeAnd (slice_get program i) (λ p. IsBudget (flows p.code) budget) → AreBudgets (take i program) old → new ≡ old ++ budget ∷ []
     → AreBudgets (take (i + 1) program) new
 budget_added [] old new i budget inside is h more = let none : i < 0 = inside in absurd (omega arith)

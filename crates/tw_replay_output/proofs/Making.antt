@@ -1,4 +1,4 @@
--- Which events made rules, and the numbers of these.
+-- Events that made rules, and the numbers of these.
 use Rattle.std.proofs.Common.{◌≡◌, ◌↔◌, ◌+◌, ◌<◌, ◌≤◌, ◌⊎◌, inl, inr, Bool, true, false, ℕ, zero, suc, List, [], ◌∷◌, ◌++◌, length, get_or, take, Option, Some, None, refl, sym, ap, subst, ◌∙◌, append_assoc, arith}
 use Rattle.std.proofs.lemmas.Option.{same_Some}
 use Rattle.tw_replay_output.proofs.ReplayNames.{AreMade, ComesFrom, DoesRule, Event, Frame, Input, IsLineOf, IsMade, IsMadeSo, IsOpened, IsSpelled, IsStartOf, IsTrue, IsUnmade, Outcome, PlainView, Procedure, StandsFor, Start, State, TellRules, TellsRule, Versioned, Went, append-nil, instr_at, length-append, option_map, option_to_list, reached_from, rejection_of, rule_by, rule_done, rule_in, rule_line, rules_in, slice_get, take_more}
@@ -28,7 +28,7 @@ none_some x e = absurd cc
 went_is : (s t : State) → Went s ≡ Went t → s ≡ t
 went_is s t e = cc
 
--- ---- an event that does a RULE
+-- ---- an event that executes a RULE
 
 rule_here : (f : Frame) (o : Option Instr) (m : Made) → rule_by f o ≡ Some m → (action : Action) × (o ≡ Some (instr.Rule action)) × (f.procedure ≡ m.procedure) × (f.position.place ≡ m.place) × (action.procedure ≡ m.runs)
 rule_here f None m e = none_some m e
@@ -56,7 +56,7 @@ does program (Ask engine rule parameter) s m e = none_some m e
 does program (Deliver server datum rule parameter) s m e = none_some m e
 does program (Release engine rule) s m e = none_some m e
 
--- and what it makes
+-- the rule that it makes
 pub done_so : (program : List Procedure) (event : Event) (s : State) (procedure place : ℕ) (action : Action) → DoesRule program s event procedure place action → (m : Made) × (rule_done program event s ≡ Some m)
 done_so program event s procedure place action d =
     let m : Made = record { procedure = d.frame.procedure; place = d.frame.position.place; runs = action.procedure } in (
@@ -113,7 +113,7 @@ none_there : {A : Type 0} (before : List A) (y : A) (after : List A) → [] ≡ 
 none_there [] y after e = absurd cc
 none_there (b ∷ before) y after e = absurd cc
 
--- the last of a list, or one before it
+-- holds for the last of a list, or for one before it
 abbrev IsSplit : {A : Type 0} → List A → A → List A → A → List A → Type 0
 IsSplit {A} xs x before y after = ((before ≡ xs) × (y ≡ x)) ⊎ ((rest : List A) × (after ≡ rest ++ x ∷ []) × (xs ≡ before ++ (y ∷ rest)))
 
@@ -212,7 +212,7 @@ no_rule_yet start s is = ap (λ (t : State). t.next_rule) is
 
 -- ---- the line of a rule
 
--- what is told of a made rule stands in the program
+-- a rule that was made has its instruction in the program
 pub there : (start : Start) (events : List Event) (rule : ℕ) (m : Made) → IsMadeSo start events rule m → instr_at start.program m.procedure m.place ≡ None → ⊥
 there start events rule m (action, made, runs) none =
     let d = made.does in
@@ -220,7 +220,7 @@ there start events rule m (action, made, runs) none =
     sym (ap (λ (n : ℕ). instr_at start.program n m.place) d.procedure_is) ∙ sym (ap (λ (k : ℕ). instr_at start.program d.frame.procedure k) d.place_is) ∙ d.does in
     none_some (instr.Rule action) (sym none ∙ here)
 
--- a line is added that tells of rules
+-- holds if lines about rules are added
 abbrev pub AddsDiagnostic : (List ℕ → Type 0) → List ℕ → List ℕ → Type 0
 AddsDiagnostic Tells old new = (more : List ℕ) × Tells more × (new ≡ old ++ more)
 
@@ -242,7 +242,7 @@ rules_more names text start events [] l more line none own = (line, [], own, ref
 rules_more names text start events (k ∷ links) l more line (first, others, is, rest, whole) own =
     (first, others ++ line, is, rules_more names text start events links l others line rest own, ap (λ (t : List ℕ). t ++ line) whole ∙ append_assoc first others line)
 
--- the lines of so many rules of a circle, and of one more
+-- the lines of this many rules of a circle, and of one more
 pub rule_more : (names : List (List ℕ)) (text : List ℕ) (start : Start) (events : List Event) (links next : List Link) (l : Link) (old now new : List ℕ) → next ≡ links ++ l ∷ [] → AddsDiagnostic (TellRules names text start events links) old now
     → AddsDiagnostic (TellsRule names text start events l.rule) now new → AddsDiagnostic (TellRules names text start events next) old new
 rule_more names text start events links next l old now new is (more, told, before) (line, own, added) = (
@@ -251,7 +251,7 @@ rule_more names text start events links next l old now new is (more, told, befor
   added ∙ ap (λ (t : List ℕ). t ++ line) before ∙ append_assoc old more line,
 )
 
--- ---- from where the machine stands first
+-- ---- the machine's first state
 
 pub from_there : (start : Start) (first : PlainView) (events : List Event) → IsOpened start first → run first.program first.layout events first.state ≡ reached_from start events
 from_there start first events h =
@@ -278,7 +278,7 @@ opens_so start program inputs layout (given, at) same none = sym (ap (λ (ps : L
 pub one_taken : {X : Type 0} (xs : List X) (i : ℕ) (x : X) → i < length xs → x ≡ get_or xs i x → take (i + 1) xs ≡ take i xs ++ x ∷ []
 one_taken xs i x inside is = take_more xs i x inside ∙ ap (λ y. take i xs ++ y ∷ []) (sym is)
 
--- the same event from where the machine was opened
+-- the same event from the machine as it was opened
 pub steps_there : (start : Start) (first : PlainView) (event : Event) (s t : State) → IsOpened start first → step first.program first.layout event s ≡ Went t → step start.program start.layout event s ≡ Went t
 steps_there start first event s t h went = sym (ap (λ (ps : List Procedure). step ps first.layout event s) h.program ∙ ap (λ (a : ActorCounts). step start.program a event s) h.layout) ∙ went
 

@@ -1,4 +1,4 @@
--- Events, one after the other, in a replay and in a picture.
+-- Events, one after the other, in a replay and in a timeline.
 use Rattle.std.proofs.Common.{◌≡◌, ◌+◌, ◌<◌, ◌≤◌, ℕ, zero, suc, List, [], ◌∷◌, ◌++◌, length, length-take, get_or, drop, take, Option, Some, None, refl, sym, ap, subst, ◌∙◌, add-one, drop-cons, arith}
 use Rattle.tw_replay_output.proofs.ReplayNames.{◌>>=◌, AllByRecursion, AreShort, Event, Input, IsShort, IsTold, NotEnabled, Outcome, PlainView, Procedure, Refused, Spoken as Reply, State, Trap, Trapped, Versioned, Went, drop_all, not_enabled_line, rejection_of, reply, size_of, take_all, take_more, trap_line}
 use Rattle.tw_types.specs.declared.cause.Cause.{Cause}
@@ -66,7 +66,7 @@ size_small (Ask e r j) h = omega arith
 size_small (Deliver s d r j) h = omega arith
 size_small (Release e r) h = omega arith
 
--- of a history that is read
+-- those of a trace that is read
 pub all_short : (events : List Event) → AllByRecursion IsEvent events → AreShort events
 all_short [] h = tt
 all_short (e ∷ events) h = (size_small e h.0, all_short events h.1)
@@ -81,7 +81,7 @@ event_small events i event all inside is = subst IsShort (sym is) (at_index even
 
 -- ---- runs
 
--- what the next event comes to, and those behind it
+-- the outcome of the next event, and of those after it
 run_here : (program : List Procedure) (layout : ActorCounts) (events : List Event) (i : ℕ) (event : Event) (s : State) → i < length events → event ≡ get_or events i event
     → run program layout (drop i events) s ≡ (step program layout event s >>= (λ next. run program layout (drop (i + 1) events) next))
 unfolding run
@@ -89,7 +89,7 @@ run_here program layout events i event s inside is =
     let one : drop i events ≡ event ∷ drop (i + 1) events = drop-cons events i event inside ∙ ap (λ (e : Event). e ∷ drop (suc i) events) (sym is) ∙ ap (λ (n : ℕ). event ∷ drop n events) (sym (add-one i)) in
     ap (λ (es : List Event). run program layout es s) one
 
--- where it comes to this
+-- like `run_here`, for this outcome
 run_by : (program : List Procedure) (layout : ActorCounts) (events : List Event) (i : ℕ) (event : Event) (s : State) (o : Outcome State) → i < length events → event ≡ get_or events i event → step program layout event s ≡ o
     → run program layout (drop i events) s ≡ (o >>= (λ next. run program layout (drop (i + 1) events) next))
 run_by program layout events i event s o inside is comes =
@@ -106,7 +106,7 @@ all_run program layout events i s whole all before = sym before ∙ ap (λ (es :
 pub by_went : (o : Outcome State) (s : State) (goes : State → Type 0) (stops : Type 0) → o ≡ Went s → goes s → ByOutcome o goes stops
 by_went o s goes stops is h = subst (λ (p : Outcome State). ByOutcome p goes stops) (sym is) h
 
--- ---- an event that is stopped
+-- ---- an event that fails
 
 -- the reply to it is that to all
 pub stopped_so : (program : List Procedure) (layout : ActorCounts) (events : List Event) (i : ℕ) (event : Event) (s : State) (o : Outcome State) (r whole : Reply) → i < length events → event ≡ get_or events i event → step program layout event s ≡ o
@@ -115,7 +115,7 @@ stopped_so program layout events i event s (Went t) r whole inside is comes told
 stopped_so program layout events i event s NotEnabled r whole inside is comes told before = told ∙ not_enabled program layout events i event s whole inside is comes before
 stopped_so program layout events i event s (Trap cause) r whole inside is comes told before = told ∙ trapped program layout events i event s cause whole inside is comes before
 
--- and all come to no state
+-- all of them lead to no state
 pub run_stopped : {stops : Type 0} (T : Type 0) (program : List Procedure) (layout : ActorCounts) (events : List Event) (i : ℕ) (event : Event) (s : State) (o whole : Outcome State) (goes : State → Type 0) → i < length events → event ≡ get_or events i event
     → step program layout event s ≡ o → ByOutcome o (λ t. ⊥) T → run program layout (drop i events) s ≡ whole → stops → ByOutcome whole goes stops
 run_stopped T program layout events i event s (Went t) whole goes inside is comes told before h = absurd told
@@ -127,7 +127,7 @@ run_stopped {stops} T program layout events i event s (Trap cause) whole goes in
 pub stepped : (first at : PlainView) (event : Event) (o : Outcome State) → at ≡ record first { state = at.state } → step at.program at.layout event at.state ≡ o → step first.program first.layout event at.state ≡ o
 stepped first at event o stays comes = sym (ap (λ (v : PlainView). step v.program v.layout event at.state) stays) ∙ comes
 
--- both, where the program and the layout are those of the first
+-- `stopped_so` and `run_stopped`, if the program and the layout are those of the first machine
 pub not_made : (first at : PlainView) (events : List Event) (i : ℕ) (event : Event) (why : Stopped) (r : Reply) (goes : State → Type 0) → at ≡ record first { state = at.state } → i < length events → event ≡ get_or events i event
     → IsStopped (step at.program at.layout event at.state) why → ((o : Outcome State) (next : State → Reply) → IsStopped o why → ByOutcome o (λ s. ⊥) (r ≡ after_event (i + 1) o next))
     → played first.program first.layout (i + 1) (drop i events) at.state ≡ played_from first events → run first.program first.layout (drop i events) at.state ≡ run first.program first.layout events first.state
@@ -139,7 +139,7 @@ not_made first at events i event why r goes stays inside is stopped told same ru
     run_stopped (r ≡ after_event (i + 1) o (state_reply first.program)) first.program first.layout events i event at.state o (run first.program first.layout events first.state) goes inside is comes here runs
     (stopped_so first.program first.layout events i event at.state o r (played_from first events) inside is comes here same)
 
--- ---- pictures
+-- ---- timelines
 
 -- events leave the program and the layout as they are
 pub stays_so : (first at next : PlainView) → at ≡ record first { state = at.state } → next.version ≡ at.version → next.program ≡ at.program → next.layout ≡ at.layout → next ≡ record first { state = next.state }
@@ -163,7 +163,7 @@ picture_of_all names shown first events i s r all h = subst (λ (es : List Event
 
 -- ---- the opening
 
--- where the machine stands that is opened as it is ordered
+-- the machine that is opened as it is ordered
 pub opened_is : (order : ReplayOrder) (program : Versioned) (inputs : List Input) (plain : PlainView) → inputs ≡ order.inputs
     → plain ≡ record { version = program.version; program = program.procedures; layout = order.layout; state = opening program.procedures inputs } → plain ≡ opened order program
 opened_is order program inputs plain same is = is ∙ ap (λ (given : List Input). record (opened order program) { state = opening program.procedures given }) same

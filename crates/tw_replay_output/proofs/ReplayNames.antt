@@ -1,4 +1,4 @@
--- Names of replays, of events and of what is told behind them, for the files here.
+-- Names of replays, of events and of the details after them, for the files here.
 pub use Rattle.std.proofs.lemmas.List.{append-nil, drop_all, length-append, take_all, take_more}
 pub use Rattle.std.proofs.lemmas.Option.{slice_get-get_or, slice_get_read}
 pub use Rattle.std.proofs.lemmas.Result.{IfOk-weaker, on_ok_weaker}

@@ -1,5 +1,5 @@
--- The first input that its parameter can't be given.
-use Rattle.std.proofs.Common.{◌≡◌, ◌<◌, ◌+◌, ◌&&◌, ◌++◌, append_assoc, ℕ, zero, suc, Bool, true, false, List, [], ◌∷◌, length, take, Some, None, refl, sym, ap, ◌∙◌, add-one, arith}
+-- The first input that doesn't fit its parameter.
+use Rattle.std.proofs.Common.{◌≡◌, ◌<◌, ◌+◌, ◌&&◌, ℕ, zero, suc, Bool, true, false, List, [], ◌∷◌, length, take, Some, None, refl, sym, ap, ◌∙◌, add-one, arith}
 use Rattle.tw_replay_output.proofs.ReplayNames.{Input, Procedure, slice_get}
 use Rattle.tw_types.specs.declared.param.Param.{Param}
 use Rattle.tw_code.proofs.Givens.{none_fit}
@@ -25,7 +25,7 @@ second_false : (a b : Bool) → (a && b) ≡ false → a ≡ true → b ≡ fals
 second_false true b e h = e
 second_false false b e h = untrue (sym h)
 
--- an input behind so many, its parameter, and that they don't fit
+-- an input after `k` others, its parameter, and that they don't fit
 pub record Misfit (params : List Param) (inputs : List Input) (k : ℕ) : Type 0 where
   pub param : Param
   pub input : Input
@@ -50,8 +50,3 @@ first_misfit program inputs index inside fit unfit =
 
 pub some_none : {A : Type 0} {Z : Type 0} (x : A) → Some x ≡ None → Z
 some_none x e = absurd cc
-
--- three parts, one after the other
-pub three_parts : (old a b c first second third : List ℕ) → first ≡ old ++ a → second ≡ first ++ b → third ≡ second ++ c → third ≡ old ++ (a ++ (b ++ c))
-three_parts old a b c first second third e f g =
-    g ∙ ap (λ (t : List ℕ). t ++ c) (f ∙ ap (λ (t : List ℕ). t ++ b) e) ∙ append_assoc (old ++ a) b c ∙ append_assoc old a (b ++ c)

@@ -1,5 +1,5 @@
--- What stands behind the report of a run that is stuck in a circle of rules, where its program was read from a text: of each rule of
--- the circle which procedure it runs, and the line of the RULE that made it, as it is written.
+-- Details of a run that is stuck in a circle of rules and whose program was read from a text. For each rule of the circle they have the procedure
+-- that it runs, and the line of the RULE that made it, as it is written.
 use Rattle.std.specs.Prelude.{◌≡◌, ◌⊎◌, ◌++◌, ℕ, List, [], ◌∷◌, codes, decimal, Option, Some, None}
 use Rattle.std.specs.FinMap.{get}
 use Rattle.tw_types.specs.declared.actor.Actor.{Actor}
@@ -25,17 +25,17 @@ use Rattle.tw_program_output.specs.Text.{IsLineOf, text_line}
 
 -- ---- who made a rule
 
--- what a run is opened with
+-- the program, inputs and layout with which a run is opened
 pub record Start : Type 0 where
   pub program : List Procedure
   pub inputs : List Input
   pub layout : ActorCounts
 
--- what events come to from there
+-- returns the outcome of events from there
 abbrev pub reached_from : Start → List Event → Outcome State
 reached_from start events = reached start.program start.inputs start.layout events
 
--- in this state the event does the RULE at this place of this procedure
+-- an event that executes the RULE at this place of this procedure in this state
 pub record DoesRule (program : List Procedure) (s : State) (event : Event) (procedure place : ℕ) (action : Action) : Type 0 where
   pub actor : Actor
   pub is : event ≡ Call actor
@@ -45,7 +45,7 @@ pub record DoesRule (program : List Procedure) (s : State) (event : Event) (proc
   pub place_is : frame.position.place ≡ place
   pub does : instr_here program frame ≡ Some (Rule action)
 
--- one of the events made the rule of this number so
+-- one of the events, which made the rule with this number so
 pub record IsMade (start : Start) (events : List Event) (rule procedure place : ℕ) (action : Action) : Type 0 where
   pub before : List Event
   pub event : Event
@@ -58,34 +58,34 @@ pub record IsMade (start : Start) (events : List Event) (rule procedure place : 
 
 -- ---- lines
 
--- a rule, and the procedure that it runs, with its name in brackets if it has one
+-- returns a rule, and the procedure that it runs, with its name in brackets if it has one
 abbrev pub rule_text : ℕ → ℕ → List ℕ → List ℕ
 rule_text rule procedure name = codes "rule " ++ (decimal rule ++ (codes " runs procedure " ++ (decimal procedure ++ (bracketed name ++ codes ", made "))))
 
 abbrev pub rule_line : ℕ → ℕ → List ℕ → ℕ → List ℕ → List ℕ
 rule_line rule procedure name number line = rule_text rule procedure name ++ text_line number line
 
--- the line of a rule that was made by the events, where procedures have these names; of another one nothing
+-- holds for the line of a rule that was made by the events, if procedures have these names; another rule has none
 abbrev pub TellsRule : List (List ℕ) → List ℕ → Start → List Event → ℕ → List ℕ → Type 0
 TellsRule names text start events rule more =
     ((plain : List ℕ) × (procedure place number : ℕ) × (action : Action) × (line : List ℕ) × IsMade start events rule procedure place action
     × StandsFor text plain × ComesFrom plain procedure place number × IsLineOf text number line × (more ≡ rule_line rule action.procedure (name_at names action.procedure) number line))
     ⊎ (((procedure place : ℕ) (action : Action) → IsMade start events rule procedure place action → ⊥) × (more ≡ []))
 
--- of each rule of a circle
+-- holds for the lines of the rules of a circle
 abbrev pub TellRules : List (List ℕ) → List ℕ → Start → List Event → List Link → List ℕ → Type 0
 TellRules names text start events [] more = more ≡ []
 TellRules names text start events (l ∷ links) more =
     (line : List ℕ) × (others : List ℕ) × TellsRule names text start events l.rule line × TellRules names text start events links others × (more ≡ line ++ others)
 
--- of the circle, if there is one, with the names that the text gives
+-- holds for the lines of the circle, if there is one, with the names of the text
 abbrev pub TellsCircle : List ℕ → Start → List Event → Option (List Link) → List ℕ → Type 0
 TellsCircle text start events None more = more ≡ []
 TellsCircle text start events (Some links) more = (names : List (List ℕ)) × AreNames text names × TellRules names text start events links more
 
--- ---- behind a report
+-- ---- details of a report
 
--- in the state to which the events lead, by how the run has ended there
+-- holds for the details in the state to which the events lead, by how the run has ended there
 abbrev pub AreEndingDetails : List ℕ → Start → List Event → State → Option Ending → List ℕ → Type 0
 AreEndingDetails text start events s None more = more ≡ []
 AreEndingDetails text start events s (Some Quiet) more = more ≡ []

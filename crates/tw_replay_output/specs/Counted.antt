@@ -1,4 +1,4 @@
--- What events come to that are counted.
+-- Outcomes of events that are counted.
 use Rattle.std.specs.Prelude.{◌≡◌, ◌≤◌, List}
 use Rattle.std.specs.List.{AllByRecursion}
 use Rattle.tw_types.specs.declared.event.Event.{Event}
@@ -12,14 +12,14 @@ use Rattle.tw_replay_output.specs.declared.numbers.Counting.TheVariants.{Made, S
 use Rattle.tw_replay_output.specs.Replay.{ByOutcome, played_from}
 use Rattle.tw_program_output.specs.Reply.{reply}
 
--- no event does more instructions than a task may
+-- holds if the event executes no more instructions than a task may
 abbrev pub IsShort : Event → Type 0
 IsShort event = size_of event ≤ greatest_budget
 
 abbrev pub AreShort : List Event → Type 0
 AreShort events = AllByRecursion IsShort events
 
--- all events were made and counted; or one doesn't go, of which this is told
+-- holds if all events were executed and counted; or if one failed, and this is the reply
 abbrev pub IsCounting : PlainView → List Event → Counting → Type 0
 IsCounting first events (Made c) = (c.plain ≡ record first { state = c.plain.state }) × IsTally first events c.plain.state c.stats_builder
 IsCounting first events (Stopped r) = ByOutcome (run first.program first.layout events first.state) (λ s. ⊥) (reply r.text.items r.close ≡ played_from first events)

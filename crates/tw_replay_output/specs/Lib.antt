@@ -1,8 +1,7 @@
--- What is told of histories: a replay and its picture are Replay; what stands behind a refused opening is Opening, and behind a circle of
--- rules Circle.
+-- Output about traces. A replay and its timeline are in Replay, the details of a failed opening in Opening, and those of a circle of rules in Circle.
 pub mod Opening
 pub mod Circle
 pub mod Replay
--- What the code knows of events, and what it keeps of them.
+-- The model of what the code knows of events, and of what it keeps of them.
 pub mod Counted
 pub mod Stuck

@@ -1,5 +1,4 @@
--- What stands behind the refusal of an opening, where the program was read from a text: how many inputs are asked, or which one
--- isn't what its parameter asks.
+-- Details of a failed opening of a program that was read from a text: how many inputs are required, or which one doesn't fit its parameter.
 use Rattle.std.specs.Prelude.{◌≡◌, ℕ, ◌+◌, true, false, MatchBool, if◌then◌else◌, List, [], ◌++◌, codes, decimal, length, nat_lt, Option, Some, None, slice_get, take}
 use Rattle.tw_types.specs.DataType.{container_of, same_type, scalar_type}
 use Rattle.tw_types.specs.Given.{Given, Single, Container, given_by}
@@ -17,7 +16,7 @@ use Rattle.tw_diagnostics.specs.Words.{type_text}
 -- ---- how many
 
 abbrev pub count_line : List Procedure → List Input → List ℕ
-count_line program inputs = codes "inputs given: " ++ (decimal (length inputs) ++ (codes ", asked: " ++ (decimal (length (input_params (main_params program))) ++ codes "\n")))
+count_line program inputs = codes "inputs given: " ++ (decimal (length inputs) ++ (codes ", required: " ++ (decimal (length (input_params (main_params program))) ++ codes "\n")))
 
 -- ---- which one
 
@@ -25,23 +24,23 @@ abbrev pub type_given : Given → NestedScalar
 type_given (Single x) = scalar_type (scalar_of x)
 type_given (Container by scalar es) = container_of by (scalar_type scalar)
 
--- the limit past which members are
+-- returns the limit that members exceed
 abbrev pub members_text : List (Subscript × Value) → List ℕ
 members_text es =
     if nat_lt 1000 (length es) then codes " has more than 1000 members\n" else
     if rises es then codes " has a text of more than 4096 bytes\n" else
     codes " has subscripts that don't rise\n"
 
--- the same of what has its parameter's type
+-- returns the limit that is exceeded by an input of its parameter's type
 abbrev pub excess_text : Given → List ℕ
 excess_text (Single x) = codes " is a text of more than 4096 bytes\n"
 excess_text (Container by scalar es) = members_text es
 
--- it is of another type than this, or past a limit
+-- returns the text for an input of another type than this, or past a limit
 abbrev pub unfit_text : NestedScalar → Given → List ℕ
-unfit_text ty g = if same_type ty (type_given g) then excess_text g else codes " is " ++ (type_text (type_given g) ++ (codes ", asked: " ++ (type_text ty ++ codes "\n")))
+unfit_text ty g = if same_type ty (type_given g) then excess_text g else codes " is " ++ (type_text (type_given g) ++ (codes ", required: " ++ (type_text ty ++ codes "\n")))
 
--- the input behind so many is one that its parameter can't be given, and those before it can be given to theirs
+-- an input that doesn't fit its parameter, after `index` others that fit theirs
 pub record IsFirstUnfit (program : List Procedure) (inputs : List Input) (index : ℕ) (param : Param) (input : Input) : Type 0 where
   pub fit : has_fitting_inputs program (take index inputs) ≡ true
   pub param_is : slice_get (input_params (main_params program)) index ≡ Some param
@@ -53,16 +52,16 @@ TellsUnfit program inputs text =
     (index : ℕ) × (param : Param) × (input : Input) × IsFirstUnfit program inputs index param input
     × (text ≡ codes "input " ++ (decimal (index + 1) ++ unfit_text param.ty (given_by input)))
 
--- ---- behind the refusal
+-- ---- details of the error
 
--- nothing where the inputs are those that main takes
+-- holds for nothing if the inputs are those that main takes, else for the reason
 abbrev pub TellsInputs : List Procedure → List Input → List ℕ → Type 0
 TellsInputs program inputs text =
     MatchBool (has_input_count program inputs)
     (MatchBool (has_fitting_inputs program inputs) (text ≡ []) (TellsUnfit program inputs text))
     (text ≡ count_line program inputs)
 
--- where the program was read from a text
+-- holds for the details of a failed opening; without a text there are none
 abbrev pub AreOpeningDetails : Option (List ℕ) → List Procedure → List Input → List ℕ → Type 0
 AreOpeningDetails None program inputs more = more ≡ []
 AreOpeningDetails (Some text) program inputs more = TellsInputs program inputs more

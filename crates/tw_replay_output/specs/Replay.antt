@@ -1,4 +1,4 @@
--- What `replay` and `picture` answer: the events of a history, one after the other, on the reference machine.
+-- Output of `replay` and `picture`: the events of a trace, one after the other, on the reference machine.
 use Rattle.std.specs.Prelude.{◌≡◌, ◌⊎◌, ◌++◌, ℕ, suc, List, [], ◌∷◌, Option, Some, None, Ok, Err}
 use Rattle.tw_types.specs.declared.ending.Ending.{Ending}
 use Rattle.tw_types.specs.declared.ending.Ending.TheVariants as ending
@@ -45,82 +45,82 @@ use Rattle.tw_program_output.specs.declared.close.Close.TheVariants.{Success, Re
 
 -- ---- the events
 
--- a state that is still running is no failure
+-- returns how a session ends; a state that is still running is no failure
 abbrev pub close_of : Option Ending → Close
 close_of None = Success
 close_of (Some ending.Quiet) = Success
 close_of (Some (ending.Stuck rules)) = Stuck
 
--- the report of the state that was reached
+-- returns the report of the state that was reached
 abbrev pub state_reply : List Procedure → State → Reply
 state_reply program s = reply (state_report program s) (close_of (machine.ending s))
 
--- what follows an event of this number: its own reply where it didn't go
+-- returns the reply after the event with this number; if it failed, its own
 abbrev pub after_event : ℕ → Outcome State → (State → Reply) → Reply
 after_event number (Went s) next = next s
 after_event number NotEnabled next = reply (not_enabled_line number) Refused
 after_event number (Trap cause) next = reply (trap_line (cause_number cause) number) Trapped
 
--- the events from this number on, up to the first that doesn't go
+-- returns the reply to the events from this number on, up to the first that fails
 unfoldable pub played : List Procedure → ActorCounts → ℕ → List Event → State → Reply
 played program layout number [] s = state_reply program s
 played program layout number (event ∷ events) s = after_event number (step program layout event s) (λ next. played program layout (suc number) events next)
 
--- from this machine on
+-- returns the reply to events from this machine on
 abbrev pub played_from : PlainView → List Event → Reply
 played_from first events = played first.program first.layout 1 events first.state
 
--- ---- the picture
+-- ---- the timeline
 
--- the drawing of the events that lead to a state, as one text that shows some of them; the procedures have these names
+-- holds for the drawing of the events that lead to a state, as one text that shows some of them; the procedures have these names
 abbrev pub IsPicture : List (List ℕ) → EventRange → PlainView → List Event → State → Reply → Type 0
 IsPicture names shown first events s r =
     (d : Drawing) × IsDrawing names first events s d × (r ≡ reply (xml_text (picture_of d (between shown.from shown.to))) (close_of (machine.ending s)))
 
--- one thing where events go, and another where one doesn't
+-- holds by the outcome: `goes` if the events succeed, `stops` if one fails
 abbrev pub ByOutcome : Outcome State → (State → Type 0) → Type 0 → Type 0
 ByOutcome (Went s) goes stops = goes s
 ByOutcome NotEnabled goes stops = stops
 ByOutcome (Trap cause) goes stops = stops
 
--- their picture, or what `replay` answers
+-- holds for their timeline, or for what `replay` prints
 abbrev pub IsDrawn : List (List ℕ) → EventRange → PlainView → List Event → Reply → Type 0
 IsDrawn names shown first events r = ByOutcome (run first.program first.layout events first.state) (λ s. IsPicture names shown first events s r) (r ≡ played_from first events)
 
--- ---- the numbers
+-- ---- the statistics
 
--- the budgets of the procedures, one each
+-- holds for the budgets of the procedures, one each
 abbrev pub AreBudgets : List Procedure → List ℕ → Type 0
 AreBudgets [] [] = Unit {0}
 AreBudgets [] (budget ∷ budgets) = ⊥
 AreBudgets (p ∷ program) [] = ⊥
 AreBudgets (p ∷ program) (budget ∷ budgets) = IsBudget (flows p.code) budget × AreBudgets program budgets
 
--- those of a program that is accepted; of no other one are they known
+-- holds for the budgets of a program that is accepted; those of no other one are known
 abbrev pub AreKnownBudgets : List Procedure → List ℕ → Type 0
 AreKnownBudgets program budgets = (IsAccepted program × AreBudgets program budgets) ⊎ ((IsAccepted program → ⊥) × (budgets ≡ []))
 
--- the report of the state to which the events lead, and behind it their numbers
+-- holds for the report of the state to which the events lead, followed by their statistics
 abbrev pub IsNumbered : List (List ℕ) → PlainView → List Event → State → Reply → Type 0
 IsNumbered names first events s r =
     (budgets : List ℕ) × (text : List ℕ) × AreKnownBudgets first.program budgets × AreNumbers names first.program first.layout budgets (history first events) text
     × (r ≡ reply (state_report first.program s ++ text) (close_of (machine.ending s)))
 
--- that, or what `replay` answers
+-- holds for that, or for what `replay` prints
 abbrev pub IsCounted : List (List ℕ) → PlainView → List Event → Reply → Type 0
 IsCounted names first events r = ByOutcome (run first.program first.layout events first.state) (λ s. IsNumbered names first events s r) (r ≡ played_from first events)
 
 -- ---- an answer
 
--- where the procedures have these names
+-- holds for an answer, if the procedures have these names
 abbrev pub IsAnswer : List (List ℕ) → Answer → PlainView → List Event → Reply → Type 0
 IsAnswer names Report first events r = r ≡ played_from first events
 IsAnswer names Numbers first events r = IsCounted names first events r
 IsAnswer names (Picture shown) first events r = IsDrawn names shown first events r
 
--- ---- what stands behind it, where the program was read from a text
+-- ---- details of an answer, if the program was read from a text
 
--- behind a report and the numbers, not behind a picture
+-- holds for the details of a report and of statistics; a timeline has none
 abbrev pub AreReportDetails : Answer → List ℕ → Start → List Event → Outcome State → List ℕ → Type 0
 AreReportDetails (Picture shown) text start events o more = more ≡ []
 AreReportDetails answer text start events o more = ByOutcome o (λ s. AreEndingDetails text start events s (machine.ending s) more) (more ≡ [])
@@ -131,12 +131,12 @@ AreAnswerDetails (Some text) answer start events more = AreReportDetails answer 
 
 -- ---- the program and its inputs
 
--- a refusal of the inputs tells of them; where main has not its shape nothing is said of them
+-- holds for the details of an error in the inputs; if main doesn't have its shape, there are none
 abbrev pub AreRejectionDetails : Option (List ℕ) → List Procedure → List Input → OpenError → List ℕ → Type 0
 AreRejectionDetails text program inputs MainShape more = more ≡ []
 AreRejectionDetails text program inputs why more = AreOpeningDetails text program inputs more
 
--- the program isn't opened
+-- holds for the reply to a program that isn't opened, else like `Answers`
 abbrev pub OpensOr : Option (List ℕ) → List Procedure → List Input → Option OpenError → Type 0 → Reply → Type 0
 OpensOr text program inputs None Answers r = Answers
 OpensOr text program inputs (Some why) Answers r = (more : List ℕ) × AreRejectionDetails text program inputs why more × (r ≡ reply (opening_line (open_error_code why) ++ more) Refused)
@@ -144,11 +144,11 @@ OpensOr text program inputs (Some why) Answers r = (more : List ℕ) × AreRejec
 abbrev pub start_of : ReplayOrder → Versioned → Start
 start_of order program = record { program = program.procedures; inputs = order.inputs; layout = order.layout }
 
--- from the opening, if the program is opened
+-- returns the machine after the opening, if the program is opened
 abbrev pub opened : ReplayOrder → Versioned → PlainView
 opened order program = record { version = program.version; program = program.procedures; layout = order.layout; state = opening program.procedures order.inputs }
 
--- the answer, with the names that the text gives, and what stands behind it
+-- holds for the answer, with the names of the text, followed by its details
 abbrev pub IsAnswered : Option (List ℕ) → ReplayOrder → Versioned → List Event → Reply → Type 0
 IsAnswered text order program events r =
     (names : List (List ℕ)) × (told : Reply) × (more : List ℕ) × AreSymbols text names × IsAnswer names order.answer (opened order program) events told × AreAnswerDetails text order.answer (start_of order program) events more
@@ -160,13 +160,13 @@ IsReplayed text order program events r =
 
 -- ---- what is read
 
--- the lines tell a history, or have a first line that isn't known
+-- holds if the lines encode a trace, or have a first line that isn't known
 abbrev pub RepliesByLines : Option (List ℕ) → ReplayOrder → List (List ℕ) → Versioned → Reply → Type 0
 RepliesByLines text order lines program r =
     ((events : List Event) × Tell lines (Ok events) × IsReplayed text order program events r)
     ⊎ ((line : ℕ) × Tell lines (Err line) × (r ≡ reply (history_line line) Refused))
 
--- The part behind the line `events` must be UTF-8; what stands before it, and the history's lines, are answered so.
+-- holds if the part after the line `events` is UTF-8, and this is the reply to what precedes it and to the trace's lines; or if it isn't UTF-8
 abbrev pub RepliesByHistory : List ℕ → (List ℕ → List (List ℕ) → Reply → Type 0) → Reply → Type 0
 RepliesByHistory input Answers r =
     (before : List ℕ) × (after : List ℕ) × AreParts input before after × RepliesByUtf8 after (Answers before (lines_in after) r) r

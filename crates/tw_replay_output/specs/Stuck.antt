@@ -1,4 +1,4 @@
--- What the code keeps of a history while it looks for the lines that made its rules.
+-- The model of what the code keeps of a trace while it looks for the lines that made its rules.
 use Rattle.std.specs.Prelude.{◌≡◌, ◌≢◌, ◌+◌, ◌≤◌, ℕ, List, Option, Some, None, IfSome, length, map, slice_get}
 use Rattle.std.specs.FinMap.{get}
 use Rattle.std.specs.Option.{option_and_then}
@@ -33,7 +33,7 @@ use Rattle.std.specs.Str.Lines.{lines}
 
 -- ---- rules that were made
 
--- the RULE that is done, where the instruction is one
+-- returns the RULE that is executed, if the instruction is one
 abbrev pub rule_by : Frame → Option Instr → Option Made
 rule_by f None = None
 rule_by f (Some (instr.Local i)) = None
@@ -60,7 +60,7 @@ IsMadeSo start events rule m = (action : Action) × IsMade start events rule m.p
 abbrev pub IsUnmade : Start → List Event → ℕ → Type 0
 IsUnmade start events rule = (procedure place : ℕ) (action : Action) → IsMade start events rule procedure place action → ⊥
 
--- these are all of them, by their numbers from 1 on
+-- all rules that the events made, by their numbers from 1 on
 pub record AreMade (start : Start) (events : List Event) (made : List Made) : Type 0 where
   pub each : (k : ℕ) (m : Made) → slice_get made k ≡ Some m → IsMadeSo start events (k + 1) m
   pub all : (rule procedure place : ℕ) (action : Action) → IsMade start events rule procedure place action → (1 ≤ rule) × (rule ≤ length made)
@@ -72,18 +72,18 @@ pub record IsLookup (l : Lookup) (text : List ℕ) : Type 0 where
   pub lines_are : map (λ line. line.now) l.lines.lines.items ≡ lines text
   pub names_are : AreNames text l.names
 
--- ---- a history
+-- ---- a trace
 
 abbrev pub IsStartOf : Start → List Input → ActorCounts → Type 0
 IsStartOf start inputs layout = (start.inputs ≡ inputs) × (start.layout ≡ layout)
 
--- the machine stands where it is opened so
+-- the machine as this opening leaves it
 pub record IsOpened (start : Start) (first : PlainView) : Type 0 where
   pub program : first.program ≡ start.program
   pub layout : first.layout ≡ start.layout
   pub state : first.state ≡ opening start.program start.inputs
 
--- the text is that of the program, which is opened with these inputs, and the events aren't too many or too long
+-- the text of a program that is opened with these inputs, and events that aren't too many or too long
 pub record CanTell (source : SourceText) (start : Start) (events : List Event) : Type 0 where
   pub source_is : IsSource source start.program
   pub opens : rejection_of start.program start.inputs ≡ None
@@ -95,11 +95,11 @@ MayTell source start events = IfSome source (λ text. CanTell text start events)
 
 -- ---- how a replay ends
 
--- as the state has ended to which the events lead; and not as one that is stuck, where they lead to none
+-- holds for the ending of the state to which the events lead; if they lead to none, for any but stuck
 abbrev pub ClosesBy : Outcome State → Close → Type 0
 ClosesBy o close = ByOutcome o (λ s. close ≡ close_of (ending s)) (close ≢ Stuck)
 
--- no picture is asked for
+-- holds if no timeline is requested
 abbrev pub IsUndrawn : Answer → Type 0
 IsUndrawn Report = Unit {0}
 IsUndrawn Numbers = Unit {0}

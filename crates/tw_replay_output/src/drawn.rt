@@ -1,4 +1,4 @@
-//! What `picture` answers.
+//! Output of `picture`.
 
 ghost use Rattle.std.specs.Prelude.{◌≡◌, ◌≤◌, List, IfOk, length};
 ghost use Rattle.tw_types.specs.declared.event.Event.{Event as AnEvent};
@@ -18,7 +18,7 @@ use tw_symbols::Symbols;
 use tw_timeline::{Settings, TimelineBuilder, timeline};
 use tw_types::Event;
 
-/// The picture of these of the events that led to where the machine stands.
+/// Returns the timeline of these of the events that led to the machine's state.
 fn picture_reply(
     alloc: Global,
     shown: EventRange,
@@ -35,7 +35,7 @@ fn picture_reply(
     Ok(Reply { text, close })
 }
 
-/// Makes the events and draws these of them, or tells the first that doesn't go.
+/// Executes the events and draws these of them. If an event isn't enabled or traps, the reply reports the first such event.
 pub fn draw(
     alloc: Global,
     shown: EventRange,

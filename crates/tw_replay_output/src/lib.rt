@@ -1,4 +1,4 @@
-//! What is told of histories: replays, their numbers and pictures, and what stands behind them.
+//! Output about traces: replays, their statistics and timelines, and details after them.
 #![tactic(auto)]
 
 mod drawn;

@@ -1,4 +1,4 @@
-//! What `replay --stats` answers, and what `run --stats` does of its events.
+//! Output of `replay --stats`, and of `run --stats` about its events.
 
 ghost use Rattle.std.specs.Prelude.{◌≡◌, ◌≤◌, ◌++◌, List, IfOk, OnOk, length};
 ghost use Rattle.tw_types.specs.declared.event.Event.{Event as AnEvent};
@@ -24,28 +24,28 @@ use tw_symbols::Symbols;
 use tw_types::Event;
 use tw_verify::{Verified, VerifyError, verify};
 
-/// A program, and the budgets of its procedures where it is accepted.
+/// A program, with the budgets of its procedures if it is accepted.
 #[derive(Drop)]
 pub struct Budgeted {
     pub program: Program,
     pub budgets: Vec<u64>,
 }
 
-/// The machine behind events that were made, and their statistics.
+/// The machine after events that were executed, and their statistics.
 #[derive(Drop)]
 pub struct Counted {
     pub plain: Plain,
     pub stats_builder: StatsBuilder,
 }
 
-/// What comes of events that are counted: all were made; or one doesn't go, and this is told.
+/// A result of counting events: all were executed, or one failed and has this reply.
 #[derive(Drop)]
 pub enum Counting {
     Made(Counted),
     Stopped(Reply),
 }
 
-/// The budgets of the procedures, one each.
+/// Returns the budgets of the procedures, one each.
 pub fn budgets_of(alloc: Global, verified: &Verified) -> Result<Vec<u64>, AllocError>
     ensures { IfOk result (λ budgets. AreBudgets verified.now.program budgets.items) }
 {
@@ -56,7 +56,7 @@ pub fn budgets_of(alloc: Global, verified: &Verified) -> Result<Vec<u64>, AllocE
     Ok(budgets)
 }
 
-/// Looks whether a program is accepted.
+/// Verifies a program, and returns it with its budgets. If it isn't accepted, there are none.
 pub fn with_budgets(alloc: Global, program: Program) -> Result<Budgeted, AllocError>
     ensures program { IfOk result (λ b. b.program ≡ program) }
     ensures budgets { IfOk result (λ b. AreKnownBudgets program.procedures b.budgets.items) }
@@ -79,13 +79,14 @@ pub fn with_budgets(alloc: Global, program: Program) -> Result<Budgeted, AllocEr
     }
 }
 
+/// Adds bytes.
 pub fn put_bytes(out: &mut Vec<u8>, bytes: &[u8]) -> Result<(), AllocError>
     ensures { OnOk result (out.new.items ≡ out.old.items ++ bytes.now) }
 {
     out.extend_from_slice(bytes)
 }
 
-/// The report of where the machine stands, and the numbers of the events that led there.
+/// Returns the report of the machine's state, and the statistics of the events that led there.
 fn numbers_reply(
     alloc: Global,
     plain: &Plain,
@@ -103,7 +104,7 @@ fn numbers_reply(
     Ok(Reply { text, close })
 }
 
-/// What comes of events of which the one of this number is stopped so.
+/// Returns the result if the event with this number failed in this way.
 fn stopped_counting(alloc: Global, stopped: Stopped, event: usize) -> Result<Counting, AllocError>
     ensures { IfOk result (λ c. (r : Told) × (c ≡ Counting.Stopped r)
         × ((o : Outcome State) (next : State → AReply) → IsStopped o stopped → ByOutcome o (λ s. ⊥) (reply r.text.items r.close ≡ after_event event o next))) }
@@ -112,7 +113,7 @@ fn stopped_counting(alloc: Global, stopped: Stopped, event: usize) -> Result<Cou
     Ok(Counting::Stopped(reply))
 }
 
-/// Makes the events and counts them, up to the first that doesn't go.
+/// Executes the events and counts them, up to the first that isn't enabled or traps.
 pub fn count(alloc: Global, first: Plain, events: &[Event]) -> Result<Counting, AllocError>
     requires opening { IsFirst first.state }
     requires below { AreBelow opening_bound first.state }
@@ -135,7 +136,7 @@ pub fn count(alloc: Global, first: Plain, events: &[Event]) -> Result<Counting, 
     }))
 }
 
-/// The report and the numbers, or what is told of the first event that doesn't go.
+/// Returns the report and the statistics, or the reply to the first event that isn't enabled or traps.
 pub fn counted_reply(
     alloc: Global,
     first: Plain,

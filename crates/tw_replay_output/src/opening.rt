@@ -1,4 +1,4 @@
-//! Why a program isn't opened with these inputs.
+//! Finds why a program isn't opened with these inputs.
 
 ghost use Rattle.std.specs.Prelude.{◌≡◌, ◌<◌, ◌+◌, ◌++◌, ℕ, List, IfOk, MatchOption, OnOk, Some, codes, decimal, false, length, slice_get, take, true};
 ghost use Rattle.tw_types.specs.Given.{given_by, members_by};
@@ -19,7 +19,7 @@ use tw_program_output::{Close, Reply, SourceText, put_opening_line, refused_by};
 use tw_report::{put, put_numbered};
 use tw_types::{AsValue, DataType, Input, Param};
 
-/// The parameter of the input behind so many.
+/// Returns the parameter of the input after `index` others.
 fn input_param(program: &[Procedure], index: usize) -> Option<Param>
     ensures { result ≡ slice_get (input_params (main_params program.now)) index }
 {
@@ -42,10 +42,10 @@ fn put_counts(
     given: usize,
     asked: usize,
 ) -> Result<(), AllocError>
-    ensures { OnOk result (out.new.items ≡ out.old.items ++ (codes "inputs given: " ++ (decimal given ++ (codes ", asked: " ++ (decimal asked ++ codes "\n"))))) }
+    ensures { OnOk result (out.new.items ≡ out.old.items ++ (codes "inputs given: " ++ (decimal given ++ (codes ", required: " ++ (decimal asked ++ codes "\n"))))) }
 {
     put_numbered(alloc, out, "inputs given: ", given)?;
-    put_numbered(alloc, out, ", asked: ", asked)?;
+    put_numbered(alloc, out, ", required: ", asked)?;
     put(out, "\n")
 }
 
@@ -60,7 +60,7 @@ fn put_count_line(
     put_counts(alloc, out, inputs.len(), input_count(main_params(program)))
 }
 
-/// The type of an input; always one.
+/// Returns the type of an input. There always is one.
 fn type_given(input: &Input) -> Option<DataType>
     ensures { result ≡ Some (type_given (given_by input.now)) }
 {
@@ -74,7 +74,7 @@ fn type_given(input: &Input) -> Option<DataType>
     }
 }
 
-/// The limit past which members are.
+/// Returns the limit that members exceed.
 fn members_text<K: AsValue, V: AsValue>(members: &[(K, V)]) -> &'static str
     ensures { result.now ≡ members_text (members_by K.value V.value members.now) }
 {
@@ -87,7 +87,7 @@ fn members_text<K: AsValue, V: AsValue>(members: &[(K, V)]) -> &'static str
     }
 }
 
-/// The limit past which an input is that has its parameter's type.
+/// Returns the limit that is exceeded by an input of its parameter's type.
 fn excess_text(input: &Input) -> &'static str
     ensures { result.now ≡ excess_text (given_by input.now) }
 {
@@ -100,18 +100,18 @@ fn excess_text(input: &Input) -> &'static str
     }
 }
 
-/// What type an input is, and which one was asked.
+/// Adds what type an input has, and which one is required.
 fn put_types(out: &mut Vec<u8>, given: DataType, asked: DataType) -> Result<(), AllocError>
-    ensures { OnOk result (out.new.items ≡ out.old.items ++ (codes " is " ++ (type_text given ++ (codes ", asked: " ++ (type_text asked ++ codes "\n"))))) }
+    ensures { OnOk result (out.new.items ≡ out.old.items ++ (codes " is " ++ (type_text given ++ (codes ", required: " ++ (type_text asked ++ codes "\n"))))) }
 {
     put(out, " is ")?;
     put_type(out, given)?;
-    put(out, ", asked: ")?;
+    put(out, ", required: ")?;
     put_type(out, asked)?;
     put(out, "\n")
 }
 
-/// Why an input isn't what its parameter asks.
+/// Adds why an input doesn't fit its parameter.
 fn put_unfit_text(out: &mut Vec<u8>, asked: DataType, input: &Input) -> Result<(), AllocError>
     ensures { OnOk result (out.new.items ≡ out.old.items ++ unfit_text asked (given_by input.now)) }
 {
@@ -127,7 +127,7 @@ fn put_unfit_text(out: &mut Vec<u8>, asked: DataType, input: &Input) -> Result<(
     }
 }
 
-/// How many inputs stand before the first that its parameter can't be given, if there is one.
+/// Returns how many inputs precede the first that doesn't fit its parameter, if one doesn't.
 fn first_unfit(program: &[Procedure], inputs: &[Input]) -> Option<usize>
     ensures { MatchOption result
         (has_fitting_inputs program.now inputs.now ≡ true)
@@ -142,7 +142,7 @@ fn first_unfit(program: &[Procedure], inputs: &[Input]) -> Option<usize>
     None
 }
 
-/// Tells the first input that its parameter can't be given.
+/// Adds the first input that doesn't fit its parameter.
 fn put_unfit(
     alloc: Global,
     out: &mut Vec<u8>,
@@ -165,7 +165,7 @@ fn put_unfit(
     put_unfit_text(out, param.ty, input)
 }
 
-/// Tells why these inputs aren't those that main takes, if they aren't.
+/// Adds why these inputs aren't those that main takes, if they aren't.
 fn put_inputs_diagnostic(
     alloc: Global,
     out: &mut Vec<u8>,
@@ -183,7 +183,7 @@ fn put_inputs_diagnostic(
     }
 }
 
-/// Adds what stands behind the refusal of an opening.
+/// Adds the details of a failed opening. Without a text there are none.
 fn put_opening_details(
     alloc: Global,
     out: &mut Vec<u8>,
@@ -199,7 +199,7 @@ fn put_opening_details(
     }
 }
 
-/// The reply where a program isn't opened, and nothing is said of its inputs.
+/// Returns the reply to a program that isn't opened, without a diagnostic of its inputs.
 pub fn opening_reply(alloc: Global, number: u8) -> Result<Reply, AllocError>
     requires { number < 100 }
     ensures { IfOk result (λ r. reply r.text.items r.close ≡ reply (opening_line number) Close.Refused) }
@@ -209,7 +209,7 @@ pub fn opening_reply(alloc: Global, number: u8) -> Result<Reply, AllocError>
     Ok(refused_by(text))
 }
 
-/// The reply where a program isn't opened with these inputs.
+/// Returns the reply to a program that isn't opened with these inputs.
 pub fn inputs_refused_reply(
     alloc: Global,
     source: &Option<SourceText<'_>>,

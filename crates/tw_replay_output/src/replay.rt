@@ -1,4 +1,4 @@
-//! What `replay` and `picture` answer.
+//! Output of `replay` and `picture`.
 
 ghost use Rattle.std.specs.Prelude.{◌≡◌, ◌≤◌, IfOk, length};
 ghost use Rattle.tw_code.specs.machine.Bounds.{AreBelow, opening_bound};
@@ -38,7 +38,7 @@ use tw_report::{
 use tw_symbols::Symbols;
 use tw_types::{Cause, Ending, Event};
 
-/// How a session ends whose history has ended so.
+/// Returns how a session ends, by the ending of its trace.
 pub fn close_of(ending: Option<Ending>) -> Close
     ensures { result ≡ close_of ending }
 {
@@ -56,7 +56,7 @@ fn state_reply(alloc: Global, plain: &Plain) -> Result<Reply, AllocError>
     Ok(Reply { text, close })
 }
 
-/// The reply where the event of this number isn't enabled.
+/// Returns the reply that the event with this number isn't enabled.
 fn not_enabled_reply(alloc: Global, event: usize) -> Result<Reply, AllocError>
     ensures { IfOk result (λ r. reply r.text.items r.close ≡ reply (not_enabled_line event) Close.Refused) }
 {
@@ -65,7 +65,7 @@ fn not_enabled_reply(alloc: Global, event: usize) -> Result<Reply, AllocError>
     Ok(refused_by(text))
 }
 
-/// The reply where the event of this number traps.
+/// Returns the reply that the event with this number traps.
 fn trap_reply(alloc: Global, cause: Cause, event: usize) -> Result<Reply, AllocError>
     ensures { IfOk result (λ r. reply r.text.items r.close ≡ reply (trap_line (cause_number cause) event) Close.Trapped) }
 {
@@ -77,7 +77,7 @@ fn trap_reply(alloc: Global, cause: Cause, event: usize) -> Result<Reply, AllocE
     })
 }
 
-/// The reply where the event of this number is stopped so.
+/// Returns the reply that the event with this number failed in this way.
 pub fn stopped_reply(alloc: Global, stopped: Stopped, event: usize) -> Result<Reply, AllocError>
     ensures { IfOk result (λ r. (o : Outcome State) (next : State → AReply) → IsStopped o stopped → ByOutcome o (λ s. ⊥) (reply r.text.items r.close ≡ after_event event o next)) }
 {
@@ -88,7 +88,7 @@ pub fn stopped_reply(alloc: Global, stopped: Stopped, event: usize) -> Result<Re
     }
 }
 
-/// Makes the events, up to the first that doesn't go.
+/// Executes the events, up to the first that isn't enabled or traps.
 fn play(alloc: Global, first: Plain, events: &[Event]) -> Result<Reply, AllocError>
     requires below { AreBelow opening_bound first.state }
     requires sizes { AreShort events.now }
@@ -105,7 +105,7 @@ fn play(alloc: Global, first: Plain, events: &[Event]) -> Result<Reply, AllocErr
     state_reply(alloc, &plain)
 }
 
-/// Makes the events, and reports or draws them.
+/// Executes the events, and reports or draws them.
 fn answer_of(
     alloc: Global,
     answer: Answer,
@@ -129,7 +129,7 @@ fn answer_of(
     }
 }
 
-/// The program, and where they are told the budgets of its procedures.
+/// Returns the program, with the budgets of its procedures if statistics are requested.
 fn budgeted_for(alloc: Global, answer: Answer, program: Program) -> Result<Budgeted, AllocError>
     ensures program { IfOk result (λ b. b.program ≡ program) }
     ensures budgets { IfOk result (λ b. answer ≡ Numbers → AreKnownBudgets program.procedures b.budgets.items) }
@@ -143,7 +143,7 @@ fn budgeted_for(alloc: Global, answer: Answer, program: Program) -> Result<Budge
     }
 }
 
-/// Opens the program, and makes the events.
+/// Opens the program, and executes the events.
 fn opened_reply(
     alloc: Global,
     source: &Option<SourceText<'_>>,
@@ -168,7 +168,7 @@ fn opened_reply(
     }
 }
 
-/// The reply to the events of a history.
+/// Returns the reply to the events of a trace.
 fn events_reply(
     alloc: Global,
     source: &Option<SourceText<'_>>,
@@ -185,7 +185,7 @@ fn events_reply(
     opened_reply(alloc, source, order, events, program, &budgets)
 }
 
-/// The reply where a line of the history isn't known.
+/// Returns the reply that a line of the trace isn't known.
 fn line_reply(alloc: Global, line: usize) -> Result<Reply, AllocError>
     ensures { IfOk result (λ r. reply r.text.items r.close ≡ reply (history_line line) Close.Refused) }
 {
@@ -194,7 +194,7 @@ fn line_reply(alloc: Global, line: usize) -> Result<Reply, AllocError>
     Ok(refused_by(text))
 }
 
-/// Reads the history, and replays it on the program.
+/// Reads the trace, and replays it on the program.
 fn history_reply(
     alloc: Global,
     source: &Option<SourceText<'_>>,
@@ -213,7 +213,7 @@ fn history_reply(
     }
 }
 
-/// Reads a program, and replays a history on it.
+/// Reads a program, and replays a trace on it.
 fn source_reply(
     alloc: Global,
     source: Source,
@@ -236,7 +236,7 @@ fn source_reply(
     }
 }
 
-/// The reply to a program and the history behind it; refused where memory is.
+/// Returns the reply to a program and the trace after it. An allocation that fails is the only error.
 pub fn replay_reply(
     alloc: Global,
     source: Source,
@@ -254,7 +254,7 @@ pub fn replay_reply(
     }
 }
 
-/// The reply to a program and the inputs behind it, where this history is made; refused where memory is.
+/// Returns the reply to a program and the inputs after it, on which this trace is replayed.
 fn inputs_reply(
     alloc: Global,
     source: Source,
@@ -277,7 +277,7 @@ fn inputs_reply(
     }
 }
 
-/// The reply to what is to be text, with a program and the inputs behind it, where this history is made.
+/// Like `inputs_reply`, for bytes that may not be UTF-8.
 fn before_reply(
     alloc: Global,
     source: Source,
@@ -295,7 +295,7 @@ fn before_reply(
     }
 }
 
-/// The reply to a program, the inputs behind it, and the history behind both; refused where memory is.
+/// Returns the reply to a program, the inputs after it, and the trace after both. An allocation that fails is the only error.
 pub fn replay_inputs_reply(
     alloc: Global,
     source: Source,

@@ -1,4 +1,4 @@
-//! What stands behind the answer to a replay whose program was read from a text.
+//! Details after the reply to a replay of a program that was read from a text.
 
 ghost use Rattle.std.specs.Prelude.{◌≡◌, ◌≢◌, ◌≤◌, ◌++◌, ℕ, List, [], None, IfOk, OnOk, length};
 ghost use Rattle.tw_types.specs.Outcome.{Outcome};
@@ -23,7 +23,7 @@ use tw_machine::{OpenError, OpenRefused};
 use tw_program_output::{Close, Reply, SourceText};
 use tw_types::Event;
 
-/// The reply where the program isn't opened.
+/// Returns the reply to a program that isn't opened.
 pub fn unopened_reply(
     alloc: Global,
     source: &Option<SourceText<'_>>,
@@ -47,7 +47,7 @@ pub fn unopened_reply(
     }
 }
 
-/// Adds what stands behind a report, by how it ends.
+/// Adds the details of a report, by how the session ends.
 fn put_ending_details(
     alloc: Global,
     out: &mut Vec<u8>,
@@ -73,7 +73,7 @@ fn put_ending_details(
     }
 }
 
-/// Adds what stands behind a report or a picture.
+/// Adds the details of a report. A timeline has none.
 fn put_report_details(
     alloc: Global,
     out: &mut Vec<u8>,
@@ -92,7 +92,7 @@ fn put_report_details(
     }
 }
 
-/// Adds what stands behind an answer.
+/// Adds the details of an answer. Without a text there are none.
 fn put_answer_details(
     alloc: Global,
     out: &mut Vec<u8>,
@@ -111,7 +111,7 @@ fn put_answer_details(
     }
 }
 
-/// An answer with what stands behind it.
+/// Returns an answer with its details.
 pub fn details_reply(
     alloc: Global,
     source: &Option<SourceText<'_>>,

@@ -1,4 +1,4 @@
-//! Which lines of a text made the rules that wait in a circle.
+//! Finds the lines of a text that made the rules of a circle.
 
 ghost use Rattle.std.specs.Prelude.{◌≡◌, ◌<◌, ◌≤◌, ◌++◌, ◌↔◌, ℕ, List, Some, IsTrue, IfOk, MatchOption, OnOk, nat_le, option_to_list};
 ghost use Rattle.tw_types.specs.declared.event.Event.{Event as AnEvent};
@@ -23,13 +23,13 @@ use tw_report::{circle_state, put, put_numbered};
 use tw_symbols::Symbols;
 use tw_types::{Actor, Event, Input, Layout, Link, RuleNo};
 
-/// The most events that a history has which is read or made.
+/// The most events of a trace that is read or written.
 const MOST_EVENTS: usize = 16_777_217;
 
-/// The most instructions that one event does.
+/// The most instructions that one event executes.
 const MOST_STEPS: u64 = 1_000_000_000;
 
-/// Where a rule was made, and which procedure it runs.
+/// The place at which a rule was made, and the procedure that it runs.
 #[derive(Clone, Copy)]
 pub struct Made {
     pub procedure: usize,
@@ -37,7 +37,7 @@ pub struct Made {
     pub runs: usize,
 }
 
-/// The RULE that an instruction of the task is, if it is one.
+/// Returns the RULE that an instruction of the task is, if it is one.
 fn rule_by(frame: &Frame, instr: &Instr) -> Option<Made>
     ensures { result ≡ rule_by frame.now (Some instr.now) }
 {
@@ -51,7 +51,7 @@ fn rule_by(frame: &Frame, instr: &Instr) -> Option<Made>
     }
 }
 
-/// The RULE at which an actor's task stands, if it stands at one.
+/// Returns the RULE that an actor's task executes next, if it is one.
 fn rule_in(plain: &Plain, actor: Actor) -> Option<Made>
     ensures { result ≡ rule_in plain.now.program (get plain.now.state.frames actor) }
 {
@@ -64,7 +64,7 @@ fn rule_in(plain: &Plain, actor: Actor) -> Option<Made>
     rule_by(frame, instr)
 }
 
-/// The RULE that an event does where the machine stands, if it does one.
+/// Returns the RULE that an event executes in the machine's state, if it does.
 fn rule_done(plain: &Plain, event: &Event) -> Option<Made>
     ensures { result ≡ rule_done plain.now.program event.now plain.now.state }
 {
@@ -97,14 +97,14 @@ fn is_short(event: &Event) -> bool
     }
 }
 
-/// Whether it may be one of so many events, and so long.
+/// Returns whether an event's index and size are within their limits.
 fn is_within(index: usize, event: &Event) -> bool
     ensures { IsTrue result ↔ ((index < 16777217) × (size_of event.now ≤ 1000000000)) }
 {
     index < MOST_EVENTS && is_short(event)
 }
 
-/// Where the rule of a number was made.
+/// Returns where the rule with this number was made, if the events made it.
 fn made_of(made: &[Made], rule: RuleNo) -> Option<Made>
     ensures { (start : Start) (events : List AnEvent) → AreMade start events made.now → MatchOption result (IsUnmade start events rule) (IsMadeSo start events rule) }
 {
@@ -145,7 +145,7 @@ fn put_rule_line(
     put_text_line(alloc, out, number, line)
 }
 
-/// A text as it is looked up for the lines of many rules: its lines, and the names of its procedures.
+/// A text for looking up the lines of many rules: its lines, and the names of its procedures.
 #[derive(Drop)]
 struct Lookup<'a> {
     lines: TextLines<'a>,
@@ -163,7 +163,7 @@ impl<'a> Lookup<'a> {
     }
 }
 
-/// Adds the line of a rule, where the events made it.
+/// Adds the line of a rule, if the events made it.
 fn put_rule(
     alloc: Global,
     out: &mut Vec<u8>,
@@ -217,7 +217,7 @@ fn put_links(
     put_rules(alloc, out, source, &lookup, made, links)
 }
 
-/// Adds the lines of the circle in which the machine stands, if it stands in one.
+/// Adds the lines of the circle in the machine's state, if there is one.
 fn put_circle(
     alloc: Global,
     out: &mut Vec<u8>,
@@ -234,7 +234,7 @@ fn put_circle(
     }
 }
 
-/// Nothing is added where an event is stopped so, unless memory is refused.
+/// Returns an error if an event failed because an allocation did. For other failures nothing is added.
 fn unmade(stopped: Stopped) -> Result<(), AllocError>
     ensures { OnOk result ((o : Outcome State) → IsStopped o stopped → ByOutcome o (λ s. ⊥) (Unit {0})) }
 {
@@ -245,7 +245,7 @@ fn unmade(stopped: Stopped) -> Result<(), AllocError>
     }
 }
 
-/// Makes the events, and adds the lines of the circle in which they leave the machine.
+/// Executes the events, and adds the lines of the circle in the state to which they lead.
 fn put_played(
     alloc: Global,
     out: &mut Vec<u8>,
@@ -272,7 +272,7 @@ fn put_played(
     put_circle(alloc, out, source, &made, &plain)
 }
 
-/// Opens the program, and does the same.
+/// Opens the program, and continues like `put_played`.
 fn put_opened(
     alloc: Global,
     out: &mut Vec<u8>,
@@ -295,7 +295,7 @@ fn put_opened(
     }
 }
 
-/// Adds what stands behind the report of a run that is stuck: the program of the text is made once more, and the events with it.
+/// Adds the details of a run that is stuck. It assembles the text and executes the events once more.
 pub fn put_stuck(
     alloc: Global,
     out: &mut Vec<u8>,

@@ -1,8 +1,8 @@
--- What stands behind the report of a run.
+-- The lines after the report of a run.
 use Rattle.std.proofs.Common.{◌≡◌, ℕ, List, Some, refl, sym, subst}
 use Rattle.tw_run_output.proofs.RunNames.{Event, Procedure, State, circle}
-use Rattle.tw_cli.specs.declared.command.Answer.{Answer}
-use Rattle.tw_cli.specs.declared.command.Answer.TheVariants.{Numbers, Picture, Report}
+use Rattle.tw_cli.specs.declared.command.RunAnswer.{RunAnswer}
+use Rattle.tw_cli.specs.declared.command.RunAnswer.TheVariants.{Json, Numbers, Picture, Report}
 use Rattle.tw_cli.specs.declared.command.RunOrder.{RunOrder}
 use Rattle.tw_cli.specs.declared.shown.EventRange.{EventRange}
 use Rattle.tw_pool.specs.declared.answer.Closing.{Closing}
@@ -11,7 +11,6 @@ use Rattle.tw_replay_output.specs.Circle.{TellsCircle}
 use Rattle.tw_replay_output.proofs.Behinds.{Adds, nothing_added}
 use Rattle.tw_run_output.specs.Run.{AreClosingDetails, AreRunDetails}
 use Rattle.tw_run_output.specs.Run as run
-use Rattle.tw_replay_output.specs.Stuck.{IsUndrawn}
 
 pub closing_stuck : (text : List ℕ) (program : List Procedure) (order : RunOrder) (events : List Event) (s : State) (c : Closing) (rules : ℕ) (old new : List ℕ) → c ≡ closing.Stuck rules
     → Adds (TellsCircle text (run.start_of program order) events (circle program s)) old new → Adds (AreClosingDetails text program order events s c) old new
@@ -24,13 +23,32 @@ closing_else text program order events s closing.Quiet old other = nothing_added
 closing_else text program order events s closing.Limit old other = nothing_added (AreClosingDetails text program order events s closing.Limit) old refl
 closing_else text program order events s closing.Stopped old other = nothing_added (AreClosingDetails text program order events s closing.Stopped) old refl
 
-pub run_told : (answer : Answer) (text : List ℕ) (program : List Procedure) (order : RunOrder) (events : List Event) (s : State) (c : Closing) (old new : List ℕ) → IsUndrawn answer
+-- holds for an answer that has a report
+abbrev pub IsReported : RunAnswer → Type 0
+IsReported Report = Unit {0}
+IsReported Numbers = Unit {0}
+IsReported Json = ⊥
+IsReported (Picture shown) = ⊥
+
+pub reported : (answer : RunAnswer) → (answer ≡ Json → ⊥) → ((shown : EventRange) → answer ≡ Picture shown → ⊥) → IsReported answer
+reported Report json drawn = tt
+reported Numbers json drawn = tt
+reported Json json drawn = json refl
+reported (Picture shown) json drawn = drawn shown refl
+
+pub run_told : (answer : RunAnswer) (text : List ℕ) (program : List Procedure) (order : RunOrder) (events : List Event) (s : State) (c : Closing) (old new : List ℕ) → IsReported answer
     → Adds (AreClosingDetails text program order events s c) old new → Adds (AreRunDetails answer (Some text) program order events s c) old new
 run_told Report text program order events s c old new other h = h
 run_told Numbers text program order events s c old new other h = h
+run_told Json text program order events s c old new other h = absurd other
 run_told (Picture shown) text program order events s c old new other h = absurd other
 
-pub run_drawn : (answer : Answer) (shown : EventRange) (text : List ℕ) (program : List Procedure) (order : RunOrder) (events : List Event) (s : State) (c : Closing) (old : List ℕ) → answer ≡ Picture shown
+pub run_drawn : (answer : RunAnswer) (shown : EventRange) (text : List ℕ) (program : List Procedure) (order : RunOrder) (events : List Event) (s : State) (c : Closing) (old : List ℕ) → answer ≡ Picture shown
     → Adds (AreRunDetails answer (Some text) program order events s c) old old
 run_drawn answer shown text program order events s c old is =
-    subst (λ (a : Answer). Adds (AreRunDetails a (Some text) program order events s c) old old) (sym is) (nothing_added (AreRunDetails (Picture shown) (Some text) program order events s c) old refl)
+    subst (λ (a : RunAnswer). Adds (AreRunDetails a (Some text) program order events s c) old old) (sym is) (nothing_added (AreRunDetails (Picture shown) (Some text) program order events s c) old refl)
+
+pub run_json : (answer : RunAnswer) (text : List ℕ) (program : List Procedure) (order : RunOrder) (events : List Event) (s : State) (c : Closing) (old : List ℕ) → answer ≡ Json
+    → Adds (AreRunDetails answer (Some text) program order events s c) old old
+run_json answer text program order events s c old is =
+    subst (λ (a : RunAnswer). Adds (AreRunDetails a (Some text) program order events s c) old old) (sym is) (nothing_added (AreRunDetails Json (Some text) program order events s c) old refl)

@@ -1,4 +1,4 @@
--- A run has ended by itself exactly where its state is quiet.
+-- A run has ended by itself exactly if its state is quiet.
 use Rattle.std.proofs.Common.{◌≡◌, ◌==◌, ℕ, Bool, true, false, cond, List, length, Some, None, refl, sym, ap, ◌∙◌}
 use Rattle.tw_run_output.proofs.RunNames.{Procedure, State, circle}
 use Rattle.std.specs.FinMap.{len}
@@ -19,7 +19,7 @@ quiet_is false none n true full = refl
 quiet_is false none n false true = refl
 quiet_is false none n false false = refl
 
--- a run has ended by itself exactly where its state is quiet
+-- a run has ended by itself exactly if its state is quiet
 ended_is : (p : PoolView) (s : State) → has_ended (closing_at p s) ≡ is_quiet s
 ended_is p s = quiet_is (is_quiet s) (len s.rules == 0) (len s.rules) p.stopped (length p.history == p.limit)
 

@@ -1,5 +1,6 @@
 pub mod Finals
 pub mod RunEvents
+pub mod Instructions
 pub mod Tracing
 pub mod Closings
 mod RunNames

@@ -1,4 +1,4 @@
--- The events of a run: one after the other as they are read from its history, and that none does more than a task may.
+-- The events of a run, read from its trace one after the other; no task executes more instructions than it may.
 use Rattle.std.proofs.Common.{◌≡◌, ◌≤◌, ◌+◌, ◌++◌, ◌∙◌, ℕ, List, [], ◌∷◌, length, take, Option, Some, None, refl, sym, ap, subst}
 use Rattle.tw_run_output.proofs.RunNames.{AreShort, Event, IsProgram, PlainView, Procedure, State, Went, begins, reached, rejection_of}
 use Rattle.std.specs.Prelude.{slice_get}
@@ -27,7 +27,7 @@ use Rattle.tw_stats.specs.Kept.{IsTally}
 use Rattle.tw_stats.specs.Text.{AreNumbers}
 use Rattle.tw_replay_output.specs.Replay.{ByOutcome}
 
--- ---- the events of a history
+-- ---- the events of a trace
 
 pub event_more : (history : List Event) (i : ℕ) (e : Event) (old new : List Event) → old ≡ take i history → slice_get history i ≡ Some e → new ≡ old ++ e ∷ [] → new ≡ take (i + 1) history
 event_more history i e old new has at added =
@@ -37,7 +37,7 @@ event_more history i e old new has at added =
 pub all_events : (history : List Event) (i : ℕ) (now : List Event) → length history ≤ i → now ≡ take i history → now ≡ history
 all_events history i now all has = has ∙ take_all i history all
 
--- ---- where it begins
+-- ---- the start
 
 -- an accepted program with the inputs that main takes is opened
 pub opens : (program : List Procedure) (inputs : List Input) → IsAccepted program → AreInputsOf program inputs → rejection_of program inputs ≡ None
@@ -56,24 +56,24 @@ pub run_short : (program : List Procedure) (typings : Typings) → IsProgram pro
     → AreInputsOf program inputs → reached program inputs layout events ≡ Went t → AreShort events
 run_short program typings is are inputs layout events t given e = along program typings is are layout events _ t (opened_held program typings is are inputs given) e
 
--- ---- what is known where they go
+-- ---- if the events succeed
 
 pub goes_by : (o : Outcome State) (s : State) (goes : State → Type 0) (stops : Type 0) → o ≡ Went s → ByOutcome o goes stops → goes s
 goes_by o s goes stops is h = subst (λ (p : Outcome State). ByOutcome p goes stops) is h
 
--- ---- the machine at the beginning
+-- ---- the machine at the start
 
 pub begun : (program : Versioned) (sections : List Procedure) (order : RunOrder) (first : PlainView) → program.procedures ≡ sections → first ≡ begins program.version program.procedures order → first ≡ begins program.version sections order
 begun program sections order first same is = is ∙ ap (λ (ps : List Procedure). begins program.version ps order) same
 
--- the numbers of the events that were read are those of the run's
+-- the statistics of the events that were read are those of the run's events
 pub numbers_there : (names : List (List ℕ)) (first begin : PlainView) (read events : List Event) (plain : PlainView) (t : StatsBuilder) (budgets text : List ℕ) → first ≡ begin → read ≡ events → plain ≡ record first { state = plain.state } → IsTally first read plain.state t
     → ((v : PlainView) (es : List Event) → plain ≡ record v { state = plain.state } → IsTally v es plain.state t → AreNumbers names v.program v.layout budgets (history v es) text) → AreNumbers names begin.program begin.layout budgets (history begin events) text
 numbers_there names first begin read events plain t budgets text same all stays stats_builder tells =
     subst (λ (v : PlainView). AreNumbers names v.program v.layout budgets (history v events) text) same
     (subst (λ (es : List Event). AreNumbers names first.program first.layout budgets (history first es) text) all (tells first read stays stats_builder))
 
--- what is drawn doesn't depend on the version of the format
+-- a drawing doesn't depend on the version of the format
 pub other_version : (names : List (List ℕ)) (v w : Version) (program : List Procedure) (order : RunOrder) (events : List Event) (s : State) (d : Drawing) → IsDrawing names (begins v program order) events s d
     → IsDrawing names (begins w program order) events s d
 other_version names v w program order events s d h = record {

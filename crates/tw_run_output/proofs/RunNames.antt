@@ -1,4 +1,4 @@
--- Names of runs, of their events and of what is told of them, for the files here.
+-- Imports for the proofs here: runs, their events and their reports.
 pub use Rattle.std.proofs.lemmas.Result.{on_ok_weaker}
 pub use Rattle.tw_code.specs.declared.procedure.Procedure.{Procedure}
 pub use Rattle.tw_code.specs.format.Program.{IsProgram}

@@ -1,4 +1,4 @@
--- The lines of a history, one event more.
+-- The lines of a trace with one more event.
 use Rattle.std.proofs.Common.{◌≡◌, ◌≤◌, ◌+◌, Bool, true, false, ℕ, List, [], ◌∷◌, ◌++◌, length, take, codes, sym, ap, ◌∙◌, append_assoc, Some}
 use Rattle.std.specs.Prelude.{slice_get}
 use Rattle.std.specs.List.{flat_map}
@@ -8,7 +8,7 @@ use Rattle.tw_types.specs.declared.event.Event.{Event}
 use Rattle.tw_report.specs.Events.{event_line}
 use Rattle.tw_run_output.specs.Run.{trace_text}
 
--- what has been written when the first so many events are
+-- holds if the first `count` events have been written
 abbrev pub HasEvents : List Event → ℕ → List ℕ → List ℕ → Type 0
 HasEvents history count old now = now ≡ (old ++ codes "events\n") ++ flat_map event_line (take count history)
 

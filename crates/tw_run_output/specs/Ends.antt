@@ -1,4 +1,4 @@
--- The report of the end of a run on the pool: of each run that may have left it, in the state to which its history leads.
+-- The report of a run on the pool that is over. It describes the state to which the trace leads, for each run that may have ended so.
 use Rattle.std.specs.Prelude.{◌≡◌, ℕ, Bool, true, false, List, codes, Option, Some, None}
 use Rattle.tw_types.specs.declared.pending.Link.{Link}
 use Rattle.tw_code.specs.declared.procedure.Procedure.{Procedure}
@@ -12,7 +12,7 @@ use Rattle.tw_pool.specs.History.{HistoryView}
 use Rattle.tw_pool.specs.PoolView.{PoolView}
 use Rattle.tw_report.specs.Report.{ending_lines, report}
 
--- why a run on the pool was over, or that it wasn't: it ended by itself, or was stopped, or there was room for no event more
+-- returns the lines that say why a run on the pool ended: by itself, because it was stopped, or at its limit of events; or that it hasn't ended
 abbrev pub closing_lines : Option Closing → Option (List Link) → List ℕ
 closing_lines (Some Quiet) found = ending_lines (Some ending.Quiet) found
 closing_lines (Some (Stuck rules)) found = ending_lines (Some (ending.Stuck rules)) found
@@ -32,7 +32,7 @@ IsEndReport final text = InEachState final (λ program s. text ≡ end_report pr
 abbrev pub IsEndCircle : FinalView → Option (List Link) → Type 0
 IsEndCircle final found = InEachState final (λ program s. found ≡ circle program s)
 
--- a run that is over ended by itself, or was stopped, or had room for no event more
+-- returns whether a run ended by itself, and wasn't stopped or at its limit of events
 abbrev pub has_ended : Option Closing → Bool
 has_ended None = false
 has_ended (Some Quiet) = true

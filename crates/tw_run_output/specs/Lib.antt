@@ -1,5 +1,6 @@
--- What is told of the end of a run on the pool, over the report of a state, is Ends; what is written of a run Run.
+-- Ends defines the report of the end of a run on the pool, from the report of a state, and Run all output of a run.
 pub mod Ends
+pub mod Json
 pub mod Run
--- What the code knows of a run that is over.
+-- The facts that the code has about a run that is over.
 pub mod Over

@@ -1,4 +1,4 @@
--- What is known of a run that is over.
+-- The facts about a run that is over.
 use Rattle.std.specs.Prelude.{◌≡◌, ◌≤◌, ℕ, List, Some, length}
 use Rattle.tw_types.specs.declared.event.Event.{Event}
 use Rattle.tw_types.specs.Outcome.{Went}
@@ -9,14 +9,17 @@ use Rattle.tw_cli.specs.declared.command.RunOrder.{RunOrder}
 use Rattle.tw_pool.specs.declared.answer.Closing.{Closing}
 use Rattle.tw_pool.specs.Ends.{FinalView}
 use Rattle.tw_run_output.specs.Ends.{IsEndReport, end_report}
+use Rattle.tw_run_output.specs.Json.{IsEndLine, run_line}
 
--- there are no more events than there may be, and they go from where the run begins
+-- holds if there are no more events than allowed, and all succeed from the start of the run
 abbrev pub Goes : List Procedure → RunOrder → List Event → Type 0
 Goes program order events = (length events ≤ order.limit) × ((s : State) × (reached program order.inputs order.layout events ≡ Went s))
 
--- they lead to a state of which the host reports this
+-- a run that is over: its events lead to a state of which the host reports this
 pub record IsRunOver (program : List Procedure) (order : RunOrder) (final : FinalView) (events : List Event) (closing : Closing) : Type 0 where
   pub state : State
   pub few : length events ≤ order.limit
   pub reaches : reached program order.inputs order.layout events ≡ Went state
   pub reports : (told : List ℕ) → IsEndReport final told → told ≡ end_report program state (Some closing)
+  pub closes : final.closing ≡ Some closing
+  pub shows : (line : List ℕ) → IsEndLine final events closing line → line ≡ run_line program events state closing

@@ -1,4 +1,4 @@
--- What is written of a run that is over.
+-- Output of a run that is over.
 use Rattle.std.specs.Prelude.{◌≡◌, ◌++◌, Bool, true, false, ℕ, List, [], codes, decimal, Option, Some, None}
 use Rattle.std.specs.List.{flat_map}
 use Rattle.tw_types.specs.declared.event.Event.{Event}
@@ -9,8 +9,8 @@ use Rattle.tw_code.specs.machine.Pending.{circle}
 use Rattle.tw_code.specs.machine.State.{State}
 use Rattle.tw_pool.specs.declared.answer.Closing.{Closing}
 use Rattle.tw_pool.specs.declared.answer.Closing.TheVariants.{Quiet, Stuck, Stopped, Limit}
-use Rattle.tw_cli.specs.declared.command.Answer.{Answer}
-use Rattle.tw_cli.specs.declared.command.Answer.TheVariants.{Numbers, Picture, Report}
+use Rattle.tw_cli.specs.declared.command.RunAnswer.{RunAnswer}
+use Rattle.tw_cli.specs.declared.command.RunAnswer.TheVariants.{Json, Numbers, Picture, Report}
 use Rattle.tw_cli.specs.declared.command.RunOrder.{RunOrder}
 use Rattle.tw_cli.specs.declared.shown.EventRange.{EventRange}
 use Rattle.tw_machine.specs.PlainView.{PlainView}
@@ -24,12 +24,13 @@ use Rattle.tw_symbols.specs.Symbols.{AreSymbols}
 use Rattle.tw_stats.specs.Text.{AreNumbers}
 use Rattle.tw_report.specs.Events.{event_line}
 use Rattle.tw_run_output.specs.Ends.{end_report}
+use Rattle.tw_run_output.specs.Json.{run_line}
 use Rattle.tw_program_output.specs.declared.close.Close.{Close}
 use Rattle.tw_program_output.specs.declared.close.Close.TheVariants as close
 use Rattle.tw_replay_output.specs.Circle.{Start, TellsCircle}
 use Rattle.tw_replay_output.specs.Replay.{AreBudgets}
 
--- its events, where they are asked for
+-- returns the lines of the run's events, if they are requested
 abbrev pub trace_text : Bool → List Event → List ℕ
 trace_text false history = []
 trace_text true history = codes "events\n" ++ (flat_map event_line history ++ codes "end\n")
@@ -40,7 +41,7 @@ close_of (Stuck rules) = close.Stuck
 close_of Limit = close.Limit
 close_of Stopped = close.Refused
 
--- what stands behind `limit`, where the program was read from a text: how many events the run has, and how many one may have
+-- returns the line after `limit`, if the program was read from a text: how many events the run has, and how many one may have
 abbrev pub limit_details : Option (List ℕ) → RunOrder → Closing → List ℕ
 limit_details (Some text) order Limit = codes "events " ++ (decimal order.limit ++ codes "; --limit takes up to 1000000\n")
 limit_details (Some text) order Quiet = []
@@ -48,46 +49,48 @@ limit_details (Some text) order (Stuck rules) = []
 limit_details (Some text) order Stopped = []
 limit_details None order closing = []
 
--- the report, of a program that was read from this text, if from one
+-- returns the report of a program, which was read from this text, if from any
 abbrev pub run_report : Option (List ℕ) → List Procedure → RunOrder → State → Closing → List ℕ
 run_report text program order s closing = end_report program s (Some closing) ++ limit_details text order closing
 
--- where the run begins, of a program in this version of the format
+-- returns the start of a run, for a program in this version of the format
 abbrev pub begins : Version → List Procedure → RunOrder → PlainView
 begins version program order = record { version = version; program = program; layout = order.layout; state = opening program order.inputs }
 
--- the numbers of its events, where the procedures have these names; they are the same in each version of the format
+-- holds if these are the statistics of the run's events, with these names of procedures; they are the same in each version of the format
 abbrev pub AreRunNumbers : List (List ℕ) → List Procedure → RunOrder → List Event → List ℕ → Type 0
 AreRunNumbers names program order events text =
     (version : Version) → (budgets : List ℕ) × AreBudgets program budgets × AreNumbers names program order.layout budgets (history (begins version program order) events) text
 
--- the picture of these of them; it is the same in each version, too
+-- holds if this is the timeline of the events in this range; it is the same in each version, too
 abbrev pub IsRunPicture : List (List ℕ) → EventRange → List Procedure → RunOrder → List Event → State → List ℕ → Type 0
 IsRunPicture names shown program order events s text =
     (version : Version) → (d : Drawing) × IsDrawing names (begins version program order) events s d × (text ≡ xml_text (picture_of d (between shown.from shown.to)))
 
--- what is asked for, with the names that the text gives: the report, the numbers behind it, or a picture in its place
-abbrev pub IsRunText : Answer → Option (List ℕ) → List Procedure → RunOrder → List Event → State → Closing → List ℕ → Type 0
+-- holds if this is the requested output, with the names of the text: the report, or the report and statistics, or a JSON line, or a timeline
+abbrev pub IsRunText : RunAnswer → Option (List ℕ) → List Procedure → RunOrder → List Event → State → Closing → List ℕ → Type 0
 IsRunText Report text program order events s closing told = told ≡ run_report text program order s closing
+IsRunText Json text program order events s closing told = told ≡ run_line program events s closing
 IsRunText Numbers text program order events s closing told =
     (names : List (List ℕ)) × (numbers : List ℕ) × AreSymbols text names × AreRunNumbers names program order events numbers × (told ≡ run_report text program order s closing ++ numbers)
 IsRunText (Picture shown) text program order events s closing told =
     (names : List (List ℕ)) × AreSymbols text names × IsRunPicture names shown program order events s told
 
--- what the run is opened with
+-- returns the start of the run
 abbrev pub start_of : List Procedure → RunOrder → Start
 start_of program order = record { program = program; inputs = order.inputs; layout = order.layout }
 
--- what stands at the end, of a program that was read from this text
+-- holds if these are the lines at the end, for a program that was read from this text
 abbrev pub AreClosingDetails : List ℕ → List Procedure → RunOrder → List Event → State → Closing → List ℕ → Type 0
 AreClosingDetails text program order events s (Stuck rules) more = TellsCircle text (start_of program order) events (circle program s) more
 AreClosingDetails text program order events s Quiet more = more ≡ []
 AreClosingDetails text program order events s Limit more = more ≡ []
 AreClosingDetails text program order events s Stopped more = more ≡ []
 
--- if from one, and if no picture is asked for
-abbrev pub AreRunDetails : Answer → Option (List ℕ) → List Procedure → RunOrder → List Event → State → Closing → List ℕ → Type 0
+-- holds if these are the lines at the end; none if the program wasn't read from a text, or a timeline is requested
+abbrev pub AreRunDetails : RunAnswer → Option (List ℕ) → List Procedure → RunOrder → List Event → State → Closing → List ℕ → Type 0
 AreRunDetails answer None program order events s closing more = more ≡ []
 AreRunDetails Report (Some text) program order events s closing more = AreClosingDetails text program order events s closing more
 AreRunDetails Numbers (Some text) program order events s closing more = AreClosingDetails text program order events s closing more
+AreRunDetails Json (Some text) program order events s closing more = more ≡ []
 AreRunDetails (Picture shown) (Some text) program order events s closing more = more ≡ []

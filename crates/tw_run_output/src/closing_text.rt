@@ -1,4 +1,4 @@
-//! The line that says why a run was over.
+//! The line that says why a run ended.
 
 ghost use Rattle.std.specs.Prelude.{◌≡◌, IfOk, option_map};
 ghost use Rattle.tw_run_output.specs.Ends.{closing_lines};
@@ -8,7 +8,7 @@ use tw_pool::Closing;
 use tw_report::{ending_text, text_of};
 use tw_types::{Ending, Link};
 
-/// Why a run on the pool was over, with the circle that was found, or that it wasn't.
+/// Returns the lines that say why a run on the pool ended, with the circle that was found; or that it hasn't ended.
 pub fn closing_text(
     alloc: Global,
     closing: Option<Closing>,

@@ -1,4 +1,4 @@
-//! The report of the end of a run on the pool, and the circle where it is stuck.
+//! The report of a run on the pool that is over, and the circle in which it is stuck.
 
 ghost use Rattle.std.specs.Prelude.{◌≡◌, IfOk, option_map};
 ghost use Rattle.tw_run_output.specs.Ends.{IsEndCircle, IsEndReport, has_ended};
@@ -19,7 +19,7 @@ fn has_ended(closing: Option<Closing>) -> bool
     }
 }
 
-/// The circle of rules that wait for one another, where a run is stuck.
+/// Returns the circle of rules that wait for one another, if a run is stuck in one.
 pub fn circle(alloc: Global, left: &Final) -> Result<Option<Vec<Link>>, AllocError>
     ensures { IfOk result (λ found. IsEndCircle left.now (option_map (λ v. v.items) found)) }
 {
@@ -30,7 +30,7 @@ pub fn circle(alloc: Global, left: &Final) -> Result<Option<Vec<Link>>, AllocErr
     circle_of(alloc, &rules)
 }
 
-/// The report of the end of a run.
+/// Returns the report of a run that is over.
 pub fn report(alloc: Global, left: &Final) -> Result<Vec<u8>, AllocError>
     ensures { IfOk result (λ text. IsEndReport left.now text.items) }
 {

@@ -1,6 +1,6 @@
-//! What is written of a run that is over.
+//! Output of a run that is over.
 
-ghost use Rattle.std.specs.Prelude.{◌≡◌, ◌++◌, ℕ, List, None, IfOk, OnOk, codes, decimal};
+ghost use Rattle.std.specs.Prelude.{◌≡◌, ◌++◌, ℕ, List, None, Some, IfOk, OnOk, codes, decimal};
 ghost use Rattle.tw_types.specs.Outcome.{Went};
 ghost use Rattle.tw_code.specs.machine.Bounds.{AreBelow, opening_bound};
 ghost use Rattle.tw_code.specs.machine.Inputs.{AreInputsOf};
@@ -8,6 +8,7 @@ ghost use Rattle.tw_code.specs.machine.Opening.{reached};
 ghost use Rattle.tw_code.specs.machine.State.{State as MachineState};
 ghost use Rattle.tw_machine.specs.Opening.{rejection_of};
 ghost use Rattle.tw_run_output.specs.Ends.{IsEndReport};
+ghost use Rattle.tw_run_output.specs.Json.{IsEndLine};
 ghost use Rattle.tw_run_output.specs.Over.{Goes, IsRunOver};
 ghost use Rattle.tw_program_output.specs.Reply.{reply};
 ghost use Rattle.tw_run_output.specs.Run.{AreRunNumbers, AreRunDetails, IsRunPicture, IsRunText, begins, close_of, limit_details, trace_text};
@@ -15,9 +16,10 @@ ghost use Rattle.tw_symbols.specs.Symbols.{AreSymbols};
 ghost use Rattle.tw_program_output.specs.Source.{MayBeSource, text_of};
 
 use crate::end_report::report;
+use crate::json::end_line;
 use crate::run_details::put_run_details;
 use std::alloc::{AllocError, Global};
-use tw_cli::{Answer, EventRange, RunOrder};
+use tw_cli::{EventRange, RunAnswer, RunOrder};
 use tw_code::Program;
 use tw_machine::Plain;
 use tw_pool::{Closing, Final, History};
@@ -27,7 +29,7 @@ use tw_report::{put, put_event_line, put_numbered};
 use tw_types::Event;
 use tw_verify::Verified;
 
-/// How a session ends whose run has ended so. No run of a session is stopped, but other callers of `report` may tell of one.
+/// Returns how a session ends after a run that ended so. No run of a session is stopped, but other callers of `report` may have one that was.
 fn close_of(closing: Closing) -> Close
     ensures { result ≡ close_of closing }
 {
@@ -39,7 +41,7 @@ fn close_of(closing: Closing) -> Close
     }
 }
 
-/// The events of a history, in their order.
+/// Returns the events of a trace, in their order.
 pub fn events_of(alloc: Global, history: &History) -> Result<Vec<Event>, AllocError>
     ensures { IfOk result (λ events. events.items ≡ history.now.events) }
 {
@@ -50,7 +52,7 @@ pub fn events_of(alloc: Global, history: &History) -> Result<Vec<Event>, AllocEr
     Ok(events)
 }
 
-/// Adds the lines of the events, where they are asked for.
+/// Adds the lines of the events, if they are requested.
 fn put_trace(
     alloc: Global,
     out: &mut Vec<u8>,
@@ -76,7 +78,7 @@ fn put_limit_line(alloc: Global, out: &mut Vec<u8>, events: usize) -> Result<(),
     put(out, "; --limit takes up to 1000000\n")
 }
 
-/// Adds what stands behind `limit`, where the program was read from a text.
+/// Adds the line after `limit`, if the program was read from a text.
 fn put_limit(
     alloc: Global,
     out: &mut Vec<u8>,
@@ -95,7 +97,7 @@ fn put_limit(
     }
 }
 
-/// The reference machine where a run begins.
+/// Returns the reference machine at the start of a run.
 fn first_machine(alloc: Global, order: &RunOrder, program: Program) -> Result<Plain, AllocError>
     requires { rejection_of program.procedures order.now.inputs ≡ None }
     ensures first { IfOk result (λ plain. plain ≡ begins program.version program.procedures order.now) }
@@ -107,7 +109,7 @@ fn first_machine(alloc: Global, order: &RunOrder, program: Program) -> Result<Pl
     }
 }
 
-/// Adds the numbers of the events.
+/// Adds the statistics of the events.
 fn put_run_numbers(
     alloc: Global,
     out: &mut Vec<u8>,
@@ -120,7 +122,7 @@ fn put_run_numbers(
     requires goes { Goes verified.program order.now history.now.events }
     ensures { OnOk result ((names : List (List ℕ)) × (numbers : List ℕ) × AreSymbols (text_of source.now) names × AreRunNumbers names verified.program order.now history.now.events numbers × (out.new.items ≡ out.old.items ++ numbers)) }
 {
-    // For their clauses alone: what holds of an accepted program's procedures, and how many events a run may have.
+    // For their clauses alone: they hold for an accepted program's procedures, and bound the events of a run.
     let _procedures = verified.program().procedures();
     let _most = order.limit.events();
     let budgets = budgets_of(alloc, &verified)?;
@@ -138,7 +140,7 @@ fn put_run_numbers(
     }
 }
 
-/// Adds the picture of these of the events.
+/// Adds the timeline of the events in this range.
 fn put_run_picture(
     alloc: Global,
     out: &mut Vec<u8>,
@@ -153,7 +155,7 @@ fn put_run_picture(
     ensures { OnOk result ((s : MachineState) → reached verified.program order.now.inputs order.now.layout history.now.events ≡ Went s
         → (names : List (List ℕ)) × (picture : List ℕ) × AreSymbols (text_of source.now) names × IsRunPicture names shown verified.program order.now history.now.events s picture × (out.new.items ≡ out.old.items ++ picture)) }
 {
-    // For their clauses alone: what holds of an accepted program's procedures, and how many events a run may have.
+    // For their clauses alone: they hold for an accepted program's procedures, and bound the events of a run.
     let _procedures = verified.program().procedures();
     let _most = order.limit.events();
     let events = events_of(alloc, history)?;
@@ -163,7 +165,7 @@ fn put_run_picture(
     put_bytes(out, &drawn.text)
 }
 
-/// Adds the report.
+/// Adds the report, and the line after `limit`.
 fn put_run_report(
     alloc: Global,
     out: &mut Vec<u8>,
@@ -180,7 +182,22 @@ fn put_run_report(
     put_limit(alloc, out, source, order, closing)
 }
 
-/// Adds what is asked for.
+/// Adds the run as a JSON line.
+fn put_json(
+    alloc: Global,
+    out: &mut Vec<u8>,
+    outcome: &Final,
+    history: &History,
+    closing: Closing,
+) -> Result<(), AllocError>
+    requires { outcome.now.closing ≡ Some closing }
+    ensures { OnOk result ((line : List ℕ) × IsEndLine outcome.now history.now.events closing line × (out.new.items ≡ out.old.items ++ line)) }
+{
+    let line = end_line(alloc, outcome, history, closing)?;
+    put_bytes(out, line.as_bytes())
+}
+
+/// Adds the requested output.
 fn put_told(
     alloc: Global,
     out: &mut Vec<u8>,
@@ -197,18 +214,19 @@ fn put_told(
         → (told : List ℕ) × IsRunText order.now.answer (text_of source.now) verified.program order.now history.now.events over.state closing told × (out.new.items ≡ out.old.items ++ told)) }
 {
     match order.answer {
-        Answer::Report => put_run_report(alloc, out, source, order, outcome, closing),
-        Answer::Numbers => {
+        RunAnswer::Report => put_run_report(alloc, out, source, order, outcome, closing),
+        RunAnswer::Numbers => {
             put_run_report(alloc, out, source, order, outcome, closing)?;
             put_run_numbers(alloc, out, source, order, verified, history)
         }
-        Answer::Picture(shown) => {
+        RunAnswer::Json => put_json(alloc, out, outcome, history, closing),
+        RunAnswer::Picture(shown) => {
             put_run_picture(alloc, out, source, shown, order, verified, history)
         }
     }
 }
 
-/// The reply where a run is over.
+/// Returns the reply to `run` after the run is over.
 pub fn ended_reply(
     alloc: Global,
     source: &Option<SourceText<'_>>,
@@ -226,7 +244,7 @@ pub fn ended_reply(
         × AreRunDetails order.now.answer (text_of source.now) verified.program order.now history.now.events over.state closing more
         × (reply r.text.items r.close ≡ reply (trace_text order.now.trace history.now.events ++ (told ++ more)) (close_of closing))) }
 {
-    // For their clauses alone: what holds of an accepted program's procedures, and how many events a run may have.
+    // For their clauses alone: they hold for an accepted program's procedures, and bound the events of a run.
     let _procedures = verified.program().procedures();
     let _most = order.limit.events();
     let mut text = Vec::new(alloc);

@@ -1,4 +1,4 @@
-//! What is left of a run, to be told.
+//! A finished run, for reports.
 
 ghost use Rattle.tw_store.specs.Served.{KnowsPlaces};
 
@@ -7,7 +7,7 @@ use tw_pool::Final;
 use tw_report::ReportSource;
 use tw_types::{DatumId, Value};
 
-/// The end of a run on the pool, which looks a member up at its place.
+/// The end of a run on the pool. It finds a member of a container by its place.
 #[derive(Drop)]
 pub struct FinishedRun<'f> {
     pub of: &'f Final,

@@ -1,11 +1,12 @@
-//! What is told of a run on the pool that is over: its report and the circle where it is stuck, its events, numbers and picture.
+//! Output of a finished run on the pool: report, circle, trace, statistics and timeline.
 #![tactic(auto)]
 
 mod closing_text;
 mod end_report;
 mod ended;
 mod finished_run;
+mod json;
 mod run_details;
 
 pub use end_report::{circle, report};
-pub use ended::ended_reply;
+pub use ended::{ended_reply, events_of};

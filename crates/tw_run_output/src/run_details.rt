@@ -1,4 +1,4 @@
-//! What stands behind the report of a run whose program was read from a text.
+//! The lines after the report of a run whose program was read from a text.
 
 ghost use Rattle.std.specs.Prelude.{◌≡◌, ◌++◌, ℕ, List, OnOk};
 ghost use Rattle.tw_types.specs.Outcome.{Went};
@@ -12,7 +12,7 @@ ghost use Rattle.tw_replay_output.specs.Stuck.{CanTell, MayTell};
 
 use crate::ended::events_of;
 use std::alloc::{AllocError, Global};
-use tw_cli::{Answer, RunOrder};
+use tw_cli::{RunAnswer, RunOrder};
 use tw_pool::{Closing, History};
 use tw_program_output::SourceText;
 use tw_replay_output::put_stuck;
@@ -40,7 +40,7 @@ fn put_circle_details(
     )
 }
 
-/// Adds what stands at the end of a report.
+/// Adds the lines after a report.
 fn put_closing_details(
     alloc: Global,
     out: &mut Vec<u8>,
@@ -59,7 +59,7 @@ fn put_closing_details(
     }
 }
 
-/// Adds it where the program was read from a text, and no picture is asked for.
+/// Adds the lines after a report, if the program was read from a text and no timeline is requested.
 pub fn put_run_details(
     alloc: Global,
     out: &mut Vec<u8>,
@@ -76,7 +76,8 @@ pub fn put_run_details(
         return Ok(());
     };
     match order.answer {
-        Answer::Picture(_) => Ok(()),
+        RunAnswer::Json => Ok(()),
+        RunAnswer::Picture(_) => Ok(()),
         _ => put_closing_details(alloc, out, source, order, history, closing),
     }
 }

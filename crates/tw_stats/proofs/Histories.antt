@@ -1,4 +1,4 @@
--- A history with one event more.
+-- A trace with one more event.
 use Rattle.std.proofs.Common.{arith, ◌≡◌, ◌+◌, ◌<◌, ◌^◌, ◌⊎◌, inl, inr, ℕ, zero, suc, List, [], ◌∷◌, ◌++◌, length, get_or, refl, sym, ap, subst, ◌∙◌, Option, Some, None}
 use Rattle.std.specs.FinMap.{get}
 use Rattle.std.specs.List.{Contains}
@@ -44,7 +44,7 @@ low program layout number (event ∷ events) s m h = go (λ next later. low prog
     go rest NotEnabled h = let none : h.0 < 0 = h.1 in absurd (omega arith)
     go rest (Trap cause) h = let none : h.0 < 0 = h.1 in absurd (omega arith)
 
--- the moment of the event that comes next
+-- the moment of the next event
 abbrev pub next_moment : List Event → Event → State → State → Moment
 next_moment events event s t = record { number = 1 + length events; event = event; before = s; behind = t }
 

@@ -1,4 +1,4 @@
--- Chains of a history with one event more.
+-- Chains of a trace with one more event.
 use Rattle.std.proofs.Common.{arith, ◌≡◌, ◌+◌, ◌<◌, ◌≤◌, ◌⊎◌, inl, inr, ℕ, zero, suc, Bool, true, false, List, [], ◌∷◌, ◌++◌, ◌||◌, ◌-◌, ◌^◌, min, length, get_or, refl, sym, ap, subst, ◌∙◌}
 use Rattle.std.proofs.lemmas.Bool.{or_left, or_right, cases_lt}
 use Rattle.std.specs.Prelude.{max, if◌then◌else◌}
@@ -45,7 +45,7 @@ module _ (program : List Procedure) (moments : List Moment) where
   still x (last ∷ chain) h = (Contains-append_left moments (x ∷ []) last h.0, h.1, still x chain h.2)
 
   module _ (x : Moment) (later : IsLater moments x) where
-    -- none of its events is the new one
+    -- none of the chain's events is the new one
     without : (m : Moment) (chain : List Moment) → (m.number ≤ x.number) → WaitsForLast program m chain → IsChain program (moments ++ x ∷ []) chain → IsChain program moments chain
     without m [] low waits h = h
     without m (last ∷ chain) low waits h =
@@ -55,7 +55,7 @@ module _ (program : List Procedure) (moments : List Moment) where
           | inr same ↦ let number : last.number ≡ x.number = ap (λ (m : Moment). m.number) same in absurd (omega arith)
         ]
 
-    -- a chain that has the new one has it last
+    -- a chain with the new event has it last
     split : (last : Moment) (chain : List Moment) → IsChain program (moments ++ x ∷ []) (last ∷ chain) → IsChain program moments (last ∷ chain) ⊎ ((last ≡ x) × IsChain program moments chain)
     split last chain h = elim (last_or moments x last h.0) [
       | inl there ↦ let low : last.number ≤ x.number = let before = later last there in omega arith in inl (there, h.1, without last chain low h.1 h.2)
@@ -72,7 +72,7 @@ module _ (program : List Procedure) (moments : List Moment) where
       | inr others ↦ let low = under dependencies test n h others in let more = le-max_right (depth_at d y) (deepest d dependencies) in omega arith
     ]
 
-    -- its last event, if it has one, provides one of the dependencies
+    -- holds if the chain's last event, if it has one, provides one of the dependencies
     abbrev BringsSome : List Dependency → List Moment → Type 0
     BringsSome dependencies [] = Unit {0}
     BringsSome dependencies (last ∷ chain) = list_any (has_thing (provides program last)) dependencies ≡ true
@@ -103,13 +103,13 @@ module _ (program : List Procedure) (moments : List Moment) where
           record { chain = f.chain; is = f.is; provides = brings_first y dependencies f.chain f.last; has = f.has ∙ sym (max-eq_left more) }
     ]
 
-    -- ---- one event more
+    -- ---- one more event
 
     module _ (x : Moment) (later : IsLater moments x) where
       abbrev depth : ℕ
       depth = size_of x.event + deepest d (needs x)
 
-      -- no chain that ends in it has more steps
+      -- no chain that ends in the new event has more steps
       below : (chain : List Moment) → IsChain program moments chain → WaitsForLast program x chain → steps_in (x ∷ chain) ≤ depth
       below [] h waits = omega (arith, steps_one_more x [])
       below (last ∷ chain) h waits =
@@ -120,7 +120,7 @@ module _ (program : List Procedure) (moments : List Moment) where
       waits_for dependencies [] same h b = tt
       waits_for dependencies (last ∷ chain) same h b = record { before = later last h.0; needed = subst (λ (ys : List Dependency). list_any (has_thing (provides program last)) ys ≡ true) same b }
 
-      -- and one has so many
+      -- a chain that ends in the new event has so many steps
       reached : (chain : List Moment) × IsChain program (moments ++ x ∷ []) (x ∷ chain) × (steps_in (x ∷ chain) ≡ depth)
       reached =
           let f = found (needs x) in
@@ -194,7 +194,7 @@ chains_none program c longest depths = record {
   bounded = λ x. let here = depths x in omega arith;
 }
 
--- ---- as the code has it
+-- ---- in the form that the code has
 
 deepest_low : (d : Depths) (most : ℕ) → ((x : Dependency) → depth_at d x ≤ most) → (dependencies : List Dependency) → deepest d dependencies ≤ most
 deepest_low d most h [] = omega arith

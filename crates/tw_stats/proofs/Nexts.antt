@@ -1,4 +1,4 @@
--- The numbers of the next task and the next rule, behind an event.
+-- The numbers of the next task and the next rule after an event.
 use Rattle.std.proofs.Common.{arith, ◌≡◌, ◌+◌, ℕ, List, Option, Some, None, refl, sym, ap, ◌∙◌, slice_get}
 use Rattle.std.specs.FinMap.{get}
 use Rattle.std.specs.Option.{option_and_then}
@@ -23,7 +23,7 @@ use Rattle.tw_stats.specs.declared.dependency.Dependency.TheVariants.{Datum}
 use Rattle.tw_stats.specs.Kept.{rules_in, tasks_in}
 use Rattle.tw_stats.specs.Waits.{made_at, made_by, made_in, written}
 
--- so many more of each
+-- the numbers have grown by what is made
 pub record AreMore (s : State) (made : Option Dependency) (t : State) : Type 0 where
   pub task : t.next_task ≡ s.next_task + tasks_in made
   pub rule : t.next_rule ≡ s.next_rule + rules_in made
@@ -39,7 +39,7 @@ datum_more s t None task rule = none_more s t task rule
 datum_more s t (Some id) task rule = record { task = task ∙ no_more s.next_task; rule = rule ∙ no_more s.next_rule }
 
 module _ (program : List Procedure) (actor : Actor) (s : State) where
-  -- what the actor's task makes, by the instruction at its place
+  -- the actor's task makes this by its next instruction
   made_here : (at : Standing) → Stood program actor s at → (i : Instr) → at.instr ≡ i → made_in program s (get s.frames actor) ≡ made_by s at.frame (Some i)
   made_here at h i is =
       ap (λ (f : Option Frame). made_in program s f) h.frame

@@ -1,4 +1,4 @@
--- The numbers of a history with one event more.
+-- The statistics of a trace with one more event.
 use Rattle.std.proofs.Common.{arith, ◌≡◌, ◌+◌, ◌-◌, ◌<◌, ◌≤◌, ◌^◌, ◌==◌, ℕ, Bool, true, false, if◌then◌else◌, List, [], ◌∷◌, ◌++◌, length, length-append, min, suc, append_assoc, refl, sym, ap, subst, ◌∙◌, Option, Some, None}
 use Rattle.std.specs.Prelude.{codes, max}
 use Rattle.std.proofs.lemmas.List.Sums.{fold-append, sum_by-append, sum_by-cons, sum_by-le-sum_by}
@@ -22,7 +22,7 @@ use Rattle.tw_stats.specs.Waits.{done_by, steps_in}
 pub sum_more : (f : Moment → ℕ) (moments : List Moment) (m : Moment) → sum_by f (moments ++ m ∷ []) ≡ sum_by f moments + f m
 sum_more f moments m = sum_by-append f moments (m ∷ []) ∙ (let one = sum_by-cons f m [] in let none : sum_by f [] ≡ 0 = refl in omega (arith, one, none))
 
--- so many at most, where each is one at most
+-- a sum is at most its count, if each summand is at most one
 few : (f : Moment → ℕ) → ((m : Moment) → f m ≤ 1) → (moments : List Moment) → sum_by f moments ≤ length moments
 few f h [] = omega arith
 few f h (m ∷ moments) = let others = few f h moments in let here = h m in omega (arith, sum_by-cons f m moments)
@@ -33,7 +33,7 @@ one_if_le false = omega arith
 
 -- ---- what is small
 
--- how many events and steps there are with one more
+-- the counts of events and steps with one more event
 record Fits (moments : List Moment) (m : Moment) : Type 0 where
   events : length (moments ++ m ∷ []) ≡ length moments + 1
   steps : steps_in (moments ++ m ∷ []) ≡ steps_in moments + size_of m.event
@@ -104,11 +104,11 @@ instructions_small procedure moments =
     sum_by-le-sum_by (λ m. if_of procedure (λ d. instructions_by m.event) (done_by m)) (λ m. size_of m.event) moments
     (λ m. let one = instructions_le m.event in let part = if_of_le procedure (instructions_by m.event) (done_by m) in omega arith)
 
--- the most with one event more
+-- the most instructions with one more event
 most_more : (procedure : ℕ) (moments : List Moment) (m : Moment) → most_of procedure (moments ++ m ∷ []) ≡ max (most_of procedure moments) (done_at procedure m)
 most_more procedure moments m = fold-append (λ most m. max most (done_at procedure m)) 0 moments (m ∷ [])
 
--- an event of a task
+-- adds an event of a task
 pub procedures_more : (moments : List Moment) (m : Moment) (d : Executor) (done : ℕ) (old new : Procedures) → done_by m ≡ Some d → IsSmall (moments ++ m ∷ []) → d.spent < 2 ^ 63 → AreOfProcedures moments old
     → done ≡ min (d.spent + instructions_by m.event) (2 ^ 64 - 1) → IsAdded old.tasks d.procedure (tasks_by m.event) new.tasks → IsAdded old.instructions d.procedure (instructions_by m.event) new.instructions
     → IsRaised old.most d.procedure done new.most → AreOfProcedures (moments ++ m ∷ []) new
@@ -132,7 +132,7 @@ procedures_more moments m d done old new by small spent h is tasks instructions 
           ∙ ap (λ (o : Option Executor). max (most_of k moments) (if_of k (λ d. d.spent + instructions_by m.event) o)) (sym by) ∙ sym (most_more k moments m);
     }
 
--- one of no task
+-- adds an event of no task
 pub procedures_same : (moments : List Moment) (m : Moment) (p : Procedures) → done_by m ≡ None → AreOfProcedures moments p → AreOfProcedures (moments ++ m ∷ []) p
 procedures_same moments m p by h =
     let zero_more : (n : ℕ) → n ≡ n + 0 = λ n. omega arith in
@@ -143,7 +143,7 @@ procedures_same moments m p by h =
       most = λ k. h.most k ∙ zero_most (most_of k moments) ∙ ap (λ (o : Option Executor). max (most_of k moments) (if_of k (λ d. d.spent + instructions_by m.event) o)) (sym by) ∙ sym (most_more k moments m);
     }
 
--- ---- as the code has it
+-- ---- in the form that the code has
 
 pub counts_added : (moments : List Moment) (m : Moment) (event : Event) (size kind : ℕ) (actor : Actor) (old new : Counts) → m.event ≡ event → size ≡ size_of event → kind ≡ kind_of event → actor ≡ actor_of event
     → IsSmall (moments ++ m ∷ []) → AreCounts moments old → new.events ≡ min (old.events + 1) (2 ^ 64 - 1) → new.steps ≡ min (old.steps + size) (2 ^ 64 - 1) → IsAdded old.kinds kind 1 new.kinds
@@ -169,14 +169,14 @@ procedures_added moments m event d procedure tasks instructions done old new is 
     (subst (λ (n : ℕ). IsAdded old.instructions d.procedure n new.instructions) same_instructions (subst (λ (p : ℕ). IsAdded old.instructions p instructions new.instructions) of_procedure instructions_added))
     (subst (λ (p : ℕ). IsRaised old.most p done new.most) of_procedure raised)
 
--- the line of a procedure
+-- returns the line of a procedure
 pub line_same : (names : List (List ℕ)) (moments : List Moment) (p : Procedures) (number : ℕ) (budget : Option ℕ) → AreOfProcedures moments p → line_by names p number budget ≡ procedure_line names number budget moments
 line_same names moments p number budget h =
     ap (λ (n : ℕ). tasks_part names number n ++ (done_part (number_at p.instructions number) (number_at p.most number) ++ (budget_text budget ++ codes "\n"))) (h.tasks number)
     ∙ ap (λ (n : ℕ). tasks_part names number (tasks_of number moments) ++ (done_part n (number_at p.most number) ++ (budget_text budget ++ codes "\n"))) (h.instructions number)
     ∙ ap (λ (n : ℕ). tasks_part names number (tasks_of number moments) ++ (done_part (instructions_of number moments) n ++ (budget_text budget ++ codes "\n"))) (h.most number)
 
--- one line more
+-- adds one more line
 pub line_added : (there out new : List ℕ) (line : ℕ → List ℕ) (number : ℕ) (text : List ℕ) → text ≡ line number → out ≡ there ++ lines_below line number → new ≡ out ++ text → new ≡ there ++ lines_below line (number + 1)
 line_added there out new line number text same before after =
     let next : number + 1 ≡ suc number = omega arith in

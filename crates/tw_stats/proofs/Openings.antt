@@ -1,4 +1,4 @@
--- Where a history begins, and that it stays small.
+-- The opening of a trace, and traces that stay small.
 use Rattle.std.proofs.Common.{List, refl}
 use Rattle.tw_types.specs.declared.input.Input.{Input}
 use Rattle.tw_code.specs.declared.procedure.Procedure.{Procedure}

@@ -1,4 +1,4 @@
--- What the code keeps while it goes through a history.
+-- The data of the code while it reads a trace.
 use Rattle.std.specs.Prelude.{◌≡◌, ◌+◌, ◌<◌, ◌≤◌, ◌==◌, ◌^◌, ◌++◌, ℕ, true, if◌then◌else◌, List, [], ◌∷◌, length, codes, max, Option, Some, None, option_to_list, slice_index, IfSome}
 use Rattle.std.specs.List.{Contains}
 use Rattle.tw_types.specs.declared.actor.Actor.{Actor}
@@ -33,23 +33,23 @@ use Rattle.tw_stats.specs.Waits.{IsChain, IsLongest, asked_at, provides, doer_in
 abbrev pub number_at : Table → ℕ → ℕ
 number_at t key = slice_index t.items.items key
 
--- no number is set
+-- holds if no number is set
 abbrev pub IsBlank : Table → Type 0
 IsBlank t = (k : ℕ) → number_at t k ≡ 0
 
--- one number is another
+-- holds if the number of a key is this one, and no other number has changed
 abbrev pub IsSet : Table → ℕ → ℕ → Table → Type 0
 IsSet old key number new = (k : ℕ) → number_at new k ≡ (if key == k then number else number_at old k)
 
--- one number is more by so many, where that fits
+-- holds if the number of a key has grown by this amount, if that fits, and no other number has changed
 abbrev pub IsAdded : Table → ℕ → ℕ → Table → Type 0
 IsAdded old key amount new = number_at old key + amount < 2 ^ 64 → (k : ℕ) → number_at new k ≡ number_at old k + (if key == k then amount else 0)
 
--- one number is this one at least
+-- holds if the number of a key is raised to at least this one, and no other number has changed
 abbrev pub IsRaised : Table → ℕ → ℕ → Table → Type 0
 IsRaised old key number new = (k : ℕ) → number_at new k ≡ max (number_at old k) (if key == k then number else 0)
 
--- the line of a procedure, of these tables
+-- returns the line of a procedure, from these tables
 abbrev pub line_by : List (List ℕ) → Procedures → ℕ → Option ℕ → List ℕ
 line_by names p number budget = tasks_part names number (number_at p.tasks number) ++ (done_part (number_at p.instructions number) (number_at p.most number) ++ (budget_text budget ++ codes "\n"))
 
@@ -65,7 +65,7 @@ events_at t (Worker number) = number_at t.workers number
 abbrev pub things_in : Dependencies → List Dependency
 things_in t = option_to_list t.first ++ option_to_list t.second
 
--- the most steps of a chain whose last event provides the dependency
+-- returns the length of the longest chain whose last event provides the dependency
 abbrev pub depth_at : Depths → Dependency → ℕ
 depth_at d (Task number) = number_at d.tasks number
 depth_at d (Rule number) = number_at d.rules number
@@ -79,7 +79,7 @@ deepest d (x ∷ dependencies) = max (depth_at d x) (deepest d dependencies)
 abbrev pub IsDeepened : Depths → List Dependency → ℕ → Depths → Type 0
 IsDeepened old dependencies depth new = (x : Dependency) → depth_at new x ≡ max (depth_at old x) (if has_thing dependencies x then depth else 0)
 
--- the last event of the chain provides the dependency, if the chain has one
+-- holds if the chain's last event provides the dependency, if it has an event
 abbrev pub BringsLast : List Procedure → Dependency → List Moment → Type 0
 BringsLast program x [] = Unit {0}
 BringsLast program x (last ∷ chain) = has_thing (provides program last) x ≡ true
@@ -93,7 +93,7 @@ pub record IsDeepest (program : List Procedure) (history : List Moment) (x : Dep
 
 -- ---- an event
 
--- the task that does the event, where it runs before
+-- returns the task that executes the event, if the task runs before the event
 abbrev pub executor_before : Event → State → Option Executor
 executor_before (event.Take actor) s = None
 executor_before (event.Local actor n) s = doer_in s actor
@@ -103,7 +103,7 @@ executor_before (event.Ask engine rule parameter) s = None
 executor_before (event.Deliver server datum rule parameter) s = None
 executor_before (event.Release engine rule) s = None
 
--- what is known of an event before it is made
+-- the facts about an event in the state before it
 pub record IsComing (program : List Procedure) (event : Event) (s : State) (c : PreState) : Type 0 where
   pub executor : c.executor ≡ executor_before event s
   pub asked : c.asked ≡ asked_at event s
@@ -125,22 +125,22 @@ rules_in (Some (Rule number)) = 1
 rules_in (Some (Answer number)) = 0
 rules_in (Some (Datum number)) = 0
 
--- those behind an event that makes this, where they fit
+-- the numbers after an event that makes this, if they fit
 pub record AreBehind (old : Next) (made : Option Dependency) (new : Next) : Type 0 where
   pub task : old.task < 2 ^ 63 → new.task ≡ old.task + tasks_in made
   pub rule : old.rule < 2 ^ 63 → new.rule ≡ old.rule + rules_in made
 
--- ---- of a history
+-- ---- of a trace
 
--- so short that its numbers fit
+-- holds if the trace is so short that its numbers fit
 abbrev pub IsSmall : List Moment → Type 0
 IsSmall moments = length moments + steps_in moments < 2 ^ 63
 
--- it comes behind each of them
+-- holds if the moment comes after each of these
 abbrev pub IsLater : List Moment → Moment → Type 0
 IsLater moments m = (earlier : Moment) → Contains moments earlier → earlier.number < m.number
 
--- so few that one more instruction fits
+-- holds if the task has executed so few instructions that one more fits
 abbrev pub HasSpentFew : Option Executor → Type 0
 HasSpentFew by = IfSome by (λ d. d.spent < 2 ^ 63)
 
@@ -165,12 +165,12 @@ pub record IsNext (s : State) (n : Next) : Type 0 where
   pub task : n.task ≡ s.next_task
   pub rule : n.rule ≡ s.next_rule
 
--- where a history begins: main is the first task, and no rule is made
+-- a state at which a trace begins: main is the first task, and no rule is made
 pub record IsFirst (s : State) : Type 0 where
   pub task : s.next_task ≡ 2
   pub rule : s.next_rule ≡ 1
 
--- of events that lead to a state
+-- the builder after events that lead to a state
 pub record IsTally (first : PlainView) (events : List Event) (s : State) (t : StatsBuilder) : Type 0 where
   pub reached : run first.program first.layout events first.state ≡ Went s
   pub counts : AreCounts (history first events) t.counts

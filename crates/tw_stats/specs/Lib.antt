@@ -1,6 +1,6 @@
--- The numbers of a run are Numbers, which events wait for which is Waits, and the lines that tell both are Text.
+-- Numbers defines the statistics of a run, Waits which events wait for which, and Text the lines of both.
 pub mod Waits
 pub mod Numbers
 pub mod Text
--- What the code keeps while it goes through a history.
+-- The data of the code while it reads a trace.
 pub mod Kept

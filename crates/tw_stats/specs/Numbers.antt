@@ -1,4 +1,4 @@
--- The numbers of a history: how much of it is of each kind of event, each procedure and each actor.
+-- The statistics of a trace: counts by kind of event, procedure and actor.
 use Rattle.std.specs.Prelude.{ℕ, ◌+◌, ◌==◌, Bool, false, if◌then◌else◌, List, fold, max, Option, Some, None}
 use Rattle.std.specs.List.{sum_by}
 use Rattle.tw_types.specs.declared.actor.Actor.{Actor}
@@ -24,13 +24,13 @@ kind_of (Ask engine rule parameter) = 4
 kind_of (Deliver server datum rule parameter) = 5
 kind_of (Release engine rule) = 6
 
--- how many of the events are of the kind
+-- returns how many of the events are of the kind
 abbrev pub events_of_kind : ℕ → List Moment → ℕ
 events_of_kind kind history = sum_by (λ m. one_if (kind_of m.event == kind)) history
 
 -- ---- by procedure
 
--- how many tasks the event takes
+-- returns how many tasks the event takes
 abbrev pub tasks_by : Event → ℕ
 tasks_by (Take actor) = 1
 tasks_by (Local actor n) = 0
@@ -40,7 +40,7 @@ tasks_by (Ask engine rule parameter) = 0
 tasks_by (Deliver server datum rule parameter) = 0
 tasks_by (Release engine rule) = 0
 
--- how many instructions of its task the event does; an End does the RET
+-- returns how many instructions of its task the event executes; an End executes the RET
 abbrev pub instructions_by : Event → ℕ
 instructions_by (Take actor) = 0
 instructions_by (Local actor n) = n
@@ -50,24 +50,24 @@ instructions_by (Ask engine rule parameter) = 0
 instructions_by (Deliver server datum rule parameter) = 0
 instructions_by (Release engine rule) = 0
 
--- this, where the task is of the procedure
+-- returns an amount, if the task is of the procedure, and else 0
 abbrev pub if_of : ℕ → (Executor → ℕ) → Option Executor → ℕ
 if_of procedure amount None = 0
 if_of procedure amount (Some d) = if d.procedure == procedure then amount d else 0
 
--- how many tasks of the procedure are taken
+-- returns how many tasks of the procedure are taken
 abbrev pub tasks_of : ℕ → List Moment → ℕ
 tasks_of procedure history = sum_by (λ m. if_of procedure (λ d. tasks_by m.event) (done_by m)) history
 
--- how many instructions all of them do
+-- returns how many instructions all tasks of the procedure execute
 abbrev pub instructions_of : ℕ → List Moment → ℕ
 instructions_of procedure history = sum_by (λ m. if_of procedure (λ d. instructions_by m.event) (done_by m)) history
 
--- how many a task of the procedure has done behind the event
+-- returns how many instructions a task of the procedure has executed after the event
 abbrev pub done_at : ℕ → Moment → ℕ
 done_at procedure m = if_of procedure (λ d. d.spent + instructions_by m.event) (done_by m)
 
--- the most that one of them does
+-- returns the most instructions that a task of the procedure executes
 abbrev pub most_of : ℕ → List Moment → ℕ
 most_of procedure history = fold (λ most m. max most (done_at procedure m)) 0 history
 
@@ -84,6 +84,6 @@ same_actor (Worker n) (Engine k) = false
 same_actor (Worker n) (Server k) = false
 same_actor (Worker n) (Worker k) = n == k
 
--- how many of the events are the actor's
+-- returns how many of the events are the actor's
 abbrev pub events_of : Actor → List Moment → ℕ
 events_of actor history = sum_by (λ m. one_if (same_actor (actor_of m.event) actor)) history

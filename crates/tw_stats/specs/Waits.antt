@@ -1,4 +1,4 @@
--- Which events of a history wait for which, and its longest chain of events that wait for one another.
+-- The events of a trace that wait for one another, and the longest chain of these.
 use Rattle.std.specs.Prelude.{◌≡◌, ◌≤◌, ◌<◌, ◌==◌, ◌++◌, ℕ, Bool, true, false, if◌then◌else◌, List, [], ◌∷◌, map, Option, Some, None, option_map, option_to_list}
 use Rattle.std.specs.FinMap.{get}
 use Rattle.std.specs.List.{Contains, list_any, sum_by}
@@ -22,16 +22,16 @@ use Rattle.tw_stats.specs.declared.executor.Executor.{Executor}
 use Rattle.tw_stats.specs.declared.dependency.Dependency.{Dependency}
 use Rattle.tw_stats.specs.declared.dependency.Dependency.TheVariants.{Task, Rule, Answer, Datum}
 
--- ---- whose event it is
+-- ---- the task of an event
 
--- of a frame: its task, its procedure, and how many instructions it has done
+-- returns the task of a frame, its procedure, and how many instructions it has executed
 abbrev pub doer_of : Frame → Executor
 doer_of f = record { task = f.task; procedure = f.procedure; spent = f.spent }
 
 abbrev pub doer_in : State → Actor → Option Executor
 doer_in s actor = option_map doer_of (get s.frames actor)
 
--- the task that does the event; of a Take the one that is taken
+-- returns the task that executes the event; for a Take it is the task that is taken
 abbrev pub doer_at : Event → State → State → Option Executor
 doer_at (Take actor) s next = doer_in next actor
 doer_at (Local actor n) s next = doer_in s actor
@@ -44,13 +44,13 @@ doer_at (Release engine rule) s next = None
 abbrev pub done_by : Moment → Option Executor
 done_by m = doer_at m.event m.before m.behind
 
--- its task, if it has one
+-- returns the dependency on a task, if there is one
 abbrev pub task_of : Option Executor → List Dependency
 task_of by = map (λ d. Task d.task) (option_to_list by)
 
--- ---- what comes of an instruction for others
+-- ---- what an instruction makes for others
 
--- the right register of the datum that it writes, or on which it gives up a right to write
+-- returns the right register of the datum that the instruction writes, or on which it gives up a right to write
 abbrev pub written : DataInstr → Option ℕ
 written (New write read ty) = None
 written (Store datum from) = Some datum
@@ -64,7 +64,7 @@ written (CopyWrite to from) = None
 written (DropRead right) = None
 written (DropWrite right) = Some right
 
--- a datum, or the rule or the task that has the next number
+-- returns what the instruction makes for others: a datum's writes, or the rule or the task that has the next number
 abbrev pub made_by : State → Frame → Option Instr → Option Dependency
 made_by s frame None = None
 made_by s frame (Some (instr.Local i)) = None
@@ -76,7 +76,7 @@ made_by s frame (Some instr.Ret) = None
 abbrev pub made_in : List Procedure → State → Option Frame → Option Dependency
 made_in program s frame = option_and_then (λ f. made_by s f (instr_here program f)) frame
 
--- what the event makes or writes for other tasks and rules
+-- returns what the event makes or writes for other tasks and rules
 abbrev pub made_at : List Procedure → Event → State → Option Dependency
 made_at program (Take actor) s = None
 made_at program (Local actor n) s = None
@@ -92,11 +92,11 @@ abbrev pub is_closed_at : Option StoredDatum → Bool
 is_closed_at None = false
 is_closed_at (Some x) = is_closed x
 
--- this datum, where it is closed
+-- returns this datum, if it is closed
 abbrev pub if_closed : State → ℕ → Option ℕ
 if_closed s id = if is_closed_at (get s.store.live id) then Some id else None
 
--- the datum for which an engine asks, where it is closed
+-- returns the datum about which an engine asks, if it is closed
 abbrev pub asked_at : Event → State → Option ℕ
 asked_at (Take actor) s = None
 asked_at (Local actor n) s = None
@@ -106,9 +106,9 @@ asked_at (Ask engine rule parameter) s = option_and_then (if_closed s) (option_a
 asked_at (Deliver server datum rule parameter) s = None
 asked_at (Release engine rule) s = None
 
--- An event of a task waits for the task: for the event that put it, and for all that it has done. An Ask waits for the rule, and
--- where the datum is closed for what was written of it; a Deliver waits for what was written of the datum, and a Release for the
--- rule and for all that is known of its parameters.
+-- returns what an event waits for. An event of a task waits for the event that put it, and for everything that the task has done. An Ask waits for
+-- the rule, and for the writes to the datum if that is closed. A Deliver waits for the writes to the datum. A Release waits for the rule, and for all
+-- answers about its parameters.
 abbrev pub needs_by : Event → Option Executor → Option ℕ → List Dependency
 needs_by (Take actor) by asked = task_of by
 needs_by (Local actor n) by asked = task_of by
@@ -156,28 +156,28 @@ same_thing (Datum n) (Datum k) = n == k
 abbrev pub has_thing : List Dependency → Dependency → Bool
 has_thing dependencies x = list_any (λ dependency. same_thing dependency x) dependencies
 
--- an event waits for each earlier one that provides something which it needs
+-- an event that waits for an earlier one, because this provides something that it needs
 pub record WaitsFor (program : List Procedure) (later earlier : Moment) : Type 0 where
   pub before : earlier.number < later.number
   pub needed : list_any (has_thing (provides program earlier)) (needs later) ≡ true
 
 -- ---- chains
 
--- it waits for the last of a chain, if that has one
+-- holds if the event waits for the last one of a chain, if the chain has one
 abbrev pub WaitsForLast : List Procedure → Moment → List Moment → Type 0
 WaitsForLast program m [] = Unit {0}
 WaitsForLast program m (last ∷ chain) = WaitsFor program m last
 
--- events of the history, the last one first, each of which waits for the one before it
+-- holds if these are events of the trace, the last one first, each of which waits for the one before it
 abbrev pub IsChain : List Procedure → List Moment → List Moment → Type 0
 IsChain program history [] = Unit {0}
 IsChain program history (last ∷ chain) = Contains history last × WaitsForLast program last chain × IsChain program history chain
 
--- how many steps they are: an event of local instructions is as many as these, and each other one is one
+-- returns how many steps the events are: one for each local instruction, and one for each other event
 abbrev pub steps_in : List Moment → ℕ
 steps_in moments = sum_by (λ m. size_of m.event) moments
 
--- some chain has so many steps, and none has more
+-- the length of the longest chain: some chain has so many steps, and none has more
 pub record IsLongest (program : List Procedure) (history : List Moment) (steps : ℕ) : Type 0 where
   pub chain : List Moment
   pub is : IsChain program history chain

@@ -1,4 +1,4 @@
-//! How many events each actor makes.
+//! Counts of events by actor.
 
 ghost use Rattle.std.specs.Prelude.{◌≡◌, ◌+◌, ◌<◌, ◌^◌, OnOk};
 ghost use Rattle.tw_types.specs.declared.actor.Actor.{Actor as AnActor};

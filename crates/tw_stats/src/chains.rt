@@ -12,12 +12,12 @@ use crate::depths::Depths;
 use std::alloc::{AllocError, Global};
 use tw_types::Event;
 
-/// The steps of chains, so far.
+/// The lengths of chains so far, in steps.
 #[derive(Drop)]
 pub struct Chains {
-    /// Of the longest one.
+    /// The length of the longest chain.
     pub longest: u64,
-    /// Of those that provide a dependency.
+    /// The lengths of the longest chains that provide each dependency.
     pub depths: Depths,
 }
 
@@ -31,7 +31,7 @@ impl Chains {
         }
     }
 
-    /// Adds an event that needs these dependencies and provides those.
+    /// Adds an event, with what it needs and what it provides.
     pub fn add(
         &mut self,
         event: &Event,

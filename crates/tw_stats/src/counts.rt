@@ -1,4 +1,4 @@
-//! How many events there are, by their kinds and by their actors.
+//! Counts of events by kind and by actor.
 
 ghost use Rattle.std.specs.Prelude.{◌≡◌, ◌∷◌, ◌++◌, [], List, OnOk};
 ghost use Rattle.tw_code.specs.machine.Bounds.{size_of};
@@ -12,11 +12,11 @@ use std::alloc::{AllocError, Global};
 use tw_machine::actor_of;
 use tw_types::Event;
 
-/// Numbers of all events of a history.
+/// The counts of all events of a trace.
 #[derive(Drop)]
 pub struct Counts {
     pub events: u64,
-    /// As many as local instructions, and one for each other event.
+    /// The number of steps: one for each local instruction, and one for each other event.
     pub steps: u64,
     pub kinds: Table,
     pub actors: Actors,
@@ -36,7 +36,7 @@ fn kind_of(event: &Event) -> u64
     }
 }
 
-/// How many steps an event is.
+/// Returns how many steps an event is.
 pub fn size_of(event: &Event) -> u64
     ensures { result ≡ size_of event.now }
 {

@@ -8,7 +8,7 @@ use crate::dependency::Dependency;
 use crate::executor::Executor;
 use tw_types::{DatumId, Event};
 
-/// Two dependencies, or fewer.
+/// At most two dependencies.
 #[derive(Clone, Copy)]
 pub struct Dependencies {
     pub first: Option<Dependency>,
@@ -33,7 +33,7 @@ fn datum(id: &Option<DatumId>) -> Option<Dependency>
     }
 }
 
-/// What an event waits for.
+/// Returns what an event waits for.
 pub fn needs(event: &Event, executor: &Option<Executor>, asked: &Option<DatumId>) -> Dependencies
     ensures { things_in result ≡ needs_by event.now executor.now asked.now }
 {
@@ -57,7 +57,7 @@ pub fn needs(event: &Event, executor: &Option<Executor>, asked: &Option<DatumId>
     }
 }
 
-/// What it provides for others.
+/// Returns what an event provides for others.
 pub fn provides(
     event: &Event,
     executor: &Option<Executor>,

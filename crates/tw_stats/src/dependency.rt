@@ -1,16 +1,16 @@
-//! What events wait for.
+//! The things for which events wait.
 
 use tw_types::{DatumId, RuleNo, TaskNo};
 
-/// What an event provides for the events that wait for it.
+/// A thing that one event provides, and for which others wait.
 #[derive(Clone, Copy)]
 pub enum Dependency {
-    /// A task that is put, and each thing that it has done.
+    /// A task: its PUT, and everything that it has done.
     Task(TaskNo),
     /// A rule that is made.
     Rule(RuleNo),
-    /// What is known of a parameter of a rule.
+    /// The answers about a rule's parameters.
     Answer(RuleNo),
-    /// What is written of a datum.
+    /// The writes to a datum.
     Datum(DatumId),
 }

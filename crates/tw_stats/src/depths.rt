@@ -1,4 +1,4 @@
-//! The most steps of a chain that provides a dependency.
+//! The length of the longest chain that provides a dependency.
 
 ghost use Rattle.std.specs.Prelude.{◌≡◌, OnOk, if◌then◌else◌, max, option_to_list};
 ghost use Rattle.tw_stats.specs.declared.dependency.Dependency.{Dependency as AThing};
@@ -10,7 +10,7 @@ use crate::dependency::Dependency;
 use crate::table::Table;
 use std::alloc::{AllocError, Global};
 
-/// A number for each dependency.
+/// A number of steps for each dependency.
 #[derive(Drop)]
 pub struct Depths {
     tasks: Table,
@@ -51,7 +51,7 @@ impl Depths {
         }
     }
 
-    /// The most of these dependencies.
+    /// Returns the greatest number of these dependencies, 0 if there are none.
     pub fn deepest(&self, dependencies: &Dependencies) -> u64
         ensures { result ≡ deepest self.now (things_in dependencies.now) }
     {
@@ -79,7 +79,7 @@ impl Depths {
         }
     }
 
-    /// Makes it so many at least, of each of these dependencies.
+    /// Raises the number of each of these dependencies to at least this depth.
     pub fn deepen(&mut self, dependencies: &Dependencies, depth: u64) -> Result<(), AllocError>
         ensures { OnOk result (IsDeepened self.old (things_in dependencies.now) depth self.new) }
     {

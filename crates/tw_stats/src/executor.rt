@@ -1,4 +1,4 @@
-//! Which task does an event.
+//! The task that executes an event.
 
 ghost use Rattle.std.specs.Prelude.{◌≡◌};
 ghost use Rattle.tw_stats.specs.Waits.{doer_in, doer_of};
@@ -11,7 +11,7 @@ use tw_types::{Actor, TaskNo};
 pub struct Executor {
     pub task: TaskNo,
     pub procedure: u8,
-    /// How many instructions it has done.
+    /// The number of instructions that it has executed.
     pub spent: u64,
 }
 
@@ -26,7 +26,7 @@ impl Executor {
         }
     }
 
-    /// The task that an actor runs, if it runs one.
+    /// Returns the task that an actor runs, if it runs one.
     pub fn by(plain: &Plain, actor: Actor) -> Option<Executor>
         ensures { result ≡ doer_in plain.now.state actor }
     {

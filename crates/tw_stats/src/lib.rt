@@ -1,5 +1,4 @@
-//! The numbers of a run: what its events come to by their kinds, procedures and actors, and its longest chain of events that
-//! wait for one another.
+//! Statistics of a run: its events by kind, procedure and actor, and its longest chain of events that wait for one another.
 #![tactic(auto)]
 
 mod actors;

@@ -1,4 +1,4 @@
-//! The numbers that tasks and rules get.
+//! The numbers that the next task and the next rule get.
 
 ghost use Rattle.std.specs.Prelude.{◌≡◌};
 ghost use Rattle.tw_stats.specs.Kept.{AreBehind, IsFirst, IsNext};
@@ -15,7 +15,7 @@ pub struct Next {
 }
 
 impl Next {
-    /// Where main is put, and no rule is made.
+    /// Returns the numbers at an opening, when main is put and no rule is made.
     pub fn first() -> Next
         ensures { (s : State) → IsFirst s → IsNext s result }
     {
@@ -34,7 +34,7 @@ impl Next {
         RuleNo::new(self.rule)
     }
 
-    /// Goes behind an event that makes this.
+    /// Advances past an event that makes this.
     pub fn advance_past(&mut self, made: &Option<Dependency>)
         ensures { AreBehind self.old made.now self.new }
     {

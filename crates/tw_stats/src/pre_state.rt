@@ -1,4 +1,4 @@
-//! What is known of an event before it is made.
+//! The state before an event, as far as statistics need it.
 
 ghost use Rattle.std.specs.Prelude.{◌≡◌, option_map};
 ghost use Rattle.std.specs.FinMap.{get};
@@ -15,7 +15,7 @@ use tw_code::{DataInstr, Instr};
 use tw_machine::{Frame, Plain, Rule};
 use tw_types::{Actor, DatumId, Event, RuleNo};
 
-/// What is seen of an event in the state before it.
+/// The facts about an event in the state before it.
 #[derive(Clone, Copy)]
 pub struct PreState {
     pub executor: Option<Executor>,
@@ -23,7 +23,7 @@ pub struct PreState {
     pub made: Option<Dependency>,
 }
 
-/// The task that does the event, where it runs before.
+/// Returns the task that executes the event, if the task runs before the event.
 fn executor_before(plain: &Plain, event: &Event) -> Option<Executor>
     ensures { result ≡ executor_before event.now plain.now.state }
 {
@@ -36,7 +36,7 @@ fn executor_before(plain: &Plain, event: &Event) -> Option<Executor>
     }
 }
 
-/// A rule that is pending, if it is.
+/// Returns a rule, if it is pending.
 fn rule_at(plain: &Plain, rule: RuleNo) -> Option<&Rule>
     ensures { option_copied result ≡ get plain.now.state.rules rule }
 {
@@ -52,14 +52,14 @@ fn is_closed(plain: &Plain, id: DatumId) -> bool
     }
 }
 
-/// This datum, where it is closed.
+/// Returns this datum, if it is closed.
 fn if_closed(plain: &Plain, id: DatumId) -> Option<DatumId>
     ensures { result ≡ if_closed plain.now.state id }
 {
     if is_closed(plain, id) { Some(id) } else { None }
 }
 
-/// The datum for which an engine asks, where it is closed.
+/// Returns the datum about which an engine asks, if it is closed.
 fn asked_at(plain: &Plain, event: &Event) -> Option<DatumId>
     ensures { result ≡ asked_at event.now plain.now.state }
 {
@@ -74,7 +74,7 @@ fn asked_at(plain: &Plain, event: &Event) -> Option<DatumId>
     }
 }
 
-/// The right register of the datum that an instruction writes.
+/// Returns the right register of the datum that an instruction writes.
 fn written(instr: &DataInstr) -> Option<u8>
     ensures { result ≡ written instr.now }
 {
@@ -89,7 +89,7 @@ fn written(instr: &DataInstr) -> Option<u8>
     }
 }
 
-/// The datum that an instruction of the task writes.
+/// Returns the datum that an instruction of the task writes.
 fn written_by(frame: &Frame, instr: &DataInstr) -> Option<Dependency>
     ensures { result ≡ option_map Dependency.Datum (option_and_then (right_at frame.now.rights) (written instr.now)) }
 {
@@ -98,7 +98,7 @@ fn written_by(frame: &Frame, instr: &DataInstr) -> Option<Dependency>
     Some(Dependency::Datum(id))
 }
 
-/// What an instruction of the task makes or writes for others.
+/// Returns what an instruction of the task makes or writes for others.
 fn made_by(next: Next, frame: &Frame, instr: &Instr) -> Option<Dependency>
     ensures { (s : State) → IsNext s next → result ≡ made_by s frame.now (Some instr.now) }
 {
@@ -110,7 +110,7 @@ fn made_by(next: Next, frame: &Frame, instr: &Instr) -> Option<Dependency>
     }
 }
 
-/// What the instruction that comes next of an actor's task makes.
+/// Returns what the next instruction of an actor's task makes.
 fn made_in(next: Next, plain: &Plain, actor: Actor) -> Option<Dependency>
     ensures { IsNext plain.now.state next → result ≡ made_in plain.now.program plain.now.state (get plain.now.state.frames actor) }
 {
@@ -123,7 +123,7 @@ fn made_in(next: Next, plain: &Plain, actor: Actor) -> Option<Dependency>
     made_by(next, frame, instr)
 }
 
-/// What an event makes or writes for others.
+/// Returns what an event makes or writes for others.
 fn made_at(next: Next, plain: &Plain, event: &Event) -> Option<Dependency>
     ensures { IsNext plain.now.state next → result ≡ made_at plain.now.program event.now plain.now.state }
 {
@@ -136,7 +136,7 @@ fn made_at(next: Next, plain: &Plain, event: &Event) -> Option<Dependency>
 }
 
 impl PreState {
-    /// What is seen of an event where the machine stands.
+    /// Returns the facts about an event in the machine's current state. Call it before the event is executed.
     pub fn of(next: Next, plain: &Plain, event: &Event) -> PreState
         ensures { IsNext plain.now.state next → IsComing plain.now.program event.now plain.now.state result }
     {

@@ -1,4 +1,4 @@
-//! How many tasks and instructions there are of each procedure.
+//! Counts of tasks and instructions by procedure.
 
 ghost use Rattle.std.specs.Prelude.{◌≡◌, ◌<◌, ◌^◌, ◌∷◌, ◌++◌, [], List, OnOk};
 ghost use Rattle.tw_machine.specs.Moments.{Moment};
@@ -16,11 +16,11 @@ use tw_types::Event;
 pub struct Procedures {
     pub tasks: Table,
     pub instructions: Table,
-    /// The most instructions that one task does.
+    /// The most instructions that one task executes.
     pub most: Table,
 }
 
-/// How many tasks an event takes.
+/// Returns how many tasks an event takes: one or none.
 fn tasks_by(event: &Event) -> u64
     ensures { result ≡ tasks_by event.now }
 {
@@ -31,7 +31,7 @@ fn tasks_by(event: &Event) -> u64
     }
 }
 
-/// How many instructions it does.
+/// Returns how many instructions an event executes.
 fn instructions_by(event: &Event) -> u64
     ensures { result ≡ instructions_by event.now }
 {
@@ -65,7 +65,7 @@ impl Procedures {
         self.most.raise(procedure, done)
     }
 
-    /// Counts an event, which this task does if any.
+    /// Counts an event, with the task that executes it, if any.
     pub fn add(&mut self, event: &Event, executor: &Option<Executor>) -> Result<(), AllocError>
         ensures { OnOk result ((moments : List Moment) (m : Moment) → m.event ≡ event.now → done_by m ≡ executor.now → IsSmall (moments ++ m ∷ []) → HasSpentFew executor.now → AreOfProcedures moments self.old → AreOfProcedures (moments ++ m ∷ []) self.new) }
     {

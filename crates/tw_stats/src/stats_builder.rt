@@ -1,4 +1,4 @@
-//! The numbers of a history, gathered event by event.
+//! Statistics of a trace, gathered event by event.
 
 ghost use Rattle.std.specs.Prelude.{◌≡◌, ◌∷◌, ◌++◌, ◌^◌, [], IfOk, List, OnOk};
 ghost use Rattle.tw_types.specs.declared.event.Event.{Event as AnEvent};
@@ -22,7 +22,7 @@ use std::alloc::{AllocError, Global};
 use tw_machine::Plain;
 use tw_types::Event;
 
-/// What has been gathered of a history, so far.
+/// The statistics of a trace so far.
 #[derive(Drop)]
 pub struct StatsBuilder {
     pub(crate) counts: Counts,
@@ -31,7 +31,7 @@ pub struct StatsBuilder {
     next: Next,
 }
 
-/// The task that did the event which led to where the machine stands.
+/// Returns the task that executed the event which led to the machine's current state.
 fn executor_after(plain: &Plain, event: &Event, before: &Option<Executor>) -> Option<Executor>
     ensures { (s : State) → before.now ≡ executor_before event.now s → result ≡ doer_at event.now s plain.now.state }
 {
@@ -43,7 +43,7 @@ fn executor_after(plain: &Plain, event: &Event, before: &Option<Executor>) -> Op
 }
 
 impl StatsBuilder {
-    /// That of no events, from an opening on.
+    /// Makes a builder without events, at an opening.
     pub fn new(alloc: Global) -> StatsBuilder
         ensures { (first : PlainView) → IsFirst first.state → IsTally first [] first.state result }
     {
@@ -55,14 +55,14 @@ impl StatsBuilder {
         }
     }
 
-    /// What is seen of an event before it is made.
+    /// Returns the facts about an event in the state before it. Call it before the event is executed.
     pub fn pre_state(&self, plain: &Plain, event: &Event) -> PreState
         ensures { IsNext plain.now.state self.now.next → IsComing plain.now.program event.now plain.now.state result }
     {
         PreState::of(self.next, plain, event)
     }
 
-    /// Counts the event that led to where the machine stands, of which this was seen before.
+    /// Counts the event that led to the machine's current state; these facts are from the state before it.
     pub fn count_event(
         &mut self,
         plain: &Plain,

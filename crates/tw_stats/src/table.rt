@@ -5,13 +5,13 @@ ghost use Rattle.tw_stats.specs.Kept.{IsAdded, IsBlank, IsRaised, IsSet, number_
 
 use std::alloc::{AllocError, Global};
 
-/// A number for each number, 0 where none was set.
+/// A number for each key; 0 if none was set.
 #[derive(Drop)]
 pub struct Table {
     items: Vec<u64>,
 }
 
-/// Adds zeros, so that there is an item at the index.
+/// Appends zeros until there is an item at the index.
 fn reach(items: &mut Vec<u64>, index: usize) -> Result<(), AllocError>
     ensures there { OnOk result (index + 1 ≤ length items.new.items) }
     ensures same { OnOk result ((k : ℕ) → slice_index items.new.items k ≡ slice_index items.old.items k) }
@@ -46,7 +46,7 @@ impl Table {
         Ok(())
     }
 
-    /// Makes a number more by so many.
+    /// Adds an amount to the number of a key.
     pub fn add(&mut self, key: u64, amount: u64) -> Result<(), AllocError>
         ensures { OnOk result (IsAdded self.old key amount self.new) }
     {
@@ -54,7 +54,7 @@ impl Table {
         self.set(key, number)
     }
 
-    /// Makes a number this one at least.
+    /// Raises the number of a key to at least this one.
     pub fn raise(&mut self, key: u64, number: u64) -> Result<(), AllocError>
         ensures { OnOk result (IsRaised self.old key number self.new) }
     {

@@ -1,4 +1,4 @@
-//! The lines that tell the numbers.
+//! The lines of statistics.
 
 ghost use Rattle.std.specs.Prelude.{◌≡◌, ◌++◌, IfOk, List, OnOk, codes, length, slice_get};
 ghost use Rattle.tw_types.specs.declared.event.Event.{Event as AnEvent};
@@ -132,7 +132,7 @@ fn budget_at(budgets: &[u64], number: usize) -> Option<u64>
     budgets.get(number).copied()
 }
 
-/// Adds the lines of so many procedures.
+/// Adds the lines of the first `count` procedures.
 fn put_procedures(
     alloc: Global,
     out: &mut Vec<u8>,
@@ -170,8 +170,8 @@ fn procedure_count(plain: &Plain) -> usize
 }
 
 impl StatsBuilder {
-    /// Writes the numbers of the events that have led to where the machine stands. The names and the budgets are those of its
-    /// procedures, as far as they are known.
+    /// Returns the statistics of the events that have led to the machine's current state. The names and the budgets are those of its procedures, as
+    /// far as they are known.
     pub fn text(
         &self,
         alloc: Global,

@@ -1,4 +1,4 @@
--- What a walk finds is round: each rule waits for the next one, and the last for the first; where an arrow leads then.
+-- The circle that a walk finds: each rule waits for the next one, and the last for the first; and where an arrow leads.
 use Rattle.std.proofs.Common.{arith, ◌≡◌, ◌+◌, ◌<◌, ◌==◌, ℕ, zero, suc, Bool, true, false, if◌then◌else◌, List, [], ◌∷◌, ◌++◌, length, get_or, map, slice_get, take, Option, Some, None, refl, sym, ap, ◌∙◌}
 use Rattle.std.proofs.lemmas.Bool.{eqb-true, eqb-false}
 use Rattle.std.proofs.lemmas.List.{length-map, map-append}
@@ -16,7 +16,7 @@ use Rattle.tw_timeline.specs.History.{AreArrows, IsRound, links_in, place_after}
 abbrev nexts : List Link → List ℕ
 nexts links = map (λ (l : Link). l.next) links
 
--- each rule of a trail waits for the next one, and the last for this one
+-- holds if each rule of a trail waits for the next one, and the last for this one
 abbrev Leads : List Link → ℕ → Type 0
 Leads [] at = Unit {0}
 Leads (l ∷ links) at = nexts (l ∷ links) ≡ rules_of links ++ at ∷ []
@@ -43,7 +43,7 @@ round_since rule (l ∷ timeline_builder) h = by (l.rule == rule) refl (round_si
 abbrev RoundIn : Option (List Link) → Type 0
 RoundIn o = IsRound (links_in o)
 
--- where a step of the walk goes
+-- returns where a step of the walk leads
 stepped : (rules : List Pending) (at : Pending) (s : Link × Pending) → step_from rules at ≡ Some s → (s.0.rule ≡ at.number) × (s.0.next ≡ s.1.number)
 stepped rules at s e = by (slice_get at.waits 0) refl
   where
@@ -119,7 +119,7 @@ back_in (first ∷ links) i l round at back =
     let last : i ≡ length (rules_of links) = omega (arith, back, length-map links (λ (m : Link). m.rule)) in
     sym (get_behind (rules_of links) first.rule i last) ∙ ap (λ (ns : List ℕ). slice_get ns i) (sym round) ∙ get_map (λ (m : Link). m.next) (first ∷ links) i l at
 
--- the rule behind one in the circle is the one for which it waits
+-- the rule after one in the circle is the one for which it waits
 pub next_in : (links : List Link) (i : ℕ) (l : Link) → IsRound links → slice_get links i ≡ Some l → i < length links → slice_get (rules_of links) (place_after i (length links)) ≡ Some l.next
 next_in links i l round at inside = by (i + 1 == length links) refl
   where
@@ -127,7 +127,7 @@ next_in links i l round at inside = by (i + 1 == length links) refl
     by true e = back_in links i l round at (eqb-true (i + 1) (length links) e)
     by false e = let apart = eqb-false (i + 1) (length links) e in on_in links i l round at (omega arith)
 
--- a link of the first ones
+-- returns a link of the first ones
 pub there_in : (links : List Link) (most i : ℕ) (link : Link) → i < length (take most links) → link ≡ get_or (take most links) i link → (slice_get links i ≡ Some link) × (take (i + 1) links ≡ take i links ++ link ∷ []) × (i < length links)
 there_in [] zero i link h is = absurd (omega (arith, h))
 there_in [] (suc most) i link h is = absurd (omega (arith, h))
@@ -138,7 +138,7 @@ there_in (l ∷ links) (suc most) (suc i) link h is =
     let next : suc i + 1 ≡ suc (i + 1) = omega arith in
     (later.0, ap (λ (n : ℕ). take n (l ∷ links)) next ∙ ap (λ (ls : List Link). l ∷ ls) later.1, omega (arith, later.2))
 
--- one more
+-- adds one more
 pub arrows_more : (links : List Link) (place : ℕ) (waits : List Wait) (w : Wait) → AreArrows links place waits → w.from ≡ place + length waits → slice_get (rules_of links) w.to ≡ Some w.link.next → AreArrows links place (waits ++ w ∷ [])
 arrows_more links place [] w h from to = (omega (arith, from), to, tt)
 arrows_more links place (v ∷ waits) w h from to = (h.0, h.1, arrows_more links (suc place) waits w h.2 (omega (arith, from)) to)

@@ -11,7 +11,7 @@ pub nothing_text : xml_text Nothing ≡ []
 unfolding xml_text
 nothing_text = refl
 
--- the text of one forest behind the other
+-- returns the text of one forest after the other
 pub joined_text : (first behind : Forest) → xml_text (joined first behind) ≡ xml_text first ++ xml_text behind
 unfolding xml_text joined
 joined_text Nothing behind = refl
@@ -23,7 +23,7 @@ joined_text (Element name attributes inside rest) behind =
     ∙ ap (λ (t : List ℕ). open_text name attributes ++ t) (sym (append_assoc (xml_text inside) (close_text name ++ xml_text rest) (xml_text behind)))
     ∙ sym (append_assoc (open_text name attributes) (xml_text inside ++ (close_text name ++ xml_text rest)) (xml_text behind))
 
--- an element alone
+-- returns the text of an element alone
 pub element_text : (name : Name) (attributes : List Attribute) (inside : Forest) → xml_text (Element name attributes inside Nothing) ≡ open_text name attributes ++ (xml_text inside ++ close_text name)
 unfolding xml_text
 element_text name attributes inside = ap (λ (t : List ℕ). open_text name attributes ++ (xml_text inside ++ t)) (append-nil (close_text name))
@@ -36,18 +36,18 @@ unfolding xml_text
 words_text name attributes words =
     element_text name attributes (Words words Nothing) ∙ ap (λ (t : List ℕ). open_text name attributes ++ (t ++ close_text name)) (append-nil (flat_map escaped words))
 
--- the text of what is drawn of each
+-- returns the text of the shapes of all
 pub all_text : {X : Type 0} (f : X → Forest) (xs : List X) → xml_text (all f xs) ≡ flat_map (λ x. xml_text (f x)) xs
 all_text f [] = nothing_text
 all_text f (x ∷ xs) = joined_text (f x) (all f xs) ∙ ap (λ (t : List ℕ). xml_text (f x) ++ t) (all_text f xs)
 
--- the text of what is drawn of one number more
+-- returns the text of the shapes of one more number
 pub below_more : (f : ℕ → Forest) (n : ℕ) → xml_text (below f (n + 1)) ≡ xml_text (below f n) ++ xml_text (f n)
 below_more f n =
     let next : n + 1 ≡ suc n = omega arith in
     ap (λ (k : ℕ). xml_text (below f k)) next ∙ joined_text (below f n) (f n)
 
--- ---- elements that are written otherwise
+-- ---- elements that are written in another way
 
 pub plain_same : (name : Name) (row attributes : List Attribute) → row ≡ attributes → plain name row ≡ plain name attributes
 plain_same name row attributes e = ap (λ (attrs : List Attribute). plain name attrs) e
@@ -60,7 +60,7 @@ titled_same name row attributes text words e f = ap (λ (attrs : List Attribute)
 
 -- ---- what is added to a text
 
--- nothing
+-- adds nothing
 pub none_added : (out : List ℕ) (b : Bool) (shape : Forest) → b ≡ true → out ≡ out ++ xml_text (if b then Nothing else shape)
 none_added out true shape e = sym (ap (λ (t : List ℕ). out ++ t) nothing_text ∙ append-nil out)
 none_added out false shape e = cc
@@ -69,13 +69,13 @@ pub none_left : (out : List ℕ) (b : Bool) (shape : Forest) → b ≡ false →
 none_left out false shape e = none_added out true shape refl
 none_left out true shape e = cc
 
--- one forest, and another behind it
+-- adds one forest, and another after it
 pub both_added : (old mid new : List ℕ) (first rest : Forest) → mid ≡ old ++ xml_text first → new ≡ mid ++ xml_text rest → new ≡ old ++ xml_text (joined first rest)
 both_added old mid new first rest before after =
     after ∙ ap (λ (t : List ℕ). t ++ xml_text rest) before ∙ append_assoc old (xml_text first) (xml_text rest) ∙ ap (λ (t : List ℕ). old ++ t) (sym (joined_text first rest))
 
 module _ {T E : Type 0} (r : Result T E) where
-  -- the same, where both may be written otherwise
+  -- adds both, each perhaps written in another way
   pub behind : (old mid new : List ℕ) (one first two rest : Forest) → one ≡ first → mid ≡ old ++ xml_text one → two ≡ rest → OnOk r (new ≡ mid ++ xml_text two) → OnOk r (new ≡ old ++ xml_text (joined first rest))
   behind old mid new one first two rest same before other after = go r after
     where
@@ -83,15 +83,15 @@ module _ {T E : Type 0} (r : Result T E) where
       go (Ok x) h = both_added old mid new first rest (before ∙ ap (λ (f : Forest). old ++ xml_text f) same) (h ∙ ap (λ (f : Forest). mid ++ xml_text f) other)
       go (Err e) h = h
 
-  -- what is written otherwise
+  -- adds a forest that is written in another way
   pub same_added : (old new : List ℕ) (one two : Forest) → one ≡ two → OnOk r (new ≡ old ++ xml_text one) → OnOk r (new ≡ old ++ xml_text two)
   same_added old new one two same after = subst (λ (f : Forest). OnOk r (new ≡ old ++ xml_text f)) same after
 
-  -- where there is something
+  -- adds a forest, if there is one
   pub some_added : (old new : List ℕ) (b : Bool) (one two : Forest) → b ≡ false → one ≡ two → OnOk r (new ≡ old ++ xml_text one) → OnOk r (new ≡ old ++ xml_text (if b then Nothing else two))
   some_added old new b one two e same after = same_added old new one (if b then Nothing else two) (same ∙ ap (λ (t : Bool). if t then Nothing else two) (sym e)) after
 
-  -- an element: its beginning, what stands in it, and its end
+  -- adds an element: its start tag, its content, and its end tag
   pub around : (old mid next new : List ℕ) (name : Name) (row attributes : List Attribute) (text : List ℕ) (shape : Forest) → row ≡ attributes → mid ≡ old ++ open_text name row → next ≡ mid ++ text
       → xml_text shape ≡ open_text name attributes ++ (text ++ close_text name) → OnOk r (new ≡ next ++ close_text name) → OnOk r (new ≡ old ++ xml_text shape)
   around old mid next new name row attributes text shape same opened inside is after = go r after
@@ -105,7 +105,7 @@ module _ {T E : Type 0} (r : Result T E) where
           ∙ ap (λ (t : List ℕ). old ++ t) (sym is)
       go (Err e) h = h
 
-  -- nothing stands in it
+  -- adds an element without content
   pub closed : (old mid new : List ℕ) (name : Name) (attributes : List Attribute) → mid ≡ old ++ open_text name attributes → OnOk r (new ≡ mid ++ close_text name) → OnOk r (new ≡ old ++ xml_text (plain name attributes))
   closed old mid new name attributes opened after =
       around old mid mid new name attributes attributes [] (plain name attributes) refl opened (sym (append-nil mid)) (expanded_text name attributes) after
@@ -113,7 +113,7 @@ module _ {T E : Type 0} (r : Result T E) where
 -- ---- loops
 
 module _ {X : Type 0} (f : X → Forest) (xs : List X) (i : ℕ) where
-  -- one more
+  -- adds one more
   pub one_added : (x : X) (there out new : List ℕ) → i < length xs → x ≡ get_or xs i x → out ≡ there ++ flat_map (λ y. xml_text (f y)) (take i xs) → new ≡ out ++ xml_text (f x)
       → new ≡ there ++ flat_map (λ y. xml_text (f y)) (take (i + 1) xs)
   one_added x there out new inside is before after =
@@ -121,12 +121,12 @@ module _ {X : Type 0} (f : X → Forest) (xs : List X) (i : ℕ) where
       after ∙ ap (λ (t : List ℕ). t ++ text x) before ∙ flat_map_more text there (take i xs) x
       ∙ ap (λ (ys : List X). there ++ flat_map text ys) (sym (take_more xs i x inside ∙ ap (λ (y : X). take i xs ++ y ∷ []) (sym is)))
 
-  -- all of them
+  -- adds all of them
   pub all_added : (there out : List ℕ) → length xs ≤ i → out ≡ there ++ flat_map (λ y. xml_text (f y)) (take i xs) → out ≡ there ++ xml_text (all f xs)
   all_added there out last before =
       before ∙ ap (λ (ys : List X). there ++ flat_map (λ y. xml_text (f y)) ys) (take_all i xs last) ∙ ap (λ (t : List ℕ). there ++ t) (sym (all_text f xs))
 
--- one number more
+-- adds one more number
 pub number_added : (f : ℕ → Forest) (n : ℕ) (there out new : List ℕ) → out ≡ there ++ xml_text (below f n) → new ≡ out ++ xml_text (f n) → new ≡ there ++ xml_text (below f (n + 1))
 number_added f n there out new before after =
     both_added there out new (below f n) (f n) before after ∙ ap (λ (t : List ℕ). there ++ t) (joined_text (below f n) (f n) ∙ sym (below_more f n))

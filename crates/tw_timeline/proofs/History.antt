@@ -1,4 +1,4 @@
--- A history, one event more: the tasks that were made.
+-- A trace with one more event, and the tasks that were made.
 use Rattle.std.proofs.Common.{arith, ◌≡◌, ◌+◌, ◌-◌, ◌<◌, ◌≤◌, ◌==◌, inl, inr, ℕ, Bool, true, false, if◌then◌else◌, is_some, nat_lt, min, take, length-take, zero, suc, List, [], ◌∷◌, ◌++◌, length, length-append, map, slice_get, refl, sym, ap, ◌∙◌, Option, Some, None}
 use Rattle.std.proofs.lemmas.Bool.{cases_lt, eq-eqb, eqb-true, eqb-false, ne_eqb}
 use Rattle.std.proofs.lemmas.Bool.Decides.{nat_tests}
@@ -45,13 +45,13 @@ pub length-numbered : (number : ℕ) (events : List Event) → length (numbered 
 length-numbered number [] = refl
 length-numbered number (e ∷ events) = ap suc (length-numbered (suc number) events)
 
--- how many events there are
+-- there are as many markers as events
 pub trail_length : (first : PlainView) (events : List Event) (s : State) (t : TimelineBuilder) → IsTrail first events s t → length t.marks.items ≡ length events
 trail_length first events s t h = ap length h.marks ∙ length-numbered 1 events
 
 -- ---- circles
 
--- as many of a list as there are, up to a bound
+-- takes as much of a list as there is, up to a bound
 pub cut_same : {X : Type 0} (most m i : ℕ) (xs : List X) → m ≡ min (length xs) most → length (take m xs) ≤ i → i ≤ length (take m xs) → take i xs ≡ take most xs
 cut_same most m i xs is low high = elim (cases_lt most (length xs)) [
   | inl long ↦ let same : i ≡ most = omega (arith, length-take m xs) in ap (λ (n : ℕ). take n xs) same
@@ -68,7 +68,7 @@ in_order_more number (p ∷ places) place =
     let same : suc number + length places ≡ number + length (p ∷ places) = omega arith in
     ap (λ (ps : List (ℕ × Place)). (number, p) ∷ ps) (in_order_more (suc number) places place ∙ ap (λ (n : ℕ). in_order (suc number) places ++ (n, place) ∷ []) same)
 
--- the number of a task tells its place
+-- finds the place of a task by its number
 pub maker_at : (task number : ℕ) (places : List Place) → maker task (in_order number places) ≡ (if nat_lt task number then None else slice_get places (task - number))
 maker_at task number [] = by (nat_lt task number)
   where
@@ -109,7 +109,7 @@ maker_high task places h =
 
 -- ---- what an event does to the tasks that wait
 
--- the number of the task that waits now for the first time
+-- returns the number of the task that waits now for the first time
 abbrev new_in : State → State → List ℕ
 new_in s t = if is_some (get t.tasks s.next_task) then s.next_task ∷ [] else []
 
@@ -118,7 +118,7 @@ record Turned (s t : State) : Type 0 where
   made : new_in s t ≡ put_between s t
   next : t.next_task ≡ s.next_task + length (new_in s t)
 
--- no task comes
+-- no task is put
 none_put : (s t : State) → HasEarlier s → t.next_task ≡ s.next_task → ((n : ℕ) (task : Task) → get t.tasks n ≡ Some task → get s.tasks n ≡ Some task) → Turned s t
 none_put s t h next still = by (get t.tasks s.next_task) refl
   where
@@ -133,7 +133,7 @@ none_put s t h next still = by (get t.tasks s.next_task) refl
           next = next ∙ (let zero_more : s.next_task ≡ s.next_task + 0 = omega arith in zero_more) ∙ ap (λ (ns : List ℕ). s.next_task + length ns) (sym none);
         }
 
--- one comes
+-- one task is put
 one_put : (s t : State) (task : Task) → HasEarlier s → t.tasks ≡ insert s.tasks s.next_task task → t.next_task ≡ s.next_task + 1 → Turned s t
 one_put s t task h more next =
     let at : get t.tasks s.next_task ≡ Some task = ap (λ (m : Tasks). get m s.next_task) more ∙ get_here nat_cmp_total nat_cmp-IsAntisymmetric s.tasks s.next_task task in
@@ -170,9 +170,9 @@ opening_is program inputs = record {
   ];
 }
 
--- ---- one event more
+-- ---- one more event
 
--- where a task waits for the first time, its place is one more
+-- adds one place, if a task waits for the first time
 makers_more : (places new : List Place) (place : Place) (b : Bool) (n : ℕ) → new ≡ places ++ (if b then place ∷ [] else []) → n ≡ length places + 2
     → (in_order 2 new ≡ in_order 2 places ++ map (λ task. (task, place)) (if b then n ∷ [] else [])) × (length new + 2 ≡ n + length (if b then n ∷ [] else []))
 makers_more places new place false n is at =

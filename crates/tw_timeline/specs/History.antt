@@ -1,4 +1,4 @@
--- What a drawing shows of a history: its events, its tasks, what led to them, and how it ended.
+-- The content of a drawing: the events of a trace, its tasks, their origins, and the end of the run.
 use Rattle.std.specs.Prelude.{◌≡◌, ◌+◌, ◌<◌, ◌^◌, ◌==◌, ℕ, suc, Bool, false, if◌then◌else◌, List, [], ◌∷◌, ◌++◌, Option, Some, None, drop, length, map, option_to_list, slice_get, take}
 use Rattle.std.specs.FinMap.{get}
 use Rattle.std.specs.List.{flat_map}
@@ -29,14 +29,14 @@ use Rattle.tw_timeline.specs.declared.timeline_builder.TimelineBuilder.{Timeline
 
 -- ---- events
 
--- the events, with their numbers from this one on
+-- returns the events with their numbers, from this one on
 abbrev pub numbered : ℕ → List Event → List Mark
 numbered number [] = []
 numbered number (event ∷ events) = record { number = number; event = event } ∷ numbered (suc number) events
 
 -- ---- tasks
 
--- Behind a Take the actor's frame tells which task it runs, of which procedure: a bar begins there.
+-- returns the bar that begins at a Take; the actor's frame after the event has its task and its procedure
 abbrev pub begun_at : ℕ → Event → State → List Bar
 begun_at number (Take actor) s = map (λ f. record { task = f.task; procedure = f.procedure; actor = actor; from = number; to = None }) (option_to_list (get s.frames actor))
 begun_at number (Local actor n) s = []
@@ -58,55 +58,55 @@ is_end_of actor (Ask engine rule parameter) = false
 is_end_of actor (Deliver server datum rule parameter) = false
 is_end_of actor (Release engine rule) = false
 
--- the number of the actor's first End among these
+-- returns the number of the actor's first End among these
 abbrev pub first_end : Actor → List Mark → Option ℕ
 first_end actor [] = None
 first_end actor (m ∷ marks) = if is_end_of actor m.event then Some m.number else first_end actor marks
 
--- A bar ends at its actor's first End behind the Take; where there is none its task still runs, and the bar is open.
+-- returns the bar with the actor's first End after its Take; without one its task still runs, and the bar is open
 abbrev pub ended : List Mark → Bar → Bar
 ended marks b = record b { to = first_end b.actor (drop b.from marks) }
 
--- ---- what led to tasks
+-- ---- the origins of tasks
 
--- the number of the task that the event put, by a PUT or a Release, with the event's place
+-- returns the number of the task that the event put, by a PUT or a Release, with the event's place
 abbrev pub made : Moment → List (ℕ × Place)
 made m = map (λ task. (task, record { actor = actor_of m.event; number = m.number })) (put_between m.before m.behind)
 
--- where the task of this number was made
+-- returns the place of the event that made the task of this number
 abbrev pub maker : ℕ → List (ℕ × Place) → Option Place
 maker task [] = None
 maker task (p ∷ others) = if p.0 == task then Some p.1 else maker task others
 
--- a line from where a bar's task was made to where the bar begins; none to main's, which no event makes
+-- returns a line from the event that made a bar's task to the beginning of the bar; none for main, which no event makes
 abbrev pub led : List (ℕ × Place) → Bar → List Thread
 led makers b = map (λ from. record { task = b.task; from = from; to = record { actor = b.actor; number = b.from } }) (option_to_list (maker b.task makers))
 
 -- ---- a circle of rules
 
--- the rules of a circle, if there is one
+-- returns the rules of a circle, if there is one
 abbrev pub links_in : Option (List Link) → List Link
 links_in None = []
 links_in (Some links) = links
 
--- each waits for the next one, and the last for the first
+-- holds if each rule waits for the next one, and the last for the first
 abbrev pub IsRound : List Link → Type 0
 IsRound [] = Unit {0}
 IsRound (l ∷ links) = map (λ m. m.next) (l ∷ links) ≡ rules_of links ++ l.rule ∷ []
 
--- the place of the next one
+-- returns the next place in a circle
 abbrev pub place_after : ℕ → ℕ → ℕ
 place_after place count = if place + 1 == count then 0 else place + 1
 
--- each stands at its own place in the circle, the first of them at this one, and its arrow leads to the rule that may write its datum
+-- holds if each has its own place in the circle, beginning with this one, and its arrow leads to the rule that may write its datum
 abbrev pub AreArrows : List Link → ℕ → List Wait → Type 0
 AreArrows links place [] = Unit {0}
 AreArrows links place (w ∷ waits) = (w.from ≡ place) × (slice_get (rules_of links) w.to ≡ Some w.link.next) × AreArrows links (suc place) waits
 
 -- ---- the drawing
 
--- From the first state the events lead to this one. These are drawn, and how it has ended, with the first thousand rules of the
--- circle where it is stuck. The procedures have these names.
+-- the drawing of events that lead from the first state to this one. It shows them, the end of the run, and the first thousand rules of the circle in
+-- which it is stuck. The procedures have these names.
 pub record IsDrawing (names : List (List ℕ)) (first : PlainView) (events : List Event) (s : State) (d : Drawing) : Type 0 where
   pub layout : d.layout ≡ first.layout
   pub names_are : d.names ≡ names
@@ -119,23 +119,24 @@ pub record IsDrawing (names : List (List ℕ)) (first : PlainView) (events : Lis
   pub arrows : AreArrows (links_in (circle first.program s)) 0 d.waits.items
   pub rules : d.rules ≡ length d.waits.items
 
--- ---- what is gathered
+-- ---- the builder
 
--- each task that waits has an earlier number than the next one
+-- holds if each task that waits has a lower number than the next one
 abbrev pub HasEarlier : State → Type 0
 HasEarlier s = (n : ℕ) (task : Task) → get s.tasks n ≡ Some task → n < s.next_task
 
--- where a history begins: main is the first task, and the next one is the second
+-- a state at which a trace begins: main is the first task, and the next one is the second
 pub record IsOpening (s : State) : Type 0 where
   pub next : s.next_task ≡ 2
   pub earlier : HasEarlier s
 
--- the places with the numbers from this one on
+-- returns the places with their numbers, from this one on
 abbrev pub in_order : ℕ → List Place → List (ℕ × Place)
 in_order number [] = []
 in_order number (place ∷ places) = (number, place) ∷ in_order (suc number) places
 
--- of events that lead to a state, a mark for each, a bar without its end for each Take, and where each task from the second on was made
+-- the builder after events that lead to a state: it has a marker for each, a bar without its end for each Take, and the event that made each task
+-- from the second on
 pub record IsTrail (first : PlainView) (events : List Event) (s : State) (t : TimelineBuilder) : Type 0 where
   pub reached : run first.program first.layout events first.state ≡ Went s
   pub earlier : HasEarlier s
@@ -144,6 +145,6 @@ pub record IsTrail (first : PlainView) (events : List Event) (s : State) (t : Ti
   pub makers : in_order 2 t.makers.items ≡ flat_map made (history first events)
   pub next : length t.makers.items + 2 ≡ s.next_task
 
--- so few that their numbers fit
+-- holds if there are so few markers that their numbers fit
 abbrev pub HasFew : TimelineBuilder → Type 0
 HasFew t = length t.marks.items < 2 ^ 31

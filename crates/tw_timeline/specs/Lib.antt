@@ -1,5 +1,5 @@
--- The picture of a drawing is Timeline, with its parts in Shapes, their places in Places, and how XML is written in Xml; what a
--- drawing shows of a history is History.
+-- Timeline defines the timeline of a drawing, Shapes its parts, Places their coordinates, and Xml how XML is written. `History` defines what a
+-- drawing shows of a trace.
 pub mod Xml
 pub mod Places
 pub mod Shapes

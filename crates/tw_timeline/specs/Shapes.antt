@@ -1,7 +1,8 @@
--- What is drawn of an actor, of an event, of a task, of what led to a task, and of a rule that waits.
+-- The shapes of an actor, an event, a task, a task's origin, and a rule that waits.
 use Rattle.std.specs.Prelude.{◌+◌, ◌-◌, ◌*◌, ◌/◌, ◌%◌, ◌==◌, ◌&&◌, ◌||◌, ℕ, Bool, List, [], ◌∷◌, ◌++◌, codes, decimal, drop, filter, length, max, min, nat_le, nat_lt, take, Option, Some, None, if◌then◌else◌}
 use Rattle.tw_types.specs.declared.actor.Actor.{Actor}
 use Rattle.tw_types.specs.declared.actor.Actor.TheVariants.{Engine, Server, Worker}
+use Rattle.tw_types.specs.Actor.{index_of}
 use Rattle.tw_types.specs.declared.event.Event.{Event}
 use Rattle.tw_types.specs.declared.event.Event.TheVariants as event
 use Rattle.tw_types.specs.Layout.{ActorCounts}
@@ -24,10 +25,10 @@ use Rattle.tw_timeline.specs.declared.drawing.Mark.{Mark}
 use Rattle.tw_timeline.specs.declared.drawing.Thread.{Thread}
 use Rattle.tw_timeline.specs.declared.drawing.Wait.{Wait}
 use Rattle.tw_timeline.specs.declared.places.View.{View}
-use Rattle.tw_timeline.specs.Places.{across, bottom, column_start, is_coarse, is_shown, is_wide, lane_of, lane_top, left_of, line_step, mark_inset, mark_width, right_of, tick_step}
+use Rattle.tw_timeline.specs.Places.{across, bottom, column_start, is_coarse, is_shown, is_wide, lane_top, left_of, line_step, mark_inset, mark_width, right_of, tick_step}
 use Rattle.tw_timeline.specs.Xml.{Forest, Nothing, below, joined, plain, titled, with_words}
 
--- ---- rows of attributes
+-- ---- lists of attributes
 
 abbrev pub fixed : Key → Word → Attribute
 fixed key word = record { key = key; value = value.Word word }
@@ -41,11 +42,11 @@ route value = record { key = key.Route; value = value }
 abbrev pub rectangle : Word → ℕ → ℕ → ℕ → ℕ → List Attribute
 rectangle class x y width height = fixed key.Class class ∷ number key.X x ∷ number key.Y y ∷ number key.Width width ∷ number key.Height height ∷ []
 
--- where the first letter of a text stands
+-- returns the attributes of a text: its class, and the place of its first letter
 abbrev pub labelled : Word → ℕ → ℕ → List Attribute
 labelled class x y = fixed key.Class class ∷ number key.X x ∷ number key.Y y ∷ []
 
--- a way of this looks
+-- returns the attributes of a path
 abbrev pub way_row : Word → Value → List Attribute
 way_row class way = fixed key.Class class ∷ route way ∷ []
 
@@ -60,40 +61,40 @@ kind_of (event.Ask engine rule parameter) = kind.Ask
 kind_of (event.Deliver server datum rule parameter) = kind.Deliver
 kind_of (event.Release engine rule) = kind.Release
 
--- the number of an event, and its line
+-- returns the number of an event, and its line
 abbrev pub mark_title : Mark → List ℕ
 mark_title m = codes "event " ++ (decimal m.number ++ (codes ": " ++ event_line m.event))
 
--- in the lane of its actor
+-- returns the marker of an event, in the row of its actor
 abbrev pub mark_box : ActorCounts → View → Mark → Forest
 mark_box layout v m = titled name.Rectangle (rectangle (word.Event (kind_of m.event)) (across v m.number + mark_inset v) (lane_top layout (actor_of m.event) + 19) (mark_width v) 12) (mark_title m)
 
--- where it is shown
+-- returns the marker of an event, if it is shown
 abbrev pub mark_shape : ActorCounts → View → Mark → Forest
 mark_shape layout v m = if is_shown v m.number then mark_box layout v m else Nothing
 
--- ---- events, where they are too many
+-- ---- columns, if there are too many events
 
--- the marks from one number up to another, which is the first left out
+-- returns the markers from one number up to another, which is left out
 abbrev pub marks_in : List Mark → ℕ → ℕ → List Mark
 marks_in marks from to = take (to - from) (drop (from - 1) marks)
 
--- all of the height for half of the events
+-- returns the height of a column; it is full if half of the events or more are the actor's
 abbrev pub column_height : ℕ → ℕ → ℕ
 column_height count events = min (max (36 * count / max events 1) 1) 18
 
 abbrev pub column_title : ℕ → ℕ → ℕ → List ℕ
 column_title from to count = codes "events " ++ (decimal from ++ (codes " to " ++ (decimal (to - 1) ++ (codes ": " ++ decimal count))))
 
--- so many of a column's events are of a lane
+-- returns a column of this height in a row
 abbrev pub column_box : ℕ → ℕ → ℕ → List ℕ → Forest
 column_box lane column height title = titled name.Rectangle (rectangle word.Column (90 + 10 * column) (60 + 44 * lane + 34 - height) 10 height) title
 
--- how many of the marks stand in a lane
+-- returns how many of the markers are in a row
 abbrev pub count_in : ActorCounts → ℕ → List Mark → ℕ
-count_in layout lane marks = length (filter (λ m. lane_of layout (actor_of m.event) == lane) marks)
+count_in layout lane marks = length (filter (λ m. index_of layout (actor_of m.event) == lane) marks)
 
--- where there are any
+-- returns a column, if the row has any of its events
 abbrev pub column_of : ActorCounts → ℕ → ℕ → ℕ → ℕ → List Mark → Forest
 column_of layout lane number from to there =
     let count = count_in layout lane there in
@@ -107,7 +108,7 @@ column layout v marks lane number =
 
 -- ---- tasks
 
--- an open bar has no last event
+-- returns the events of a bar; an open one has no last event
 abbrev pub events_text : ℕ → Option ℕ → List ℕ
 events_text from None = codes ", from event " ++ (decimal from ++ codes " on")
 events_text from (Some to) = codes ", events " ++ (decimal from ++ (codes " to " ++ decimal to))
@@ -115,16 +116,16 @@ events_text from (Some to) = codes ", events " ++ (decimal from ++ (codes " to "
 abbrev pub bar_title : List (List ℕ) → Bar → List ℕ
 bar_title names b = (codes "task " ++ (decimal b.task ++ (codes " of procedure " ++ decimal b.procedure))) ++ (bracketed (name_at names b.procedure) ++ events_text b.from b.to)
 
--- the last of its events that is shown
+-- returns the last event of a bar that is shown
 abbrev pub end_in : View → Option ℕ → ℕ
 end_in v None = v.last
 end_in v (Some to) = min to v.last
 
--- from the beginning of its first event to the end of its last, or a little past the events that are shown
+-- returns the width of a bar, from the beginning of its first event to the end of its last, or a little past the shown events
 abbrev pub bar_width : View → Bar → ℕ
 bar_width v b = right_of v b.to - left_of v b.from
 
--- some of its events are shown; and where these are too many for a mark each, it is long
+-- returns whether some of the bar's events are shown, and, if there are too many for a marker each, the bar is long
 abbrev pub has_bar : View → Bar → Bool
 has_bar v b = nat_le b.from v.last && (nat_le v.first (end_in v b.to) && nat_le (if is_coarse v then 24 else 0) (bar_width v b))
 
@@ -132,18 +133,18 @@ abbrev pub bar_class : Option ℕ → Word
 bar_class None = word.Open
 bar_class (Some to) = word.Bar
 
--- from its Take to its End
+-- returns the box of a bar, from its Take to its End
 abbrev pub bar_box : List (List ℕ) → ActorCounts → View → Bar → Forest
 bar_box names layout v b = titled name.Rectangle (rectangle (bar_class b.to) (left_of v b.from) (lane_top layout b.actor + 16) (bar_width v b) 18) (bar_title names b)
 
--- seven units for a letter
+-- returns whether a text fits into a width, at seven units for a letter
 abbrev pub fits : List ℕ → ℕ → Bool
 fits text width = nat_le (length text) (width / 7)
 
 abbrev pub number_text : ℕ → List ℕ
 number_text procedure = codes "p" ++ decimal procedure
 
--- a procedure by its name, or else by its number
+-- returns a procedure's name, or else its number
 abbrev pub name_or : List ℕ → ℕ → List ℕ
 name_or [] procedure = number_text procedure
 name_or (b ∷ name) procedure = b ∷ name
@@ -151,11 +152,11 @@ name_or (b ∷ name) procedure = b ∷ name
 abbrev pub full_text : ℕ → List ℕ → List ℕ
 full_text task procedure = (codes "t" ++ decimal task) ++ (codes " " ++ procedure)
 
--- the first of three texts for which there is room, or nothing
+-- returns the first of three texts that fits, or an empty one
 abbrev pub first_fitting : List ℕ → List ℕ → List ℕ → ℕ → List ℕ
 first_fitting a b c width = if fits a width then a else if fits b width then b else if fits c width then c else []
 
--- its task and its procedure, or its procedure, by name or else by number, or nothing
+-- returns the label of a bar: its task and its procedure, or its procedure, by name or else by number, or nothing
 abbrev pub label_text : List (List ℕ) → Bar → ℕ → List ℕ
 label_text names b width =
     let procedure = name_or (name_at names b.procedure) b.procedure in
@@ -172,20 +173,20 @@ bar_parts names layout v b = joined (bar_box names layout v b) (bar_label names 
 abbrev pub bar_shape : List (List ℕ) → ActorCounts → View → Bar → Forest
 bar_shape names layout v b = if has_bar v b then bar_parts names layout v b else Nothing
 
--- ---- what led to tasks
+-- ---- the origins of tasks
 
 abbrev pub thread_title : Thread → List ℕ
 thread_title t = codes "task " ++ (decimal t.task ++ (codes ", made at event " ++ (decimal t.from.number ++ (codes ", taken at event " ++ decimal t.to.number))))
 
--- from the mark of the event that made the task, or from the left of all events
+-- returns where a line begins: at the marker of the event that made the task, or at the left of all events
 abbrev pub line_start : View → ℕ → ℕ
 line_start v number = if is_shown v number then across v number + mark_inset v else left_of v number
 
--- to the beginning of its bar, or to the right of all events
+-- returns where a line ends: at the beginning of the task's bar, or at the right of all events
 abbrev pub line_end : View → ℕ → ℕ
 line_end v number = if is_shown v number then across v number else right_of v (Some number)
 
--- to just above that
+-- returns the curve between these, to just above the bar
 abbrev pub thread_way : ActorCounts → View → Thread → Value
 thread_way layout v t =
     let from : Point = record { x = line_start v t.from.number; y = lane_top layout t.from.actor + 25 } in
@@ -195,7 +196,7 @@ thread_way layout v t =
 abbrev pub thread_box : ActorCounts → View → Thread → Forest
 thread_box layout v t = titled name.Path (way_row (if is_wide v then word.Thread else word.Thin) (thread_way layout v t)) (thread_title t)
 
--- the event that made the task is shown, or its Take is; and it is one of those to which a line is drawn
+-- returns whether the event that made the task or its Take is shown, and the line is one of those that are drawn
 abbrev pub has_line : View → Thread → Bool
 has_line v t = (is_shown v t.from.number || is_shown v t.to.number) && (t.task % line_step v == 0)
 
@@ -209,7 +210,7 @@ actor_name (Engine n) = codes "engine " ++ decimal n
 actor_name (Server n) = codes "server " ++ decimal n
 actor_name (Worker n) = codes "worker " ++ decimal n
 
--- so that it is seen wherever one looks, every 960 units, below the bars and above the lane's lower edge
+-- returns the name of an actor again, every 960 units of its row, so that it is seen everywhere: below the bars, above the row's lower edge
 abbrev pub name_again : ℕ → List ℕ → ℕ → Forest
 name_again top words place = with_words name.Text (labelled word.Again (970 + 960 * place) (top + 40)) words
 
@@ -229,7 +230,7 @@ tick layout v event =
     joined (plain name.Line (tick_row (across v event) (bottom layout)))
     (with_words name.Text (labelled word.Number (across v event + 3) 55) (decimal event))
 
--- where it is due
+-- returns whether there is a tick at this event
 abbrev pub has_tick : View → ℕ → Bool
 has_tick v number = is_shown v number && (number % tick_step v == 0)
 
@@ -238,7 +239,7 @@ tick_of layout v m = if has_tick v m.number then tick layout v m.number else Not
 
 -- ---- rules that wait
 
--- where the box of a place in the circle begins
+-- returns the left edge of the box at a place in the circle
 abbrev pub box_left : ℕ → ℕ
 box_left place = 90 + 220 * place
 
@@ -247,14 +248,14 @@ wait_box layout w =
     joined (plain name.Rectangle (rectangle word.Rule (box_left w.from) (bottom layout + 30) 110 30))
     (with_words name.Text (labelled word.RuleName (box_left w.from + 12) (bottom layout + 30 + 20)) (codes "rule " ++ decimal w.link.rule))
 
--- from a box to one on its right
+-- returns the path from a box to one on its right
 abbrev pub forward : ℕ → ℕ → ℕ → Value
 forward left next top =
     let from : Point = record { x = left + 110; y = top + 15 } in
     let to : Point = record { x = next; y = top + 15 } in
     value.Curve from to
 
--- from a box to one that isn't on its right, or to itself
+-- returns the path from a box to itself, or to one that isn't on its right
 abbrev pub back : ℕ → ℕ → ℕ → Value
 back left next top =
     let from : Point = record { x = left + 80; y = top + 30 } in
@@ -267,7 +268,7 @@ arrow left next top = if nat_lt left next then forward left next top else back l
 abbrev pub arrow_height : ℕ → ℕ → ℕ → ℕ
 arrow_height left next top = if nat_lt left next then top + 10 else top + 50
 
--- to the rule that may write the datum, with the datum beside it
+-- returns the arrow to the rule that may write the datum, with the datum beside it
 abbrev pub wait_arrow : ActorCounts → Wait → Forest
 wait_arrow layout w =
     let left = box_left w.from in

@@ -1,4 +1,4 @@
--- XML as it is written: elements with their attributes, and what stands in them.
+-- XML: elements with their attributes, and their content.
 use Rattle.std.specs.Prelude.{◌+◌, ◌/◌, ◌==◌, ◌||◌, ◌&&◌, ℕ, zero, suc, List, [], ◌∷◌, ◌++◌, codes, decimal, nat_lt, if◌then◌else◌}
 use Rattle.std.specs.List.{flat_map}
 use Rattle.tw_timeline.specs.declared.attributes.Attribute.{Attribute}
@@ -14,17 +14,17 @@ use Rattle.tw_timeline.specs.declared.attributes.Value.TheVariants as value
 use Rattle.tw_timeline.specs.declared.attributes.Word.{Word as AWord}
 use Rattle.tw_timeline.specs.declared.attributes.Word.TheVariants as word
 
--- Texts and elements, one behind the other.
+-- texts and elements, one after the other
 pub data Forest : Type 0 where
   Nothing : Forest
   -- a text, and what follows it
   Words : List ℕ → Forest → Forest
-  -- an element: its name, its attributes, what stands in it; and what follows it
+  -- an element: its name, its attributes and its content; and what follows it
   Element : Name → List Attribute → Forest → Forest → Forest
 
 -- ---- texts
 
--- A byte of a text: spelled out where XML gives it a meaning; another printed byte or a line feed as it stands; else `?`.
+-- returns a byte of a text: escaped if it has a meaning in XML, unchanged if it is another printed byte or a line feed, and else `?`
 abbrev pub escaped : ℕ → List ℕ
 escaped b =
     if b == 60 then codes "&lt;" else
@@ -98,17 +98,17 @@ word_text word.Wait = codes "wait"
 
 -- ---- values of attributes
 
--- a point behind words
+-- returns words and a point after them
 abbrev pub point_text : List ℕ → ℕ → ℕ → List ℕ
 point_text words x y = words ++ (decimal x ++ (codes " " ++ decimal y))
 
--- a curve between two points, level at both ends
+-- returns a curve between two points, horizontal at both ends
 abbrev pub curve_text : Point → Point → List ℕ
 curve_text from to =
     let middle = from.x / 2 + to.x / 2 in
     point_text (codes "M ") from.x from.y ++ (point_text (codes " C ") middle from.y ++ (point_text (codes " ") middle to.y ++ point_text (codes " ") to.x to.y))
 
--- a way between two points of one height, at that height in between
+-- returns a path from one point vertically to this height, across, and vertically to the other point
 abbrev pub under_text : Point → Point → ℕ → List ℕ
 under_text from to below =
     point_text (codes "M ") from.x from.y ++ (codes " V " ++ (decimal below ++ (codes " H " ++ (decimal to.x ++ (codes " V " ++ decimal to.y)))))
@@ -136,7 +136,7 @@ xml_text Nothing = []
 xml_text (Words words behind) = flat_map escaped words ++ xml_text behind
 xml_text (Element name attributes inside behind) = open_text name attributes ++ (xml_text inside ++ (close_text name ++ xml_text behind))
 
--- one forest behind the other
+-- returns one forest after the other
 unfoldable pub joined : Forest → Forest → Forest
 joined Nothing behind = behind
 joined (Words words rest) behind = Words words (joined rest behind)
@@ -150,18 +150,18 @@ plain name attributes = Element name attributes Nothing Nothing
 abbrev pub with_words : Name → List Attribute → List ℕ → Forest
 with_words name attributes words = Element name attributes (Words words Nothing) Nothing
 
--- a title is shown where the pointer rests on the element
+-- returns an element with a title, which is shown as its tooltip
 abbrev pub titled : Name → List Attribute → List ℕ → Forest
 titled tag attributes words = Element tag attributes (with_words name.Title [] words) Nothing
 
 -- ---- many
 
--- what is drawn of each, one behind the other
+-- returns the shapes of all, one after the other
 abbrev pub all : {X : Type 0} → (X → Forest) → List X → Forest
 all f [] = Nothing
 all f (x ∷ xs) = joined (f x) (all f xs)
 
--- what is drawn of each number below this one
+-- returns the shapes of all numbers below this one
 abbrev pub below : (ℕ → Forest) → ℕ → Forest
 below f zero = Nothing
 below f (suc n) = joined (below f n) (f n)

@@ -1,10 +1,10 @@
-//! The words that elements are made of.
+//! The names of elements and attributes, and the values of attributes.
 
 ghost use Rattle.std.specs.Prelude.{◌≡◌};
 ghost use Rattle.tw_timeline.specs.Shapes.{fixed, number, route};
 ghost use Rattle.tw_timeline.specs.Xml.{key_text, kind_text, name_text, word_text};
 
-/// What an element is.
+/// The kind of an element.
 #[derive(Clone, Copy)]
 pub enum Name {
     Picture,
@@ -36,7 +36,7 @@ impl Name {
     }
 }
 
-/// What an attribute tells.
+/// The kind of an attribute.
 #[derive(Clone, Copy)]
 pub enum Key {
     Namespace,
@@ -86,7 +86,7 @@ impl Key {
     }
 }
 
-/// What an event does.
+/// The kind of an event.
 #[derive(Clone, Copy)]
 pub enum Kind {
     Take,
@@ -114,7 +114,7 @@ impl Kind {
     }
 }
 
-/// A value that is always the same.
+/// A fixed value.
 #[derive(Clone, Copy)]
 pub enum Word {
     Svg,
@@ -168,7 +168,7 @@ impl Word {
     }
 }
 
-/// A point of the picture, in pixels from its upper left corner.
+/// A point of the timeline, in units from its upper left corner.
 #[derive(Clone, Copy)]
 pub struct Point {
     pub x: usize,
@@ -180,11 +180,11 @@ pub struct Point {
 pub enum Value {
     Word(Word),
     Number(usize),
-    /// A curve between two points, level at both ends.
+    /// A curve between two points, horizontal at both ends.
     Curve(Point, Point),
-    /// A way between two points of one height, so far below them.
+    /// A path from one point vertically to this height, across, and vertically to the other point.
     Under(Point, Point, usize),
-    /// What is shown: from the upper left corner so wide and so high.
+    /// The shown area: its width and height, from the upper left corner.
     Frame(usize, usize),
 }
 

@@ -1,4 +1,4 @@
-//! Tasks, as they are drawn.
+//! Bars, which show tasks.
 
 ghost use Rattle.std.specs.Prelude.{◌≡◌, ◌++◌, codes, decimal, IfOk, OnOk};
 ghost use Rattle.tw_timeline.specs.Shapes.{bar_shape, bar_box, bar_class, bar_label, bar_parts, bar_title, bar_width, end_in, events_text, first_fitting, fits, full_text, has_bar, label_text, labelled, name_or};
@@ -15,7 +15,7 @@ use tw_report::{put, put_numbered};
 use tw_symbols::Symbols;
 use tw_types::Layout;
 
-/// A text's row of attributes: where its first letter stands.
+/// Returns the attributes of a text: its class, and the place of its first letter.
 pub fn labelled(class: Word, x: usize, y: usize) -> [Attribute; 3]
     ensures { result ≡ labelled class x y }
 {
@@ -26,7 +26,7 @@ pub fn labelled(class: Word, x: usize, y: usize) -> [Attribute; 3]
     ]
 }
 
-/// Adds two numbers, each behind words.
+/// Adds two numbers, each after words.
 fn put_two(
     alloc: Global,
     out: &mut Vec<u8>,
@@ -53,7 +53,7 @@ fn put_within(
     put(out, behind)
 }
 
-/// Adds the events of a bar; an open one has no last.
+/// Adds the events of a bar; an open one has no last event.
 fn put_events(
     alloc: Global,
     out: &mut Vec<u8>,
@@ -73,7 +73,7 @@ fn put_events(
     }
 }
 
-/// What a bar shows at the pointer: its task, its procedure and its events.
+/// Returns the tooltip of a bar: its task, its procedure and its events.
 fn bar_title(alloc: Global, names: &Symbols, bar: &Bar) -> Result<Vec<u8>, AllocError>
     ensures { IfOk result (λ title. title.items ≡ bar_title names.now bar.now) }
 {
@@ -90,7 +90,7 @@ fn bar_title(alloc: Global, names: &Symbols, bar: &Bar) -> Result<Vec<u8>, Alloc
     Ok(title)
 }
 
-/// Whether there is room for a text: seven units for a letter.
+/// Returns whether a text fits into a width, at seven units for a letter.
 fn fits(text: &[u8], width: usize) -> bool
     ensures { result ≡ fits text.now width }
 {
@@ -118,7 +118,7 @@ fn full_text(alloc: Global, task: u64, procedure: &[u8]) -> Result<Vec<u8>, Allo
     Ok(text)
 }
 
-/// Returns the first of three texts for which there is room, or nothing.
+/// Returns the first of three texts that fits, or an empty one.
 fn first_fitting<'a>(a: &'a [u8], b: &'a [u8], c: &'a [u8], width: usize) -> &'a [u8]
     ensures { result.now ≡ first_fitting a.entry.now b.entry.now c.entry.now width }
 {
@@ -133,7 +133,7 @@ fn first_fitting<'a>(a: &'a [u8], b: &'a [u8], c: &'a [u8], width: usize) -> &'a
     }
 }
 
-/// Returns the words at a bar: its task and its procedure where there is room for both, or its procedure, or nothing.
+/// Returns the label of a bar: its task and its procedure if both fit, or its procedure, or nothing.
 fn label_text(
     alloc: Global,
     names: &Symbols,
@@ -148,7 +148,7 @@ fn label_text(
     first_fitting(&full, &procedure, &number, width).to_vec(alloc)
 }
 
-/// The last event of a bar that is shown; an open one has no last.
+/// Returns the last event of a bar that is shown; for an open bar it is the last shown event.
 fn end_in(view: View, to: Option<u32>) -> u32
     ensures { result ≡ end_in view to }
 {
@@ -158,7 +158,7 @@ fn end_in(view: View, to: Option<u32>) -> u32
     }
 }
 
-/// From the beginning of a bar's first event to the end of its last, or a little past the events that are shown.
+/// Returns the width of a bar, from the beginning of its first event to the end of its last, or a little past the shown events.
 fn bar_width(view: View, bar: &Bar) -> usize
     ensures { result ≡ bar_width view bar.now }
 {
@@ -166,7 +166,7 @@ fn bar_width(view: View, bar: &Bar) -> usize
     view.right_of(bar.to).saturating_sub(view.left_of(bar.from))
 }
 
-/// Whether a bar is drawn: it is shown, and where there are too many events for a mark each, it is long.
+/// Returns whether a bar is drawn: some of its events are shown, and if there are too many events for a marker each, it is long.
 fn has_bar(view: View, bar: &Bar) -> bool
     ensures { result ≡ has_bar view bar.now }
 {
@@ -208,7 +208,7 @@ fn put_bar_box(
     put_titled(alloc, out, Name::Rectangle, &row, &title)
 }
 
-/// Adds the words at a bar.
+/// Adds the label of a bar.
 fn put_bar_label(
     alloc: Global,
     out: &mut Vec<u8>,

@@ -1,4 +1,4 @@
-//! The circle in which a history is stuck, gathered for its drawing.
+//! The circle in which a run is stuck, for its timeline.
 
 ghost use Rattle.std.specs.Prelude.{◌≡◌, ◌<◌, ◌≤◌, IfOk, length, map, take};
 ghost use Rattle.tw_code.specs.machine.Pending.{circle};
@@ -13,7 +13,7 @@ use tw_types::Link;
 /// The most rules of a circle that are drawn.
 const MOST_RULES: usize = 1000;
 
-/// The next place in a circle of so many.
+/// Returns the next place in a circle of `count` places.
 fn place_after(place: usize, count: usize) -> usize
     requires { place < 1000 }
     ensures value { result ≡ place_after place count }
@@ -23,7 +23,7 @@ fn place_after(place: usize, count: usize) -> usize
     if next == count { 0 } else { next }
 }
 
-/// The circle's rules, up to a thousand, each with the place of the next.
+/// Returns the circle's rules, a thousand at most, each with the place of the next.
 fn waits_of(alloc: Global, links: &[Link]) -> Result<Vec<Wait>, AllocError>
     requires { IsRound links.now }
     ensures same { IfOk result (λ waits. map (λ w. w.link) waits.items ≡ take 1000 links.now) }
@@ -42,7 +42,7 @@ fn waits_of(alloc: Global, links: &[Link]) -> Result<Vec<Wait>, AllocError>
     Ok(waits)
 }
 
-/// The circle in which the machine is stuck, if it is in one.
+/// Returns the circle in which the machine is stuck; empty if it isn't stuck in one.
 pub fn waits_at(alloc: Global, plain: &Plain) -> Result<Vec<Wait>, AllocError>
     ensures same { IfOk result (λ waits. map (λ w. w.link) waits.items ≡ take 1000 (links_in (circle plain.now.program plain.now.state))) }
     ensures arrows { IfOk result (λ waits. AreArrows (links_in (circle plain.now.program plain.now.state)) 0 waits.items) }

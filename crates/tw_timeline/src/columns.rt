@@ -1,4 +1,4 @@
-//! Columns, where there are too many events for a mark each.
+//! Columns, which replace markers if there are too many events.
 
 ghost use Rattle.std.specs.Prelude.{◌≡◌, ◌++◌, ◌-◌, ◌<◌, ◌^◌, ◌≤◌, length, IfOk, OnOk};
 ghost use Rattle.tw_timeline.specs.Timeline.{all_columns, lane_columns};
@@ -9,13 +9,13 @@ use crate::attributes::{Name, Word};
 use crate::drawing::Mark;
 use crate::elements::put_titled;
 use crate::marks::rectangle;
-use crate::places::{View, lane_count, lane_of};
+use crate::places::View;
 use std::alloc::{AllocError, Global};
 use tw_machine::actor_of;
 use tw_report::put_numbered;
 use tw_types::Layout;
 
-/// The marks from one number up to another, which is the first left out.
+/// Returns the markers from one number up to another, which is left out.
 fn marks_in(marks: &[Mark], from: usize, to: usize) -> &[Mark]
     ensures { result.now ≡ marks_in marks.now from to }
 {
@@ -23,21 +23,21 @@ fn marks_in(marks: &[Mark], from: usize, to: usize) -> &[Mark]
     &behind[..to.saturating_sub(from).min(behind.len())]
 }
 
-/// How many marks stand in a lane.
+/// Returns how many markers are in a row.
 fn count_in(layout: Layout, lane: usize, marks: &[Mark]) -> usize
     ensures value { result ≡ count_in layout lane marks.now }
     ensures few { result ≤ length marks.now }
 {
     let mut count = 0;
     for mark in marks {
-        if lane_of(layout, actor_of(&mark.event)) == lane {
+        if layout.index_of(actor_of(&mark.event)) == lane {
             count += 1;
         }
     }
     count
 }
 
-/// All of the height for half of the events.
+/// Returns the height of a column; it is full if half of the events or more are the actor's.
 fn column_height(count: usize, events: usize) -> usize
     requires few { count ≤ events }
     requires bounded { events < 2 ^ 58 }
@@ -47,7 +47,7 @@ fn column_height(count: usize, events: usize) -> usize
     (36 * count / events.max(1)).clamp(1, 18)
 }
 
-/// The events of a column, and how many of them are the actor's.
+/// Returns the tooltip of a column: its events, and how many of them are the actor's.
 fn column_title(alloc: Global, from: usize, to: usize, count: usize) -> Result<Vec<u8>, AllocError>
     ensures { IfOk result (λ title. title.items ≡ column_title from to count) }
 {
@@ -75,7 +75,7 @@ fn put_column_box(
     put_titled(alloc, out, Name::Rectangle, &row, title)
 }
 
-/// Adds one column of a lane, of the events from one number up to another, if there are any of the actor.
+/// Adds one column of a row, for the events from one number up to another, if the actor has any of them.
 fn put_column_of(
     alloc: Global,
     out: &mut Vec<u8>,
@@ -97,7 +97,7 @@ fn put_column_of(
     put_column_box(alloc, out, place, height, &title)
 }
 
-/// Adds one column of a lane.
+/// Adds one column of a row.
 fn put_column(
     alloc: Global,
     out: &mut Vec<u8>,
@@ -116,7 +116,7 @@ fn put_column(
     put_column_of(alloc, out, layout, place, (from, to), there)
 }
 
-/// Adds the columns of a lane.
+/// Adds the columns of a row.
 fn put_lane_columns(
     alloc: Global,
     out: &mut Vec<u8>,
@@ -134,7 +134,7 @@ fn put_lane_columns(
     Ok(())
 }
 
-/// Adds the columns of all lanes.
+/// Adds the columns of all rows.
 pub fn put_columns(
     alloc: Global,
     out: &mut Vec<u8>,
@@ -144,7 +144,7 @@ pub fn put_columns(
 ) -> Result<(), AllocError>
     ensures { OnOk result (out.new.items ≡ out.old.items ++ xml_text (all_columns layout view marks.now)) }
 {
-    for lane in 0..lane_count(layout) {
+    for lane in 0..layout.actor_count() {
         put_lane_columns(alloc, out, layout, view, marks, lane)?;
     }
     Ok(())

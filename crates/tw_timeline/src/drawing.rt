@@ -1,23 +1,23 @@
-//! What a picture shows.
+//! The content of a timeline.
 
 use tw_symbols::Symbols;
 use tw_types::{Actor, Event, Layout, Link, TaskNo};
 
-/// An event of a history, with its number from 1.
+/// An event of a trace, with its number from 1.
 #[derive(Clone, Copy)]
 pub struct Mark {
     pub number: u32,
     pub event: Event,
 }
 
-/// Where something happened: whose event it was, and its number.
+/// The place of an event: its actor and its number.
 #[derive(Clone, Copy)]
 pub struct Place {
     pub actor: Actor,
     pub number: u32,
 }
 
-/// A task that an actor ran, from its Take to its End, if that has come.
+/// A task that an actor ran, from its Take to its End, or without an end.
 #[derive(Clone, Copy)]
 pub struct Bar {
     pub task: TaskNo,
@@ -27,7 +27,7 @@ pub struct Bar {
     pub to: Option<u32>,
 }
 
-/// What led to a task: the event that made it, and the event that took it.
+/// The origin of a task: the event that made it, and the event that took it.
 #[derive(Clone, Copy)]
 pub struct Thread {
     pub task: TaskNo,
@@ -43,21 +43,21 @@ pub struct Wait {
     pub link: Link,
 }
 
-/// A history as it is drawn.
+/// The content of a timeline: what is drawn of a trace.
 #[derive(Drop)]
 pub struct Drawing {
-    /// The actors, a lane each.
+    /// The actors, a row each.
     pub layout: Layout,
-    /// The names of the procedures, where they are known.
+    /// The names of the procedures, if they are known.
     pub names: Symbols,
-    /// How many events there are.
+    /// The number of events.
     pub events: u32,
     pub marks: Vec<Mark>,
     pub bars: Vec<Bar>,
     pub threads: Vec<Thread>,
-    /// The line that closes the report.
+    /// The last line of the report.
     pub closing: Vec<u8>,
-    /// How many rules wait for one another in a circle.
+    /// The number of the circle's rules that are drawn.
     pub rules: u32,
     pub waits: Vec<Wait>,
 }

@@ -1,4 +1,4 @@
-//! Elements, as they are written.
+//! Elements, written as XML.
 
 ghost use Rattle.std.specs.Prelude.{◌≡◌, ◌++◌, [], decimal, IfOk, OnOk};
 ghost use Rattle.std.specs.List.{flat_map};
@@ -9,7 +9,7 @@ use crate::escaping::put_text;
 use std::alloc::{AllocError, Global};
 use tw_report::{put, put_numbered};
 
-/// A number behind words.
+/// Returns words and a number after them.
 pub fn numbered(alloc: Global, words: &str, number: u64) -> Result<Vec<u8>, AllocError>
     ensures { IfOk result (λ text. text.items ≡ words.now ++ decimal number) }
 {
@@ -18,7 +18,7 @@ pub fn numbered(alloc: Global, words: &str, number: u64) -> Result<Vec<u8>, Allo
     Ok(text)
 }
 
-/// Adds a point behind words.
+/// Adds words and a point after them.
 fn put_point(
     alloc: Global,
     out: &mut Vec<u8>,
@@ -93,7 +93,7 @@ fn put_attributes(
     Ok(())
 }
 
-/// Adds the beginning of an element.
+/// Adds the start tag of an element.
 #[tactic(auto, unfolding(crate::specs::Xml::open_text))]
 pub fn put_open(
     alloc: Global,
@@ -109,7 +109,7 @@ pub fn put_open(
     put(out, ">")
 }
 
-/// Adds the end of an element.
+/// Adds the end tag of an element.
 #[tactic(auto, unfolding(crate::specs::Xml::close_text))]
 pub fn put_close(out: &mut Vec<u8>, name: Name) -> Result<(), AllocError>
     ensures { OnOk result (out.new.items ≡ out.old.items ++ close_text name) }
@@ -119,7 +119,7 @@ pub fn put_close(out: &mut Vec<u8>, name: Name) -> Result<(), AllocError>
     put(out, ">\n")
 }
 
-/// Adds an element with nothing in it.
+/// Adds an empty element.
 pub fn put_plain(
     alloc: Global,
     out: &mut Vec<u8>,
@@ -132,7 +132,7 @@ pub fn put_plain(
     put_close(out, name)
 }
 
-/// Adds an element with words in it.
+/// Adds an element that contains words.
 pub fn put_words(
     alloc: Global,
     out: &mut Vec<u8>,
@@ -147,7 +147,7 @@ pub fn put_words(
     put_close(out, name)
 }
 
-/// Adds an element with a title, which is shown where the pointer rests on the element.
+/// Adds an element with a title, which is shown as its tooltip.
 pub fn put_titled(
     alloc: Global,
     out: &mut Vec<u8>,

@@ -1,4 +1,4 @@
-//! Text as XML takes it.
+//! Escaping of text for XML.
 
 ghost use Rattle.std.specs.Prelude.{◌≡◌, ◌++◌, OnOk};
 ghost use Rattle.std.specs.List.{flat_map};
@@ -7,7 +7,7 @@ ghost use Rattle.tw_timeline.specs.Xml.{escaped};
 use std::alloc::AllocError;
 use tw_report::put;
 
-/// Adds a byte of a text: spelled out where XML gives it a meaning, and as `?` where it isn't taken.
+/// Adds a byte of a text: escaped if it has a meaning in XML, and as `?` if XML doesn't allow it.
 fn put_escaped(out: &mut Vec<u8>, byte: u8) -> Result<(), AllocError>
     ensures { OnOk result (out.new.items ≡ out.old.items ++ escaped byte) }
 {
@@ -21,7 +21,7 @@ fn put_escaped(out: &mut Vec<u8>, byte: u8) -> Result<(), AllocError>
     }
 }
 
-/// Adds a text.
+/// Adds a text, escaped.
 pub fn put_text(out: &mut Vec<u8>, text: &[u8]) -> Result<(), AllocError>
     ensures { OnOk result (out.new.items ≡ out.old.items ++ flat_map escaped text.now) }
 {

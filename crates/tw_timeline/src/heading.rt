@@ -1,4 +1,4 @@
-//! What stands above the lanes, and how all looks.
+//! The heading above the rows, and the style of the timeline.
 
 ghost use Rattle.std.specs.Prelude.{◌≡◌, ◌++◌, ◌<◌, IfOk, OnOk};
 ghost use Rattle.tw_timeline.specs.Timeline.{first_kinds, head_row, heading, key_of, kind, kinds, lines, looks, marker, meaning, none_text, shown_line, shown_text, some_text, tip, tip_row};
@@ -49,7 +49,7 @@ fn put_marker(alloc: Global, out: &mut Vec<u8>) -> Result<(), AllocError>
     put_close(out, Name::Marker)
 }
 
-/// Adds the tip of an arrow.
+/// Adds the definition of an arrow's tip.
 fn put_tip(alloc: Global, out: &mut Vec<u8>) -> Result<(), AllocError>
     ensures { OnOk result (out.new.items ≡ out.old.items ++ xml_text tip) }
 {
@@ -96,17 +96,17 @@ fn put_kinds(alloc: Global, out: &mut Vec<u8>) -> Result<(), AllocError>
     put_kind(alloc, out, Kind::Release, 730)
 }
 
-/// Adds what a column means.
+/// Adds the meaning of a column.
 fn put_meaning(alloc: Global, out: &mut Vec<u8>) -> Result<(), AllocError>
     ensures { OnOk result (out.new.items ≡ out.old.items ++ xml_text meaning) }
 {
     let row = labelled(Word::Label, 240, 22);
     let words =
-        b"how many of the events in a column are the actor's: all of its height for half of them";
+        b"how many of the events in a column are the actor's: full height for half of them or more";
     put_words(alloc, out, Name::Text, &row, words)
 }
 
-/// Adds what the colours mean, or what a column means.
+/// Adds the meaning of the colours, or of a column.
 fn put_key(alloc: Global, out: &mut Vec<u8>, view: View) -> Result<(), AllocError>
     ensures { OnOk result (out.new.items ≡ out.old.items ++ xml_text (key_of view)) }
 {
@@ -135,7 +135,7 @@ fn none_text(alloc: Global, events: u32) -> Result<Vec<u8>, AllocError>
     Ok(text)
 }
 
-/// Says which events are shown of so many, and that a timeline has no durations.
+/// Returns a line that says which events are shown, how many there are, and that a timeline has no durations.
 fn shown_text(alloc: Global, view: View, events: u32) -> Result<Vec<u8>, AllocError>
     ensures { IfOk result (λ text. text.items ≡ shown_text view events) }
 {
@@ -154,7 +154,7 @@ fn put_shown(alloc: Global, out: &mut Vec<u8>, view: View, events: u32) -> Resul
     put_words(alloc, out, Name::Text, &row, &text)
 }
 
-/// Adds the line that closes the report, and which events are shown.
+/// Adds the last line of the report, and which events are shown.
 fn put_lines(
     alloc: Global,
     out: &mut Vec<u8>,
@@ -168,7 +168,7 @@ fn put_lines(
     put_shown(alloc, out, view, drawing.events)
 }
 
-/// Adds the looks, what stands above the lanes, and what the colours mean.
+/// Adds the style, the lines above the rows, and the meaning of the colours.
 pub fn put_heading(
     alloc: Global,
     out: &mut Vec<u8>,

@@ -1,4 +1,4 @@
-//! Actors and the numbers of events, as they are drawn.
+//! Rows of actors, and ticks with the numbers of events.
 
 ghost use Rattle.std.specs.Prelude.{◌≡◌, ◌++◌, ◌/◌, ◌<◌, ◌^◌, IfOk, OnOk};
 ghost use Rattle.tw_types.specs.declared.actor.Actor.TheVariants.{Engine, Server, Worker};
@@ -28,7 +28,7 @@ fn actor_name(alloc: Global, actor: Actor) -> Result<Vec<u8>, AllocError>
     Ok(name)
 }
 
-/// Adds the name of an actor again, every 960 units of its lane.
+/// Adds the name of an actor again, every 960 units of its row.
 fn put_names(
     alloc: Global,
     out: &mut Vec<u8>,
@@ -47,7 +47,7 @@ fn put_names(
     Ok(())
 }
 
-/// Adds the lane of an actor, and its name at the left.
+/// Adds the row of an actor, and its name at the left.
 fn put_lane(
     alloc: Global,
     out: &mut Vec<u8>,
@@ -112,7 +112,7 @@ fn put_workers(
     Ok(())
 }
 
-/// Adds a lane for each actor.
+/// Adds a row for each actor.
 pub fn put_lanes(
     alloc: Global,
     out: &mut Vec<u8>,
@@ -139,7 +139,7 @@ fn tick_row(x: usize, down_to: usize) -> [Attribute; 5]
     ]
 }
 
-/// Adds a line at an event, and its number above.
+/// Adds a line at an event, and the event's number above it.
 fn put_tick(
     alloc: Global,
     out: &mut Vec<u8>,
@@ -161,14 +161,14 @@ fn put_tick(
     )
 }
 
-/// Whether there is a tick at the event of a number.
+/// Returns whether there is a tick at the event of this number.
 fn has_tick(view: View, number: u32) -> bool
     ensures { result ≡ has_tick view number }
 {
     view.is_shown(number) && number % view.tick_step() == 0
 }
 
-/// Adds a tick at an event, if it is due there.
+/// Adds a tick at an event, if there is one.
 fn put_tick_of(
     alloc: Global,
     out: &mut Vec<u8>,

@@ -1,4 +1,4 @@
-//! A history as a picture: one SVG text with a lane for each actor, a bar for each task and a mark for each event.
+//! Timelines: one SVG text for a trace. It has a row for each actor, a bar for each task and a marker for each event.
 #![tactic(auto)]
 
 mod attributes;

@@ -1,4 +1,4 @@
-//! A circle of rules that wait for one another, as it is drawn.
+//! Boxes and arrows, which show a circle of rules that wait for one another.
 
 ghost use Rattle.std.specs.Prelude.{◌≡◌, ◌++◌, ◌<◌, ◌^◌, OnOk};
 ghost use Rattle.tw_timeline.specs.Shapes.{arrow, arrow_height, back, box_left, forward, wait_shape, wait_arrow, wait_box};
@@ -13,7 +13,7 @@ use crate::places::bottom;
 use std::alloc::{AllocError, Global};
 use tw_types::Layout;
 
-/// Where the box of a place in the circle begins.
+/// Returns the left edge of the box at a place in the circle.
 fn box_left(place: u32) -> usize
     ensures value { result ≡ box_left place }
     ensures small { result < 2 ^ 41 }
@@ -48,7 +48,7 @@ fn put_wait_box(
     )
 }
 
-/// From a box to one on its right.
+/// Returns the path from a box to one on its right.
 fn forward(left: usize, next: usize, top: usize) -> Value
     requires left { left < 2 ^ 41 }
     requires top { top < 200000 }
@@ -65,7 +65,7 @@ fn forward(left: usize, next: usize, top: usize) -> Value
     Value::Curve(from, to)
 }
 
-/// From a box to one that isn't on its right, or to itself.
+/// Returns the path from a box to itself, or to one that isn't on its right.
 fn back(left: usize, next: usize, top: usize) -> Value
     requires left { left < 2 ^ 41 }
     requires next { next < 2 ^ 41 }
@@ -96,7 +96,7 @@ fn arrow(left: usize, next: usize, top: usize) -> Value
     }
 }
 
-/// Where the datum's name stands.
+/// Returns the height of the datum's name beside its arrow.
 fn arrow_height(left: usize, next: usize, top: usize) -> usize
     requires top { top < 200000 }
     ensures { result ≡ arrow_height left next top }

@@ -1,4 +1,4 @@
-//! Events, as they are drawn.
+//! Markers, which show events.
 
 ghost use Rattle.std.specs.Prelude.{◌≡◌, ◌++◌, IfOk, OnOk};
 ghost use Rattle.tw_timeline.specs.Shapes.{kind_of, mark_box, mark_shape, mark_title, rectangle, way_row};
@@ -13,7 +13,7 @@ use tw_machine::actor_of;
 use tw_report::{put, put_event_line, put_numbered};
 use tw_types::{Event, Layout};
 
-/// A rectangle's row of attributes.
+/// Returns the attributes of a rectangle.
 pub fn rectangle(class: Word, x: usize, y: usize, width: usize, height: usize) -> [Attribute; 5]
     ensures { result ≡ rectangle class x y width height }
 {
@@ -26,7 +26,7 @@ pub fn rectangle(class: Word, x: usize, y: usize, width: usize, height: usize) -
     ]
 }
 
-/// A way of these looks.
+/// Returns the attributes of a path.
 pub fn way_row(class: Word, way: Value) -> [Attribute; 2]
     ensures { result ≡ way_row class way }
 {
@@ -47,7 +47,7 @@ fn kind_of(event: &Event) -> Kind
     }
 }
 
-/// The number and the line of an event.
+/// Returns the tooltip of a marker: the number and the line of its event.
 fn mark_title(alloc: Global, mark: &Mark) -> Result<Vec<u8>, AllocError>
     ensures { IfOk result (λ title. title.items ≡ mark_title mark.now) }
 {
@@ -58,7 +58,7 @@ fn mark_title(alloc: Global, mark: &Mark) -> Result<Vec<u8>, AllocError>
     Ok(title)
 }
 
-/// Adds the mark of an event.
+/// Adds the marker of an event.
 fn put_box(
     alloc: Global,
     out: &mut Vec<u8>,
@@ -76,7 +76,7 @@ fn put_box(
     put_titled(alloc, out, Name::Rectangle, &row, &title)
 }
 
-/// Adds the mark of an event that is shown.
+/// Adds the marker of an event, if it is shown.
 fn put_mark(
     alloc: Global,
     out: &mut Vec<u8>,
@@ -93,7 +93,7 @@ fn put_mark(
     }
 }
 
-/// Adds a mark for each event that is shown.
+/// Adds a marker for each event that is shown.
 pub fn put_marks(
     alloc: Global,
     out: &mut Vec<u8>,

@@ -1,4 +1,4 @@
-//! The whole picture.
+//! The whole timeline.
 
 ghost use Rattle.std.specs.Prelude.{◌≡◌, ◌++◌, ◌<◌, ◌^◌, IfOk, OnOk};
 ghost use Rattle.tw_timeline.specs.Timeline.{drawn, events_of, ground, height_of, picture_of, sized, things, width_of};
@@ -17,7 +17,7 @@ use crate::places::{Settings, View, bottom};
 use crate::threads::put_threads;
 use std::alloc::{AllocError, Global};
 
-/// As wide as the events and the circle, but no less than the heading.
+/// Returns the width: that of the events or of the circle, and at least that of the heading.
 fn width_of(drawing: &Drawing, view: View) -> usize
     ensures value { result ≡ width_of drawing.now view }
     ensures small { result < 2 ^ 51 }
@@ -51,7 +51,7 @@ fn sized(width: usize, height: usize) -> [Attribute; 4]
     ]
 }
 
-/// Adds what stands behind the bars.
+/// Adds everything that is drawn before the bars, and so under them.
 fn put_ground(
     alloc: Global,
     out: &mut Vec<u8>,
@@ -66,7 +66,7 @@ fn put_ground(
     put_threads(alloc, out, drawing.layout, view, &drawing.threads)
 }
 
-/// Adds the marks, or columns where these would be too many.
+/// Adds the markers, or columns if there were too many markers.
 fn put_events(
     alloc: Global,
     out: &mut Vec<u8>,
@@ -118,7 +118,7 @@ fn put_drawn(
     put_close(out, Name::Picture)
 }
 
-/// What the settings show of a drawing, as one SVG text.
+/// Returns the timeline of a drawing, as one SVG text. The settings give its range of events and its width.
 pub fn timeline(alloc: Global, drawing: &Drawing, settings: Settings) -> Result<Vec<u8>, AllocError>
     ensures { IfOk result (λ text. text.items ≡ xml_text (picture_of drawing.now settings)) }
 {

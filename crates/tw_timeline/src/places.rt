@@ -1,23 +1,23 @@
-//! What of a history is drawn, and where it stands in the picture, in units from its upper left corner.
+//! The shown range of a trace, and the coordinates of its parts, in units from the timeline's upper left corner.
 
 ghost use Rattle.std.specs.Prelude.{◌≡◌, ◌<◌, ◌≤◌, ◌*◌, ◌/◌, ◌^◌};
-ghost use Rattle.tw_timeline.specs.Places.{across, between, bottom, column_count, column_start, is_coarse, is_shown, is_wide, lane_count, lane_of, lane_top, least_step, left_of, line_step, mark_inset, mark_width, right_of, room, shown, shows_none, span, tick_step, view_of};
+ghost use Rattle.tw_timeline.specs.Places.{across, between, bottom, column_count, column_start, is_coarse, is_shown, is_wide, lane_top, least_step, left_of, line_step, mark_inset, mark_width, right_of, room, shown, shows_none, span, tick_step, view_of};
 
 use tw_types::{Actor, Layout};
 
-/// What of a history is drawn.
+/// The range of events to be shown, and the width.
 #[derive(Clone, Copy)]
 pub struct Settings {
     /// The number of the first event, from 1.
     pub from: u32,
-    /// The number of the last event; where there are fewer, all from the first one on.
+    /// The number of the last event; if there are fewer events, all from the first one on are shown.
     pub to: u32,
-    /// The greatest width, in units: at least 1,000.
+    /// The greatest width, in units; less than 1,000 counts as 1,000.
     pub width: u16,
 }
 
 impl Settings {
-    /// The events from one number to another, 4,000 units wide at most.
+    /// Returns the settings for the events from one number to another, at a width of 4,000 units at most.
     pub fn between(from: u32, to: u32) -> Settings
         ensures { result ≡ between from to }
     {
@@ -29,7 +29,7 @@ impl Settings {
     }
 }
 
-/// What is shown: the first and the last event, and the most units that all of these may take.
+/// The range that is shown: its first and last event, and the most units that all of its events may take.
 #[derive(Clone, Copy)]
 pub struct View {
     first: u32,
@@ -37,7 +37,7 @@ pub struct View {
     most: u16,
 }
 
-/// A number of parts, where so many units are divided among all.
+/// Returns the width of the first `part` of `all` events, if all take this many units.
 fn scaled(part: usize, units: usize, all: usize) -> usize
     requires part { part ≤ 4294967296 }
     requires units { units ≤ 65536 }
@@ -71,7 +71,7 @@ impl View {
         self.last
     }
 
-    /// How many events are shown.
+    /// Returns how many events are shown.
     fn shown(self) -> usize
         ensures value { result ≡ shown self }
         ensures small { result ≤ 4294967296 }
@@ -79,28 +79,28 @@ impl View {
         (self.last as usize + 1).saturating_sub(self.first as usize)
     }
 
-    /// Whether the event of a number is shown.
+    /// Returns whether the event of this number is shown.
     pub fn is_shown(self, number: u32) -> bool
         ensures { result ≡ is_shown self number }
     {
         self.first <= number && number <= self.last
     }
 
-    /// Whether no event is shown.
+    /// Returns whether no event is shown.
     pub fn shows_none(self) -> bool
         ensures { result ≡ shows_none self }
     {
         self.last < self.first
     }
 
-    /// Whether there are too many events for a mark each.
+    /// Returns whether there are too many events for a marker each.
     pub fn is_coarse(self) -> bool
         ensures { result ≡ is_coarse self }
     {
         usize::from(self.most) < 2 * self.shown()
     }
 
-    /// The units for all of them: 48 for each where there are few, then 16, and all that there are where these don't reach.
+    /// Returns the width of all shown events: 48 units each while these are few, then 16, and less if they don't fit.
     fn span(self) -> usize
         ensures value { result ≡ span self }
         ensures small { result < 65536 }
@@ -110,7 +110,7 @@ impl View {
         usize::from(self.most).min(wide)
     }
 
-    /// Where the event of a number begins; what comes before the first begins where that does.
+    /// Returns the left edge of the event of this number, and that of the first shown one for earlier events.
     pub fn across(self, number: usize) -> usize
         requires { number ≤ 4294967296 }
         ensures value { result ≡ across self number }
@@ -120,7 +120,7 @@ impl View {
         90 + scaled(before, self.span(), self.shown().max(1))
     }
 
-    /// Where what began with an event begins: ten units before all events, if that isn't shown.
+    /// Returns the left edge of what begins with an event: ten units to the left of all events, if that one comes before them.
     pub fn left_of(self, number: u32) -> usize
         ensures value { result ≡ left_of self number }
         ensures small { result < 2 ^ 50 }
@@ -132,7 +132,8 @@ impl View {
         }
     }
 
-    /// Where what ends with an event ends: ten units behind all events, if that isn't shown; at the last of them, if nothing has ended it.
+    /// Returns the right edge of what ends with an event: ten units to the right of all events if that one comes after them, and their right edge if
+    /// nothing has ended it.
     pub fn right_of(self, number: Option<u32>) -> usize
         ensures value { result ≡ right_of self number }
         ensures small { result < 2 ^ 51 }
@@ -145,7 +146,7 @@ impl View {
         }
     }
 
-    /// The units for one event.
+    /// Returns the width of one event.
     fn room(self) -> usize
         ensures value { result ≡ room self }
         ensures small { result < 65536 }
@@ -160,7 +161,7 @@ impl View {
         (self.room() / 2 + 1).min(16)
     }
 
-    /// How far from the beginning of its event a mark stands.
+    /// Returns the distance of a marker from the left edge of its event.
     pub fn mark_inset(self) -> usize
         ensures value { result ≡ mark_inset self }
         ensures small { result < 65536 }
@@ -168,7 +169,7 @@ impl View {
         self.room().saturating_sub(self.mark_width()) / 2
     }
 
-    /// Every so many events there is a tick: a round number with room for it.
+    /// Returns the number of events from one tick to the next: a round number that leaves enough space.
     pub fn tick_step(self) -> u32
         ensures value { result ≡ tick_step self }
         ensures some { 0 < result }
@@ -176,7 +177,7 @@ impl View {
         least_step(self.shown(), self.span(), &TICK_STEPS)
     }
 
-    /// Of so many lines one is drawn.
+    /// Returns the step between the task numbers to which a line is drawn.
     pub fn line_step(self) -> u64
         ensures value { result ≡ line_step self }
         ensures some { 0 < result }
@@ -185,14 +186,14 @@ impl View {
         step.max(1) as u64
     }
 
-    /// Whether lines are thick enough to be seen one by one.
+    /// Returns whether lines are thick enough to be seen one by one.
     pub fn is_wide(self) -> bool
         ensures { result ≡ is_wide self }
     {
         16 <= self.room()
     }
 
-    /// How many columns there are for all events.
+    /// Returns how many columns there are for all events.
     pub fn column_count(self) -> usize
         ensures value { result ≡ column_count self }
         ensures small { result < 6554 }
@@ -200,7 +201,7 @@ impl View {
         usize::from(self.most) / 10
     }
 
-    /// The number of a column's first event.
+    /// Returns the number of a column's first event.
     pub fn column_start(self, column: usize) -> usize
         requires { column < 65536 }
         ensures value { result ≡ column_start self column }
@@ -215,7 +216,7 @@ const TICK_STEPS: [u32; 19] = [
     1, 2, 5, 10, 20, 50, 100, 200, 500, 1_000, 2_000, 5_000, 10_000, 20_000, 50_000, 100_000, 200_000, 500_000, 1_000_000,
 ];
 
-/// The least of the steps that leaves 40 units from one to the next.
+/// Returns the least of the steps that leaves 40 units between two ticks.
 fn least_step(shown: usize, span: usize, steps: &[u32]) -> u32
     requires shown { shown ≤ 4294967296 }
     requires span { span < 65536 }
@@ -229,42 +230,18 @@ fn least_step(shown: usize, span: usize, steps: &[u32]) -> u32
     5_000_000
 }
 
-/// The lane of an actor, from 0: engines, then servers, then workers.
-pub fn lane_of(layout: Layout, actor: Actor) -> usize
-    ensures value { result ≡ lane_of layout actor }
-    ensures small { result < 1000 }
-{
-    let engines = usize::from(layout.engines());
-    let servers = usize::from(layout.servers());
-    match actor {
-        Actor::Engine(number) => usize::from(number),
-        Actor::Server(number) => engines + usize::from(number),
-        Actor::Worker(number) => engines + servers + usize::from(number),
-    }
-}
-
-/// The upper edge of an actor's lane.
+/// Returns the upper edge of an actor's row.
 pub fn lane_top(layout: Layout, actor: Actor) -> usize
     ensures value { result ≡ lane_top layout actor }
     ensures small { result < 100000 }
 {
-    60 + 44 * lane_of(layout, actor)
+    60 + 44 * layout.index_of(actor)
 }
 
-/// How many lanes there are.
-pub fn lane_count(layout: Layout) -> usize
-    ensures value { result ≡ lane_count layout }
-    ensures small { result < 1000 }
-{
-    let engines = usize::from(layout.engines());
-    let servers = usize::from(layout.servers());
-    engines + servers + usize::from(layout.workers())
-}
-
-/// The lower edge of the last lane.
+/// Returns the lower edge of the last row.
 pub fn bottom(layout: Layout) -> usize
     ensures value { result ≡ bottom layout }
     ensures small { result < 100000 }
 {
-    60 + 44 * lane_count(layout)
+    60 + 44 * layout.actor_count()
 }

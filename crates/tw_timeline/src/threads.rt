@@ -1,4 +1,4 @@
-//! What led to tasks, as it is drawn.
+//! Lines from the event that made a task to its bar.
 
 ghost use Rattle.std.specs.Prelude.{◌≡◌, ◌++◌, IfOk, OnOk};
 ghost use Rattle.tw_timeline.specs.Shapes.{has_line, line_end, line_start, thread_box, thread_shape, thread_title, thread_way};
@@ -33,7 +33,7 @@ fn thread_title(alloc: Global, thread: &Thread) -> Result<Vec<u8>, AllocError>
     Ok(title)
 }
 
-/// The mark of an event, or the left of all events.
+/// Returns where a line begins: at the marker of its event, or at the left of all events.
 fn line_start(view: View, number: u32) -> usize
     ensures { result ≡ line_start view number }
 {
@@ -44,7 +44,7 @@ fn line_start(view: View, number: u32) -> usize
     }
 }
 
-/// The beginning of an event, or the right of all events.
+/// Returns where a line ends: at the left edge of its event, or at the right of all events.
 fn line_end(view: View, number: u32) -> usize
     ensures { result ≡ line_end view number }
 {
@@ -55,7 +55,7 @@ fn line_end(view: View, number: u32) -> usize
     }
 }
 
-/// The curve from where a task was made to just above the beginning of its bar.
+/// Returns the curve from the event that made a task to just above the beginning of its bar.
 fn thread_way(layout: Layout, view: View, thread: &Thread) -> Value
     ensures { result ≡ thread_way layout view thread.now }
 {
@@ -89,7 +89,7 @@ fn put_thread(
     put_titled(alloc, out, Name::Path, &row, &title)
 }
 
-/// Whether a line is drawn: the event that made the task is shown, or its Take is; and it is one of those that are drawn.
+/// Returns whether a line is drawn: the event that made the task or its Take is shown, and the line is one of those that are drawn.
 fn has_line(view: View, thread: &Thread) -> bool
     ensures { result ≡ has_line view thread.now }
 {
@@ -98,7 +98,7 @@ fn has_line(view: View, thread: &Thread) -> bool
     seen && thread.task.number() % view.line_step() == 0
 }
 
-/// Adds a line, if it is among those that are drawn.
+/// Adds a line, if it is drawn.
 fn put_thread_of(
     alloc: Global,
     out: &mut Vec<u8>,
@@ -115,7 +115,7 @@ fn put_thread_of(
     }
 }
 
-/// Adds a line to each task that is made or taken among the events that are shown, or to some of these.
+/// Adds a line to each task that a shown event makes or takes, or to some of these if they are too many.
 pub fn put_threads(
     alloc: Global,
     out: &mut Vec<u8>,

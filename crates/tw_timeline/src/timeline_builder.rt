@@ -1,4 +1,4 @@
-//! A history, gathered event by event for its drawing.
+//! A trace, gathered event by event for its timeline.
 
 ghost use Rattle.std.specs.Prelude.{◌≡◌, ◌+◌, ◌++◌, ◌≤◌, [], ◌∷◌, List, IfOk, OnOk, if◌then◌else◌, is_some, length, map, slice_get, take};
 ghost use Rattle.std.specs.FinMap.{get};
@@ -19,10 +19,10 @@ use tw_report::ending_line;
 use tw_symbols::Symbols;
 use tw_types::{Actor, Event, TaskNo};
 
-/// The number of the first task that an event makes; task 1 is main's.
+/// The number of the first task that an event makes; task 1 is main.
 const FIRST_MADE: u64 = 2;
 
-/// Begins the bar of the task that an event has taken, if it has.
+/// Adds the bar of the task that an event has taken, if it has taken one.
 fn begin(bars: &mut Vec<Bar>, plain: &Plain, mark: &Mark) -> Result<(), AllocError>
     ensures { OnOk result (bars.new.items ≡ bars.old.items ++ begun_at mark.now.number mark.now.event plain.now.state) }
 {
@@ -42,14 +42,14 @@ fn begin(bars: &mut Vec<Bar>, plain: &Plain, mark: &Mark) -> Result<(), AllocErr
     Ok(())
 }
 
-/// Whether a task waits.
+/// Returns whether a task waits.
 fn waits(plain: &Plain, number: u64) -> bool
     ensures { result ≡ is_some (get plain.now.state.tasks number) }
 {
     plain.state().tasks().contains_key(&number)
 }
 
-/// Keeps an event as the maker of the task that comes next, if that task waits now.
+/// Adds an event as the maker of the next task, if that task waits now.
 fn keep_maker(makers: &mut Vec<Place>, plain: &Plain, mark: &Mark) -> Result<(), AllocError>
     ensures { OnOk result (makers.new.items ≡ makers.old.items ++ (if is_some (get plain.now.state.tasks (length makers.old.items + 2)) then record { actor = actor_of mark.now.event; number = mark.now.number } ∷ [] else [])) }
 {
@@ -69,7 +69,7 @@ fn place_at(places: &[Place], index: usize) -> Option<Place>
     places.get(index).copied()
 }
 
-/// Where a task was made; main's has no maker.
+/// Returns the event that made a task; `None` for main, which no event makes.
 fn maker_of(makers: &[Place], task: TaskNo) -> Option<Place>
     ensures { result ≡ maker task (in_order 2 makers.now) }
 {
@@ -90,7 +90,7 @@ fn is_end_of(event: &Event, actor: Actor) -> bool
     }
 }
 
-/// The number of an actor's first End among these.
+/// Returns the number of an actor's first End among these.
 fn first_end(marks: &[Mark], actor: Actor) -> Option<u32>
     ensures { result ≡ first_end actor marks.now }
 {
@@ -102,7 +102,7 @@ fn first_end(marks: &[Mark], actor: Actor) -> Option<u32>
     None
 }
 
-/// The bar with its end.
+/// Returns the bar with its end.
 fn ended(marks: &[Mark], bar: &Bar) -> Bar
     ensures { result ≡ ended marks.now bar.now }
 {
@@ -113,7 +113,7 @@ fn ended(marks: &[Mark], bar: &Bar) -> Bar
     }
 }
 
-/// The bars with their ends.
+/// Returns the bars with their ends.
 fn all_ended(alloc: Global, marks: &[Mark], bars: &[Bar]) -> Result<Vec<Bar>, AllocError>
     ensures { IfOk result (λ all. all.items ≡ map (ended marks.now) bars.now) }
 {
@@ -124,7 +124,7 @@ fn all_ended(alloc: Global, marks: &[Mark], bars: &[Bar]) -> Result<Vec<Bar>, Al
     Ok(all)
 }
 
-/// Leads a line from where a bar's task was made to where the bar begins.
+/// Adds a line from the event that made a bar's task to the beginning of the bar.
 fn lead(threads: &mut Vec<Thread>, makers: &[Place], bar: &Bar) -> Result<(), AllocError>
     ensures { OnOk result (threads.new.items ≡ threads.old.items ++ led (in_order 2 makers.now) bar.now) }
 {
@@ -142,7 +142,7 @@ fn lead(threads: &mut Vec<Thread>, makers: &[Place], bar: &Bar) -> Result<(), Al
     Ok(())
 }
 
-/// The lines to all bars.
+/// Returns the lines to all bars.
 fn threads_to(alloc: Global, makers: &[Place], bars: &[Bar]) -> Result<Vec<Thread>, AllocError>
     ensures { IfOk result (λ threads. threads.items ≡ flat_map (led (in_order 2 makers.now)) bars.now) }
 {
@@ -153,18 +153,18 @@ fn threads_to(alloc: Global, makers: &[Place], bars: &[Bar]) -> Result<Vec<Threa
     Ok(threads)
 }
 
-/// What has been gathered of a history, so far.
+/// The events of a trace so far, with their bars and the makers of tasks.
 #[derive(Drop)]
 pub struct TimelineBuilder {
     marks: Vec<Mark>,
-    /// Without their ends.
+    /// The bars, without their ends.
     bars: Vec<Bar>,
-    /// Where tasks were made, by their numbers from 2 on.
+    /// The events that made tasks, by the tasks' numbers from 2 on.
     makers: Vec<Place>,
 }
 
 impl TimelineBuilder {
-    /// That of no events, from an opening on.
+    /// Makes a builder without events, at an opening.
     pub fn new(alloc: Global) -> TimelineBuilder
         ensures { (first : PlainView) → IsOpening first.state → IsTrail first [] first.state result }
     {
@@ -178,7 +178,7 @@ impl TimelineBuilder {
         }
     }
 
-    /// Keeps the event that led to where the machine stands.
+    /// Adds the event that led to the machine's current state.
     pub fn add_event(&mut self, plain: &Plain, event: Event) -> Result<(), AllocError>
         requires { HasFew self.old }
         ensures { OnOk result ((first : PlainView) (events : List AnEvent) (s : AState) → IsTrail first events s self.old → step first.program first.layout event s ≡ Went plain.now.state → IsTrail first (events ++ event ∷ []) plain.now.state self.new) }
@@ -192,7 +192,7 @@ impl TimelineBuilder {
         keep_maker(&mut self.makers, plain, &mark)
     }
 
-    /// Draws the events that have led to where the machine stands; the procedures have these names.
+    /// Returns the drawing of the events that have led to the machine's current state, with these names for its procedures.
     pub fn drawing(
         self,
         alloc: Global,

@@ -17,5 +17,5 @@ returns c =
     (λ listing h. (
       typings_in all,
       c.in_ok-all.ensures,
-      (plain, said.0, stands, say, h said.0 say (as_many text plain stands) ∙ ap (λ (ts : List (List Typing)). said_lines (typings_in ts) 1 at_start (lines text) said.0) c.deref.ensures.value),
+      (plain, said.0, h.0, stands, say, h.1, h.2 said.0 say (as_many text plain stands) ∙ ap (λ (ts : List (List Typing)). said_lines h.0 (typings_in ts) 1 at_start (lines text) said.0) c.deref.ensures.value),
     )) c.said_text.ensures

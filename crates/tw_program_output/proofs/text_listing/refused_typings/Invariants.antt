@@ -3,7 +3,7 @@ use Rattle.tw_verify.specs.Known.{AreFound}
 use Rattle.tw_verify.specs.Rejection.{verify_error_code}
 use Rattle.tw_program_output.proofs.text_listing.refused_typings.Given as goal
 
--- those of so many procedures
+-- the typings of this many procedures
 abbrev pub invariant-loop-number : goal.invariant-loop-number
 invariant-loop-number l = record {
   count : length l.all.items ≡ l.number;

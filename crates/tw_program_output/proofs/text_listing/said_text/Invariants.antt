@@ -1,11 +1,15 @@
+use Rattle.std.proofs.Common.{length, List, ℕ}
 use Rattle.tw_program_output.specs.Listed.{typings_in}
-use Rattle.tw_program_output.proofs.LineListings.{AreLinesListed, own_in, written_in}
+use Rattle.tw_program_output.proofs.ReplyNames.{lines}
+use Rattle.tw_symbols.specs.RightNames.{AreRightNames, HasRead}
+use Rattle.tw_program_output.proofs.LineListings.{AreLinesListed, own_in, pairs_in, written_in}
 use Rattle.tw_program_output.proofs.text_listing.said_text.Given as goal
 
--- so many lines are listed
-abbrev pub invariant-loop-line : goal.invariant-loop-line
-invariant-loop-line l = record {
-  next : (goal.iterator-loop-line).can_next l.line-iterator;
-  finite : (goal.iterator-loop-line).is_finite l.line-iterator;
-  listed : AreLinesListed (typings_in l.all) (written_in l.yielded) (own_in l.yielded) l.counts l.out.items;
+-- this many lines are listed, with the text's names
+abbrev pub invariant-loop-index : goal.invariant-loop-index
+invariant-loop-index l = record {
+  next : (goal.iterator-loop-index).can_next l.index-iterator;
+  finite : (goal.iterator-loop-index).is_finite l.index-iterator;
+  listed : (names : ℕ → ℕ → List ℕ) × AreRightNames l.text names × HasRead names (lines l.text) (length (written_in (pairs_in l.yielded))) l.names
+      × AreLinesListed names (typings_in l.all) (written_in (pairs_in l.yielded)) (own_in (pairs_in l.yielded)) l.counts l.out.items;
 }

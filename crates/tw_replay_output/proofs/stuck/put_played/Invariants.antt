@@ -2,7 +2,7 @@ use Rattle.std.proofs.Common.{◌≡◌, ◌+◌, ◌*◌, drop, length, take}
 use Rattle.tw_replay_output.proofs.ReplayNames.{AreBelow, AreMade, IsOpened, Start, Went, opening_bound, run}
 use Rattle.tw_replay_output.proofs.stuck.put_played.Given as goal
 
--- so many events are made, and the rules that they made are known
+-- this many events are executed, and the rules that they made are known
 abbrev pub invariant-loop-index : goal.invariant-loop-index
 invariant-loop-index l = record {
   stays : l.plain ≡ record l.fn.first { state = l.plain.state };

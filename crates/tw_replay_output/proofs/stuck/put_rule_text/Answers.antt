@@ -1,7 +1,7 @@
 use Rattle.std.proofs.Common.{◌++◌, ◌∙◌, List, ap, append_assoc, codes, decimal, ℕ}
 use Rattle.std.proofs.lemmas.Result.{on_ok_weaker}
 use Rattle.tw_symbols.specs.Symbols.{bracketed, name_at}
-use Rattle.tw_replay_output.proofs.Unfits.{three_parts}
+use Rattle.tw_diagnostics.proofs.Reasoning.{three_parts}
 use Rattle.tw_replay_output.proofs.stuck.put_rule_text.Goals as goal
 
 pub returns : goal.returns

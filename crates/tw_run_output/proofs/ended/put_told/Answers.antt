@@ -1,6 +1,6 @@
 use Rattle.std.proofs.Common.{◌++◌, ◌∙◌, ℕ, List, ap, append_assoc, subst, sym}
 use Rattle.tw_run_output.proofs.RunNames.{on_ok_weaker, text_of}
-use Rattle.tw_cli.specs.declared.command.Answer.{Answer}
+use Rattle.tw_cli.specs.declared.command.RunAnswer.{RunAnswer}
 use Rattle.tw_run_output.specs.Run.{IsRunText, limit_details}
 use Rattle.tw_run_output.proofs.ended.put_told.Goals as goal
 
@@ -17,7 +17,7 @@ returns-in-Report c =
     let events = c.args.history.now.events in
     let more = limit_details source order c.args.closing in
     on_ok_weaker c.put_run_report.result
-    (λ h over. (h.0 ++ more, subst (λ (a : Answer). IsRunText a source c.args.verified.program order events over.state c.args.closing (h.0 ++ more)) (sym c.in-Report.is) (ap (λ (t : List ℕ). t ++ more) (over.reports h.0 h.1)), h.2)) c.put_run_report.ensures
+    (λ h over. (h.0 ++ more, subst (λ (a : RunAnswer). IsRunText a source c.args.verified.program order events over.state c.args.closing (h.0 ++ more)) (sym c.in-Report.is) (ap (λ (t : List ℕ). t ++ more) (over.reports h.0 h.1)), h.2)) c.put_run_report.ensures
 
 pub returns-in_ok-put_run_report-in-Numbers : goal.returns-in_ok-put_run_report-in-Numbers
 returns-in_ok-put_run_report-in-Numbers c =
@@ -29,7 +29,7 @@ returns-in_ok-put_run_report-in-Numbers c =
     on_ok_weaker c.put_run_numbers.result
     (λ n over. (
       (h.0 ++ more) ++ n.1,
-      subst (λ (a : Answer). IsRunText a source c.args.verified.program order events over.state c.args.closing ((h.0 ++ more) ++ n.1)) (sym c.in-Numbers.is)
+      subst (λ (a : RunAnswer). IsRunText a source c.args.verified.program order events over.state c.args.closing ((h.0 ++ more) ++ n.1)) (sym c.in-Numbers.is)
           (n.0, n.1, n.2, n.3, ap (λ (t : List ℕ). (t ++ more) ++ n.1) (over.reports h.0 h.1)),
       n.4 ∙ ap (λ (t : List ℕ). t ++ n.1) h.2 ∙ append_assoc c.args.out.now.items (h.0 ++ more) n.1,
     )) c.put_run_numbers.ensures
@@ -40,4 +40,15 @@ returns-in-Picture c =
     let order = c.args.order.now in
     let events = c.args.history.now.events in
     on_ok_weaker c.put_run_picture.result
-    (λ p over. let told = p over.state over.reaches in (told.1, subst (λ (a : Answer). IsRunText a source c.args.verified.program order events over.state c.args.closing told.1) (sym c.in-Picture.is) (told.0, told.2, told.3), told.4)) c.put_run_picture.ensures
+    (λ p over. let told = p over.state over.reaches in (told.1, subst (λ (a : RunAnswer). IsRunText a source c.args.verified.program order events over.state c.args.closing told.1) (sym c.in-Picture.is) (told.0, told.2, told.3), told.4)) c.put_run_picture.ensures
+
+pub put_json-requires : goal.put_json-requires
+put_json-requires c = c.requires.over.closes
+
+pub returns-in-Json : goal.returns-in-Json
+returns-in-Json c =
+    let source = text_of c.args.source.now in
+    let order = c.args.order.now in
+    let events = c.args.history.now.events in
+    on_ok_weaker c.put_json.result
+    (λ h over. (h.0, subst (λ (a : RunAnswer). IsRunText a source c.args.verified.program order events over.state c.args.closing h.0) (sym c.in-Json.is) (over.shows h.0 h.1), h.2)) c.put_json.ensures

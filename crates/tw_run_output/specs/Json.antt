@@ -1,0 +1,43 @@
+-- The JSON line of a finished run.
+use Rattle.std.specs.Prelude.{◌≡◌, ℕ, List, length, codes, Option, Some, None}
+use Rattle.tw_types.specs.declared.event.Event.{Event}
+use Rattle.tw_types.specs.declared.pending.Link.{Link}
+use Rattle.tw_code.specs.declared.procedure.Procedure.{Procedure}
+use Rattle.tw_code.specs.machine.Pending.{circle}
+use Rattle.tw_code.specs.machine.State.{State}
+use Rattle.tw_bounds.specs.Runs.{instructions_in}
+use Rattle.tw_json_output.specs.Run.{json_line, run_json}
+use Rattle.tw_pool.specs.declared.answer.Closing.{Closing}
+use Rattle.tw_pool.specs.declared.answer.Closing.TheVariants.{Quiet, Stuck, Stopped, Limit}
+use Rattle.tw_pool.specs.Ends.{FinalView}
+use Rattle.tw_run_output.specs.Ends.{InEachState}
+
+-- returns the word for the end of a run
+abbrev pub status_of : Closing → List ℕ
+status_of Quiet = codes "quiet"
+status_of (Stuck rules) = codes "stuck"
+status_of Stopped = codes "stopped"
+status_of Limit = codes "limit"
+
+-- returns the number of pending rules of a stuck run
+abbrev pub pending_of : Closing → Option ℕ
+pending_of Quiet = None
+pending_of (Stuck rules) = Some rules
+pending_of Stopped = None
+pending_of Limit = None
+
+-- returns the circle of rules of a stuck run, if there is one
+abbrev pub circle_in : List Procedure → State → Closing → Option (List Link)
+circle_in program s Quiet = None
+circle_in program s (Stuck rules) = circle program s
+circle_in program s Stopped = None
+circle_in program s Limit = None
+
+-- returns the line of a run that has ended in this state
+abbrev pub run_line : List Procedure → List Event → State → Closing → List ℕ
+run_line program events s closing =
+    json_line (run_json (status_of closing) (pending_of closing) (circle_in program s closing) (length events) (instructions_in events) s.store.live s.outputs)
+
+-- holds for the line of this end of a run
+abbrev pub IsEndLine : FinalView → List Event → Closing → List ℕ → Type 0
+IsEndLine final events closing line = InEachState final (λ program s. line ≡ run_line program events s closing)

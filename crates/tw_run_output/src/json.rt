@@ -1,0 +1,90 @@
+//! The JSON line of a finished run.
+
+ghost use Rattle.std.specs.Prelude.{◌≡◌, IfOk, option_map, string_bytes};
+ghost use Rattle.tw_bounds.specs.Runs.{instructions_by, instructions_in};
+ghost use Rattle.tw_run_output.specs.Ends.{InEachState, has_ended};
+ghost use Rattle.tw_run_output.specs.Json.{IsEndLine, circle_in, pending_of, status_of};
+
+use crate::end_report::circle;
+use crate::finished_run::FinishedRun;
+use std::alloc::{AllocError, Global};
+use tw_json_output::{RunEnd, RunNumbers, run_line};
+use tw_pool::{Closing, Final, History};
+use tw_types::{Event, Link};
+
+/// Returns the word for the end of a run.
+fn status_of(closing: Closing) -> &'static str
+    ensures { result.now ≡ status_of closing }
+{
+    match closing {
+        Closing::Quiet => "quiet",
+        Closing::Stuck(_) => "stuck",
+        Closing::Stopped => "stopped",
+        Closing::Limit => "limit",
+    }
+}
+
+/// Returns the number of pending rules of a stuck run.
+fn pending_of(closing: Closing) -> Option<u64>
+    ensures { result ≡ pending_of closing }
+{
+    match closing {
+        Closing::Stuck(rules) => Some(rules),
+        Closing::Quiet | Closing::Stopped | Closing::Limit => None,
+    }
+}
+
+/// Returns the circle of rules of a stuck run, if there is one.
+fn circle_of(alloc: Global, left: &Final, closing: Closing) -> Result<Option<Vec<Link>>, AllocError>
+    requires { left.now.closing ≡ Some closing }
+    ensures { IfOk result (λ found. InEachState left.now (λ program s. option_map (λ v. v.items) found ≡ circle_in program s closing)) }
+{
+    match closing {
+        Closing::Stuck(_) => circle(alloc, left),
+        Closing::Quiet | Closing::Stopped | Closing::Limit => Ok(None),
+    }
+}
+
+/// Returns how many instructions an event executes; an `End` executes the RET.
+fn instructions_by(event: Event) -> u64
+    ensures { result ≡ instructions_by event }
+{
+    match event {
+        Event::Local(_, count) => count,
+        Event::Call(_) | Event::End(_) => 1,
+        Event::Take(_) | Event::Ask(..) | Event::Deliver(..) | Event::Release(..) => 0,
+    }
+}
+
+/// Returns how many instructions a trace executes.
+fn instructions_in(history: &History) -> u128
+    ensures { result ≡ instructions_in history.now.events }
+{
+    let mut sum = 0;
+    for index in 0..history.len() {
+        sum += u128::from(instructions_by(history.event(index)));
+    }
+    sum
+}
+
+/// Returns the JSON line of a finished run.
+pub fn end_line(
+    alloc: Global,
+    left: &Final,
+    history: &History,
+    closing: Closing,
+) -> Result<String, AllocError>
+    requires { left.now.closing ≡ Some closing }
+    ensures { IfOk result (λ line. IsEndLine left.now history.now.events closing (string_bytes line)) }
+{
+    let numbers = RunNumbers {
+        events: history.len() as u64,
+        instructions: instructions_in(history),
+    };
+    let end = RunEnd {
+        status: status_of(closing),
+        pending: pending_of(closing),
+        circle: circle_of(alloc, left, closing)?,
+    };
+    run_line(alloc, &FinishedRun { of: left }, numbers, &end)
+}
