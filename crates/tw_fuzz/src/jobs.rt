@@ -3,6 +3,7 @@
 ghost use Rattle.std.specs.Prelude.{◌≡◌, ◌<◌, IfSome, length};
 ghost use Rattle.tw_frame.specs.Jobs.{job_of};
 
+use crate::numbered::spend;
 use crate::stretches::next_program;
 use std::alloc::{AllocError, Global};
 use tw_binary::decode;
@@ -42,16 +43,6 @@ fn run_on<'a>(alloc: Global, frame: &mut Frame<'a>, job: Job<'a>) -> Option<Stre
     Some(Stretch { done, steps })
 }
 
-/// Spends the task's rights.
-fn shut(task: Task) {
-    let Task {
-        no: _,
-        procedure: _,
-        args,
-    } = task;
-    args.shut();
-}
-
 /// Runs main from its first place on.
 pub fn stretch_of(alloc: Global, verified: &Verified) -> Result<Option<Stretch<'_>>, AllocError> {
     let _procedures = verified.program().procedures();
@@ -61,14 +52,14 @@ pub fn stretch_of(alloc: Global, verified: &Verified) -> Result<Option<Stretch<'
         args: Bundle::new(alloc),
     };
     let Ok(frame_buffers) = FrameBuffers::new(alloc) else {
-        shut(task);
+        spend(task);
         return Err(AllocError);
     };
     let start = match frame_buffers.start(alloc, &task, verified) {
         Ok(start) => start,
         Err(frame_buffers) => {
             frame_buffers.shut();
-            shut(task);
+            spend(task);
             return Err(AllocError);
         }
     };

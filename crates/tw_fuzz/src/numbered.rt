@@ -178,7 +178,8 @@ fn seen(task: Option<&Task>) -> Taken {
     }
 }
 
-fn spend(task: Task) {
+/// Spends the task's rights.
+pub fn spend(task: Task) {
     let Task {
         no: _,
         procedure: _,

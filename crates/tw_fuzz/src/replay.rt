@@ -7,7 +7,7 @@ use std::alloc::{AllocError, Global};
 use tw_machine::Plain;
 use tw_pool::{Closing, Final, History};
 use tw_report::{put_report, report_state};
-use tw_run_output::report;
+use tw_run_output::{events_of, report};
 use tw_types::Event;
 
 /// Returns whether an event executes at most a thousand million instructions.
@@ -75,15 +75,6 @@ pub fn end_of(alloc: Global, left: &Final, history: &History) -> Option<Ended> {
         text,
         events,
     })
-}
-
-/// Returns the events of a `History`.
-fn events_of(alloc: Global, history: &History) -> Result<Vec<Event>, AllocError> {
-    let mut events = Vec::new(alloc);
-    for index in 0..history.len() {
-        events.push(history.event(index))?;
-    }
-    Ok(events)
 }
 
 /// Returns whether a machine has the same report.

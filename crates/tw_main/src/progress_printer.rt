@@ -1,4 +1,4 @@
-//! What is told of a run on its way.
+//! Prints the progress of a run in threads.
 
 ghost use Rattle.std.specs.Prelude.{◌≡◌, false};
 
@@ -10,27 +10,27 @@ use std::{io, thread};
 use tw_session::{Gate, Progress};
 use tw_types::Actor;
 
-/// The first pause between two looks at a run, in microseconds.
+/// The first pause between two checks of a run, in microseconds.
 const SHORTEST: u64 = 20;
 
-/// The longest one.
+/// The longest pause between two checks, in microseconds.
 const LONGEST: u64 = 1280;
 
-/// The last second of a run in which nothing is told of it yet.
+/// The last second of a run in which no progress is printed yet.
 const SILENT: u64 = 1;
 
-/// When a run is looked at.
+/// When a run is checked.
 #[derive(Drop)]
 struct Look {
     begun: Instant,
     /// The next pause, in microseconds.
     pause: u64,
-    /// The last second in which something was told, or nothing was to be.
+    /// The last second for which progress was printed, or at first `SILENT`.
     told: u64,
 }
 
 impl Look {
-    /// From now on.
+    /// Begins now.
     fn new(clock: &impl Clock) -> io::Result<Look> {
         Ok(Look {
             begun: Instant::now(clock)?,
@@ -39,7 +39,7 @@ impl Look {
         })
     }
 
-    /// Lets some time pass, each time twice as much up to the longest pause, so that a short run isn't held up.
+    /// Sleeps until the next check. The pause doubles up to the longest one, so that a short run isn't delayed.
     fn rest(&mut self, clock: &impl Clock) {
         thread::sleep(clock, Duration::from_micros(self.pause));
         if self.pause < LONGEST {
@@ -47,7 +47,7 @@ impl Look {
         }
     }
 
-    /// Whether something is to be told, which then is not so again in the same second.
+    /// Returns whether progress is to be printed, at most once for each second.
     fn is_due(&mut self, clock: &impl Clock) -> io::Result<bool> {
         let second = self.begun.elapsed(clock)?.as_secs();
         if second <= self.told {
@@ -58,8 +58,8 @@ impl Look {
     }
 }
 
-/// Tells on standard error once a second how many events a run in threads has so far, if it takes more than two seconds. It also reports
-/// there that wakes of idle threads got lost, which none does unless the host has a fault.
+/// A job observer that prints on standard error, once a second, how many events a run in threads has so far, if it takes more than two seconds. It
+/// also prints there how many wakes of idle threads were lost; if any were, the host has a fault.
 #[derive(Drop)]
 pub struct ProgressPrinter {
     stderr: Stderr,
@@ -67,7 +67,7 @@ pub struct ProgressPrinter {
 }
 
 impl ProgressPrinter {
-    /// Makes one that tells nothing if it is quiet, and no progress if standard error is no terminal.
+    /// Makes a printer. It prints nothing if `is_quiet`, and no progress if standard error is no terminal.
     pub fn new(stderr: Stderr, is_quiet: bool) -> ProgressPrinter
         ensures { result.is_quiet ≡ is_quiet }
     {
@@ -75,7 +75,7 @@ impl ProgressPrinter {
     }
 }
 
-/// Looks at a run until it is over, and tells of it when that is due.
+/// Checks a run until it is over, and prints its progress when due.
 fn print_progress<R: Wait + Clock, P: Progress>(
     rt: &R,
     terminal: &Stderr,
@@ -105,7 +105,7 @@ impl Gate for ProgressPrinter {
 
     fn after_job<R: Wait>(&self, _rt: &R, _actor: Actor, _task: u64) {}
 
-    /// Where the clock or the terminal fails nothing more is told.
+    /// Prints progress until the run is over. If the clock or the terminal fails, it stops.
     fn monitor<R: Wait + Clock, P: Progress>(&self, rt: &R, run: &P) {
         if !self.is_quiet && self.stderr.is_terminal() {
             let _told = print_progress(rt, &self.stderr, run);

@@ -1,4 +1,4 @@
--- What comes of a reply that is written, and of words.
+-- A session's end after a reply is written, and after arguments are read.
 use Rattle.std.proofs.Common.{◌≡◌, ◌≢◌, ℕ, List, [], ◌∷◌, codes, Option, Some, None, IfOk, IfSome, Result, Ok, Err, OnErr, inl, inr, refl, sym, subst}
 use Rattle.std.specs.Io.KnownBytes.{Appends}
 use Rattle.clap.specs.Words.{Kinds, Text}
@@ -33,7 +33,7 @@ replied Answers text close ReadFailed old new h wrote = absurd (never ((wrote (�
     never e = cc
 replied Answers text close WriteFailed old new h wrote = tt
 
--- want of memory
+-- an allocation failed
 pub no_reply : (Answers : Reply → Type 0) (status : Status) (old new : Option (List ℕ)) → (status ≢ WriteFailed → status ≡ NoMemory) → (status ≡ NoMemory → Appends old new (codes "memory\n")) → ComesOfReply Answers status old new
 no_reply Answers (Ended close) old new is wrote = absurd (never (is (λ e. cc)))
   where
@@ -46,7 +46,7 @@ no_reply Answers ReadFailed old new is wrote = absurd (never (is (λ e. cc)))
     never e = cc
 no_reply Answers WriteFailed old new is wrote = tt
 
--- where one may be made, what was written of it
+-- if a reply may be made, what was written of it
 pub comes_of : {E : Type 0} (Answers : Reply → Type 0) (made : Result MadeReply E) (status : Status) (old new : Option (List ℕ)) → IfOk made (λ r. Answers (reply r.text.items r.close))
     → IfOk made (λ r. status ≢ WriteFailed → (status ≡ Ended r.close) × Appends old new r.text.items) → OnErr made (status ≢ WriteFailed → status ≡ NoMemory)
     → (status ≡ NoMemory → Appends old new (codes "memory\n")) → ComesOfReply Answers status old new
@@ -57,9 +57,9 @@ pub whatever : {X : Type 0} {P : X → Type 0} (o : Option X) → ((x : X) → P
 whatever None h = tt
 whatever (Some x) h = h x
 
--- ---- words
+-- ---- arguments
 
--- words that are taken
+-- arguments that are accepted
 pub taken : (kinds : Kinds) (asked : Asked) (input : List ℕ) (r : Reply) → kinds ≡ [] → AnswersWords kinds asked input r → MayAnswer asked input r
 taken [] asked input r e h = h
 taken (kind ∷ others) asked input r e h = absurd cc
@@ -68,7 +68,7 @@ pub not_taken : (kinds : Kinds) (asked : Asked) (input : List ℕ) (r : Reply) �
 not_taken [] asked input r e h = absurd (e refl)
 not_taken (kind ∷ others) asked input r e h = h
 
--- where an explanation is asked for, no input word is refused
+-- if an explanation is requested, no input word is rejected
 not_refused : (asked : Asked) (text : List ℕ) (number : RefusedWord) → IsExplained asked text → IsRefusedInput asked number → ⊥
 not_refused (Assembles what) text number e r = e
 not_refused (Disassembles source listed) text number e r = e

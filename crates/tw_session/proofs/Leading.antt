@@ -1,4 +1,4 @@
--- What leads to a reply leads to one that may be answered in another's place.
+-- Weakening: a result that leads to replies with a condition leads to replies with a weaker condition.
 use Rattle.std.proofs.Common.{Option}
 use Rattle.tw_session.proofs.SessionNames.{ProgramAction, Comes, Leads, Reply, RunOrder, OrderAction, reply}
 use Rattle.tw_session.specs.declared.order.OrderAction.TheVariants as step

@@ -1,4 +1,4 @@
--- What closes a run is what the definition of its end says.
+-- The end of a run is as its definition says.
 use Rattle.std.proofs.Common.{◌≡◌, ◌≢◌, ◌≤◌, ◌==◌, ◌∙◌, ◌++◌, Bool, true, false, ℕ, refl, sym, ap, subst, inl, List, length, Option, Some, None, IfOk, Result, Ok, Err}
 use Rattle.std.proofs.lemmas.Bool.{eqb-true}
 use Rattle.std.specs.Prelude.{if◌then◌else◌}
@@ -23,13 +23,14 @@ use Rattle.tw_host.specs.Run.{Run, run_of}
 use Rattle.tw_in_turn.specs.InTurn.{ComesTo, IsOver}
 use Rattle.tw_cli.specs.declared.command.RunOrder.{RunOrder}
 use Rattle.tw_run_output.specs.Ends.{IsEndReport, end_report}
+use Rattle.tw_run_output.specs.Json.{IsEndLine, run_line}
 use Rattle.tw_run_output.specs.Over.{IsRunOver}
 use Rattle.tw_run_output.specs.Run.{AreRunDetails, IsRunText, close_of, trace_text}
 use Rattle.tw_program_output.specs.Reply.{reply}
 use Rattle.tw_program_output.specs.declared.reply.Reply.{Reply as MadeReply}
 use Rattle.tw_session.specs.Run.{EndsSo, IsOrdered, IsRun, RepliesByRun, run_as}
 
--- by how the run has ended by itself, whether it was stopped, and whether there is room for no event
+-- from how the run has ended by itself, whether it was stopped, and whether the number of events is at its limit
 abbrev closing_by : Option Ending → (stopped full : Bool) → Option Closing
 closing_by e stopped full = option_or (option_map closing_of e) (if stopped then Some Stopped else if full then Some Limit else None)
 
@@ -47,7 +48,7 @@ ends_so order history s None false false closing is at told other = absurd (none
     none : None ≡ Some closing → ⊥
     none e = cc
 
--- of a run that wasn't stopped
+-- for a run that wasn't stopped
 pub over : (verified : TypedProgram) (order : RunOrder) (p : PoolView) (final : FinalView) (history : HistoryView) (closing : Closing)
     → run_of p ≡ run_as verified order → length p.history ≤ order.limit → IsShut p final history → IsOrdered order.in_turn verified.program order p.history → final.closing ≡ Some closing → closing ≢ Stopped
     → (o : IsRunOver verified.program order final history.events closing) × IsRun verified.program order history.events o.state closing
@@ -59,12 +60,13 @@ over verified order p final history closing of_run few shut turns ended other =
     subst (λ (r : Run). reached r.program.program r.inputs r.layout p.history ≡ Went s) of_run shut.has_state in
     let short = subst (λ (es : List Event). length es ≤ order.limit) (sym shut.events) few in
     let there : reached verified.program order.inputs order.layout history.events ≡ Went s = subst (λ (es : List Event). reached verified.program order.inputs order.layout es ≡ Went s) (sym shut.events) leads in
-    let reports : (told : List ℕ) → IsEndReport final told → told ≡ end_report verified.program s (Some closing) = λ told is_report. is_report p history shut ∙ ap (λ (r : Run). end_report r.program.program s final.closing) of_run ∙ ap (λ (o : Option Closing). end_report verified.program s o) ended in (
-      record { state = s; few = short; reaches = there; reports = reports },
+    let reports : (told : List ℕ) → IsEndReport final told → told ≡ end_report verified.program s (Some closing) = λ told is_report. is_report p history shut ∙ ap (λ (r : Run). end_report r.program.program s final.closing) of_run ∙ ap (λ (o : Option Closing). end_report verified.program s o) ended in
+    let shows : (line : List ℕ) → IsEndLine final history.events closing line → line ≡ run_line verified.program history.events s closing = λ line is_line. is_line p history shut ∙ ap (λ (r : Run). run_line r.program.program history.events s closing) of_run in (
+      record { state = s; few = short; reaches = there; reports = reports; closes = ended; shows = shows },
       record { few = short; reaches = there; ends = here; turns = subst (λ (es : List Event). IsOrdered order.in_turn verified.program order es) (sym shut.events) turns },
     )
 
--- what is told of a run is a reply by it
+-- the output of a run is a reply of it
 pub replied : {E : Type 0} (made : Result MadeReply E) (text : Option (List ℕ)) (program : List Procedure) (order : RunOrder) (final : FinalView) (events : List Event) (closing : Closing)
     → ((o : IsRunOver program order final events closing) × IsRun program order events o.state closing)
     → IfOk made (λ r. (o : IsRunOver program order final events closing) → (told : List ℕ) × (more : List ℕ) × IsRunText order.answer text program order events o.state closing told
@@ -73,10 +75,10 @@ pub replied : {E : Type 0} (made : Result MadeReply E) (text : Option (List ℕ)
 replied (Ok r) text program order final events closing (o, is) h = let t = h o in inl (events, o.state, closing, t.0, t.1, is, t.2, t.3, t.4)
 replied (Err e) text program order final events closing over h = tt
 
--- in threads nobody says more
+-- with threads nothing more is required
 pub in_threads : (program : List Procedure) (order : RunOrder) (history : List Event) → order.in_turn ≡ false → IsOrdered order.in_turn program order history
 in_threads program order history threads = subst (λ b. IsOrdered b program order history) (sym threads) tt
 
--- in turn, the history is what the actors make
+-- single-threaded, the trace is the one that the actors make
 pub in_turn : (verified : TypedProgram) (order : RunOrder) (p : PoolView) → order.in_turn ≡ true → ComesTo (opened verified order.inputs order.layout order.limit) IsOver p → IsOrdered order.in_turn verified.program order p.history
 in_turn verified order p turns comes = subst (λ b. IsOrdered b verified.program order p.history) (sym turns) (record { verified = verified; is = refl; last = p; comes = comes; made = refl })

@@ -10,7 +10,7 @@ pub use Rattle.tw_program_output.specs.Program.{RepliesBySource, source_text}
 pub use Rattle.tw_program_output.specs.Reply.{Reply, reply}
 pub use Rattle.tw_program_output.specs.Source.{text_of}
 pub use Rattle.tw_session.specs.ProgramAction.{Comes, Leads}
-pub use Rattle.tw_session.specs.Session.{AnswersWords, MayAnswer, MayReply, RepliesByInput, RepliesByProgram}
+pub use Rattle.tw_session.specs.Session.{AnswersWords, MayAnswer, MayReply, MayReplyText, RepliesByInput, RepliesByProgram}
 pub use Rattle.tw_session.specs.declared.order.OrderAction.{OrderAction}
 pub use Rattle.tw_session.specs.declared.programs.ProgramAction.{ProgramAction}
 pub use Rattle.tw_session.specs.declared.status.Status.TheVariants.{NoMemory, WriteFailed}

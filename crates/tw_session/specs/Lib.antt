@@ -1,7 +1,9 @@
--- What a session writes, and how it ends: to be believed for `session` and `reply_to` are all files but the last one, those of
--- tw_program_output, tw_replay_output and tw_run_output, those of tw_cli for the words and of tw_report for the texts. Begin with Session; a run is Run, statuses Status.
+-- The output of a session, and its end. For `session` and `reply_to` a reader has to trust all files except the last one, and those of
+-- tw_program_output, tw_replay_output and tw_run_output. The files of tw_cli define the arguments, and those of tw_report the texts. Begin with
+-- Session; runs are in Run, statuses in Status.
 pub mod Status
 pub mod Run
+pub mod Json
 pub mod Session
--- What the code keeps before a program is run.
+-- The definitions for private clauses: what the code keeps before a program is run.
 pub mod ProgramAction

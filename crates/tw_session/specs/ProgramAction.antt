@@ -1,4 +1,4 @@
--- What the parts of a session come to before a program is run.
+-- The results of the parts of a session before a program is run.
 use Rattle.std.specs.Prelude.{◌≡◌, ℕ, List, Option}
 use Rattle.tw_cli.specs.InTurn.{IsProgramInTurn}
 use Rattle.tw_cli.specs.declared.command.RunOrder.{RunOrder}
@@ -13,13 +13,14 @@ use Rattle.tw_session.specs.Session.{RepliesByProgram}
 use Rattle.tw_program_output.specs.Source.{MayBeSource, text_of}
 use Rattle.tw_program_output.specs.declared.source.SourceText.{SourceText}
 
--- a reply that may be answered so; or the run of such an order, of a program that was read from this text if from one, whose replies may
+-- holds for a reply that satisfies `Answers`; or for the run of such an order, if all replies of its program satisfy `Answers`. `source` is the text
+-- from which the program was read, if any.
 abbrev pub Leads : (RunOrder → Type 0) → Option SourceText → (Reply → Type 0) → ProgramAction → Type 0
 Leads IsOrder source Answers (answered.Finished r) = Answers (reply r.text.items r.close)
 Leads IsOrder source Answers (answered.Run o) =
     IsOrder o.order × MayBeSource source o.verified.program × ((r : Reply) → RepliesByOpening (text_of source) o.verified.program o.order r → Answers r)
 
--- the same of a program that is to be read, which is run in turn if that is asked
+-- like `Leads`, for a program to be read; its order is single-threaded if that is required
 abbrev pub Comes : Type 0 → (Reply → Type 0) → OrderAction → Type 0
 Comes InTurn Answers (step.Finished r) = Answers (reply r.text.items r.close)
 Comes InTurn Answers (step.Request a) =

@@ -1,4 +1,4 @@
-//! What `run` answers where the actors are in turn.
+//! The replies of a single-threaded `run`.
 
 ghost use Rattle.std.specs.Prelude.{◌≡◌, IfOk, map, string_bytes, true};
 ghost use Rattle.tw_cli.specs.CommandLine.{asked_by_words, word_faults};
@@ -24,7 +24,7 @@ use tw_replay_output::inputs_refused_reply;
 use tw_run_output::ended_reply;
 use tw_verify::Verified;
 
-/// The reply to what is left of a run.
+/// Returns the reply of a finished run.
 fn left_reply(
     alloc: Global,
     source: &Option<SourceText<'_>>,
@@ -49,7 +49,7 @@ fn left_reply(
     }
 }
 
-/// Opens and runs an accepted program in this thread.
+/// Opens an accepted program and runs it in this thread.
 pub fn reply_single_threaded(
     alloc: Global,
     source: &Option<SourceText<'_>>,
@@ -74,7 +74,7 @@ pub fn reply_single_threaded(
     }
 }
 
-/// Answers an order whose run is in turn. Bytes past the most that a session reads aren't copied.
+/// Returns the reply to an order whose run is single-threaded. It copies at most one byte more than the maximum.
 fn order_reply(alloc: Global, order: Order, input: &[u8]) -> Result<Reply, AllocError>
     requires { IsInTurn order }
     ensures { IfOk result (λ r. MayReply order input.now (reply r.text.items r.close)) }
@@ -83,8 +83,8 @@ fn order_reply(alloc: Global, order: Order, input: &[u8]) -> Result<Reply, Alloc
     reply_in_turn(alloc, order, input)
 }
 
-/// Answers words and the bytes that come with them, where a run is in turn: no thread is started, and nothing waits. Words that give no
-/// order copy none of the bytes.
+/// Returns the reply to arguments and the bytes that come with them, with a run single-threaded. It starts no thread, and never waits. It copies none
+/// of the bytes if the arguments give no order.
 pub fn answer_in_turn(alloc: Global, words: &[String], input: &[u8]) -> Result<Reply, AllocError>
     ensures { IfOk result (λ r. AnswersWords (word_faults (map string_bytes words.now)) (turned (asked_by_words (map string_bytes words.now)))
         input.now (reply r.text.items r.close)) }

@@ -1,11 +1,12 @@
-//! A session of the command `tw`: words and bytes in, text and a status out.
+//! A session of the command `tw`: it maps arguments and bytes to text and a status.
 //!
-//! `session` works over any reader and writer. What it answers to the bytes that it reads is `reply_to`; `answer` is the same
-//! without streams, and `answer_in_turn` the same without threads.
+//! `session` works over any reader and writer. `reply_to` returns its reply to an order and the bytes that were read. `answer` is like `session`,
+//! except that it has no streams, and `answer_in_turn` also has no threads.
 #![tactic(auto)]
 
 mod in_turn;
 mod input;
+mod json;
 mod order;
 mod programs;
 mod run;

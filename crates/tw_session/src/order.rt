@@ -1,4 +1,4 @@
-//! What a session answers to an order and the bytes that it reads.
+//! Replies of a session to an order and the bytes that it reads.
 
 ghost use Rattle.std.specs.Prelude.{◌≡◌, ◌≤◌, IfOk, length, true};
 ghost use Rattle.std.specs.Str.Lines.{lines};
@@ -13,10 +13,11 @@ ghost use Rattle.tw_program_output.specs.Program.{RepliesBySource, source_text};
 ghost use Rattle.tw_program_output.specs.Reply.{reply};
 ghost use Rattle.tw_session.specs.Run.{RepliesByOpening};
 ghost use Rattle.tw_program_output.specs.Source.{MayBeSource, text_of};
-ghost use Rattle.tw_session.specs.Session.{MayReply, RepliesByInput, RepliesByProgram, RepliesWithInputs};
+ghost use Rattle.tw_session.specs.Session.{MayReply, MayReplyText, RepliesByInput, RepliesByProgram, RepliesWithInputs};
 
 use crate::in_turn::reply_single_threaded;
 use crate::input::MOST_BYTES;
+use crate::json::{in_form, wants_json};
 use crate::programs::{ProgramAction, RunRequest, program_reply};
 use crate::run::reply_threaded;
 use std::alloc::{AllocError, Global};
@@ -31,7 +32,7 @@ use tw_program_output::{
 use tw_replay_output::{replay_inputs_reply, replay_reply};
 use tw_workers::Gate;
 
-/// A program that is to be read, and what is asked for of it.
+/// A program to be read, and what to do with it.
 #[derive(Drop)]
 pub struct ProgramRequest {
     pub source: Source,
@@ -39,14 +40,14 @@ pub struct ProgramRequest {
     pub program: Vec<u8>,
 }
 
-/// What an order comes to: a reply, or a program that is to be read.
+/// The next step of an order: a reply, or a program to be read.
 #[derive(Drop)]
 pub enum OrderAction {
     Finished(Reply),
     Request(ProgramRequest),
 }
 
-/// A program that is to be run with the inputs that stand behind it.
+/// Returns the step of an order whose input is a program followed by its inputs.
 fn inputs_step(
     alloc: Global,
     source: Source,
@@ -71,7 +72,7 @@ fn inputs_step(
     }
 }
 
-/// The same of what is to be text.
+/// Like `inputs_step`, but takes bytes that may not be UTF-8.
 fn run_inputs_step(
     alloc: Global,
     source: Source,
@@ -89,7 +90,7 @@ fn run_inputs_step(
     }
 }
 
-/// What an order and bytes that aren't too many come to.
+/// Returns the step of an order, if there aren't too many bytes.
 fn ordered_step(alloc: Global, order: Order, input: Vec<u8>) -> Result<OrderAction, AllocError>
     requires { length input.items ≤ 16777216 }
     ensures { IfOk result (Comes (IsInTurn order) (RepliesByInput order input.items)) }
@@ -118,9 +119,9 @@ fn ordered_step(alloc: Global, order: Order, input: Vec<u8>) -> Result<OrderActi
     }
 }
 
-/// What an order and the bytes that were read come to; refused where memory is.
+/// Returns the step of an order and the bytes that were read. The error is that an allocation fails.
 fn step_of(alloc: Global, order: Order, input: Vec<u8>) -> Result<OrderAction, AllocError>
-    ensures { IfOk result (Comes (IsInTurn order) (MayReply order input.items)) }
+    ensures { IfOk result (Comes (IsInTurn order) (MayReplyText order input.items)) }
 {
     if input.len() > MOST_BYTES {
         let reply = fixed_reply(alloc, "refused H02\n", Close::Refused)?;
@@ -130,7 +131,7 @@ fn step_of(alloc: Global, order: Order, input: Vec<u8>) -> Result<OrderAction, A
     }
 }
 
-/// Runs an accepted program in threads, or in turn if that is ordered.
+/// Runs an accepted program with threads, or single-threaded if that is ordered.
 fn run_as_ordered<H: Threads + Wait + Clock + Sync, G: Gate + Sync>(
     rt: &H,
     alloc: Global,
@@ -149,7 +150,7 @@ fn run_as_ordered<H: Threads + Wait + Clock + Sync, G: Gate + Sync>(
     }
 }
 
-/// The reply to a program in hex text or in assembly text.
+/// Returns the reply to a program in hex text or in assembly text.
 fn source_reply<H: Threads + Wait + Clock + Sync, G: Gate + Sync>(
     rt: &H,
     alloc: Global,
@@ -175,7 +176,7 @@ fn source_reply<H: Threads + Wait + Clock + Sync, G: Gate + Sync>(
     }
 }
 
-/// The same, where a run that is ordered is in turn.
+/// Like `source_reply`, but runs the program single-threaded.
 fn source_in_turn(
     alloc: Global,
     source: Source,
@@ -203,15 +204,16 @@ fn source_in_turn(
     }
 }
 
-/// The whole reply to an order and the bytes that were read; refused where memory is. The gate stands round the jobs of a run in threads.
-pub fn reply_to<H: Threads + Wait + Clock + Sync, G: Gate + Sync>(
+/// Returns the text that replies to an order and the bytes that were read. The error is that an allocation fails. In a run with threads the observer `gate`
+/// is called before and after each job.
+fn text_reply<H: Threads + Wait + Clock + Sync, G: Gate + Sync>(
     rt: &H,
     alloc: Global,
     gate: &G,
     order: Order,
     input: Vec<u8>,
 ) -> Result<Reply, AllocError>
-    ensures { IfOk result (λ r. MayReply order input.items (reply r.text.items r.close)) }
+    ensures { IfOk result (λ r. MayReplyText order input.items (reply r.text.items r.close)) }
 {
     match step_of(alloc, order, input)? {
         OrderAction::Finished(reply) => Ok(reply),
@@ -226,10 +228,10 @@ pub fn reply_to<H: Threads + Wait + Clock + Sync, G: Gate + Sync>(
     }
 }
 
-/// The same, where a run that is ordered is in turn: no thread is started, and nothing waits.
-pub fn reply_in_turn(alloc: Global, order: Order, input: Vec<u8>) -> Result<Reply, AllocError>
+/// Like `text_reply`, except that the order's run is single-threaded. It starts no thread, and never waits.
+fn text_reply_in_turn(alloc: Global, order: Order, input: Vec<u8>) -> Result<Reply, AllocError>
     requires { IsInTurn order }
-    ensures { IfOk result (λ r. MayReply order input.items (reply r.text.items r.close)) }
+    ensures { IfOk result (λ r. MayReplyText order input.items (reply r.text.items r.close)) }
 {
     match step_of(alloc, order, input)? {
         OrderAction::Finished(reply) => Ok(reply),
@@ -242,4 +244,29 @@ pub fn reply_in_turn(alloc: Global, order: Order, input: Vec<u8>) -> Result<Repl
             source_in_turn(alloc, source, order, &program)
         }
     }
+}
+
+/// Returns the whole reply to an order and to the bytes that were read. The observer `gate` is called before and after each job of a run in threads.
+pub fn reply_to<H: Threads + Wait + Clock + Sync, G: Gate + Sync>(
+    rt: &H,
+    alloc: Global,
+    gate: &G,
+    order: Order,
+    input: Vec<u8>,
+) -> Result<Reply, AllocError>
+    ensures { IfOk result (λ r. MayReply order input.items (reply r.text.items r.close)) }
+{
+    let json = wants_json(&order);
+    let text = text_reply(rt, alloc, gate, order, input)?;
+    in_form(alloc, json, text)
+}
+
+/// Like `reply_to`, but a run is in turn: no thread is started, and nothing waits.
+pub fn reply_in_turn(alloc: Global, order: Order, input: Vec<u8>) -> Result<Reply, AllocError>
+    requires { IsInTurn order }
+    ensures { IfOk result (λ r. MayReply order input.items (reply r.text.items r.close)) }
+{
+    let json = wants_json(&order);
+    let text = text_reply_in_turn(alloc, order, input)?;
+    in_form(alloc, json, text)
 }

@@ -1,4 +1,4 @@
-//! What a session answers to a program.
+//! Replies of a session to a program.
 
 ghost use Rattle.std.specs.Prelude.{◌≡◌, IfOk};
 ghost use Rattle.tw_session.specs.ProgramAction.{Leads};
@@ -14,21 +14,21 @@ use tw_code::Program;
 use tw_program_output::{Close, Reply, SourceText, checked_text, disassembled, rejection_reply};
 use tw_verify::{Verified, VerifyError, verify};
 
-/// An accepted program that is to be run, and how.
+/// An accepted program that is to be run, and its order.
 #[derive(Drop)]
 pub struct RunRequest {
     pub order: RunOrder,
     pub verified: Verified,
 }
 
-/// What comes of a program: a reply, or a run.
+/// The next step of a program: a reply, or a run.
 #[derive(Drop)]
 pub enum ProgramAction {
     Finished(Reply),
     Run(RunRequest),
 }
 
-/// Does what is ordered with an accepted program, up to its run.
+/// Executes an order for an accepted program, up to its run.
 fn accepted_reply(
     alloc: Global,
     source: &Option<SourceText<'_>>,
@@ -48,7 +48,7 @@ fn accepted_reply(
     }
 }
 
-/// Whether a listing is asked for.
+/// Returns whether a listing is requested.
 fn places_of(order: &VerifiedOrder) -> Places
     ensures { result ≡ places_of order.now }
 {
@@ -58,7 +58,7 @@ fn places_of(order: &VerifiedOrder) -> Places
     }
 }
 
-/// Verifies a program, and does what is ordered if it is accepted.
+/// Verifies a program, and executes the order if it is accepted.
 fn verified_reply(
     alloc: Global,
     source: &Option<SourceText<'_>>,

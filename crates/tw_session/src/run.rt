@@ -1,4 +1,4 @@
-//! What `run` answers.
+//! The replies of `run`.
 
 ghost use Rattle.std.specs.Prelude.{◌≡◌, ◌≢◌, IfOk, IfSome, List, None, Some, false};
 ghost use Rattle.tw_host.specs.Ends.{Closes};
@@ -22,7 +22,7 @@ use tw_run_output::ended_reply;
 use tw_verify::Verified;
 use tw_workers::{Gate, run};
 
-/// Why a run is over that wasn't stopped.
+/// Returns why a run has ended, unless it was stopped.
 pub fn stop_reason(closing: Option<Closing>) -> Option<Closing>
     ensures same { IfSome result (λ c. closing ≡ Some c) }
     ensures unstopped { IfSome result (λ c. c ≢ Closing.Stopped) }
@@ -36,14 +36,14 @@ pub fn stop_reason(closing: Option<Closing>) -> Option<Closing>
     }
 }
 
-/// The reply where the threads have come to no end.
+/// Returns the reply if the threads didn't finish the run.
 fn threads_reply(alloc: Global) -> Result<Reply, AllocError>
     ensures { IfOk result (λ r. reply r.text.items r.close ≡ threads_refused) }
 {
     fixed_reply(alloc, "refused X01\n", Close::Refused)
 }
 
-/// The reply where all seats were given back.
+/// Returns the reply of a run whose seats were all returned.
 fn closed_reply(
     alloc: Global,
     source: &Option<SourceText<'_>>,
@@ -72,7 +72,7 @@ fn closed_reply(
     }
 }
 
-/// Opens and runs an accepted program in threads, one an actor.
+/// Opens an accepted program and runs it, with one thread for each actor.
 pub fn reply_threaded<H: Threads + Wait + Clock + Sync, G: Gate + Sync>(
     rt: &H,
     alloc: Global,

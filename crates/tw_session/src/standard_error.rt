@@ -1,4 +1,4 @@
-//! What the command says on standard error.
+//! Messages of the command on standard error.
 
 ghost use Rattle.std.specs.Prelude.{◌≡◌, ◌≢◌, [], codes, map, string_bytes};
 ghost use Rattle.std.specs.Io.KnownBytes.{Keeps};
@@ -18,17 +18,17 @@ fn is_quiet_word(word: &String) -> bool
     word.as_str() == "--quiet"
 }
 
-/// Returns whether nothing is to be said while a run is on its way.
+/// Returns whether no progress is to be printed during a run.
 pub fn is_quiet(words: &[String]) -> bool
     ensures { result ≡ list_any (λ word. bytes_eq (string_bytes word) (codes "--quiet")) words.now }
 {
     words.iter().any(|word| is_quiet_word(word))
 }
 
-/// Writes why a command line was refused, if it was. Where that can't be written the status stays as it is.
+/// Writes why a command line was rejected, if it was. The status stays the same if the write fails.
 pub fn complain<W: OutStream>(alloc: Global, status: Status, words: &[String], errors: &mut W)
     ensures ended { status ≢ Status.Ended Close.CommandLine → Keeps (W.contents errors.old) (W.contents errors.new) }
-    // A word that spells no input is told on standard output.
+    // A word that encodes no input is reported on standard output.
     ensures taken { word_faults (map string_bytes words.now) ≡ [] → Keeps (W.contents errors.old) (W.contents errors.new) }
 {
     if status != Status::Ended(Close::CommandLine) {

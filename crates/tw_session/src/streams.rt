@@ -1,4 +1,4 @@
-//! What a session reads from and writes to.
+//! The streams that a session reads and writes.
 
 ghost use Rattle.std.specs.Prelude.{◌≡◌, ◌≢◌, ◌++◌, ℕ, List, Option, None, IfErr, IfSome, OnErr, OnOk, take, ⊤};
 ghost use Rattle.std.specs.Io.KnownBytes.{Appends, Keeps};
@@ -7,15 +7,15 @@ ghost use Rattle.std.specs.IoError.{error_kind};
 use std::io;
 use std::io::{ErrorKind, Read, Write};
 
-/// What a session reads. Each reader of std is one, of which nobody says that no read of it fails.
+/// An input of a session. Every reader of std is one, and may fail.
 pub trait InStream {
-    // The bytes that it still holds, where they are known.
+    // The bytes that it still has, if they are known.
     ghost remaining: { Self → Option (List ℕ) } = { λ _. None };
 
-    // That a read may fail: what has no proof, where none does.
+    // That a read may fail. If this has no proof, none fails.
     ghost MayFail: { Type 0 } = { ⊤ };
 
-    /// Adds what is left, or so many bytes of it.
+    /// Appends the rest, or `most` bytes of it.
     fn read_most(&mut self, most: u64, input: &mut Vec<u8>) -> io::Result<()>
         ensures bytes { OnOk result (IfSome (remaining self.old) (λ all. input.new.items ≡ input.old.items ++ take most all)) }
         ensures failed { IfErr result (λ error. error_kind error ≢ ErrorKind.OutOfMemory → MayFail) };
@@ -30,20 +30,20 @@ impl<R: Read> InStream for R {
     }
 }
 
-/// What a session writes to. Each writer of std is one, of which nobody says that no write to it fails.
+/// An output of a session. Every writer of std is one, and may fail.
 pub trait OutStream {
-    // The bytes that it has taken, where they are known.
+    // The bytes that were written to it, if they are known.
     ghost contents: { Self → Option (List ℕ) } = { λ _. None };
 
-    // That a write may fail: what has no proof, where none does.
+    // That a write may fail. If this has no proof, none fails.
     ghost MayFail: { Type 0 } = { ⊤ };
 
-    /// Takes the whole text.
+    /// Writes the whole text.
     fn take_text(&mut self, text: &[u8]) -> io::Result<()>
         ensures bytes { OnOk result (Appends (contents self.old) (contents self.new) text.now) }
         ensures failed { OnErr result MayFail };
 
-    /// Hands on what it took.
+    /// Flushes the text that was written.
     fn hand_on(&mut self) -> io::Result<()>
         ensures bytes { Keeps (contents self.old) (contents self.new) }
         ensures failed { OnErr result MayFail };

@@ -1,15 +1,9 @@
-use Rattle.std.proofs.Common.{List, ℕ, subst}
-use Rattle.tw_session.proofs.SessionNames.{Comes, IfOk-weaker, IsInTurn, MayReply, RepliesByProgram, RepliesBySource, OrderAction, reply, source_text}
+use Rattle.tw_session.proofs.SessionNames.{IfOk-weaker, reply}
 use Rattle.tw_program_output.specs.declared.reply.Reply.{Reply}
+use Rattle.tw_session.proofs.Replies.{formed}
 use Rattle.tw_session.proofs.order.reply_in_turn.Goals as goal
 
-pub source_in_turn-requires : goal.source_in_turn-requires
-source_in_turn-requires c = let asks = subst (λ (s : OrderAction). Comes (IsInTurn c.args.order) (MayReply c.args.order c.args.input.items) s) c.in-Request.is c.in_ok-reply.ensures in asks.0 c.requires
-
-pub returns-in-Request : goal.returns-in-Request
-returns-in-Request c =
-    let a = c.in-Request.asking in
-    let asks = subst (λ (s : OrderAction). Comes (IsInTurn c.args.order) (MayReply c.args.order c.args.input.items) s) c.in-Request.is c.in_ok-reply.ensures in
-    IfOk-weaker _ _ _
-    (λ (r : Reply) h. asks.1 (reply r.text.items r.close)
-    (subst (λ (bytes : List ℕ). RepliesBySource a.source bytes (RepliesByProgram (source_text a.source bytes) a.order) (reply r.text.items r.close)) c.deref.ensures.value h)) c.source_in_turn.ensures
+pub returns : goal.returns
+returns c =
+    let text = reply c.in_ok-text.text.text.items c.in_ok-text.text.close in
+    IfOk-weaker _ _ _ (λ (r : Reply) h. formed c.args.order c.args.input.items text (reply r.text.items r.close) c.wants_json-json.result c.wants_json-json.ensures c.in_ok-text.ensures h) c.in_form.ensures

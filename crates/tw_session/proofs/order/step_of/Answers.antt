@@ -1,5 +1,5 @@
 use Rattle.std.proofs.Common.{◌≤◌, length, refl, rules}
-use Rattle.tw_session.proofs.SessionNames.{IfOk-weaker, IsInTurn, MayReply, RepliesByInput}
+use Rattle.tw_session.proofs.SessionNames.{IfOk-weaker, IsInTurn, MayReplyText, RepliesByInput}
 use Rattle.tw_program_output.specs.Input.{most_bytes}
 use Rattle.tw_session.proofs.Leading.{comes_on}
 use Rattle.tw_session.proofs.Replies.{within}
@@ -10,4 +10,4 @@ returns-else-len-gt-MOST_BYTES c =
     let input = c.args.input.items in
     let order = c.args.order in
     let short : length input ≤ most_bytes = search rules in
-    IfOk-weaker _ _ _ (λ s h. comes_on (IsInTurn order) (IsInTurn order) (RepliesByInput order input) (MayReply order input) (λ turns. turns) (λ r told. within order input input r short refl told) s h) c.ordered_step.ensures
+    IfOk-weaker _ _ _ (λ s h. comes_on (IsInTurn order) (IsInTurn order) (RepliesByInput order input) (MayReplyText order input) (λ turns. turns) (λ r told. within order input input r short refl told) s h) c.ordered_step.ensures
