@@ -7,8 +7,8 @@
  *
  * How long a call takes. Reading, checking and verifying take time by the input's length. A run takes as long as its program: at most
  * `--limit` events (10,000 if nothing is said), each of at most as many instructions as the greatest budget, which may be 1,000,000,000.
- * Nothing stops a call from outside. So call `check` first, and run a stranger's program only if its greatest budget times the limit is
- * what you can wait for.
+ * Only yuglemit_run can be stopped from outside, between two events. So call `check` first, and run a stranger's program only if its
+ * greatest budget times the limit is what you can wait for.
  *
  * What the caller sees to, since no proof can:
  *   - each pointer is no null pointer, and points to as many bytes as its length says, also if that is 0;
@@ -24,6 +24,10 @@
 extern "C" {
 #endif
 
+/* The version: 1,000,000 times major, 1,000 times minor, and patch. The call returns that of the library. */
+#define YUGLEMIT_VERSION_NUMBER 13000
+uint32_t yuglemit_version(void);
+
 /* Writes the output of the command `tw` with these arguments and this input; `tw --help` lists the arguments. All are UTF-8, and each ends
  * with a line feed, which the last may lack: "run\n--text\n--workers\n4\n". So no argument has a line feed in it; any other character
  * is allowed, a carriage return at its end too. The text is written to the start of `room`, if it fits, and the rest of `room` stays as it
@@ -35,8 +39,9 @@ size_t yuglemit_session(const uint8_t *words, size_t words_length, const uint8_t
                         uint8_t *room, size_t room_length, uint8_t *status);
 
 typedef struct yuglemit_verdict {
-    uint8_t letter;    /* 0 accepted; 'F' the bytes are no program; 'V' refused by the verifier; 'M' memory ran out */
-    uint8_t number;    /* the number after F or V: `tw explain V04` says what it means */
+    uint8_t letter;    /* 0 accepted; 'F' the bytes are no program; 'V' refused by the verifier; 'M' memory ran out; of a text
+                        * also 'A' assembly; 'N' names; 'H' no hex text (1) or no UTF-8 (3) */
+    uint8_t number;    /* the number after the letter: `tw explain V04` says what it means */
     uint8_t engines;   /* accepted: how many engines and workers its targets need */
     uint8_t workers;
     size_t procedure;  /* V: the procedure, and the place in it; F: the byte, in `place` */
@@ -53,7 +58,7 @@ void yuglemit_verify(const uint8_t *bytes, size_t length, yuglemit_verdict *verd
  *     yuglemit_program program = {NULL};
  *     yuglemit_report report = {NULL};
  *     yuglemit_load(bytes, length, &program, &verdict);
- *     if (verdict.letter == 0 && yuglemit_run(&program, &inputs, 1, 1, 1, 10000, &report) == 0) ..
+ *     if (verdict.letter == 0 && yuglemit_run(&program, &inputs, &options, &no_stop, &report) == 0) ..
  *     yuglemit_report_free(report);
  *     yuglemit_program_free(program);
  *
@@ -63,9 +68,12 @@ void yuglemit_verify(const uint8_t *bytes, size_t length, yuglemit_verdict *verd
  * The calls return 0 or the letter of an error, and then they have written nothing: */
 enum {
     YUGLEMIT_DONE = 0,
+    YUGLEMIT_NO_CONTAINER = 'C', /* the handle is empty or holds something else, or a container of other types */
+    YUGLEMIT_NO_STOP = 'F',    /* the handle of a stop flag is empty or holds something else */
     YUGLEMIT_NO_INPUTS = 'I',  /* the handle of inputs holds something else */
     YUGLEMIT_NO_LAYOUT = 'L',  /* engines and servers are 1 to 4, workers 1 to 16 */
     YUGLEMIT_NO_MEMORY = 'M',  /* an allocation failed */
+    YUGLEMIT_NO_OPTIONS = 'O', /* the options have another size than this library's */
     YUGLEMIT_NO_PROGRAM = 'P', /* the handle is empty or holds something else */
     YUGLEMIT_NO_REPORT = 'R',  /* the handle is empty or holds something else */
     YUGLEMIT_NO_ROOM = 'S',    /* the buffer is shorter than the text */
@@ -77,9 +85,24 @@ enum {
 typedef struct yuglemit_program { void *at; } yuglemit_program;
 typedef struct yuglemit_inputs { void *at; } yuglemit_inputs;
 typedef struct yuglemit_report { void *at; } yuglemit_report;
+typedef struct yuglemit_container { void *at; } yuglemit_container;
+typedef struct yuglemit_stop { void *at; } yuglemit_stop;
 
 /* Decodes and verifies the bytes of a program. If verdict->letter is 0, the handle holds the program; else it is as it was. */
 void yuglemit_load(const uint8_t *bytes, size_t length, yuglemit_program *program, yuglemit_verdict *verdict);
+
+typedef struct yuglemit_source_verdict {
+    yuglemit_verdict verdict;
+    size_t line;       /* A, N, V of a text: the line, from 1; 0: none */
+    size_t word;       /* A: the word of the line at which the error is, from 1; 0: at no word, or the written line isn't the expanded one */
+    size_t column;     /* A: the character of the line at which this word begins, from 1; 0: there is no word */
+} yuglemit_source_verdict;
+
+enum { YUGLEMIT_ANY_FORMAT = 0, YUGLEMIT_BYTES = 'b', YUGLEMIT_HEX = 'h', YUGLEMIT_TEXT = 't' };
+
+/* Like yuglemit_load, for a source of one of these formats: a program's bytes, hex text of them, or assembly text, symbolic or not. With
+ * YUGLEMIT_ANY_FORMAT it is found: bytes begin with TWB; hex text has only digits and white space; anything else is assembly text. */
+void yuglemit_load_source(const uint8_t *source, size_t length, uint8_t format, yuglemit_program *program, yuglemit_source_verdict *verdict);
 
 /* Makes `other` a handle of the same program, for another thread. The program isn't copied, and lives until the last handle is freed. */
 uint8_t yuglemit_program_share(yuglemit_program *program, yuglemit_program *other);
@@ -94,14 +117,45 @@ uint8_t yuglemit_program_budget(yuglemit_program *program, size_t procedure, uin
 uint8_t yuglemit_input_int(yuglemit_inputs *inputs, int64_t number);
 uint8_t yuglemit_input_text(yuglemit_inputs *inputs, const uint8_t *text, size_t length);
 
-/* Runs a program in this thread, its actors in turn, with up to `limit` events, at most 1,000,000. If it returns 0, the report is that of
- * the run; 1 to 5 is the code of an error: `tw explain O01` and so on say what it means, and 5 is out of memory. */
-uint8_t yuglemit_run(yuglemit_program *program, yuglemit_inputs *inputs, uint8_t engines, uint8_t servers, uint8_t workers, size_t limit,
+/* Begins a container without members, whose subscripts are integers ('i') or texts ('t') by `by`, and its values by `scalar`. */
+uint8_t yuglemit_container_new(yuglemit_container *container, uint8_t by, uint8_t scalar);
+
+/* Add a member at the end of a container of these types. Subscripts have to rise, texts by their bytes; otherwise the run is refused. */
+uint8_t yuglemit_member_int(yuglemit_container *container, int64_t subscript, int64_t number);
+uint8_t yuglemit_member_text(yuglemit_container *container, int64_t subscript, const uint8_t *text, size_t length);
+uint8_t yuglemit_member_int_by_text(yuglemit_container *container, const uint8_t *subscript, size_t subscript_length, int64_t number);
+uint8_t yuglemit_member_text_by_text(yuglemit_container *container, const uint8_t *subscript, size_t subscript_length,
+                                     const uint8_t *text, size_t length);
+
+/* Moves the members of a container to the inputs, as one input. The container keeps its types, and has no member; that too if memory ran out. */
+uint8_t yuglemit_input_container(yuglemit_inputs *inputs, yuglemit_container *container);
+
+/* A stop flag is raised by one thread and stops the runs of another: make it, share it, and give each thread its own handle. A flag that is
+ * raised stays so until it is lowered. */
+uint8_t yuglemit_stop_new(yuglemit_stop *stop);
+uint8_t yuglemit_stop_share(yuglemit_stop *stop, yuglemit_stop *other);
+uint8_t yuglemit_stop_raise(yuglemit_stop *stop);
+uint8_t yuglemit_stop_lower(yuglemit_stop *stop);
+
+typedef struct yuglemit_options {
+    size_t size;       /* sizeof(yuglemit_options): a library that knows another one refuses the run */
+    size_t limit;      /* the most events, 1 to 1,000,000 */
+    uint8_t engines;   /* 1 to 4 */
+    uint8_t servers;   /* 1 to 4 */
+    uint8_t workers;   /* 1 to 16 */
+} yuglemit_options;
+
+#define YUGLEMIT_OPTIONS {sizeof(yuglemit_options), 10000, 1, 1, 1}
+
+/* Runs a program in this thread, its actors in turn. `stop` may be an empty handle; its flag is looked at before each event. If the call
+ * returns 0, the report is that of the run; 1 to 5 is the code of an error: `tw explain O01` and so on say what it means, and 5 is out of
+ * memory. */
+uint8_t yuglemit_run(yuglemit_program *program, yuglemit_inputs *inputs, const yuglemit_options *options, yuglemit_stop *stop,
                      yuglemit_report *report);
 
 typedef struct yuglemit_ending {
     size_t events, outputs;
-    uint8_t status;    /* as the exit status of tw: 0 quiet, 3 stuck, 4 limit, 5 memory ran out */
+    uint8_t status;    /* as the exit status of tw: 0 quiet, 3 stuck, 4 limit, 5 memory ran out; 8 stopped: the report is of the events so far */
 } yuglemit_ending;
 
 /* A datum of a report. */
@@ -131,6 +185,8 @@ uint8_t yuglemit_report_subscript_text(yuglemit_report *report, size_t output, s
 /* Free what a handle holds; an empty one is allowed. The handle isn't used after that. */
 void yuglemit_program_free(yuglemit_program program);
 void yuglemit_inputs_free(yuglemit_inputs inputs);
+void yuglemit_container_free(yuglemit_container container);
+void yuglemit_stop_free(yuglemit_stop stop);
 void yuglemit_report_free(yuglemit_report report);
 
 #ifdef __cplusplus

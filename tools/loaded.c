@@ -1,5 +1,5 @@
 /* SPDX-License-Identifier: Apache-2.0 */
-/* Makes hostile calls over handles: `loaded PROGRAM`, where PROGRAM holds the bytes of examples/read_number.tw, which takes a text and writes
+/* Makes hostile calls over handles: `loaded PROGRAM`, where PROGRAM holds the bytes of examples/read_number.twn, which takes a text and writes
  * the text of the next number. All are made in threads with a stack of 64 KiB. Prints each check that fails, and their number; ends with status
  * 1 if one did. */
 #include "../embed/yuglemit.h"
@@ -21,8 +21,15 @@ static void check(int holds, const char *what) {
     printf("FAILS %s\n", what);
 }
 
+static uint8_t run_by(yuglemit_program *program, yuglemit_inputs *inputs, yuglemit_options options, yuglemit_report *report) {
+    yuglemit_stop no_stop = {NULL};
+    return yuglemit_run(program, inputs, &options, &no_stop, report);
+}
+
 static uint8_t run(yuglemit_program *program, yuglemit_inputs *inputs, size_t limit, yuglemit_report *report) {
-    return yuglemit_run(program, inputs, 1, 1, 1, limit, report);
+    yuglemit_options options = YUGLEMIT_OPTIONS;
+    options.limit = limit;
+    return run_by(program, inputs, options, report);
 }
 
 static void check_load(yuglemit_program *program) {
@@ -41,6 +48,51 @@ static void check_load(yuglemit_program *program) {
     check(verdict.letter != 0 && program->at == was, "a refused load leaves the handle as it was");
     yuglemit_load(bytes, length, program, &verdict);
     check(verdict.letter == 0, "a load over a full handle");
+}
+
+/* A source and where its error is. */
+typedef struct wrong {
+    const char *source;
+    uint8_t format, letter, number;
+    size_t line, word, column;
+} wrong;
+
+static const wrong sources[] = {
+    {"zz", YUGLEMIT_HEX, 'H', 1, 0, 0, 0},
+    {"\xff", YUGLEMIT_TEXT, 'H', 3, 0, 0, 0},
+    {"\xff", YUGLEMIT_ANY_FORMAT, 'H', 3, 0, 0, 0},
+    {"54 57 42", YUGLEMIT_ANY_FORMAT, 'F', 1, 0, 0, 0},
+    {"TWB", YUGLEMIT_ANY_FORMAT, 'F', 1, 0, 0, 0},
+    {"", YUGLEMIT_ANY_FORMAT, 'F', 1, 0, 0, 0},
+    {"", YUGLEMIT_TEXT, 'A', 6, 1, 0, 0},
+    {"proc leaf out int\n  regs\n  ENDS d0\n", YUGLEMIT_ANY_FORMAT, 'A', 1, 3, 1, 3},
+};
+
+static void check_sources(void) {
+    for (size_t k = 0; k < sizeof sources / sizeof *sources; k++) {
+        const wrong *w = &sources[k];
+        yuglemit_program program = {NULL};
+        yuglemit_source_verdict v;
+        yuglemit_load_source((const uint8_t *)w->source, strlen(w->source), w->format, &program, &v);
+        int holds = v.verdict.letter == w->letter && v.verdict.number == w->number && v.line == w->line && v.word == w->word && v.column == w->column;
+        check(holds && !program.at, w->source);
+        if (!holds) printf("%c%02d line %zu word %zu column %zu\n", v.verdict.letter, v.verdict.number, v.line, v.word, v.column);
+    }
+}
+
+/* The program's bytes as hex text, with a line end after each. */
+static void check_hex(void) {
+    static uint8_t hex[3 * sizeof bytes + 1];
+    yuglemit_program program = {NULL};
+    yuglemit_source_verdict v;
+    for (size_t k = 0; k < length; k++) snprintf((char *)hex + 3 * k, 4, "%02X\n", bytes[k]);
+    yuglemit_load_source(hex, 3 * length, YUGLEMIT_ANY_FORMAT, &program, &v);
+    check(v.verdict.letter == 0 && program.at, "hex text");
+    yuglemit_load_source(bytes, length, YUGLEMIT_BYTES, &program, &v);
+    check(v.verdict.letter == 0 && program.at, "bytes by the other call");
+    yuglemit_load_source(bytes, length, YUGLEMIT_TEXT, &program, &v);
+    check(v.verdict.letter != 0 && program.at, "bytes are no text, and the handle stays");
+    yuglemit_program_free(program);
 }
 
 /* Changes each byte in turn. What is accepted then may be run. */
@@ -112,8 +164,15 @@ static void check_run(yuglemit_program *program) {
     yuglemit_inputs_free(inputs);
     inputs.at = NULL;
     check(yuglemit_input_text(&inputs, (const uint8_t *)"41", 2) == 0, "a text");
-    check(yuglemit_run(program, &inputs, 0, 1, 1, LIMIT, &report) == YUGLEMIT_NO_LAYOUT, "no engine");
-    check(yuglemit_run(program, &inputs, 1, 1, 17, LIMIT, &report) == YUGLEMIT_NO_LAYOUT && !report.at, "17 workers");
+    yuglemit_options options = YUGLEMIT_OPTIONS;
+    options.engines = 0;
+    check(run_by(program, &inputs, options, &report) == YUGLEMIT_NO_LAYOUT, "no engine");
+    options.engines = 1, options.workers = 17;
+    check(run_by(program, &inputs, options, &report) == YUGLEMIT_NO_LAYOUT && !report.at, "17 workers");
+    options.workers = 1, options.size = 0;
+    check(run_by(program, &inputs, options, &report) == YUGLEMIT_NO_OPTIONS && !report.at, "options of no size");
+    options.size = sizeof options + 1;
+    check(run_by(program, &inputs, options, &report) == YUGLEMIT_NO_OPTIONS && !report.at, "options of another size");
     check(run(program, &inputs, 0, &report) == 4, "O04: no event");
     check(run(program, &inputs, 1000001, &report) == 4 && !report.at, "O04: too many events");
     check(run(program, &inputs, 1, &report) == 0 && report.at, "one event");
@@ -143,6 +202,95 @@ static void check_report(yuglemit_program *program) {
     check(yuglemit_report_subscript_text(&report, 0, 0, room, sizeof room) == YUGLEMIT_NO_INDEX, "nor a subscript");
     check(yuglemit_report_member(&report, SIZE_MAX, SIZE_MAX, &member) == YUGLEMIT_NO_INDEX, "no output, no member");
     yuglemit_report_free(report);
+}
+
+/* Stops a run before its first event, and makes it again without. */
+static void check_stop(yuglemit_program *program) {
+    yuglemit_options options = YUGLEMIT_OPTIONS;
+    yuglemit_inputs inputs = {NULL};
+    yuglemit_report report = {NULL};
+    yuglemit_stop stop = {NULL}, other = {NULL};
+    yuglemit_ending ending;
+    check(yuglemit_input_text(&inputs, (const uint8_t *)"41", 2) == 0, "a text");
+    check(yuglemit_stop_raise(&stop) == YUGLEMIT_NO_STOP && yuglemit_stop_share(&stop, &other) == YUGLEMIT_NO_STOP, "there is no flag yet");
+    check(yuglemit_stop_new(&stop) == 0 && yuglemit_stop_share(&stop, &other) == 0 && other.at != stop.at, "a flag and its other handle");
+    check(yuglemit_run(program, &inputs, &options, &stop, &report) == 0, "a run with a flag");
+    check(yuglemit_report_ending(&report, &ending) == 0 && ending.status == 0, "isn't stopped");
+    check(yuglemit_stop_raise(&other) == 0 && yuglemit_run(program, &inputs, &options, &stop, &report) == 0, "a run with a raised flag");
+    check(yuglemit_report_ending(&report, &ending) == 0 && ending.status == 8 && ending.events == 0, "is stopped before its first event");
+    check(yuglemit_stop_lower(&stop) == 0 && yuglemit_run(program, &inputs, &options, &other, &report) == 0, "a run with a lowered flag");
+    check(yuglemit_report_ending(&report, &ending) == 0 && ending.status == 0, "ends by itself");
+    yuglemit_stop of_report = {report.at};
+    check(yuglemit_run(program, &inputs, &options, &of_report, &report) == YUGLEMIT_NO_STOP, "a report is no flag");
+    yuglemit_stop_free(stop);
+    yuglemit_stop_free(other);
+    yuglemit_inputs_free(inputs);
+    yuglemit_report_free(report);
+}
+
+/* A run of another thread, which only the flag ends soon. */
+typedef struct stopped {
+    yuglemit_program program;
+    yuglemit_stop stop;
+    uint8_t code, status;
+} stopped;
+
+static void *run_stopped(void *given) {
+    stopped *s = given;
+    yuglemit_options options = YUGLEMIT_OPTIONS;
+    yuglemit_inputs inputs = {NULL};
+    yuglemit_ending ending = {0, 0, 0};
+    yuglemit_input_text(&inputs, (const uint8_t *)"41", 2);
+    do {
+        yuglemit_report report = {NULL};
+        s->code = yuglemit_run(&s->program, &inputs, &options, &s->stop, &report);
+        if (s->code == 0) yuglemit_report_ending(&report, &ending);
+        yuglemit_report_free(report);
+    } while (s->code == 0 && ending.status != 8);
+    s->status = ending.status;
+    yuglemit_inputs_free(inputs);
+    return NULL;
+}
+
+static void check_stopped_thread(yuglemit_program *program) {
+    pthread_t thread;
+    stopped s = {{NULL}, {NULL}, 0, 0};
+    yuglemit_stop mine = {NULL};
+    check(yuglemit_program_share(program, &s.program) == 0 && yuglemit_stop_new(&mine) == 0 && yuglemit_stop_share(&mine, &s.stop) == 0, "shares");
+    check(pthread_create(&thread, &small, run_stopped, &s) == 0, "a thread");
+    check(yuglemit_stop_raise(&mine) == 0, "the flag is raised");
+    pthread_join(thread, NULL);
+    check(s.code == 0 && s.status == 8, "the other thread's runs are stopped");
+    yuglemit_program_free(s.program);
+    yuglemit_stop_free(s.stop);
+    yuglemit_stop_free(mine);
+}
+
+/* Begins containers of all types, and adds members of other types. */
+static void check_containers(yuglemit_program *program) {
+    static const uint8_t text[] = "a", none[] = "\xff";
+    for (int types = 0; types < 4; types++) {
+        yuglemit_container c = {NULL};
+        yuglemit_inputs inputs = {NULL};
+        yuglemit_report report = {NULL};
+        uint8_t by = types & 1 ? 't' : 'i', scalar = types & 2 ? 't' : 'i', other = YUGLEMIT_NO_CONTAINER;
+        check(yuglemit_member_int(&c, 1, 1) == YUGLEMIT_NO_CONTAINER && yuglemit_input_container(&inputs, &c) == YUGLEMIT_NO_CONTAINER, "no container yet");
+        check(yuglemit_container_new(&c, by, scalar) == 0 && c.at, "a container");
+        check(yuglemit_member_int(&c, 1, 1) == (types == 0 ? 0 : other), "a member int");
+        check(yuglemit_member_int_by_text(&c, text, 1, 1) == (types == 1 ? 0 : other), "a member int by text");
+        check(yuglemit_member_text(&c, 1, text, 1) == (types == 2 ? 0 : other), "a member text");
+        check(yuglemit_member_text_by_text(&c, text, 1, text, 1) == (types == 3 ? 0 : other), "a member text by text");
+        check(yuglemit_member_text_by_text(&c, text, 1, none, 1) == YUGLEMIT_NO_UTF8, "no UTF-8");
+        check(yuglemit_member_text_by_text(&c, none, 1, text, 1) == YUGLEMIT_NO_UTF8, "a subscript that is no UTF-8");
+        check(yuglemit_input_container(&inputs, &c) == 0 && inputs.at, "the container is an input");
+        check(run(program, &inputs, LIMIT, &report) == 2 && !report.at, "O02: main takes a text");
+        check(yuglemit_input_container(&inputs, &c) == 0 && c.at, "the empty container too");
+        check(run(program, &inputs, LIMIT, &report) == 1 && !report.at, "O01: two inputs");
+        yuglemit_inputs of_program = {program->at};
+        check(yuglemit_input_container(&of_program, &c) == YUGLEMIT_NO_INPUTS, "a program takes no input");
+        yuglemit_container_free(c);
+        yuglemit_inputs_free(inputs);
+    }
 }
 
 /* What a thread does with its own handle of the program. */
@@ -182,12 +330,18 @@ static void check_threads(yuglemit_program *program) {
 
 static void *check_all(void *unused) {
     yuglemit_program program = {NULL};
+    check(yuglemit_version() == YUGLEMIT_VERSION_NUMBER, "the header's version");
     check_load(&program);
+    check_sources();
+    check_hex();
     check_damaged();
     check_questions(&program);
     check_kinds(&program);
     check_run(&program);
     check_report(&program);
+    check_stop(&program);
+    check_stopped_thread(&program);
+    check_containers(&program);
     check_threads(&program);
     return unused;
 }

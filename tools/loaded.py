@@ -10,8 +10,9 @@ import subprocess
 import sys
 from pathlib import Path
 
-root, room, *watch = sys.argv[1:]
-tw = f"{root}/crates/tw_main/out/tw_main"
+root, room, tw, *watch = sys.argv[1:]
+is_quick = watch == ["--quick"]
+watch = [] if is_quick else watch
 examples = Path(root, "examples")
 
 Answer = tuple[int, bytes]
@@ -31,10 +32,10 @@ def assembled(path: Path) -> bytes | None:
 
 
 def inputs_of(path: Path) -> list[list[str]]:
-    """Returns the inputs that examples/sessions.txt shows for an example, if they are integers and texts; and none."""
+    """Returns the inputs that examples/sessions.txt shows for an example, without options; and none."""
     found = re.findall(rf"^\$ \./tw run examples/{re.escape(path.stem)}\.twn? (.*)$", (examples / "sessions.txt").read_text(encoding="utf-8"), re.M)
     rows = [[word for word in words if not word.startswith("-")] for words in map(shlex.split, found)]
-    return [[], *(row for row in rows if row and all(word.startswith(("int:", "text:")) for word in row))]
+    return [[], *(row for row in rows if row and all(":" in word for word in row))]
 
 
 def wanted(path: Path, inputs: list[str]) -> Answer:
@@ -43,9 +44,9 @@ def wanted(path: Path, inputs: list[str]) -> Answer:
     return status, b"".join(line for line in text.splitlines(True) if line.startswith((b"out ", b"  at ")))
 
 
-def is_same(path: Path, code: bytes, inputs: list[str]) -> bool:
-    """Compares the run of an example. Where tw refuses it, the status is enough."""
-    status, text = started([*watch, f"{room}/loaded", *inputs], code)
+def is_same(path: Path, source: bytes, inputs: list[str]) -> bool:
+    """Compares the run of an example in one of its formats. Where tw refuses it, the status is enough."""
+    status, text = started([*watch, f"{room}/loaded", *inputs], source)
     is_alike = (status, b"" if status == 1 else text) == wanted(path, inputs)
     if not is_alike:
         print("DIFFERS", path.name, inputs, status, text[:100])
@@ -58,7 +59,49 @@ def compare_examples() -> tuple[int, int]:
     for path in sorted(examples.glob("*.tw")) + sorted(examples.glob("*.twn")):
         code = assembled(path)
         for inputs in inputs_of(path) if code is not None else []:
-            counts[is_same(path, code or b"", inputs)] += 1
+            for source in (code or b"", (code or b"").hex().encode(), path.read_bytes()):
+                counts[is_same(path, source, inputs)] += 1
+    return counts[True], counts[False]
+
+
+def damaged(text: bytes) -> list[bytes]:
+    """Returns texts with an error: a word dropped, a word too many, and a word changed, in a few lines."""
+    lines = text.split(b"\n")
+    made = []
+    for index in range(1, len(lines), max(1, len(lines) // 6)):
+        words = lines[index].split(b" ")
+        for line in (b" ".join(words[:-1]), lines[index] + b" 7", b" ".join([*words[:-1], b"zz"])):
+            made.append(b"\n".join([*lines[:index], line, *lines[index + 1:]]))
+    return made
+
+
+def position(text: str) -> tuple[str, int, int, int]:
+    """Returns code, line, word and column of an error that `tw check --text` prints. A register's error has no word."""
+    code = re.search(r"^refused ([A-Z])0?(\d+)", text, re.M)
+    line = re.search(r" at line (\d+)$", text, re.M) or re.search(r"^at line (\d+)", text, re.M)
+    word = re.search(r"^word (\d+), column (\d+): ", text, re.M)
+    at = (int(word[1]), int(word[2])) if word and "expands to: " not in text else (0, 0)
+    return f"{code[1]}{int(code[2]):02}" if code else "", int(line[1]) if line else 0, *at
+
+
+def has_same_position(path: Path, text: bytes) -> bool:
+    """Compares where the library and `tw check` find the error of a text."""
+    _, told = started([tw, "check", "--text"], text)
+    status, said = started([f"{room}/loaded"], text)
+    found = re.match(rb"refused ([A-Z]\d+) procedure \d+ place \d+ line (\d+) word (\d+) column (\d+)", said)
+    wanted_at = position(told.decode(errors="replace"))
+    is_alike = found is None if not wanted_at[0] else found is not None and (found[1].decode(), *map(int, found.groups()[1:])) == wanted_at
+    if not is_alike:
+        print("DIFFERS", path.name, status, said[:100], told[:200])
+    return is_alike
+
+
+def compare_positions() -> tuple[int, int]:
+    """Returns how many errors of texts are at the same position, and how many differ."""
+    counts = {True: 0, False: 0}
+    for path in sorted(examples.glob("*.tw")) + sorted(examples.glob("*.twn")):
+        for text in damaged(path.read_bytes()):
+            counts[has_same_position(path, text)] += 1
     return counts[True], counts[False]
 
 
@@ -70,23 +113,36 @@ def said(words: list[str], data: bytes) -> float:
 
 def print_rates() -> None:
     """Prints how many runs a second are made of a program that is loaded once, and by sessions, which parse and verify it each time."""
-    path = examples / "fan_out.tw"
+    path = examples / "fan_out.twn"
     code, text = assembled(path) or b"", path.read_bytes()
     loaded = said([f"{room}/loaded"], code)
-    from_hex, from_text = (1e6 / said([f"{room}/session", "run", *words], data) for words, data in (([], code.hex().encode()), (["--text"], text)))
-    print(f"runs a second of fan_out.tw: loaded once {loaded:,.0f}, sessions from hex {from_hex:,.0f}, from text {from_text:,.0f}")
+    from_hex = 1e6 / said([f"{room}/session", "run"], code.hex().encode())
+    from_text = 1e6 / said([f"{room}/session", "run", "--text"], text)
+    print(f"runs a second of fan_out.twn: loaded once {loaded:,.0f}, sessions from hex {from_hex:,.0f}, from text {from_text:,.0f}")
+
+
+def has_version() -> bool:
+    """Returns whether the header has the version of the repository."""
+    parts = [*map(int, Path(root, "VERSION").read_text(encoding="utf-8").strip().split(".")), 0, 0][:3]
+    found = re.search(r"YUGLEMIT_VERSION_NUMBER (\d+)", Path(root, "embed/yuglemit.h").read_text(encoding="utf-8"))
+    return found is not None and int(found[1]) == parts[0] * 1_000_000 + parts[1] * 1_000 + parts[2]
 
 
 def main() -> int:
     """Makes all checks."""
     program = Path(room, "program")
-    program.write_bytes(assembled(examples / "read_number.tw") or b"")
+    program.write_bytes(assembled(examples / "read_number.twn") or b"")
     hostile, text = started([*watch, f"{room}/hostile", str(program)])
     print(text.decode(), end="")
+    cpp, text = started([*watch, f"{room}/cpp", str(examples)]) if Path(room, "cpp").exists() else (0, b"C++: no compiler\n")
+    print(text.decode(), end="")
     same, differ = compare_examples()
-    print_rates()
+    alike, apart = compare_positions()
+    print(f"{alike} errors of texts at the same position, {apart} not")
+    if not is_quick:
+        print_rates()
     print(f"{same} same, {differ} differ")
-    return int(hostile != 0 or differ != 0 or same == 0)
+    return int(not has_version() or hostile + cpp != 0 or differ + apart != 0 or same == 0 or alike == 0)
 
 
 if __name__ == "__main__":

@@ -1,6 +1,7 @@
 /* SPDX-License-Identifier: Apache-2.0 */
-/* Loads a program once and runs it: `loaded INPUT.. < PROGRAM`, where PROGRAM has a program's bytes, and an INPUT is int:7 or text:abc. Prints
- * the report's outputs as `tw run` does, and ends with its status. TIMES=n in the environment makes n runs, and prints how many a second. */
+/* Loads a program once and runs it: `loaded INPUT.. < PROGRAM`, where PROGRAM is a program as bytes, hex text or assembly text, and an INPUT is
+ * int:7, text:abc, ints:1=7,5=-3, texts:1="a",2="b", tints:"a"=1 or ttexts:"a"="b", without escapes in the quotes. Prints the report's outputs as `tw run` does, and ends with
+ * its status. TIMES=n in the environment makes n runs, and prints how many a second. */
 #define _POSIX_C_SOURCE 199309L /* clock_gettime */
 #include "../yuglemit.h"
 #include <inttypes.h>
@@ -9,7 +10,14 @@
 #include <string.h>
 #include <time.h>
 
-enum { WORKERS = 1, LIMIT = 10000, LONGEST_TEXT = 4096 };
+enum { LONGEST_TEXT = 4096 };
+
+/* Prints why a program isn't loaded: the error's code, and where it is. */
+static int fail_load(const yuglemit_source_verdict *v) {
+    printf("refused %c%02d procedure %zu place %zu line %zu word %zu column %zu\n", v->verdict.letter, v->verdict.number, v->verdict.procedure,
+           v->verdict.place, v->line, v->word, v->column);
+    return v->verdict.letter == 'M' ? 5 : 1;
+}
 
 static int fail(const char *what, int code) {
     printf("refused %s %d\n", what, code);
@@ -20,9 +28,67 @@ static size_t read_all(uint8_t *at, size_t room) {
     return fread(at, 1, room, stdin);
 }
 
+/* A text between quotes in a word of the command line. */
+typedef struct quoted { const uint8_t *at; size_t length; } quoted;
+
+/* Reads a text in quotes, and moves the word to what follows it. */
+static quoted read_quoted(const char **word) {
+    const char *begin = *word + (**word == '"'), *end = strchr(begin, '"');
+    if (!end) end = begin + strlen(begin);
+    *word = *end ? end + 1 : end;
+    return (quoted){(const uint8_t *)begin, (size_t)(end - begin)};
+}
+
+static int64_t read_number(const char **word) {
+    char *end;
+    int64_t number = strtoll(*word, &end, 10);
+    *word = end;
+    return number;
+}
+
+static void skip(const char **word, char what) {
+    if (**word == what) ++*word;
+}
+
+/* Adds a member to a container of these types: subscript, `=`, value. */
+static int add_member(yuglemit_container *container, char by, char scalar, const char **word) {
+    quoted name = {NULL, 0}, text = {NULL, 0};
+    int64_t subscript = 0, number = 0;
+    if (by == 't') name = read_quoted(word);
+    else subscript = read_number(word);
+    skip(word, '=');
+    if (scalar == 't') text = read_quoted(word);
+    else number = read_number(word);
+    skip(word, ',');
+    if (by == 't' && scalar == 't') return yuglemit_member_text_by_text(container, name.at, name.length, text.at, text.length);
+    if (by == 't') return yuglemit_member_int_by_text(container, name.at, name.length, number);
+    if (scalar == 't') return yuglemit_member_text(container, subscript, text.at, text.length);
+    return yuglemit_member_int(container, subscript, number);
+}
+
+static int add_container(yuglemit_inputs *inputs, char by, char scalar, const char *members) {
+    yuglemit_container container = {NULL};
+    int code = yuglemit_container_new(&container, (uint8_t)by, (uint8_t)scalar);
+    while (*members && code == 0) code = add_member(&container, by, scalar, &members);
+    if (code == 0) code = yuglemit_input_container(inputs, &container);
+    yuglemit_container_free(container);
+    return code;
+}
+
+/* Returns the rest of a word that begins so, or NULL. */
+static const char *after(const char *word, const char *front) {
+    size_t length = strlen(front);
+    return strncmp(word, front, length) ? NULL : word + length;
+}
+
 static int add_input(yuglemit_inputs *inputs, const char *word) {
-    if (strncmp(word, "int:", 4) == 0) return yuglemit_input_int(inputs, strtoll(word + 4, NULL, 10));
-    if (strncmp(word, "text:", 5) == 0) return yuglemit_input_text(inputs, (const uint8_t *)word + 5, strlen(word + 5));
+    const char *rest;
+    if ((rest = after(word, "int:")) != NULL) return yuglemit_input_int(inputs, strtoll(rest, NULL, 10));
+    if ((rest = after(word, "text:")) != NULL) return yuglemit_input_text(inputs, (const uint8_t *)rest, strlen(rest));
+    if ((rest = after(word, "ints:")) != NULL) return add_container(inputs, 'i', 'i', rest);
+    if ((rest = after(word, "texts:")) != NULL) return add_container(inputs, 'i', 't', rest);
+    if ((rest = after(word, "tints:")) != NULL) return add_container(inputs, 't', 'i', rest);
+    if ((rest = after(word, "ttexts:")) != NULL) return add_container(inputs, 't', 't', rest);
     return YUGLEMIT_NO_INPUTS;
 }
 
@@ -96,9 +162,11 @@ static double seconds(void) {
 static int run(yuglemit_program *program, yuglemit_inputs *inputs, yuglemit_report *report) {
     const char *times = getenv("TIMES");
     long count = times ? strtol(times, NULL, 10) : 1;
+    yuglemit_options options = YUGLEMIT_OPTIONS;
+    yuglemit_stop no_stop = {NULL};
     double begun = seconds();
     int code = 0;
-    for (long k = 0; k < count && code == 0; k++) code = yuglemit_run(program, inputs, 1, 1, WORKERS, LIMIT, report);
+    for (long k = 0; k < count && code == 0; k++) code = yuglemit_run(program, inputs, &options, &no_stop, report);
     if (times) fprintf(stderr, "%.0f runs a second\n", (double)count / (seconds() - begun));
     return code;
 }
@@ -120,9 +188,9 @@ static int answer(yuglemit_program *program, int count, char **words) {
 int main(int argc, char **argv) {
     static uint8_t bytes[1 << 20];
     yuglemit_program program = {NULL};
-    yuglemit_verdict verdict;
-    yuglemit_load(bytes, read_all(bytes, sizeof bytes), &program, &verdict);
-    int status = verdict.letter ? fail("program", verdict.number) : answer(&program, argc - 1, argv + 1);
+    yuglemit_source_verdict verdict;
+    yuglemit_load_source(bytes, read_all(bytes, sizeof bytes), YUGLEMIT_ANY_FORMAT, &program, &verdict);
+    int status = verdict.verdict.letter ? fail_load(&verdict) : answer(&program, argc - 1, argv + 1);
     yuglemit_program_free(program);
     return status;
 }

@@ -1,4 +1,4 @@
--- A text with a line feed at its end, and one without.
+-- Texts with and without a line feed at the end.
 use Rattle.std.proofs.Common.{inl, inr, ◌≡◌, ◌∙◌, ◌≢◌, ◌++◌, ◌∷◌, ◌+◌, ◌-◌, ◌==◌, [], List, ℕ, Bool, true, ap, sym, subst, refl, length, take, cond, arith, nat_lt}
 use Rattle.std.specs.Prelude.{slice_index, suc}
 use Rattle.std.specs.Io.BufRead.{ends_with_byte, strip_last}
@@ -14,7 +14,7 @@ ends front =
     let last : slice_index text (length text - 1) ≡ 10 = ap (slice_index text) before ∙ get_or-append_seam front 10 [] 0 in
     and_from (nat_lt 0 (length text)) (slice_index text (length text - 1) == 10) (lt-ltb 0 (length text) (omega (arith, long))) (ap (λ b. b == 10) last)
 
--- without the line feed at its end
+-- a text without the line feed at its end
 pub stripped : (front text : List ℕ) → text ≡ front ++ (10 ∷ []) → front ≡ strip_last 10 text
 stripped front text e = subst (λ (t : List ℕ). front ≡ strip_last 10 t) (sym e) at_end
   where
@@ -25,7 +25,7 @@ stripped front text e = subst (λ (t : List ℕ). front ≡ strip_last 10 t) (sy
         let before : length text - 1 ≡ length front = omega (arith, long) in
         subst (λ (b : Bool). front ≡ cond b (take (length text - 1) text) text) (sym (ends front)) (sym (ap (λ n. take n text) before ∙ take-append_seam front (10 ∷ [])))
 
--- as it is, where it has none
+-- a text that has no line feed at its end is unchanged
 pub left_whole : (text : List ℕ) → ((front : List ℕ) → text ≢ front ++ (10 ∷ [])) → text ≡ strip_last 10 text
 left_whole text none = elim (cases_Bool (ends_with_byte 10 text)) [
   | inl ending ↦ absurd (none (take (length text - 1) text) (parted ending))

@@ -1,3 +1,2 @@
--- What a program in another language is told: a session's answer (SessionAnswers), and a verdict (Verdict).
+-- The answers of a session to a program in another language.
 pub mod SessionAnswers
-pub mod Verdict

@@ -1,4 +1,4 @@
-//! The arguments of a session, as one text.
+//! The arguments of a session, which are passed as one text.
 
 ghost use Rattle.std.specs.Prelude.{◌≡◌, ◌==◌, IfOk, map, string_bytes};
 ghost use Rattle.std.specs.Io.BufRead.{strip_last};
@@ -7,7 +7,7 @@ ghost use Rattle.tw_calls.specs.SessionAnswers.{arguments_in};
 
 use std::alloc::{AllocError, Global};
 
-/// Takes the line feed at a text's end away, if there is one.
+/// Returns the text without the line feed at its end, if it has one.
 fn without_last_end(text: &str) -> &str
     ensures { result.now ≡ strip_last 10 text.now }
 {
@@ -17,7 +17,7 @@ fn without_last_end(text: &str) -> &str
     }
 }
 
-/// Copies the parts between line feeds.
+/// Splits a text at its line feeds, and copies the parts.
 fn parts_of(alloc: Global, text: &str) -> Result<Vec<String>, AllocError>
     ensures { IfOk result (λ parts. map string_bytes parts.items ≡ slice_split (λ b. b == 10) text.now) }
 {
@@ -28,7 +28,7 @@ fn parts_of(alloc: Global, text: &str) -> Result<Vec<String>, AllocError>
     Ok(parts)
 }
 
-/// Copies the arguments of a text: each ends at a line feed, and nothing else ends one.
+/// Copies the arguments of a text. Each ends at a line feed, and only there.
 pub fn arguments_of(alloc: Global, text: &str) -> Result<Vec<String>, AllocError>
     ensures { IfOk result (λ words. map string_bytes words.items ≡ arguments_in text.now) }
 {

@@ -1,8 +1,7 @@
-//! The calls of the library for programs in other languages, with their contracts: `tw_embed` exports them, and `tw_cases` plays cases on
-//! them.
+//! The calls of the library for programs in other languages, with their contracts. `tw_embed` exports them, and `tw_cases` runs cases of them.
 //!
-//! * `session`: what the command `tw` writes with these arguments and this input, and its status; a run is in turn.
-//! * `verify`: the verifier alone, of a program's bytes, with its answer in numbers.
+//! * `session`: the output and the status of the command `tw` with these arguments and this input; a run is single-threaded.
+//! * `verify`: only the verifier. It takes the bytes of a program, and its result is in numbers.
 #![tactic(auto)]
 
 mod arguments;
@@ -10,4 +9,5 @@ mod sessions;
 mod verdicts;
 
 pub use sessions::session;
-pub use verdicts::{Verdict, verify};
+pub use tw_verdict::Verdict;
+pub use verdicts::verify;

@@ -12,7 +12,7 @@ use crate::arguments::arguments_of;
 use std::alloc::{AllocError, Global};
 use tw_session::{Close, Reply, Status, answer_in_turn};
 
-/// Answers arguments in lines, and the bytes that `tw` would read; refused where memory is.
+/// Runs a session with arguments in lines and the bytes that `tw` would read. Returns an error if an allocation fails.
 fn answer(alloc: Global, words: &str, input: &[u8]) -> Result<Reply, AllocError>
     ensures { IfOk result (λ r. AnswersWords (word_faults (arguments_in words.now)) (turned (asked_by_words (arguments_in words.now))) input.now (reply r.text.items r.close)) }
 {
@@ -20,7 +20,7 @@ fn answer(alloc: Global, words: &str, input: &[u8]) -> Result<Reply, AllocError>
     answer_in_turn(alloc, words.as_slice(), input)
 }
 
-/// Puts a text to the start of the room, if it fits. Returns its length.
+/// Writes a text to the start of the buffer, if it fits. Returns its length.
 fn put(room: &mut [u8], text: &[u8]) -> usize
     ensures count { result ≡ length text.now }
     ensures room { room.new ≡ filled text.now room.old }
@@ -32,7 +32,7 @@ fn put(room: &mut [u8], text: &[u8]) -> usize
     length
 }
 
-/// Puts a text and its status's number.
+/// Writes a text and the code of its status. Returns the text's length.
 fn write_answer(room: &mut [u8], status: &mut u8, ended: Status, text: &[u8]) -> usize
     ensures code { status.new ≡ code_of ended }
     ensures count { result ≡ length text.now }
@@ -42,9 +42,9 @@ fn write_answer(room: &mut [u8], status: &mut u8, ended: Status, text: &[u8]) ->
     put(room, text)
 }
 
-/// Answers as the command `tw` does. `words` are its arguments, each ended by a line feed, which the last may lack, and `input` is what `tw`
-/// would read. What it would write comes to the start of `room`, if it fits, and its exit status to `status`. Returns how many bytes that
-/// are; where they don't fit, call again with as many. A program is run in turn, so the second call answers the same.
+/// Does what the command `tw` does. `words` are its arguments, each followed by a line feed, which the last may lack. `input` is what `tw` would
+/// read. Its output is written to the start of `room`, if it fits, and its exit status to `status`. Returns the length of the output in bytes. If it
+/// doesn't fit, call again with a buffer of this length. A program is run in one thread, so the second call has the same output.
 pub fn session(alloc: Global, words: &[u8], input: &[u8], room: &mut [u8], status: &mut u8) -> usize
     ensures { IsTold words.now input.now room.old room.new status.new result }
 {

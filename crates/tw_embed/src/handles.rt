@@ -2,15 +2,19 @@
 
 ghost use Rattle.std.specs.Prelude.{◌≡◌};
 ghost use Rattle.tw_handles.specs.Asking.{IsBudgetOf, IsCountOf, IsShared};
-ghost use Rattle.tw_handles.specs.Loading.{IsLoaded};
+ghost use Rattle.tw_handles.specs.Containers.{IsBegun, IsContainerAdded, IsMemberAdded, WithText, container_in, empty_by};
+ghost use Rattle.tw_handles.specs.Loading.{IsLoaded, IsSourceLoaded};
 ghost use Rattle.tw_handles.specs.Members.{IsMember, IsMemberText, IsSubscriptText};
 ghost use Rattle.tw_handles.specs.Reading.{IsEnding, IsOutput, IsOutputText};
-ghost use Rattle.tw_handles.specs.Running.{IsAdded, IsRun, IsTextAdded};
-ghost use Rattle.tw_handles.specs.Verdict.{IsVerdict};
+ghost use Rattle.tw_handles.specs.Running.{IsAdded, IsRun};
+ghost use Rattle.tw_handles.specs.Stops.{IsRaised, IsStopMade, IsStopShared};
+ghost use Rattle.tw_handles.specs.declared.container.NewMember.TheVariants as member;
+ghost use Rattle.tw_verdict.specs.Format.{format_of};
+ghost use Rattle.tw_verdict.specs.Verdict.{IsVerdict};
 ghost use Rattle.tw_types.specs.declared.input.Input.TheVariants as input;
 
 use std::alloc::Global;
-use tw_handles::{Ending, Handle, Item, Member, Verdict};
+use tw_handles::{Ending, Handle, Item, Member, Options, SourceVerdict, Verdict};
 
 /// Exports `tw_handles::load`.
 #[unsafe(no_mangle)]
@@ -24,6 +28,20 @@ pub extern "C" fn yuglemit_load(
     ensures loaded { IsLoaded bytes.now program.old.held program.new.held verdict.new.letter }
 {
     tw_handles::load(alloc, bytes, program, verdict);
+}
+
+/// Exports `tw_handles::load_source`.
+#[unsafe(no_mangle)]
+pub extern "C" fn yuglemit_load_source(
+    alloc: Global,
+    source: &[u8],
+    format: u8,
+    program: &mut Handle,
+    verdict: &mut SourceVerdict,
+)
+    ensures { IsSourceLoaded (format_of format source.now) source.now program.old.held program.new.held verdict.new }
+{
+    tw_handles::load_source(alloc, source, format, program, verdict);
 }
 
 /// Exports `tw_handles::share`.
@@ -77,9 +95,121 @@ pub extern "C" fn yuglemit_input_int(alloc: Global, inputs: &mut Handle, number:
 /// Exports `tw_handles::input_text`.
 #[unsafe(no_mangle)]
 pub extern "C" fn yuglemit_input_text(alloc: Global, inputs: &mut Handle, text: &[u8]) -> u8
-    ensures { IsTextAdded text.now inputs.old.held inputs.new.held result }
+    ensures { WithText text.now (IsAdded (input.Text text.now) inputs.old.held inputs.new.held result) inputs.old.held inputs.new.held result }
 {
     tw_handles::input_text(alloc, inputs, text)
+}
+
+/// Exports `tw_handles::container_new`.
+#[unsafe(no_mangle)]
+pub extern "C" fn yuglemit_container_new(
+    alloc: Global,
+    container: &mut Handle,
+    by: u8,
+    scalar: u8,
+) -> u8
+    ensures { IsBegun (empty_by by scalar) container.old.held container.new.held result }
+{
+    tw_handles::container_new(alloc, container, by, scalar)
+}
+
+/// Exports `tw_handles::put_int`.
+#[unsafe(no_mangle)]
+pub extern "C" fn yuglemit_member_int(
+    alloc: Global,
+    container: &mut Handle,
+    subscript: i64,
+    number: i64,
+) -> u8
+    ensures { IsMemberAdded (member.Int subscript number) container.old.held container.new.held result }
+{
+    tw_handles::put_int(alloc, container, subscript, number)
+}
+
+/// Exports `tw_handles::put_text`.
+#[unsafe(no_mangle)]
+pub extern "C" fn yuglemit_member_text(
+    alloc: Global,
+    container: &mut Handle,
+    subscript: i64,
+    text: &[u8],
+) -> u8
+    ensures { WithText text.now (IsMemberAdded (member.Text subscript text.now) container.old.held container.new.held result) container.old.held container.new.held result }
+{
+    tw_handles::put_text(alloc, container, subscript, text)
+}
+
+/// Exports `tw_handles::put_int_by_text`.
+#[unsafe(no_mangle)]
+pub extern "C" fn yuglemit_member_int_by_text(
+    alloc: Global,
+    container: &mut Handle,
+    subscript: &[u8],
+    number: i64,
+) -> u8
+    ensures { WithText subscript.now (IsMemberAdded (member.IntByText subscript.now number) container.old.held container.new.held result) container.old.held container.new.held result }
+{
+    tw_handles::put_int_by_text(alloc, container, subscript, number)
+}
+
+/// Exports `tw_handles::put_text_by_text`.
+#[unsafe(no_mangle)]
+pub extern "C" fn yuglemit_member_text_by_text(
+    alloc: Global,
+    container: &mut Handle,
+    subscript: &[u8],
+    text: &[u8],
+) -> u8
+    ensures { WithText subscript.now (WithText text.now (IsMemberAdded (member.TextByText subscript.now text.now) container.old.held container.new.held result) container.old.held container.new.held result) container.old.held container.new.held result }
+{
+    tw_handles::put_text_by_text(alloc, container, subscript, text)
+}
+
+/// Exports `tw_handles::input_container`.
+#[unsafe(no_mangle)]
+pub extern "C" fn yuglemit_input_container(
+    alloc: Global,
+    inputs: &mut Handle,
+    container: &mut Handle,
+) -> u8
+    ensures { IsContainerAdded (container_in container.old.held) (container_in container.new.held) inputs.old.held inputs.new.held result }
+{
+    tw_handles::input_container(alloc, inputs, container)
+}
+
+/// Exports `tw_handles::stop_new`.
+#[unsafe(no_mangle)]
+pub extern "C" fn yuglemit_stop_new(alloc: Global, stop: &mut Handle) -> u8
+    ensures { IsStopMade stop.old.held stop.new.held result }
+{
+    tw_handles::stop_new(alloc, stop)
+}
+
+/// Exports `tw_handles::stop_share`.
+#[unsafe(no_mangle)]
+pub extern "C" fn yuglemit_stop_share(alloc: Global, stop: &mut Handle, other: &mut Handle) -> u8
+    ensures kept { stop.new.held ≡ stop.old.held }
+    ensures shared { IsStopShared stop.old.held other.old.held other.new.held result }
+{
+    tw_handles::stop_share(alloc, stop, other)
+}
+
+/// Exports `tw_handles::stop_raise`.
+#[unsafe(no_mangle)]
+pub extern "C" fn yuglemit_stop_raise(alloc: Global, stop: &mut Handle) -> u8
+    ensures kept { stop.new.held ≡ stop.old.held }
+    ensures raised { IsRaised stop.old.held result }
+{
+    tw_handles::stop_raise(alloc, stop)
+}
+
+/// Exports `tw_handles::stop_lower`.
+#[unsafe(no_mangle)]
+pub extern "C" fn yuglemit_stop_lower(alloc: Global, stop: &mut Handle) -> u8
+    ensures kept { stop.new.held ≡ stop.old.held }
+    ensures lowered { IsRaised stop.old.held result }
+{
+    tw_handles::stop_lower(alloc, stop)
 }
 
 /// Exports `tw_handles::run`.
@@ -88,24 +218,16 @@ pub extern "C" fn yuglemit_run(
     alloc: Global,
     program: &mut Handle,
     inputs: &mut Handle,
-    engines: u8,
-    servers: u8,
-    workers: u8,
-    limit: usize,
+    options: &Options,
+    stop: &mut Handle,
     report: &mut Handle,
 ) -> u8
     ensures program { program.new.held ≡ program.old.held }
     ensures inputs { inputs.new.held ≡ inputs.old.held }
-    ensures is { IsRun program.old.held inputs.old.held (record { engines = engines; servers = servers; workers = workers }) limit report.old.held report.new.held result }
+    ensures stop { stop.new.held ≡ stop.old.held }
+    ensures is { IsRun program.old.held inputs.old.held options.now stop.old.held report.old.held report.new.held result }
 {
-    tw_handles::run(
-        alloc,
-        program,
-        inputs,
-        (engines, servers, workers),
-        limit,
-        report,
-    )
+    tw_handles::run(alloc, program, inputs, options, stop, report)
 }
 
 /// Exports `tw_handles::report_ending`.
@@ -194,19 +316,31 @@ pub extern "C" fn yuglemit_report_subscript_text(
     tw_handles::subscript_text(alloc, report, index, place, room)
 }
 
-/// Frees what a program's handle holds.
+/// Frees the contents of a program's handle.
 #[unsafe(no_mangle)]
 pub extern "C" fn yuglemit_program_free(program: Handle) {
     program.drop();
 }
 
-/// Frees what the handle of inputs holds.
+/// Frees the contents of a handle of inputs.
 #[unsafe(no_mangle)]
 pub extern "C" fn yuglemit_inputs_free(inputs: Handle) {
     inputs.drop();
 }
 
-/// Frees what a report's handle holds.
+/// Frees what the handle of a container holds.
+#[unsafe(no_mangle)]
+pub extern "C" fn yuglemit_container_free(container: Handle) {
+    container.drop();
+}
+
+/// Frees what the handle of a stop flag holds.
+#[unsafe(no_mangle)]
+pub extern "C" fn yuglemit_stop_free(stop: Handle) {
+    stop.drop();
+}
+
+/// Frees the contents of a report's handle.
 #[unsafe(no_mangle)]
 pub extern "C" fn yuglemit_report_free(report: Handle) {
     report.drop();

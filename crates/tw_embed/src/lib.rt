@@ -1,26 +1,42 @@
-//! Yuglemit for programs in other languages.
+//! The C interface of Yuglemit, for programs in other languages.
 //!
-//! * `yuglemit_session`: what the command `tw` writes with these arguments and this input, and its status; a run is in turn.
-//! * `yuglemit_verify`: the verifier alone, of a program's bytes, with its answer in numbers.
+//! * `yuglemit_session`: the output and the status of the command `tw` with these arguments and this input; a run is single-threaded.
+//! * `yuglemit_verify`: only the verifier. It takes the bytes of a program, and its result is in numbers.
 //! * `yuglemit_load`, `yuglemit_run` and the calls on their handles: a program is loaded once, and run many times.
 //!
-//! No call keeps anything but what its handles hold, starts a thread or waits for one. `tw_calls` and `tw_handles` have the bodies.
+//! No call starts a thread or waits for one, and no state is kept except in handles. `tw_calls` and `tw_handles` have the bodies.
 #![tactic(auto)]
 
+ghost use Rattle.std.specs.Prelude.{◌≡◌};
 ghost use Rattle.tw_calls.specs.SessionAnswers.{IsTold};
-ghost use Rattle.tw_calls.specs.Verdict.{IsVerdict};
+ghost use Rattle.tw_verdict.specs.Verdict.{IsVerdict};
 
 mod handles;
 
 pub use handles::{
-    yuglemit_input_int, yuglemit_input_text, yuglemit_inputs_free, yuglemit_load,
-    yuglemit_program_budget, yuglemit_program_free, yuglemit_program_procedures,
-    yuglemit_program_share, yuglemit_report_ending, yuglemit_report_free, yuglemit_report_member,
-    yuglemit_report_member_text, yuglemit_report_output, yuglemit_report_subscript_text,
-    yuglemit_report_text, yuglemit_run,
+    yuglemit_container_free, yuglemit_container_new, yuglemit_input_container, yuglemit_input_int,
+    yuglemit_input_text, yuglemit_inputs_free, yuglemit_load, yuglemit_load_source,
+    yuglemit_member_int, yuglemit_member_int_by_text, yuglemit_member_text,
+    yuglemit_member_text_by_text, yuglemit_program_budget, yuglemit_program_free,
+    yuglemit_program_procedures, yuglemit_program_share, yuglemit_report_ending,
+    yuglemit_report_free, yuglemit_report_member, yuglemit_report_member_text,
+    yuglemit_report_output, yuglemit_report_subscript_text, yuglemit_report_text, yuglemit_run,
+    yuglemit_stop_free, yuglemit_stop_lower, yuglemit_stop_new, yuglemit_stop_raise,
+    yuglemit_stop_share,
 };
 use std::alloc::Global;
-pub use tw_calls::Verdict;
+pub use tw_verdict::Verdict;
+
+/// The version: major, minor and patch, three digits each.
+const VERSION: u32 = 13_000;
+
+/// Returns the version of the library, as `YUGLEMIT_VERSION_NUMBER` of the header it is made for.
+#[unsafe(no_mangle)]
+pub extern "C" fn yuglemit_version() -> u32
+    ensures { result ≡ 13000 }
+{
+    VERSION
+}
 
 /// Exports `tw_calls::session`.
 #[unsafe(no_mangle)]

@@ -7,18 +7,18 @@ use Rattle.tw_handles.specs.Codes.{done, no_index, no_memory, no_program}
 use Rattle.tw_handles.specs.Loading.{program_in}
 use Rattle.tw_handles.specs.declared.held.Held.{Held}
 
--- the call failed with this code, and wrote nothing
+-- holds if the call failed with this code, and wrote nothing
 abbrev pub Fails : {A : Type 0} → ℕ → A → A → ℕ → Type 0
 Fails why old new code = (new ≡ old) × (code ≡ why)
 
--- the other handle holds the program too, or an allocation failed
+-- holds if the other handle holds the program too, or an allocation failed
 abbrev pub IsShare : TypedProgram → Option Held → Option Held → ℕ → Type 0
 IsShare verified old new code = ((program_in new ≡ Some verified) × (code ≡ done)) ⊎ Fails no_memory old new code
 
 abbrev pub IsShared : Option Held → Option Held → Option Held → ℕ → Type 0
 IsShared held old new code = MatchOption (program_in held) (Fails no_program old new code) (λ verified. IsShare verified old new code)
 
--- the budget of the procedure, if the program has it
+-- holds if this is the budget of the procedure, or there is no such procedure
 abbrev pub IsBudgetIn : TypedProgram → ℕ → ℕ → ℕ → ℕ → Type 0
 IsBudgetIn verified procedure old new code =
     MatchOption (slice_get verified.program procedure) (Fails no_index old new code) (λ p. IsBudget (flows p.code) new × (code ≡ done))
@@ -26,6 +26,6 @@ IsBudgetIn verified procedure old new code =
 abbrev pub IsBudgetOf : Option Held → ℕ → ℕ → ℕ → ℕ → Type 0
 IsBudgetOf held procedure old new code = MatchOption (program_in held) (Fails no_program old new code) (λ verified. IsBudgetIn verified procedure old new code)
 
--- how many procedures the program has
+-- holds if this is the number of procedures of the program
 abbrev pub IsCountOf : Option Held → ℕ → ℕ → ℕ → Type 0
 IsCountOf held old new code = MatchOption (program_in held) (Fails no_program old new code) (λ verified. (new ≡ length verified.program) × (code ≡ done))

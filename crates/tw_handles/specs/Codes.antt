@@ -4,38 +4,50 @@ use Rattle.std.specs.Prelude.{ℕ}
 abbrev pub done : ℕ
 done = 0
 
--- I
+-- C
+abbrev pub no_container : ℕ
+no_container = 67
+
+-- F
+abbrev pub no_stop : ℕ
+no_stop = 70
+
+-- the letter I
 abbrev pub no_inputs : ℕ
 no_inputs = 73
 
--- L
+-- the letter L
 abbrev pub no_layout : ℕ
 no_layout = 76
 
--- M
+-- the letter M
 abbrev pub no_memory : ℕ
 no_memory = 77
 
--- P
+-- O
+abbrev pub no_options : ℕ
+no_options = 79
+
+-- the letter P
 abbrev pub no_program : ℕ
 no_program = 80
 
--- R
+-- the letter R
 abbrev pub no_report : ℕ
 no_report = 82
 
--- U
+-- the letter U
 abbrev pub no_utf8 : ℕ
 no_utf8 = 85
 
--- X
+-- the letter X
 abbrev pub no_index : ℕ
 no_index = 88
 
--- S
+-- the letter S
 abbrev pub no_room : ℕ
 no_room = 83
 
--- T
+-- the letter T
 abbrev pub no_text : ℕ
 no_text = 84

@@ -2,6 +2,8 @@
 pub mod Asking
 -- The codes that calls return.
 pub mod Codes
+-- Containers that are to be inputs.
+pub mod Containers
 -- The contents of a handle. A program in it is the one that the bytes encode.
 pub mod Loading
 -- Calls on the members of an output.
@@ -12,5 +14,5 @@ pub mod Reading
 pub mod Running
 -- The memory of a handle.
 pub mod Slot
--- The verdict on bytes.
-pub mod Verdict
+-- Stop flags.
+pub mod Stops

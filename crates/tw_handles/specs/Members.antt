@@ -13,12 +13,12 @@ use Rattle.tw_handles.specs.Reading.{IsWritten, final_of, item_of, value_item, v
 use Rattle.tw_handles.specs.declared.held.Held.{Held}
 use Rattle.tw_handles.specs.declared.members.Member.{Member}
 
--- the subscript and the id of the member with so many smaller subscripts, in the output of this index
+-- returns the subscript and the id of the member that has `place` members with smaller subscripts
 abbrev pub entry_at : FinalView → ℕ → ℕ → Option (Value × ℕ)
 entry_at final index place =
     option_and_then (λ id. option_and_then (λ x. slice_get (entries (members_in x.content)) place) (get final.store.store.live id)) (slice_get final.outputs index)
 
--- the member that is shown, with its datum if that is live
+-- holds if this is the member, with its datum if that is live
 abbrev pub IsShownAt : FinalView → ℕ → ℕ → Option ShownMember → Type 0
 IsShownAt final index place shown =
     MatchOption shown (entry_at final index place ≡ None)

@@ -5,6 +5,8 @@ use Rattle.std.specs.FinMap.{get}
 use Rattle.std.specs.Option.{option_and_then}
 use Rattle.tw_in_turn.specs.declared.run.InTurnResult.{InTurnResult}
 use Rattle.tw_in_turn.specs.declared.run.InTurnResult.TheVariants as left
+use Rattle.tw_in_turn.specs.declared.run.StoppableResult.{StoppableResult}
+use Rattle.tw_in_turn.specs.declared.run.StoppableResult.TheVariants as stoppable
 use Rattle.tw_pool.specs.declared.answer.Closing.{Closing}
 use Rattle.tw_pool.specs.declared.answer.Closing.TheVariants.{Quiet, Stuck, Stopped, Limit}
 use Rattle.tw_pool.specs.Ends.{FinalView}
@@ -25,15 +27,23 @@ use Rattle.tw_handles.specs.declared.held.Held.{Held}
 use Rattle.tw_handles.specs.declared.item.Item.{Item}
 use Rattle.tw_handles.specs.declared.report.Ending.{Ending}
 
-abbrev pub final_of : InTurnResult → FinalView
-final_of (left.Over final history) = final
-final_of (left.NoMemory final history) = final
+abbrev pub final_in : InTurnResult → FinalView
+final_in (left.Over final history) = final
+final_in (left.NoMemory final history) = final
 
-abbrev pub history_of : InTurnResult → HistoryView
-history_of (left.Over final history) = history
-history_of (left.NoMemory final history) = history
+abbrev pub final_of : StoppableResult → FinalView
+final_of (stoppable.Ended left) = final_in left
+final_of (stoppable.Stopped final history) = final
 
--- the exit status of `tw run` for an end: 0 quiet, 3 stuck, 4 limit; a run over has no other one
+abbrev pub history_in : InTurnResult → HistoryView
+history_in (left.Over final history) = history
+history_in (left.NoMemory final history) = history
+
+abbrev pub history_of : StoppableResult → HistoryView
+history_of (stoppable.Ended left) = history_in left
+history_of (stoppable.Stopped final history) = history
+
+-- returns the exit status of `tw run`: 0 quiet, 3 stuck, 4 limit; a finished run has no other
 abbrev pub closing_status : Option Closing → ℕ
 closing_status None = 5
 closing_status (Some Quiet) = 0
@@ -41,12 +51,17 @@ closing_status (Some (Stuck rules)) = 3
 closing_status (Some Stopped) = 5
 closing_status (Some Limit) = 4
 
--- 5 if an allocation failed
-abbrev pub end_status : InTurnResult → ℕ
-end_status (left.Over final history) = closing_status final.closing
-end_status (left.NoMemory final history) = 5
+-- returns the exit status of `tw run`, which is 5 if an allocation failed
+abbrev pub end_in : InTurnResult → ℕ
+end_in (left.Over final history) = closing_status final.closing
+end_in (left.NoMemory final history) = 5
 
-abbrev pub ending_of : InTurnResult → Ending
+-- 8 if it was stopped, which no run of `tw` is
+abbrev pub end_status : StoppableResult → ℕ
+end_status (stoppable.Ended left) = end_in left
+end_status (stoppable.Stopped final history) = 8
+
+abbrev pub ending_of : StoppableResult → Ending
 ending_of left = record { events = length (history_of left).events; outputs = length (final_of left).outputs; status = end_status left }
 
 abbrev pub IsEnding : Option Held → Ending → Ending → ℕ → Type 0
@@ -54,21 +69,21 @@ IsEnding held old new code = MatchOption (report_in held) (Fails no_report old n
 
 -- ---- a datum
 
--- i or t
+-- returns i or t
 abbrev pub letter_of : Scalar → ℕ
 letter_of scalar.Int = 105
 letter_of scalar.Text = 116
 
--- i with the integer, t with the text's length
+-- returns i with the integer, or t with the text's length
 abbrev pub value_item : Value → Item
 value_item (value.Int n) = record { number = n; length = 0; kind = 105; closed = 1; scalar = 105; by = 0 }
 value_item (value.Text text) = record { number = pos 0; length = length text; kind = 116; closed = 1; scalar = 116; by = 0 }
 
--- u if it is unset
+-- returns u for an unset scalar
 abbrev pub unset_item : NestedScalar → Item
 unset_item ty = record { number = pos 0; length = 0; kind = 117; closed = 0; scalar = letter_of ty.scalar; by = 0 }
 
--- c with the number of members, whether it is closed, and the types of members and subscripts
+-- returns c with the number of members, whether it is closed, and the types of scalars and subscripts
 abbrev pub container_item : Datum → Item
 container_item x =
     record {
@@ -87,14 +102,14 @@ abbrev pub item_by : Datum → Option Value → Item
 item_by x None = valueless_item x
 item_by x (Some v) = value_item v
 
--- 0 if it isn't live
+-- returns 0 if the datum isn't live
 abbrev pub item_of : Option Datum → Item
 item_of None = record { number = pos 0; length = 0; kind = 0; closed = 0; scalar = 0; by = 0 }
 item_of (Some x) = item_by x (value_in x.content)
 
 -- ---- outputs
 
--- the datum of the output of this index, if the run has so many
+-- holds if this is the datum of the output with this index, or there is none
 abbrev pub IsOutputIn : FinalView → ℕ → Item → Item → ℕ → Type 0
 IsOutputIn final index old new code =
     MatchOption (slice_get final.outputs index) (Fails no_index old new code) (λ id. (new ≡ item_of (get final.store.store.live id)) × (code ≡ done))
@@ -107,7 +122,7 @@ text_of None = None
 text_of (Some (value.Int n)) = None
 text_of (Some (value.Text text)) = Some text
 
--- the text is at the buffer's start, if it fits
+-- holds if the text is at the start of the buffer, or doesn't fit
 abbrev pub IsFilled : List ℕ → List ℕ → List ℕ → ℕ → Type 0
 IsFilled text old new code =
     ((length text ≤ length old) × (new ≡ text ++ drop (length text) old) × (code ≡ done)) ⊎ ((length old < length text) × Fails no_room old new code)

@@ -1,19 +1,19 @@
--- The inputs of a run, and what the run of a loaded program leaves.
-use Rattle.std.specs.Prelude.{◌≡◌, ◌⊎◌, ◌++◌, ◌∷◌, [], ℕ, List, IsUtf8, Option, Some, None, MatchOption}
-use Rattle.tw_in_turn.specs.InTurn.{IsLeft}
-use Rattle.tw_in_turn.specs.declared.run.InTurnResult.{InTurnResult}
+-- The inputs of a run, and the result of running a loaded program.
+use Rattle.std.specs.Prelude.{◌≡◌, ◌≢◌, ◌⊎◌, Bool, true, ◌++◌, ◌∷◌, [], ℕ, List, Option, Some, None, MatchOption}
+use Rattle.tw_in_turn.specs.Stopping.{IsLeftOrStopped, IsStopped}
+use Rattle.tw_in_turn.specs.declared.run.StoppableResult.{StoppableResult}
 use Rattle.tw_pool.specs.Openings.{IsRejection, MayOpen, open_error_code, opened}
 use Rattle.tw_pool.specs.declared.open.OpenError.{OpenError}
 use Rattle.tw_types.specs.Layout.{ActorCounts, IsLayout}
 use Rattle.tw_types.specs.declared.input.Input.{Input}
-use Rattle.tw_types.specs.declared.input.Input.TheVariants as input
 use Rattle.tw_verify.specs.Typed.{TypedProgram}
 use Rattle.tw_handles.specs.Asking.{Fails}
-use Rattle.tw_handles.specs.Codes.{done, no_inputs, no_layout, no_memory, no_program, no_utf8}
-use Rattle.tw_handles.specs.Loading.{inputs_in, program_in, report_in}
+use Rattle.tw_handles.specs.Codes.{done, no_inputs, no_layout, no_memory, no_options, no_program, no_stop}
+use Rattle.tw_handles.specs.Loading.{inputs_in, program_in, report_in, stop_in}
 use Rattle.tw_handles.specs.declared.held.Held.{Held}
+use Rattle.tw_handles.specs.declared.running.Options.{Options}
 
--- the inputs with one more, or as they were because an allocation failed
+-- holds if the inputs have one more, or are unchanged because an allocation failed
 abbrev pub IsAppended : Input → List Input → Option Held → ℕ → Type 0
 IsAppended given before new code =
     ((inputs_in new ≡ Some (before ++ given ∷ [])) × (code ≡ done)) ⊎ ((inputs_in new ≡ Some before) × (code ≡ no_memory))
@@ -21,24 +21,36 @@ IsAppended given before new code =
 abbrev pub IsAdded : Input → Option Held → Option Held → ℕ → Type 0
 IsAdded given old new code = MatchOption (inputs_in old) (Fails no_inputs old new code) (λ before. IsAppended given before new code)
 
--- a text is UTF-8; its copy may lack memory
-abbrev pub IsTextAdded : List ℕ → Option Held → Option Held → ℕ → Type 0
-IsTextAdded bytes old new code =
-    (IsUtf8 bytes × (IsAdded (input.Text bytes) old new code ⊎ Fails no_memory old new code)) ⊎ ((IsUtf8 bytes → ⊥) × Fails no_utf8 old new code)
-
--- the run as its turns make it; or why it isn't opened
-abbrev pub IsRunOn : TypedProgram → List Input → ActorCounts → ℕ → Option Held → Option Held → ℕ → Type 0
-IsRunOn verified inputs counts limit old new code =
-    ((left : InTurnResult) × (report_in new ≡ Some left) × MayOpen verified.program inputs counts limit × IsLeft (opened verified inputs counts limit) left × (code ≡ done))
+-- holds if the report has the run's result, which is stopped only with a flag, or the run isn't opened
+abbrev pub IsRunOn : Bool → TypedProgram → List Input → ActorCounts → ℕ → Option Held → Option Held → ℕ → Type 0
+IsRunOn has_flag verified inputs counts limit old new code =
+    ((left : StoppableResult) × (report_in new ≡ Some left) × MayOpen verified.program inputs counts limit × IsLeftOrStopped (opened verified inputs counts limit) left × (IsStopped left → has_flag ≡ true) × (code ≡ done))
     ⊎ ((why : OpenError) × IsRejection verified.program inputs counts limit why × Fails (open_error_code why) old new code)
 
--- actors are refused before the run
-abbrev pub IsRunIn : TypedProgram → List Input → ActorCounts → ℕ → Option Held → Option Held → ℕ → Type 0
-IsRunIn verified inputs counts limit old new code =
-    (IsLayout counts × IsRunOn verified inputs counts limit old new code) ⊎ ((IsLayout counts → ⊥) × Fails no_layout old new code)
+abbrev pub counts_of : Options → ActorCounts
+counts_of options = record { engines = options.engines; servers = options.servers; workers = options.workers }
 
--- a run of the program that one handle holds, with the inputs that another holds
-abbrev pub IsRun : Option Held → Option Held → ActorCounts → ℕ → Option Held → Option Held → ℕ → Type 0
-IsRun program given counts limit old new code =
-    MatchOption (program_in program) (Fails no_program old new code)
-    (λ verified. MatchOption (inputs_in given) (Fails no_inputs old new code) (λ inputs. IsRunIn verified inputs counts limit old new code))
+-- holds if this is the result of a run, or there is no layout with these numbers
+abbrev pub IsRunIn : Bool → TypedProgram → List Input → Options → Option Held → Option Held → ℕ → Type 0
+IsRunIn has_flag verified inputs options old new code =
+    (IsLayout (counts_of options) × IsRunOn has_flag verified inputs (counts_of options) options.limit old new code) ⊎ ((IsLayout (counts_of options) → ⊥) × Fails no_layout old new code)
+
+-- holds if this is the result of a run with the inputs of a handle
+abbrev pub IsRunWith : Bool → TypedProgram → Option Held → Options → Option Held → Option Held → ℕ → Type 0
+IsRunWith has_flag verified given options old new code =
+    MatchOption (inputs_in given) (Fails no_inputs old new code) (λ inputs. IsRunIn has_flag verified inputs options old new code)
+
+-- holds if this is the result of running the program of one handle with the inputs of another
+abbrev pub IsRunBy : Bool → Option Held → Option Held → Options → Option Held → Option Held → ℕ → Type 0
+IsRunBy has_flag program given options old new code =
+    MatchOption (program_in program) (Fails no_program old new code) (λ verified. IsRunWith has_flag verified given options old new code)
+
+-- holds if this is the result of such a run with the flag of a handle, if that holds one
+abbrev pub IsRunUntil : Option Held → Option Held → Options → Option Held → Option Held → Option Held → ℕ → Type 0
+IsRunUntil program given options stop old new code =
+    MatchOption (stop_in stop) (Fails no_stop old new code) (λ flag. IsRunBy flag program given options old new code)
+
+-- holds if this is the result of such a run, or the options have another size
+abbrev pub IsRun : Option Held → Option Held → Options → Option Held → Option Held → Option Held → ℕ → Type 0
+IsRun program given options stop old new code =
+    ((options.size ≡ 24) × IsRunUntil program given options stop old new code) ⊎ ((options.size ≢ 24) × Fails no_options old new code)

@@ -1,22 +1,28 @@
 //! The codes that calls return.
 
-/// The call did what it is for.
+/// The call succeeded.
 pub(crate) const DONE: u8 = 0;
-/// The handle holds no inputs.
+/// The handle holds no container, or one of other types.
+pub(crate) const NO_CONTAINER: u8 = b'C';
+/// The handle holds no stop flag.
+pub(crate) const NO_STOP: u8 = b'F';
+/// The handle holds a program or a report, not inputs.
 pub(crate) const NO_INPUTS: u8 = b'I';
-/// The numbers of actors are no layout.
+/// There is no layout with these numbers of actors.
 pub(crate) const NO_LAYOUT: u8 = b'L';
 /// An allocation failed.
 pub(crate) const NO_MEMORY: u8 = b'M';
+/// The options are of another size.
+pub(crate) const NO_OPTIONS: u8 = b'O';
 /// The handle holds no program.
 pub(crate) const NO_PROGRAM: u8 = b'P';
 /// The handle holds no report.
 pub(crate) const NO_REPORT: u8 = b'R';
 /// The buffer is shorter than the text.
 pub(crate) const NO_ROOM: u8 = b'S';
-/// The value isn't a text.
+/// The value is no text.
 pub(crate) const NO_TEXT: u8 = b'T';
 /// The bytes aren't UTF-8.
 pub(crate) const NO_UTF8: u8 = b'U';
-/// There is none of this index.
+/// There is no item with this index.
 pub(crate) const NO_INDEX: u8 = b'X';

@@ -1,17 +1,23 @@
 //! The contents of a handle.
 
+use crate::container::Container;
 use std::sync::Arc;
-use tw_in_turn::InTurnResult;
+use std::sync::atomic::AtomicU32;
+use tw_in_turn::StoppableResult;
 use tw_types::Input;
 use tw_verify::Verified;
 
-/// A loaded program, the inputs of a run, or the report of a run.
+/// A loaded program, the inputs of a run, a container among them, the report of a run, or a stop flag.
 #[derive(Drop)]
 pub enum Held {
-    /// An accepted program, shared by the handles that were made of it.
+    /// An accepted program, shared by all handles that `share` made from one.
     Program(Arc<Verified>),
-    /// Inputs, by the order of main's parameters.
+    /// Inputs, in the order of main's parameters.
     Inputs(Vec<Input>),
-    /// The end of a run.
-    Report(InTurnResult),
+    /// A container that is to be an input.
+    Container(Container),
+    /// The result of a run.
+    Report(StoppableResult),
+    /// A stop flag, shared by its handles: a number other than 0 stops a run.
+    Stop(Arc<AtomicU32>),
 }

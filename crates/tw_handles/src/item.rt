@@ -13,17 +13,17 @@ use tw_types::{DataType, Scalar, Value};
 #[repr(C)]
 #[derive(Clone, Copy)]
 pub struct Item {
-    /// The integer of an `i`.
+    /// The integer, if `kind` is `i`.
     pub number: i64,
-    /// The bytes of a `t`, the members of a `c`.
+    /// The length of a text in bytes if `kind` is `t`, the number of members if it is `c`.
     pub length: usize,
-    /// `i` an integer, `t` a text, `c` a container, `u` a scalar that is unset; 0 if the datum isn't live.
+    /// `i`: an integer; `t`: a text; `c`: a container; `u`: an unset scalar; 0: the datum isn't live.
     pub kind: u8,
-    /// 1 if it never changes again.
+    /// 1 if the datum is closed, so that it never changes again.
     pub closed: u8,
-    /// `i` or `t`: the type of the value or of the members.
+    /// `i` or `t`: the type of the value, or of the scalars in a container.
     pub scalar: u8,
-    /// `i` or `t`: the type of a container's subscripts.
+    /// `i` or `t`: the type of a container's subscripts; 0 if it is no container.
     pub by: u8,
 }
 
@@ -37,7 +37,7 @@ fn letter_of(ty: Scalar) -> u8
     }
 }
 
-/// Describes a value.
+/// Describes a value, which is closed.
 pub(crate) fn value_item(value: &Value) -> Item
     ensures { result ≡ value_item_of value.now }
 {
@@ -130,7 +130,7 @@ pub(crate) fn item_of(datum: Option<&Datum>) -> Item
     }
 }
 
-/// Returns the value of a scalar that is live and set.
+/// Returns the value of a datum, if it is a live scalar that is set.
 pub(crate) fn value_of(datum: Option<&Datum>) -> Option<&Value>
     ensures { option_copied result ≡ value_of_datum (option_map (λ d. d.datum) (option_copied datum.entry)) }
 {
@@ -140,7 +140,7 @@ pub(crate) fn value_of(datum: Option<&Datum>) -> Option<&Value>
     }
 }
 
-/// Writes a text to the start of a buffer, if it fits.
+/// Writes a text to the start of a buffer, or returns `NO_ROOM` if it doesn't fit.
 fn fill(text: &[u8], room: &mut [u8]) -> u8
     ensures { IsFilled text.now room.old room.new result }
 {
@@ -153,7 +153,7 @@ fn fill(text: &[u8], room: &mut [u8]) -> u8
     }
 }
 
-/// Writes the text of a value to the start of a buffer.
+/// Writes the text of a value to the start of a buffer, or returns `NO_TEXT` or `NO_ROOM`.
 pub(crate) fn write_text(value: Option<&Value>, room: &mut [u8]) -> u8
     ensures { IsWritten (option_copied value.entry) room.old room.new result }
 {

@@ -1,7 +1,9 @@
-//! Programs that are loaded once and run many times, by handles for other languages: `tw_embed` exports the calls.
+//! Handles for other languages: a program is loaded once, and run many times. `tw_embed` exports the calls.
 #![tactic(auto)]
 
 mod codes;
+mod container;
+mod containers;
 mod given;
 mod handle;
 mod held;
@@ -12,14 +14,18 @@ mod members;
 mod program;
 mod report;
 mod running;
-mod verdict;
+mod stopping;
 
+pub use containers::{
+    container_new, input_container, put_int, put_int_by_text, put_text, put_text_by_text,
+};
 pub use given::{input_int, input_text};
 pub use handle::Handle;
 pub use item::Item;
-pub use loading::load;
+pub use loading::{load, load_source};
 pub use members::{Member, member_text, output_member, subscript_text};
 pub use program::{budget, procedures, share};
 pub use report::{Ending, output, output_text, report_ending};
-pub use running::run;
-pub use verdict::Verdict;
+pub use running::{Options, run};
+pub use stopping::{stop_lower, stop_new, stop_raise, stop_share};
+pub use tw_verdict::{SourceVerdict, Verdict};

@@ -1,40 +1,16 @@
-//! Loading a program.
+//! Loads programs.
 
-ghost use Rattle.std.specs.Prelude.{◌≡◌, ◌≢◌, ◌⊎◌, MatchOption, IfOk, Some};
-ghost use Rattle.tw_handles.specs.Loading.{HasRead, IsAcceptance, IsLoaded, IsReading, program_in};
-ghost use Rattle.tw_handles.specs.Verdict.{IsVerdict};
+ghost use Rattle.std.specs.Prelude.{◌≡◌, IfOk, Some};
+ghost use Rattle.tw_handles.specs.Loading.{IsLoaded, IsSourceLoaded, program_in};
+ghost use Rattle.tw_verdict.specs.Format.{format_of as format_is};
+ghost use Rattle.tw_verdict.specs.Verdict.{IsVerdict};
 
 use crate::handle::Handle;
 use crate::held::Held;
-use crate::verdict::{Verdict, accepted, fault_verdict, no_memory, rejection_verdict};
 use std::alloc::{AllocError, Global};
 use std::sync::Arc;
-use tw_binary::decode;
-use tw_code::Program;
-use tw_verify::{Verified, verify};
-
-/// Verifies a program.
-fn accept(alloc: Global, program: Program) -> (Option<Verified>, Verdict)
-    ensures { IsAcceptance program result.0 result.1 }
-{
-    match verify(alloc, program) {
-        Ok(verified) => {
-            let verdict = accepted(&verified);
-            (Some(verified), verdict)
-        }
-        Err(refused) => (None, rejection_verdict(&refused)),
-    }
-}
-
-/// Decodes and verifies a program.
-fn read(alloc: Global, bytes: &[u8]) -> (Option<Verified>, Verdict)
-    ensures { IsReading bytes.now result.0 result.1 }
-{
-    match decode(alloc, bytes) {
-        Ok(program) => accept(alloc, program),
-        Err(fault) => (None, fault_verdict(&fault)),
-    }
-}
+use tw_verdict::{SourceVerdict, Verdict, format_of, read_bytes, read_source};
+use tw_verify::Verified;
 
 /// Puts an accepted program into a handle.
 fn handle_of(alloc: Global, verified: Verified) -> Result<Handle, AllocError>
@@ -51,7 +27,7 @@ pub fn load(alloc: Global, bytes: &[u8], program: &mut Handle, verdict: &mut Ver
     ensures verdict { IsVerdict bytes.now verdict.new }
     ensures loaded { IsLoaded bytes.now program.old.held program.new.held verdict.new.letter }
 {
-    let (found, reading) = read(alloc, bytes);
+    let (found, reading) = read_bytes(alloc, bytes);
     let Some(verified) = found else {
         *verdict = reading;
         return;
@@ -61,6 +37,30 @@ pub fn load(alloc: Global, bytes: &[u8], program: &mut Handle, verdict: &mut Ver
             *program = handle;
             *verdict = reading;
         }
-        Err(_) => *verdict = no_memory(),
+        Err(_) => *verdict = Verdict::no_memory(),
+    }
+}
+
+/// Like `load`, for bytes, hex text or assembly text. The letter of a format is `b`, `h` or `t`; any other lets it be found.
+pub fn load_source(
+    alloc: Global,
+    source: &[u8],
+    format: u8,
+    program: &mut Handle,
+    verdict: &mut SourceVerdict,
+)
+    ensures { IsSourceLoaded (format_is format source.now) source.now program.old.held program.new.held verdict.new }
+{
+    let (found, reading) = read_source(alloc, format_of(format, source), source);
+    let Some(verified) = found else {
+        *verdict = reading;
+        return;
+    };
+    match handle_of(alloc, verified) {
+        Ok(handle) => {
+            *program = handle;
+            *verdict = reading;
+        }
+        Err(_) => *verdict = SourceVerdict::no_memory(),
     }
 }

@@ -1,4 +1,4 @@
-//! Questions to the members of an output.
+//! Calls that read the members of an output.
 
 ghost use Rattle.std.specs.Prelude.{◌≡◌, Some};
 ghost use Rattle.tw_handles.specs.Members.{IsMember, IsMemberIn, IsMemberText, IsMemberTextIn, IsShownAt, IsSubscriptText, IsSubscriptTextIn};
@@ -12,7 +12,7 @@ use std::alloc::Global;
 use tw_pool::Final;
 use tw_store::ShownMember;
 
-/// A member of a container.
+/// A member of a container: its subscript and its value.
 #[repr(C)]
 #[derive(Clone, Copy)]
 pub struct Member {
@@ -20,7 +20,7 @@ pub struct Member {
     pub value: Item,
 }
 
-/// Returns the member of an output with so many smaller subscripts.
+/// Returns the member of an output that has `place` members with smaller subscripts.
 fn shown_at<'f>(outcome: &'f Final, index: usize, place: usize) -> Option<ShownMember<'f>>
     ensures { IsShownAt outcome.now index place result }
 {
@@ -55,11 +55,11 @@ fn member_held(held: &Held, index: usize, place: usize, member: &mut Member) -> 
 {
     match held {
         Held::Report(left) => member_in(final_of(left), index, place, member),
-        Held::Program(_) | Held::Inputs(_) => codes::NO_REPORT,
+        Held::Program(_) | Held::Inputs(_) | Held::Stop(_) | Held::Container(_) => codes::NO_REPORT,
     }
 }
 
-/// Describes a member of an output, by how many subscripts are smaller.
+/// Describes the member of an output that has `place` members with smaller subscripts. Returns `NO_INDEX` if there is no such output or member.
 pub fn output_member(
     alloc: Global,
     report: &mut Handle,
@@ -92,11 +92,11 @@ fn member_text_held(held: &Held, index: usize, place: usize, room: &mut [u8]) ->
 {
     match held {
         Held::Report(left) => member_text_in(final_of(left), index, place, room),
-        Held::Program(_) | Held::Inputs(_) => codes::NO_REPORT,
+        Held::Program(_) | Held::Inputs(_) | Held::Stop(_) | Held::Container(_) => codes::NO_REPORT,
     }
 }
 
-/// Writes the text of a member to the start of a buffer, if it fits.
+/// Writes the text of a member to the start of a buffer. Returns `NO_TEXT` if the member is no text, and `NO_ROOM` if the buffer is shorter.
 pub fn member_text(
     alloc: Global,
     report: &mut Handle,
@@ -129,11 +129,12 @@ fn subscript_text_held(held: &Held, index: usize, place: usize, room: &mut [u8])
 {
     match held {
         Held::Report(left) => subscript_text_in(final_of(left), index, place, room),
-        Held::Program(_) | Held::Inputs(_) => codes::NO_REPORT,
+        Held::Program(_) | Held::Inputs(_) | Held::Stop(_) | Held::Container(_) => codes::NO_REPORT,
     }
 }
 
-/// Writes the text of a member's subscript to the start of a buffer, if it fits.
+/// Writes the text of a member's subscript to the start of a buffer. Returns `NO_TEXT` if the subscript is an integer, and `NO_ROOM` if the buffer is
+/// shorter.
 pub fn subscript_text(
     alloc: Global,
     report: &mut Handle,

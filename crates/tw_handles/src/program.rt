@@ -1,4 +1,4 @@
-//! Questions to a loaded program.
+//! Calls on a loaded program.
 
 ghost use Rattle.std.specs.Prelude.{◌≡◌, Some};
 ghost use Rattle.std.specs.Arc.{arc_value};
@@ -32,11 +32,12 @@ fn share_held(alloc: Global, held: &Held, other: &mut Handle) -> u8
 {
     match held {
         Held::Program(verified) => share_program(alloc, verified, other),
-        Held::Inputs(_) | Held::Report(_) => codes::NO_PROGRAM,
+        Held::Inputs(_) | Held::Report(_) | Held::Stop(_) | Held::Container(_) => codes::NO_PROGRAM,
     }
 }
 
-/// Makes `other` another handle of the program that `program` holds, for use in another thread. The program isn't copied.
+/// Makes `other` another handle of the program that `program` holds, for use in another thread. The program isn't copied. Returns `NO_PROGRAM` if
+/// `program` holds none.
 pub fn share(alloc: Global, program: &mut Handle, other: &mut Handle) -> u8
     ensures kept { program.new.held ≡ program.old.held }
     ensures shared { IsShared program.old.held other.old.held other.new.held result }
@@ -65,11 +66,12 @@ fn budget_held(held: &Held, procedure: usize, budget: &mut u64) -> u8
 {
     match held {
         Held::Program(verified) => budget_in(verified, procedure, budget),
-        Held::Inputs(_) | Held::Report(_) => codes::NO_PROGRAM,
+        Held::Inputs(_) | Held::Report(_) | Held::Stop(_) | Held::Container(_) => codes::NO_PROGRAM,
     }
 }
 
-/// Writes the budget of a procedure: the most instructions that one task of it executes.
+/// Writes the budget of a procedure: the maximal number of instructions that one task of it executes. Returns `NO_INDEX` if there is no such
+/// procedure.
 pub fn budget(alloc: Global, program: &mut Handle, procedure: usize, budget: &mut u64) -> u8
     ensures kept { program.new.held ≡ program.old.held }
     ensures is { IsBudgetOf program.old.held procedure budget.old budget.new result }
@@ -90,11 +92,11 @@ fn count_held(held: &Held, count: &mut usize) -> u8
             *count = verified.program().procedures().len();
             codes::DONE
         }
-        Held::Inputs(_) | Held::Report(_) => codes::NO_PROGRAM,
+        Held::Inputs(_) | Held::Report(_) | Held::Stop(_) | Held::Container(_) => codes::NO_PROGRAM,
     }
 }
 
-/// Writes how many procedures a program has.
+/// Writes the number of procedures of a program.
 pub fn procedures(alloc: Global, program: &mut Handle, count: &mut usize) -> u8
     ensures kept { program.new.held ≡ program.old.held }
     ensures is { IsCountOf program.old.held count.old count.new result }

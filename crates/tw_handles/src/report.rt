@@ -1,28 +1,31 @@
-//! Questions to a report.
+//! Calls that read a report.
 
 ghost use Rattle.std.specs.Prelude.{◌≡◌, Some};
-ghost use Rattle.tw_handles.specs.Reading.{IsOutput, IsOutputIn, IsOutputText, IsOutputTextIn, IsEnding, closing_status as closing_status_is, end_status as end_status_is, final_of as final_is, history_of as history_is, ending_of as ending_is};
+ghost use Rattle.tw_handles.specs.Reading.{IsOutput, IsOutputIn, IsOutputText, IsOutputTextIn, IsEnding, closing_status as closing_status_is, end_in as end_in_is, end_status as end_status_is, final_in as final_in_is, final_of as final_is, history_in as history_in_is, history_of as history_is, ending_of as ending_is};
 
 use crate::codes;
 use crate::handle::Handle;
 use crate::held::Held;
 use crate::item::{Item, item_of, value_of, write_text};
 use std::alloc::Global;
-use tw_in_turn::InTurnResult;
+use tw_in_turn::{InTurnResult, StoppableResult};
 use tw_pool::{Closing, Final, History};
 
-/// How a run ended.
+/// The status of a run that was stopped.
+const STOPPED: u8 = 8;
+
+/// The end of a run: its numbers of events and of outputs, and its status.
 #[repr(C)]
 #[derive(Clone, Copy)]
 pub struct Ending {
     pub events: usize,
     pub outputs: usize,
-    /// The exit status of `tw run`: 0 quiet, 3 stuck, 4 limit, 5 out of memory.
+    /// The exit status of `tw run`: 0 quiet, 3 stuck, 4 limit, 5 out of memory; 8 stopped.
     pub status: u8,
 }
 
-pub(crate) fn final_of(left: &InTurnResult) -> &Final
-    ensures { result.now ≡ final_is left.now }
+fn final_in(left: &InTurnResult) -> &Final
+    ensures { result.now ≡ final_in_is left.now }
 {
     match left {
         InTurnResult::Over {
@@ -36,8 +39,20 @@ pub(crate) fn final_of(left: &InTurnResult) -> &Final
     }
 }
 
-fn history_of(left: &InTurnResult) -> &History
-    ensures { result.now ≡ history_is left.now }
+pub(crate) fn final_of(left: &StoppableResult) -> &Final
+    ensures { result.now ≡ final_is left.now }
+{
+    match left {
+        StoppableResult::Ended(left) => final_in(left),
+        StoppableResult::Stopped {
+            outcome,
+            history: _,
+        } => outcome,
+    }
+}
+
+fn history_in(left: &InTurnResult) -> &History
+    ensures { result.now ≡ history_in_is left.now }
 {
     match left {
         InTurnResult::Over {
@@ -45,6 +60,18 @@ fn history_of(left: &InTurnResult) -> &History
             history,
         } => history,
         InTurnResult::NoMemory {
+            outcome: _,
+            history,
+        } => history,
+    }
+}
+
+fn history_of(left: &StoppableResult) -> &History
+    ensures { result.now ≡ history_is left.now }
+{
+    match left {
+        StoppableResult::Ended(left) => history_in(left),
+        StoppableResult::Stopped {
             outcome: _,
             history,
         } => history,
@@ -62,8 +89,8 @@ fn closing_status(closing: Option<Closing>) -> u8
     }
 }
 
-fn end_status(left: &InTurnResult) -> u8
-    ensures { result ≡ end_status_is left.now }
+fn end_in(left: &InTurnResult) -> u8
+    ensures { result ≡ end_in_is left.now }
 {
     match left {
         InTurnResult::Over {
@@ -77,7 +104,19 @@ fn end_status(left: &InTurnResult) -> u8
     }
 }
 
-fn ending_of(left: &InTurnResult) -> Ending
+fn end_status(left: &StoppableResult) -> u8
+    ensures { result ≡ end_status_is left.now }
+{
+    match left {
+        StoppableResult::Ended(left) => end_in(left),
+        StoppableResult::Stopped {
+            outcome: _,
+            history: _,
+        } => STOPPED,
+    }
+}
+
+fn ending_of(left: &StoppableResult) -> Ending
     ensures { result ≡ ending_is left.now }
 {
     Ending {
@@ -95,11 +134,11 @@ fn ending_held(held: &Held, ending: &mut Ending) -> u8
             *ending = ending_of(left);
             codes::DONE
         }
-        Held::Program(_) | Held::Inputs(_) => codes::NO_REPORT,
+        Held::Program(_) | Held::Inputs(_) | Held::Stop(_) | Held::Container(_) => codes::NO_REPORT,
     }
 }
 
-/// Writes how a run ended.
+/// Writes the end of a run.
 pub fn report_ending(alloc: Global, report: &mut Handle, ending: &mut Ending) -> u8
     ensures kept { report.new.held ≡ report.old.held }
     ensures is { IsEnding report.old.held ending.old ending.new result }
@@ -129,11 +168,11 @@ fn output_held(held: &Held, index: usize, item: &mut Item) -> u8
 {
     match held {
         Held::Report(left) => output_in(final_of(left), index, item),
-        Held::Program(_) | Held::Inputs(_) => codes::NO_REPORT,
+        Held::Program(_) | Held::Inputs(_) | Held::Stop(_) | Held::Container(_) => codes::NO_REPORT,
     }
 }
 
-/// Describes an output.
+/// Describes the output with this index, from 0. Returns `NO_INDEX` if there are fewer.
 pub fn output(alloc: Global, report: &mut Handle, index: usize, item: &mut Item) -> u8
     ensures kept { report.new.held ≡ report.old.held }
     ensures is { IsOutput report.old.held index item.old item.new result }
@@ -162,11 +201,12 @@ fn text_held(held: &Held, index: usize, room: &mut [u8]) -> u8
 {
     match held {
         Held::Report(left) => text_in(final_of(left), index, room),
-        Held::Program(_) | Held::Inputs(_) => codes::NO_REPORT,
+        Held::Program(_) | Held::Inputs(_) | Held::Stop(_) | Held::Container(_) => codes::NO_REPORT,
     }
 }
 
-/// Writes the text of an output to the start of a buffer, if it fits. `output` returns its length.
+/// Writes the text of an output to the start of a buffer. `output` returns its length. Returns `NO_TEXT` if the output is no text, and `NO_ROOM` if
+/// the buffer is shorter.
 pub fn output_text(alloc: Global, report: &mut Handle, index: usize, room: &mut [u8]) -> u8
     ensures kept { report.new.held ≡ report.old.held }
     ensures is { IsOutputText report.old.held index room.old room.new result }

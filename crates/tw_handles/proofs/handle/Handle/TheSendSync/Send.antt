@@ -1,4 +1,4 @@
--- A handle may go to another thread if what it holds may.
+-- A handle may be sent to another thread if its contents may.
 use mir.Raw.{raw}
 use base.Shift.{Keyless}
 use denote.Memory.{lone}
@@ -20,10 +20,12 @@ use Rattle.tw_verify.specs.contracts.verified.Verified
 use Rattle.tw_types.proofs.input.Input.TheSendSync as OfInput
 use Rattle.tw_verify.proofs.verified.Verified.TheSendSync as OfVerified
 use Rattle.tw_in_turn.specs.contracts.run.InTurnResult
+use Rattle.tw_in_turn.specs.contracts.run.StoppableResult
 use Rattle.tw_datum.proofs.tree.Tree.TheLaws.TheKnot
 use Rattle.tw_store.specs.contracts.store.Store
 use Rattle.tw_pool.specs.contracts.ends.Final
 use Rattle.tw_pool.proofs.history.History.TheSendSync as OfHistory
+use Rattle.tw_handles.specs.contracts.container.Container
 use Rattle.tw_handles.specs.Slot.{slot_owns}
 use Rattle.tw_handles.specs.contracts.held.Held.{the_row as R}
 use Rattle.tw_handles.specs.contracts.handle.Handle.{the_row, the_type}
@@ -37,14 +39,20 @@ outcome = search (store, crosses, sendable) depth 60 fits 20000
 left : IsSend InTurnResult.the_row
 left = search (outcome, OfHistory.the_send, sendable) depth 60 fits 20000
 
+stoppable : IsSend StoppableResult.the_row
+stoppable = search (left, outcome, OfHistory.the_send, sendable) depth 60 fits 20000
+
 program : IsSend (Arc.the_row Verified.the_row heap.the_row ghosts)
 program = Arc-send Verified.the_row (search (OfVerified.the_send, sendable)) (search (OfVerified.the_sync, sendable))
 
 inputs : IsSend (Vec.the_row Input.the_row heap.the_row ghosts)
 inputs = Vec-send Input.the_row (search (OfInput.the_send, sendable))
 
+container : IsSend Container.the_row
+container = search (crosses, sendable) depth 60 fits 20000
+
 held_send : IsSend R
-held_send = search (OfVerified.the_send, OfVerified.the_sync, OfInput.the_send, outcome, OfHistory.the_send, left, program, inputs, crosses, sendable) depth 100 fits 200000
+held_send = search (OfVerified.the_send, OfVerified.the_sync, OfInput.the_send, outcome, OfHistory.the_send, stoppable, program, inputs, container, crosses, sendable) depth 100 fits 200000
 
 slot_keyless : (a : Global) (p : Ptr) (k : Option R.Denot) → Keyless (slot_owns R a p k)
 slot_keyless a p None = tt

@@ -1,4 +1,4 @@
--- `empty` makes a slot at null.
+-- `empty` makes a slot that is null.
 use Rattle.std.proofs.Common.{◌≡◌, List, [], ◌∷◌, ◌++◌, refl, sym, ap, ◌∙◌, subst, lit<}
 use mir.Val.{Val, vptr, vnull, vcons, vnil}
 use base.Logic.{SProp, ent, emp, id⊢}

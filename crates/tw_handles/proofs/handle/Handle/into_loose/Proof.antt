@@ -1,4 +1,4 @@
--- `into_loose` reads the pointer, and has the box where it is not null.
+-- `into_loose` reads the pointer, and returns the box unless it is null.
 use Rattle.std.proofs.Common.{◌≡◌, List, [], ◌∷◌, ◌++◌, refl, sym, ap, ◌∙◌, subst, lit<}
 use mir.Val.{Val, vptr, vnull, vcons, vnil}
 use base.Logic.{SProp, ent, emp, id⊢}

@@ -1,4 +1,4 @@
--- `of_loose` moves what is owned.
+-- `of_loose` moves the ownership of the box.
 use Rattle.std.proofs.Common.{◌≡◌, List, [], ◌∷◌, ◌++◌, refl, sym, ap, ◌∙◌, subst, lit<}
 use mir.Val.{Val, vptr, vnull, vcons, vnil}
 use base.Logic.{SProp, ent, emp, id⊢}

@@ -2,7 +2,7 @@
 
 ghost use Rattle.std.specs.Prelude.{◌≡◌, ◌≢◌, ◌⊎◌};
 ghost use Rattle.tw_verify.specs.Rejection.{verify_error_code};
-ghost use Rattle.tw_handles.specs.Verdict.{accepted as accepted_is, fault as fault_is, no_memory as no_memory_is, rejection as rejection_is};
+ghost use Rattle.tw_verdict.specs.Verdict.{accepted as accepted_is, fault as fault_is, no_memory as no_memory_is, rejection as rejection_is};
 
 use tw_binary::{Fault, FaultNo};
 use tw_verify::{Refused, Verified, VerifyError};
@@ -11,21 +11,22 @@ use tw_verify::{Refused, Verified, VerifyError};
 #[repr(C)]
 #[derive(Clone, Copy)]
 pub struct Verdict {
-    /// 0: accepted; 70, 'F': the bytes are no program; 86, 'V': refused; 77, 'M': memory ran out.
+    /// 0: accepted; 70, 'F': the bytes are no program; 86, 'V': refused; 77, 'M': memory ran out. Of a text also 65, 'A': assembly; 78, 'N':
+    /// names; 72, 'H': no hex text, or no UTF-8.
     pub letter: u8,
     /// The code after the letter.
     pub number: u8,
-    /// How many engines and workers the targets need, where it is accepted.
+    /// The numbers of engines and of workers that the program requires, if it is accepted.
     pub engines: u8,
     pub workers: u8,
-    /// The procedure of an error.
+    /// The procedure of an error of the verifier.
     pub procedure: usize,
-    /// The place of an error in it; or the byte of the fault.
+    /// The place of the error in the procedure; or the byte of a fault.
     pub place: usize,
 }
 
-/// A letter with its number, and where in a program.
-fn refused_at(letter: u8, number: u8, procedure: usize, place: usize) -> Verdict
+/// Makes a verdict of a letter, a code, and a position in the program.
+pub(crate) fn refused_at(letter: u8, number: u8, procedure: usize, place: usize) -> Verdict
     ensures { result ≡ record { letter = letter; number = number; engines = 0; workers = 0; procedure = procedure; place = place } }
 {
     Verdict {
@@ -38,10 +39,13 @@ fn refused_at(letter: u8, number: u8, procedure: usize, place: usize) -> Verdict
     }
 }
 
-pub(crate) fn no_memory() -> Verdict
-    ensures { result ≡ no_memory_is }
-{
-    refused_at(b'M', 0, 0, 0)
+impl Verdict {
+    /// Returns the verdict if an allocation failed.
+    pub fn no_memory() -> Verdict
+        ensures { result ≡ no_memory_is }
+    {
+        refused_at(b'M', 0, 0, 0)
+    }
 }
 
 pub(crate) fn accepted(verified: &Verified) -> Verdict
@@ -58,12 +62,18 @@ pub(crate) fn accepted(verified: &Verified) -> Verdict
     }
 }
 
+pub(crate) fn fault_at(fault: &Fault) -> Verdict
+    ensures { result ≡ fault_is fault.now }
+{
+    refused_at(b'F', fault.no.number(), 0, fault.offset)
+}
+
 pub(crate) fn fault_verdict(fault: &Fault) -> Verdict
     ensures { ((fault.now.no ≢ FaultNo.NoMemory) × (result ≡ fault_is fault.now)) ⊎ ((fault.now.no ≡ FaultNo.NoMemory) × (result ≡ no_memory_is)) }
 {
     match fault.no {
-        FaultNo::NoMemory => no_memory(),
-        no => refused_at(b'F', no.number(), 0, fault.offset),
+        FaultNo::NoMemory => Verdict::no_memory(),
+        _ => fault_at(fault),
     }
 }
 
@@ -72,7 +82,7 @@ pub(crate) fn rejection_verdict(refused: &Refused) -> Verdict
         ⊎ ((refused.now.no ≡ VerifyError.NoMemory) × (result ≡ no_memory_is)) }
 {
     match refused.no {
-        VerifyError::NoMemory => no_memory(),
+        VerifyError::NoMemory => Verdict::no_memory(),
         no => refused_at(b'V', no.number(), refused.procedure, refused.place),
     }
 }

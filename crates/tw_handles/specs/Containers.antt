@@ -1,0 +1,115 @@
+-- Containers that are to be inputs, and calls on them.
+use Rattle.std.specs.Prelude.{◌≡◌, ◌⊎◌, ◌++◌, ◌∷◌, ◌==◌, [], ℕ, ℤ, List, IsUtf8, Option, Some, None, MatchOption, Result, Ok, Err, if◌then◌else◌}
+use Rattle.tw_types.specs.declared.input.Input.{Input}
+use Rattle.tw_types.specs.declared.input.Input.TheVariants as input
+use Rattle.tw_handles.specs.Asking.{Fails}
+use Rattle.tw_handles.specs.Codes.{done, no_container, no_inputs, no_memory, no_utf8}
+use Rattle.tw_handles.specs.Loading.{inputs_in}
+use Rattle.tw_handles.specs.Running.{IsAppended}
+use Rattle.tw_handles.specs.declared.container.Container as container
+use Rattle.tw_handles.specs.declared.container.Container.TheVariants.{Ints, Texts, IntsByText, TextsByText}
+use Rattle.tw_handles.specs.declared.container.NewMember.{NewMember}
+use Rattle.tw_handles.specs.declared.container.NewMember.TheVariants as member
+use Rattle.tw_handles.specs.declared.held.Held.{Held}
+use Rattle.tw_handles.specs.declared.held.Held.TheVariants.{Program, Inputs, Container, Report, Stop}
+
+-- the input that it is to be
+abbrev pub input_of : container.Container → Input
+input_of (Ints members) = input.Ints members.items
+input_of (Texts members) = input.Texts members.items
+input_of (IntsByText members) = input.IntsByText members.items
+input_of (TextsByText members) = input.TextsByText members.items
+
+-- 116 is the letter t
+abbrev pub empty_by : ℕ → ℕ → Input
+empty_by by scalar =
+    if by == 116 then (if scalar == 116 then input.TextsByText [] else input.IntsByText []) else
+    (if scalar == 116 then input.Texts [] else input.Ints [])
+
+-- the container of a handle, as an input
+abbrev pub container_in : Option Held → Option Input
+container_in None = None
+container_in (Some (Program verified)) = None
+container_in (Some (Inputs inputs)) = None
+container_in (Some (Container members)) = Some (input_of members)
+container_in (Some (Report left)) = None
+container_in (Some (Stop flag)) = None
+
+-- the handle holds this container, or an allocation failed
+abbrev pub IsBegun : Input → Option Held → Option Held → ℕ → Type 0
+IsBegun given old new code = ((container_in new ≡ Some given) × (code ≡ done)) ⊎ Fails no_memory old new code
+
+-- a member at the end of a container of its types
+abbrev pub with_int : Input → ℤ → ℤ → Option Input
+with_int (input.Int n) subscript number = None
+with_int (input.Text text) subscript number = None
+with_int (input.Ints members) subscript number = Some (input.Ints (members ++ (subscript, number) ∷ []))
+with_int (input.Texts members) subscript number = None
+with_int (input.IntsByText members) subscript number = None
+with_int (input.TextsByText members) subscript number = None
+
+abbrev pub with_text : Input → ℤ → List ℕ → Option Input
+with_text (input.Int n) subscript value = None
+with_text (input.Text text) subscript value = None
+with_text (input.Ints members) subscript value = None
+with_text (input.Texts members) subscript value = Some (input.Texts (members ++ (subscript, value) ∷ []))
+with_text (input.IntsByText members) subscript value = None
+with_text (input.TextsByText members) subscript value = None
+
+abbrev pub with_int_by_text : Input → List ℕ → ℤ → Option Input
+with_int_by_text (input.Int n) subscript number = None
+with_int_by_text (input.Text text) subscript number = None
+with_int_by_text (input.Ints members) subscript number = None
+with_int_by_text (input.Texts members) subscript number = None
+with_int_by_text (input.IntsByText members) subscript number = Some (input.IntsByText (members ++ (subscript, number) ∷ []))
+with_int_by_text (input.TextsByText members) subscript number = None
+
+abbrev pub with_text_by_text : Input → List ℕ → List ℕ → Option Input
+with_text_by_text (input.Int n) subscript value = None
+with_text_by_text (input.Text text) subscript value = None
+with_text_by_text (input.Ints members) subscript value = None
+with_text_by_text (input.Texts members) subscript value = None
+with_text_by_text (input.IntsByText members) subscript value = None
+with_text_by_text (input.TextsByText members) subscript value = Some (input.TextsByText (members ++ (subscript, value) ∷ []))
+
+-- the container with a member more, if its types are these; an allocation that fails leaves its members
+abbrev pub IsLonger : (Input → Option Input) → Option Input → Option Input → ℕ → Type 0
+IsLonger with_member None new code = (new ≡ None) × (code ≡ no_container)
+IsLonger with_member (Some before) new code =
+    MatchOption (with_member before) ((new ≡ Some before) × (code ≡ no_container)) (λ after. ((new ≡ Some after) × (code ≡ done)) ⊎ ((new ≡ Some before) × (code ≡ no_memory)))
+
+-- the member at the end of a container of its types
+abbrev pub with_member : NewMember → Input → Option Input
+with_member (member.Int subscript number) given = with_int given subscript number
+with_member (member.Text subscript value) given = with_text given subscript value
+with_member (member.IntByText subscript number) given = with_int_by_text given subscript number
+with_member (member.TextByText subscript value) given = with_text_by_text given subscript value
+
+abbrev pub IsMemberAdded : NewMember → Option Held → Option Held → ℕ → Type 0
+IsMemberAdded added old new code = IsLonger (with_member added) (container_in old) (container_in new) code
+
+-- bytes as a text: they are UTF-8, and their copy may lack memory
+abbrev pub IsTextOf : List ℕ → Result (List ℕ) ℕ → Type 0
+IsTextOf bytes (Ok text) = IsUtf8 bytes × (text ≡ bytes)
+IsTextOf bytes (Err code) = (IsUtf8 bytes × (code ≡ no_memory)) ⊎ ((IsUtf8 bytes → ⊥) × (code ≡ no_utf8))
+
+-- what holds with the text; or it is none
+abbrev pub WithText : List ℕ → Type 0 → Option Held → Option Held → ℕ → Type 0
+WithText bytes Then old new code = (IsUtf8 bytes × (Then ⊎ Fails no_memory old new code)) ⊎ ((IsUtf8 bytes → ⊥) × Fails no_utf8 old new code)
+
+-- the types stay, without members
+abbrev pub emptied : Input → Input
+emptied (input.Int n) = input.Int n
+emptied (input.Text text) = input.Text text
+emptied (input.Ints members) = input.Ints []
+emptied (input.Texts members) = input.Texts []
+emptied (input.IntsByText members) = input.IntsByText []
+emptied (input.TextsByText members) = input.TextsByText []
+
+-- the container's members are an input more, and the container is empty; that too if an allocation fails
+abbrev pub IsMoved : Input → Option Held → Option Held → Option Input → ℕ → Type 0
+IsMoved given old new after code =
+    MatchOption (inputs_in old) (Fails no_inputs old new code × (after ≡ Some given)) (λ before. IsAppended given before new code × (after ≡ Some (emptied given)))
+
+abbrev pub IsContainerAdded : Option Input → Option Input → Option Held → Option Held → ℕ → Type 0
+IsContainerAdded given after old new code = MatchOption given (Fails no_container old new code × (after ≡ None)) (λ members. IsMoved members old new after code)

@@ -1,0 +1,99 @@
+//! Stop flags.
+
+ghost use Rattle.std.specs.Prelude.{◌≡◌, Some};
+ghost use Rattle.tw_handles.specs.Stops.{IsRaised, IsStopMade, IsStopShared};
+
+use crate::codes;
+use crate::handle::Handle;
+use crate::held::Held;
+use std::alloc::Global;
+use std::sync::Arc;
+use std::sync::atomic::{AtomicU32, Ordering};
+
+/// Puts a flag into a handle.
+fn put_flag(alloc: Global, flag: Arc<AtomicU32>, other: &mut Handle) -> u8
+    ensures { IsStopMade other.old.held other.new.held result }
+{
+    match Handle::of_held(alloc, Held::Stop(flag)) {
+        Ok(handle) => {
+            *other = handle;
+            codes::DONE
+        }
+        Err(_) => codes::NO_MEMORY,
+    }
+}
+
+/// Makes a stop flag that isn't raised. The handle's former contents are freed.
+pub fn stop_new(alloc: Global, stop: &mut Handle) -> u8
+    ensures { IsStopMade stop.old.held stop.new.held result }
+{
+    match Arc::new(alloc, AtomicU32::new(0)) {
+        Ok(flag) => put_flag(alloc, flag, stop),
+        Err(_) => codes::NO_MEMORY,
+    }
+}
+
+fn share_held(alloc: Global, held: &Held, other: &mut Handle) -> u8
+    ensures { IsStopShared (Some held.now) other.old.held other.new.held result }
+{
+    match held {
+        Held::Stop(flag) => match Arc::try_clone(flag) {
+            Ok(copy) => put_flag(alloc, copy, other),
+            Err(_) => codes::NO_MEMORY,
+        },
+        Held::Program(_) | Held::Inputs(_) | Held::Report(_) | Held::Container(_) => codes::NO_STOP,
+    }
+}
+
+/// Makes `other` another handle of the flag that `stop` holds, for use in another thread.
+pub fn stop_share(alloc: Global, stop: &mut Handle, other: &mut Handle) -> u8
+    ensures kept { stop.new.held ≡ stop.old.held }
+    ensures shared { IsStopShared stop.old.held other.old.held other.new.held result }
+{
+    let Some(whole) = stop.take(alloc) else {
+        return codes::NO_STOP;
+    };
+    let code = share_held(alloc, &whole, other);
+    *stop = Handle::of(whole);
+    code
+}
+
+fn set_held(held: &Held, number: u32) -> u8
+    ensures { IsRaised (Some held.now) result }
+{
+    match held {
+        Held::Stop(flag) => {
+            flag.store(number, Ordering::SeqCst);
+            codes::DONE
+        }
+        Held::Program(_) | Held::Inputs(_) | Held::Report(_) | Held::Container(_) => codes::NO_STOP,
+    }
+}
+
+fn set_flag(alloc: Global, stop: &mut Handle, number: u32) -> u8
+    ensures kept { stop.new.held ≡ stop.old.held }
+    ensures raised { IsRaised stop.old.held result }
+{
+    let Some(whole) = stop.take(alloc) else {
+        return codes::NO_STOP;
+    };
+    let code = set_held(&whole, number);
+    *stop = Handle::of(whole);
+    code
+}
+
+/// Raises a flag: runs that look at it end before their next event.
+pub fn stop_raise(alloc: Global, stop: &mut Handle) -> u8
+    ensures kept { stop.new.held ≡ stop.old.held }
+    ensures raised { IsRaised stop.old.held result }
+{
+    set_flag(alloc, stop, 1)
+}
+
+/// Lowers a flag, for later runs.
+pub fn stop_lower(alloc: Global, stop: &mut Handle) -> u8
+    ensures kept { stop.new.held ≡ stop.old.held }
+    ensures lowered { IsRaised stop.old.held result }
+{
+    set_flag(alloc, stop, 0)
+}

@@ -1,0 +1,143 @@
+-- Reading a source, by the reading of its bytes or of its text.
+use Rattle.std.proofs.Common.{◌≡◌, ◌≢◌, ◌⊎◌, ◌∙◌, ℕ, nat_eq, true, false, List, Option, Some, None, MatchOption, Ok, Err, inl, inr, refl, sym, ap, subst}
+use Rattle.std.specs.declared.result.Result.{Result}
+use Rattle.tw_binary.specs.Reading.{program_of}
+use Rattle.tw_binary.specs.declared.fault.Fault.{Fault}
+use Rattle.tw_asm.specs.Origins.{ComesFrom, at_place, instr_at}
+use Rattle.tw_cli.specs.declared.command.Source.{Source}
+use Rattle.tw_cli.specs.declared.command.Source.TheVariants.{Hex, Assembly}
+use Rattle.tw_code.specs.declared.procedure.Procedure.{Procedure}
+use Rattle.tw_code.specs.format.Program.{Versioned}
+use Rattle.tw_program_output.specs.Program.{Spells, SpellsNone, source_text}
+use Rattle.tw_program_output.specs.Source.{MayBeSource, plain_of, text_of}
+use Rattle.tw_program_output.proofs.Sources.{comes_from}
+use Rattle.tw_program_output.specs.declared.program.NoProgram.{NoProgram}
+use Rattle.tw_program_output.specs.declared.program.NoProgram.TheVariants.{NotHex, NotUtf8, Bytes, Text, Named, NoMemory}
+use Rattle.tw_program_output.specs.declared.program.ReadProgram.{ReadProgram}
+use Rattle.tw_program_output.specs.declared.source.SourceText.{SourceText}
+use Rattle.tw_symbols.specs.Expansion.{StandsFor}
+use Rattle.tw_code.specs.accepting.WellTyped.{IsFirstRejection}
+use Rattle.tw_verify.specs.Rejection.{verify_error_code}
+use Rattle.tw_verify.specs.Typed.{TypedProgram}
+use Rattle.tw_verify.specs.declared.rejection.VerifyError.{VerifyError}
+use Rattle.tw_verify.specs.declared.rejection.VerifyError.TheVariants as error
+use Rattle.tw_verdict.specs.Reading.{IsReading}
+use Rattle.tw_verdict.specs.Source.{Encodes, EncodesNone, IsLineIn, IsOrigin, IsErrorIn, IsRejectionIn, IsUnreadable, IsSourceAcceptance, IsSourceError, IsSourceReading, format_of_source, without_line}
+use Rattle.tw_verdict.specs.Verdict.{IsProgramVerdict, IsReadVerdict, accepted, no_memory}
+use Rattle.tw_verdict.specs.declared.format.Format.TheVariants as format
+use Rattle.tw_verdict.specs.declared.text.SourceVerdict.{SourceVerdict}
+use Rattle.tw_verdict.specs.declared.verdict.Verdict.{Verdict}
+
+-- ---- bytes
+
+pub encoded : (bytes : List ℕ) (found : Option TypedProgram) (w : Verdict) → IsReading bytes found w → IsSourceReading format.Bytes bytes found (without_line w)
+encoded bytes (Some v) w (has, is, zero) =
+    (record { read = has.read; encodes = has.read_is; program = has.program; version = has.version; accepted_is = has.accepted_is }, ap without_line (by is))
+  where
+    of_program : IsProgramVerdict has.read.procedures w → w ≡ accepted v.program
+    of_program (inl (right, e)) = e ∙ ap accepted (sym has.program)
+    of_program (inr (number, procedure, place, first, e)) = let no_zero : 86 ≡ 0 = sym (ap (λ (x : Verdict). x.letter) e) ∙ zero in cc
+
+    by : IsReadVerdict (program_of bytes) w ⊎ (w ≡ no_memory) → w ≡ accepted v.program
+    by (inl r) = of_program (subst (λ (x : Result Versioned Fault). IsReadVerdict x w) has.read_is r)
+    by (inr e) = let no_zero : 77 ≡ 0 = sym (ap (λ (x : Verdict). x.letter) e) ∙ zero in cc
+encoded bytes None w (is, some) = (by is, some)
+  where
+    of_read : (r : Result Versioned Fault) → program_of bytes ≡ r → IsReadVerdict r w → IsSourceError format.Bytes bytes (without_line w)
+    of_read (Ok p) e (inl (right, is)) = absurd (some (ap (λ (x : Verdict). x.letter) is))
+    of_read (Ok p) e (inr (number, procedure, place, first, is)) = inl (record {
+      read = p;
+      encodes = e;
+      number = number;
+      procedure = procedure;
+      place = place;
+      first = first;
+      line = 0;
+      origin = refl;
+      verdict_is = ap without_line is;
+    })
+    of_read (Err f) e is = inr (inl (record { why = Bytes f; none = (f, refl, e); verdict_is = ap without_line is }))
+
+    by : IsReadVerdict (program_of bytes) w ⊎ (w ≡ no_memory) → IsSourceError format.Bytes bytes (without_line w)
+    by (inl r) = of_read (program_of bytes) refl r
+    by (inr e) = inr (inr (ap without_line e))
+
+-- ---- texts
+
+-- the line of an instruction that a text has
+pub line_there : (text : SourceText) (program : List Procedure) (procedure place line : ℕ) → MayBeSource (Some text) program → at_place text.lines.procedures procedure place ≡ Some line → IsLineIn (Some text) program procedure place line
+line_there text program procedure place line is e = inr (comes_from (plain_of text) program text.lines.procedures procedure place line is.1 e)
+
+-- none of an instruction that it doesn't have
+pub no_line : (text : SourceText) (program : List Procedure) (procedure place : ℕ) → MayBeSource (Some text) program → at_place text.lines.procedures procedure place ≡ None → IsLineIn (Some text) program procedure place 0
+no_line text program procedure place is e =
+    inl (subst (λ (x : Option ℕ). MatchOption x (instr_at program procedure place ≡ None) (ComesFrom (plain_of text) procedure place)) e (is.1 procedure place), refl)
+
+origin : (from : Source) (input : List ℕ) (text : Option SourceText) (program : List Procedure) (procedure place line : ℕ) → MayBeSource text program → text_of text ≡ source_text from input
+    → IsLineIn text program procedure place line → IsOrigin (format_of_source from) input program procedure place line
+origin Hex input None program procedure place line is same at = at
+origin Hex input (Some text) program procedure place line is same at = cc
+origin Assembly input None program procedure place line is same at = cc
+origin Assembly input (Some text) program procedure place line is same at =
+    (plain_of text, (let e : text.text.now ≡ input = cc in subst (λ (x : List ℕ). StandsFor x (plain_of text)) e is.3), at)
+
+encodes : (from : Source) (input : List ℕ) (program : Versioned) → Spells from input program → Encodes (format_of_source from) input program
+encodes Hex input program is = is
+encodes Assembly input program is = is
+
+pub accepted_is : (from : Source) (input : List ℕ) (read : ReadProgram) (found : Option TypedProgram) (v : SourceVerdict) → Spells from input read.program → MayBeSource read.source read.program.procedures
+    → text_of read.source ≡ source_text from input → IsSourceAcceptance read found v → IsSourceReading (format_of_source from) input found v
+accepted_is from input read (Some verified) v spells is text (program, version, right, e) =
+    (record { read = read.program; encodes = encodes from input read.program spells; program = program; version = version; accepted_is = right }, e)
+accepted_is from input read None v spells is text (inl (number, procedure, place, line, first, at, e), some) = (
+  inl (record {
+    read = read.program;
+    encodes = encodes from input read.program spells;
+    number = number;
+    procedure = procedure;
+    place = place;
+    first = first;
+    line = line;
+    origin = origin from input read.source read.program.procedures procedure place line is text at;
+    verdict_is = e;
+  }),
+  some,
+)
+accepted_is from input read None v spells is text (inr e, some) = (inr (inr e), some)
+
+none_of : (from : Source) (input : List ℕ) (why : NoProgram) → SpellsNone from input why → EncodesNone (format_of_source from) input why
+none_of Hex input why is = is
+none_of Assembly input why is = is
+
+-- a letter other than 0
+has_letter : (v : SourceVerdict) (n : ℕ) → nat_eq n 0 ≡ false → v.verdict.letter ≡ n → v.verdict.letter ≢ 0
+has_letter v n other is zero =
+    let same : nat_eq n 0 ≡ true = ap (λ (x : ℕ). nat_eq x 0) (sym is ∙ zero) in
+    let clash : true ≡ false = sym same ∙ other in cc
+
+letter_of : (input : List ℕ) (why : NoProgram) (v : SourceVerdict) → IsUnreadable input why v → v.verdict.letter ≢ 0
+letter_of input NotHex v is = has_letter v 72 refl (ap (λ (x : SourceVerdict). x.verdict.letter) is)
+letter_of input NotUtf8 v is = has_letter v 72 refl (ap (λ (x : SourceVerdict). x.verdict.letter) is)
+letter_of input (Bytes f) v is = has_letter v 70 refl (ap (λ (x : SourceVerdict). x.verdict.letter) is)
+letter_of input (Text f) v (at, word, is) = has_letter v 65 refl (ap (λ (x : SourceVerdict). x.verdict.letter) is)
+letter_of input (Named f) v is = has_letter v 78 refl (ap (λ (x : SourceVerdict). x.verdict.letter) is)
+letter_of input NoMemory v is = has_letter v 77 refl (ap (λ (x : SourceVerdict). x.verdict.letter) is)
+
+pub unreadable : (from : Source) (input : List ℕ) (why : NoProgram) (v : SourceVerdict) → (why ≢ NoMemory → SpellsNone from input why) → IsUnreadable input why v ⊎ (v ≡ without_line no_memory)
+    → IsSourceReading (format_of_source from) input None v
+unreadable from input why v none (inr e) = (inr (inr e), has_letter v 77 refl (ap (λ (x : SourceVerdict). x.verdict.letter) e))
+unreadable from input NotHex v none (inl is) = (inr (inl (record { why = NotHex; none = none_of from input NotHex (none (λ e. cc)); verdict_is = is })), letter_of input NotHex v is)
+unreadable from input NotUtf8 v none (inl is) = (inr (inl (record { why = NotUtf8; none = none_of from input NotUtf8 (none (λ e. cc)); verdict_is = is })), letter_of input NotUtf8 v is)
+unreadable from input (Bytes f) v none (inl is) = (inr (inl (record { why = Bytes f; none = none_of from input (Bytes f) (none (λ e. cc)); verdict_is = is })), letter_of input (Bytes f) v is)
+unreadable from input (Text f) v none (inl is) = (inr (inl (record { why = Text f; none = none_of from input (Text f) (none (λ e. cc)); verdict_is = is })), letter_of input (Text f) v is)
+unreadable from input (Named f) v none (inl is) = (inr (inl (record { why = Named f; none = none_of from input (Named f) (none (λ e. cc)); verdict_is = is })), letter_of input (Named f) v is)
+unreadable from input NoMemory v none (inl is) = (inr (inr is), letter_of input NoMemory v is)
+
+-- ---- the verifier's errors
+
+pub rejected : (text : Option SourceText) (program : List Procedure) (which : VerifyError) (procedure place : ℕ) (v : SourceVerdict)
+    → (which ≢ error.NoMemory → IsFirstRejection program (verify_error_code which) procedure place) → IsErrorIn text program which procedure place v
+    → (IsRejectionIn text program v ⊎ (v ≡ without_line no_memory)) × (v.verdict.letter ≢ 0)
+rejected text program which procedure place v first (inl (some, line, at, e)) =
+    (inl (verify_error_code which, procedure, place, line, first some, at, e), has_letter v 86 refl (ap (λ (x : SourceVerdict). x.verdict.letter) e))
+rejected text program which procedure place v first (inr (is, e)) = (inr e, has_letter v 77 refl (ap (λ (x : SourceVerdict). x.verdict.letter) e))

@@ -1,0 +1,163 @@
+-- Reading a source: the accepted program, or the verdict with the position of its error.
+use Rattle.std.specs.Prelude.{◌≡◌, ◌≢◌, ◌⊎◌, ◌-◌, ℕ, List, false, true, slice_get, IsUtf8, Option, Some, None, Result, Ok, Err}
+use Rattle.std.specs.Str.Lines.{lines}
+use Rattle.tw_asm.specs.Fault as asm
+use Rattle.tw_asm.specs.Origins.{ComesFrom, instr_at}
+use Rattle.tw_asm.specs.declared.fault.FaultNo.{FaultNo}
+use Rattle.tw_binary.specs.Reading.{program_of}
+use Rattle.tw_binary.specs.declared.fault.Fault.{Fault}
+use Rattle.tw_cli.specs.declared.command.Source.{Source}
+use Rattle.tw_cli.specs.declared.command.Source.TheVariants as from
+use Rattle.tw_code.specs.accepting.WellTyped.{IsAccepted, IsFirstRejection}
+use Rattle.tw_code.specs.declared.procedure.Procedure.{Procedure}
+use Rattle.tw_code.specs.format.Program.{Versioned}
+use Rattle.tw_diagnostics.specs.ErrorWord.{IsErrorWord}
+use Rattle.tw_program_output.specs.Names.{is_same_line}
+use Rattle.tw_program_output.specs.Program.{Spells, SpellsNone}
+use Rattle.tw_program_output.specs.Source.{plain_of}
+use Rattle.tw_program_output.specs.declared.source.SourceText.{SourceText}
+use Rattle.tw_program_output.specs.declared.program.NoProgram.{NoProgram}
+use Rattle.tw_program_output.specs.declared.program.NoProgram.TheVariants.{NotHex, NotUtf8, Bytes, Text, Named, NoMemory}
+use Rattle.tw_symbols.specs.Answers.{name_number}
+use Rattle.tw_symbols.specs.Expansion.{StandsFor}
+use Rattle.tw_verify.specs.Rejection.{verify_error_code}
+use Rattle.tw_verify.specs.Typed.{TypedProgram}
+use Rattle.tw_verify.specs.declared.rejection.VerifyError.{VerifyError}
+use Rattle.tw_verify.specs.declared.rejection.VerifyError.TheVariants as error
+use Rattle.tw_program_output.specs.declared.program.ReadProgram.{ReadProgram}
+use Rattle.tw_verdict.specs.Verdict.{accepted, fault, no_memory, rejection}
+use Rattle.tw_verdict.specs.declared.format.Format.{Format}
+use Rattle.tw_verdict.specs.declared.format.Format.TheVariants as format
+use Rattle.tw_verdict.specs.declared.text.SourceVerdict.{SourceVerdict}
+use Rattle.tw_verdict.specs.declared.verdict.Verdict.{Verdict}
+
+-- ---- programs
+
+-- the source encodes the program: by its bytes, or as `tw` reads hex text and assembly text
+abbrev pub Encodes : Format → List ℕ → Versioned → Type 0
+Encodes format.Bytes source program = program_of source ≡ Ok program
+Encodes format.Hex source program = Spells from.Hex source program
+Encodes format.Assembly source program = Spells from.Assembly source program
+
+-- the program that the source encodes, and it is accepted
+pub record HasSource (form : Format) (source : List ℕ) (verified : TypedProgram) : Type 0 where
+  pub read : Versioned
+  pub encodes : Encodes form source read
+  pub program : verified.program ≡ read.procedures
+  pub version : verified.version ≡ read.version
+  pub accepted_is : IsAccepted verified.program
+
+-- ---- positions
+
+abbrev pub without_line : Verdict → SourceVerdict
+without_line v = record { verdict = v; line = 0; word = 0; column = 0 }
+
+-- a letter with its number, and no position in a program
+abbrev pub letter : ℕ → ℕ → Verdict
+letter which number = record { letter = which; number = number; engines = 0; workers = 0; procedure = 0; place = 0 }
+
+abbrev pub at_line : ℕ → ℕ → ℕ → (ℕ × ℕ) → SourceVerdict
+at_line which number line at = record { verdict = letter which number; line = line; word = at.0; column = at.1 }
+
+abbrev pub or_zeros : Option (ℕ × ℕ) → ℕ × ℕ
+or_zeros None = (0, 0)
+or_zeros (Some at) = at
+
+-- the word and the column of a fault, or zeros if it is at no word
+abbrev pub IsWordIn : List ℕ → FaultNo → ℕ → (ℕ × ℕ) → Type 0
+IsWordIn plain which line at = (found : Option (ℕ × ℕ)) × IsErrorWord plain which line found × (at ≡ or_zeros found)
+
+-- holds if these are of the text's expansion, or zeros if the expanded line isn't the one that is written
+abbrev pub IsTextWord : List ℕ → FaultNo → ℕ → (ℕ × ℕ) → Type 0
+IsTextWord text which line at =
+    (plain : List ℕ) × StandsFor text plain
+    × (((is_same_line (slice_get (lines text) (line - 1)) (slice_get (lines plain) (line - 1)) ≡ true) × IsWordIn plain which line at)
+    ⊎ ((is_same_line (slice_get (lines text) (line - 1)) (slice_get (lines plain) (line - 1)) ≡ false) × (at ≡ (0, 0))))
+
+abbrev pub IsFaultWord : List ℕ → FaultNo → ℕ → (ℕ × ℕ) → Type 0
+IsFaultWord source which line at = IsUtf8 source → IsTextWord source which line at
+
+-- ---- errors
+
+-- the verdict if the source encodes no program: H01, H03, a fault of the bytes, of the assembly text with its word, or of the names
+abbrev pub IsUnreadable : List ℕ → NoProgram → SourceVerdict → Type 0
+IsUnreadable source NotHex v = v ≡ without_line (letter 72 1)
+IsUnreadable source NotUtf8 v = v ≡ without_line (letter 72 3)
+IsUnreadable source (Bytes f) v = v ≡ without_line (fault f)
+IsUnreadable source (Text f) v = (at : ℕ × ℕ) × IsFaultWord source f.no f.line at × (v ≡ at_line 65 (asm.fault_number f.no) f.line at)
+IsUnreadable source (Named f) v = v ≡ at_line 78 (name_number f.no) f.line (0, 0)
+IsUnreadable source NoMemory v = v ≡ without_line no_memory
+
+-- the source encodes no program, for this reason
+abbrev pub EncodesNone : Format → List ℕ → NoProgram → Type 0
+EncodesNone format.Bytes source why = (f : Fault) × (why ≡ Bytes f) × (program_of source ≡ Err f)
+EncodesNone format.Hex source why = SpellsNone from.Hex source why
+EncodesNone format.Assembly source why = SpellsNone from.Assembly source why
+
+-- the line from which the instruction at a place comes; 0 if there is no such instruction
+abbrev pub IsLineOf : List ℕ → List Procedure → ℕ → ℕ → ℕ → Type 0
+IsLineOf plain program procedure place line = ((instr_at program procedure place ≡ None) × (line ≡ 0)) ⊎ ComesFrom plain procedure place line
+
+-- that of a text that was read, if one was
+abbrev pub IsLineIn : Option SourceText → List Procedure → ℕ → ℕ → ℕ → Type 0
+IsLineIn None program procedure place line = line ≡ 0
+IsLineIn (Some text) program procedure place line = IsLineOf (plain_of text) program procedure place line
+
+-- the line of an assembly text from which the instruction at a place comes; 0 if there is no such instruction, or no such text
+abbrev pub IsOrigin : Format → List ℕ → List Procedure → ℕ → ℕ → ℕ → Type 0
+IsOrigin format.Bytes source program procedure place line = line ≡ 0
+IsOrigin format.Hex source program procedure place line = line ≡ 0
+IsOrigin format.Assembly source program procedure place line =
+    (plain : List ℕ) × StandsFor source plain × IsLineOf plain program procedure place line
+
+abbrev pub rejection_at : ℕ → ℕ → ℕ → ℕ → SourceVerdict
+rejection_at number procedure place line = record { verdict = rejection number procedure place; line = line; word = 0; column = 0 }
+
+-- a program that was read is rejected: its first error, with the line of the instruction
+abbrev pub IsRejectionIn : Option SourceText → List Procedure → SourceVerdict → Type 0
+IsRejectionIn source program v =
+    (number : ℕ) × (procedure : ℕ) × (place : ℕ) × (line : ℕ) × IsFirstRejection program number procedure place
+    × IsLineIn source program procedure place line × (v ≡ rejection_at number procedure place line)
+
+-- the verifier's error of a program, unless an allocation failed
+abbrev pub IsErrorIn : Option SourceText → List Procedure → VerifyError → ℕ → ℕ → SourceVerdict → Type 0
+IsErrorIn source program which procedure place v =
+    ((which ≢ error.NoMemory) × (line : ℕ) × IsLineIn source program procedure place line × (v ≡ rejection_at (verify_error_code which) procedure place line))
+    ⊎ ((which ≡ error.NoMemory) × (v ≡ without_line no_memory))
+
+-- a program that was read is there just if it is accepted
+abbrev pub IsSourceAcceptance : ReadProgram → Option TypedProgram → SourceVerdict → Type 0
+IsSourceAcceptance read (Some verified) v =
+    (verified.program ≡ read.program.procedures) × (verified.version ≡ read.program.version) × IsAccepted verified.program × (v ≡ without_line (accepted verified.program))
+IsSourceAcceptance read None v = (IsRejectionIn read.source read.program.procedures v ⊎ (v ≡ without_line no_memory)) × (v.verdict.letter ≢ 0)
+
+-- the source encodes a program, and this is its first error
+pub record IsRejected (form : Format) (source : List ℕ) (v : SourceVerdict) : Type 0 where
+  pub read : Versioned
+  pub encodes : Encodes form source read
+  pub number : ℕ
+  pub procedure : ℕ
+  pub place : ℕ
+  pub first : IsFirstRejection read.procedures number procedure place
+  pub line : ℕ
+  pub origin : IsOrigin form source read.procedures procedure place line
+  pub verdict_is : v ≡ rejection_at number procedure place line
+
+-- the source encodes no program, and this is why
+pub record HasNone (form : Format) (source : List ℕ) (v : SourceVerdict) : Type 0 where
+  pub why : NoProgram
+  pub none : EncodesNone form source why
+  pub verdict_is : IsUnreadable source why v
+
+-- or an allocation failed
+abbrev pub IsSourceError : Format → List ℕ → SourceVerdict → Type 0
+IsSourceError form source v = IsRejected form source v ⊎ (HasNone form source v ⊎ (v ≡ without_line no_memory))
+
+abbrev pub format_of_source : Source → Format
+format_of_source from.Hex = format.Hex
+format_of_source from.Assembly = format.Assembly
+
+-- the program of the source is there just if it is accepted
+abbrev pub IsSourceReading : Format → List ℕ → Option TypedProgram → SourceVerdict → Type 0
+IsSourceReading form source (Some verified) v = HasSource form source verified × (v ≡ without_line (accepted verified.program))
+IsSourceReading form source None v = IsSourceError form source v × (v.verdict.letter ≢ 0)
