@@ -1,10 +1,11 @@
 #!/bin/sh
 # Brings data/ up to date with examples/ and with what README.md and docs/ show: each `$ ./tw ..` in a block of code, and
-# what stands below it. The gate plays data/ and reads nothing outside of it, so run this after an edit of those.
+# its output below it. CI runs the cases of data/ and reads nothing outside of it, so run this after an edit of those.
+# With an argument it writes into that new folder instead: tools/twins.py --check compares it with data/.
 cd "$(dirname "$0")/../.." || exit 1
-data=crates/tw_cases/data
+data=${1:-crates/tw_cases/data}
 
-# A file's name behind a command as what the script `tw` makes of it.
+# Replaces the name of a file after a command by the options that the script `tw` makes of it.
 as_input() {
     sed -E '/^\$ /{
         s#^\$ \./tw asm ([^ :<]+\.tw)( |$)#$ ./tw asm < \1\2#
@@ -14,7 +15,8 @@ as_input() {
     }' "$1" >"$data/as_input" && mv "$data/as_input" "$1"
 }
 
-rm -rf "$data" && mkdir "$data" && cp -R examples "$data/examples" || exit 1
+[ $# -gt 0 ] || rm -rf "$data"
+mkdir "$data" && cp -R examples "$data/examples" || exit 1
 awk -f tools/shown.awk -v folder="$data" README.md docs/*.md
 as_input "$data/shown.txt"
 as_input "$data/examples/sessions.txt"

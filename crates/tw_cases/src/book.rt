@@ -1,9 +1,9 @@
-//! What earlier lines have named.
+//! The names of earlier lines.
 
 use crate::complaint::Complaint;
 use std::alloc::{AllocError, Global};
 
-/// The bytes that earlier lines named, the names of the cases so far, and how many came to what is wanted.
+/// The bytes that earlier lines named, the names of the cases so far, and how many cases passed.
 #[derive(Drop)]
 pub struct Book {
     bytes: Vec<(String, Vec<u8>)>,
@@ -20,17 +20,17 @@ impl Book {
         }
     }
 
-    /// How many cases came to what is wanted.
+    /// Returns how many cases passed.
     pub fn as_wanted(&self) -> u64 {
         self.as_wanted
     }
 
-    /// Counts a case that came to what is wanted.
+    /// Counts a case that passed.
     pub fn count(&mut self) {
         self.as_wanted = self.as_wanted.saturating_add(1);
     }
 
-    /// The bytes of a name.
+    /// Returns the bytes with this name, or an error if there are none.
     pub fn named(&self, name: &str) -> Result<&[u8], Complaint> {
         for (known, bytes) in &self.bytes {
             if known.as_str() == name {
@@ -40,7 +40,7 @@ impl Book {
         Err(Complaint::UnknownName)
     }
 
-    /// Names bytes; refused where the name is taken.
+    /// Names bytes. Returns an error if the name is taken.
     pub fn name(&mut self, name: String, bytes: Vec<u8>) -> Result<(), Complaint> {
         if self.named(name.as_str()).is_ok() {
             return Err(Complaint::TakenName);
@@ -49,7 +49,7 @@ impl Book {
         Ok(())
     }
 
-    /// Notes a case, and tells whether it has a name that no earlier one has.
+    /// Adds the name of a case. Returns whether it isn't empty, and no earlier case has it.
     pub fn note(&mut self, alloc: Global, name: &str) -> Result<bool, AllocError> {
         if name.is_empty() || self.has_case(name) {
             return Ok(false);

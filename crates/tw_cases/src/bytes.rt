@@ -1,4 +1,4 @@
-//! Bytes as a line tells them: a program as assembly text; or digits and names, with single bytes changed, and cut.
+//! The bytes of a line: a program as assembly text, or digits and names, with single bytes changed, and cut.
 
 use crate::book::Book;
 use crate::complaint::Complaint;
@@ -6,7 +6,7 @@ use std::alloc::Global;
 use tw_asm::assemble;
 use tw_binary::encode;
 
-/// The bytes of a text such as `proc control / regs / RET`, `@every with 26=10 27=01` or `545742 @code 61*4096 first 31`.
+/// Reads the bytes of a text such as `proc control / regs / RET`, `@every with 26=10 27=01` or `545742 @code 61*4096 first 31`.
 pub fn read_bytes(alloc: Global, book: &Book, text: &str) -> Result<Vec<u8>, Complaint> {
     if text.starts_with("proc ") || text.starts_with("version ") {
         return assembled(alloc, text);
@@ -17,7 +17,7 @@ pub fn read_bytes(alloc: Global, book: &Book, text: &str) -> Result<Vec<u8>, Com
     }
 }
 
-/// The bytes of a program whose lines are parted by ` / `.
+/// Assembles a program, whose lines are separated by ` / `, and encodes it.
 fn assembled(alloc: Global, lines: &str) -> Result<Vec<u8>, Complaint> {
     let text = lines.replace(alloc, " / ", "\n")?;
     match assemble(alloc, text.as_str()) {
@@ -26,7 +26,7 @@ fn assembled(alloc: Global, lines: &str) -> Result<Vec<u8>, Complaint> {
     }
 }
 
-/// The first so many of the bytes.
+/// Returns the first `count` bytes.
 fn first_of(mut bytes: Vec<u8>, count: &str) -> Result<Vec<u8>, Complaint> {
     let count = count.parse::<usize>()?;
     if count > bytes.len() {
@@ -43,7 +43,7 @@ fn read_changed(alloc: Global, book: &Book, text: &str) -> Result<Vec<u8>, Compl
     }
 }
 
-/// The bytes with some of them written over.
+/// Replaces single bytes, for changes such as `26=10 27=01`.
 fn changed(mut bytes: Vec<u8>, changes: &str) -> Result<Vec<u8>, Complaint> {
     for change in changes.split_whitespace() {
         write_over(&mut bytes, change)?;
@@ -51,7 +51,7 @@ fn changed(mut bytes: Vec<u8>, changes: &str) -> Result<Vec<u8>, Complaint> {
     Ok(bytes)
 }
 
-/// Writes over one byte, at a place that counts from 0.
+/// Replaces one byte, for a change such as `26=10`. Places count from 0.
 fn write_over(bytes: &mut Vec<u8>, change: &str) -> Result<(), Complaint> {
     let Some((place, digits)) = change.split_once('=') else {
         return Err(Complaint::Change);
@@ -67,7 +67,7 @@ fn write_over(bytes: &mut Vec<u8>, change: &str) -> Result<(), Complaint> {
     }
 }
 
-/// The bytes of the pieces one after the other.
+/// Reads pieces, and joins their bytes.
 fn read_pieces(alloc: Global, book: &Book, text: &str) -> Result<Vec<u8>, Complaint> {
     let mut bytes = Vec::new(alloc);
     for piece in text.split_whitespace() {
@@ -76,7 +76,7 @@ fn read_pieces(alloc: Global, book: &Book, text: &str) -> Result<Vec<u8>, Compla
     Ok(bytes)
 }
 
-/// Adds named bytes, bytes in digits, or such bytes several times.
+/// Adds named bytes, bytes in digits, or either of them several times.
 fn put_piece(
     alloc: Global,
     book: &Book,

@@ -1,14 +1,14 @@
-//! The library's calls, as programs in other languages make them, beside what the crates say.
+//! The library's calls, as programs in other languages make them, compared with the crates.
 
 use crate::text::Text;
 use std::alloc::{AllocError, Global};
 use std::ops::Range;
 use tw_calls::{Verdict, session, verify};
 
-/// What a room has in each byte before a call.
+/// The content of each byte of a buffer before a call.
 const BLANK: u8 = b'.';
 
-/// Writes arguments as the library takes them, each with a line feed at its end.
+/// Returns the arguments as the library takes them, each followed by a line feed.
 fn lines_of(alloc: Global, words: &[String]) -> Text {
     let mut lines = Text::new(alloc);
     for word in words {
@@ -22,7 +22,7 @@ fn is_blank(bytes: &[u8]) -> bool {
     bytes.iter().all(|byte| *byte == BLANK)
 }
 
-/// Tells whether a room has a text at its start and nothing else, or nothing where the text doesn't fit.
+/// Returns whether only the beginning of a buffer is written, with this text; or nothing, if the text doesn't fit.
 fn is_filled(room: &[u8], text: &[u8]) -> bool {
     if room.len() < text.len() {
         return is_blank(room);
@@ -33,7 +33,7 @@ fn is_filled(room: &[u8], text: &[u8]) -> bool {
     }
 }
 
-/// Makes a call with room for so many bytes, and tells whether it says this status and this text.
+/// Calls the library with a buffer of `size` bytes, and returns whether the status and the text are these.
 fn says(
     alloc: Global,
     lines: &[u8],
@@ -48,7 +48,8 @@ fn says(
     Ok(is_said && is_filled(room.as_slice(), text))
 }
 
-/// Tells whether the library answers with this status and this text in rooms of these sizes. An argument with a line feed is two there.
+/// Returns whether the library returns this status and this text with buffers of these sizes. In this call an argument with a line feed is two
+/// arguments.
 pub fn is_answered(
     alloc: Global,
     words: &[String],
@@ -64,7 +65,7 @@ pub fn is_answered(
     is_so
 }
 
-/// Tells whether the library's verdict of bytes has this letter and number, needs so many engines and workers, and is about this procedure
+/// Returns whether the library's verdict on these bytes has this letter and number, requires this many engines and workers, and names this procedure
 /// and place.
 pub fn is_verdict(
     alloc: Global,

@@ -10,7 +10,7 @@ use std::sync::Wait;
 use std::thread::Threads;
 use std::time::Clock;
 
-/// What is to be printed of a line: a complaint, or what came in place of what is wanted.
+/// Executes a line. Returns what is to be printed: a complaint, or a case's expected and actual output if they differ.
 pub fn play_line<H: AllocGlobal + Files + Threads + Wait + Clock + Sync>(
     rt: &H,
     book: &mut Book,
@@ -26,7 +26,7 @@ pub fn play_line<H: AllocGlobal + Files + Threads + Wait + Clock + Sync>(
     }
 }
 
-/// Names bytes, and complains where that can't be done.
+/// Names bytes. Returns a complaint if that fails.
 fn name_line(alloc: Global, book: &mut Book, text: &str) -> Result<Option<String>, AllocError> {
     match name_bytes(alloc, book, text) {
         Ok(()) => Ok(None),
@@ -45,7 +45,7 @@ fn name_bytes(alloc: Global, book: &mut Book, text: &str) -> Result<(), Complain
     book.name(name.to_string(alloc)?, bytes)
 }
 
-/// What is told of a case that didn't come to what is wanted, with its name in front. Others are counted.
+/// Runs a case. Counts it if it passes; otherwise returns its name and the difference, or a complaint.
 fn case_line<H: AllocGlobal + Files + Threads + Wait + Clock + Sync>(
     rt: &H,
     book: &mut Book,
@@ -66,7 +66,7 @@ fn case_line<H: AllocGlobal + Files + Threads + Wait + Clock + Sync>(
     }
 }
 
-/// What came in place of what is wanted, or a complaint.
+/// Returns the expected and the actual output if they differ, or the complaint.
 fn difference(
     alloc: Global,
     wanted: &str,
@@ -79,7 +79,7 @@ fn difference(
     }
 }
 
-/// The text before the first bar, and the text behind it.
+/// Returns the text before the first bar, and the text after it.
 pub fn first_field(text: &str) -> (&str, &str) {
     match text.split_once('|') {
         Some((first, rest)) => (first.trim(), rest.trim()),
@@ -87,7 +87,7 @@ pub fn first_field(text: &str) -> (&str, &str) {
     }
 }
 
-/// The text before the last bar, and the text behind it.
+/// Returns the text before the last bar, and the text after it.
 fn last_field(text: &str) -> (&str, &str) {
     match text.rsplit_once('|') {
         Some((rest, last)) => (rest.trim(), last.trim()),

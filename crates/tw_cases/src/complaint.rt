@@ -1,4 +1,4 @@
-//! Why a line can't be played.
+//! Why a line can't be executed.
 
 use hex::FromHexError;
 use std::alloc::{AllocError, AllocFailed};
@@ -6,7 +6,7 @@ use std::io;
 use std::num::ParseIntError;
 use tw_code::NoMemory;
 
-/// What is wrong with a line, or that memory ran out; never an answer that a case may want.
+/// The error of a line, or that an allocation failed. No case can expect it as its output.
 #[derive(Clone, Copy)]
 pub enum Complaint {
     Actor,
@@ -78,7 +78,7 @@ impl Complaint {
             Complaint::NoProgram => "the bytes are no program",
             Complaint::NoTurn => "there is no such turn",
             Complaint::NotOpened => "the run isn't opened, or memory ran out",
-            Complaint::NotRefused => "no thread was refused, or a seat was told something else",
+            Complaint::NotRefused => "no thread was refused, or a seat has other events",
             Complaint::Number => "this is no number, or a number out of its range",
             Complaint::Refused => "the program is refused",
             Complaint::SeatCount => "there are other seats than three",
@@ -89,7 +89,7 @@ impl Complaint {
             Complaint::UnknownName => "no earlier line names these bytes",
             Complaint::UnknownPart => "there is no such part",
             Complaint::WordBytes => "a word isn't UTF-8",
-            Complaint::WrittenBytes => "what is told is no text",
+            Complaint::WrittenBytes => "the output is no text",
         }
     }
 }

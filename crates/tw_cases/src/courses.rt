@@ -1,4 +1,4 @@
-//! How a pool or a host is turned, and what is said.
+//! The steps of a pool or a host, and their results.
 
 use crate::complaint::Complaint;
 use crate::events::read_actor;
@@ -8,30 +8,30 @@ use std::alloc::Global;
 use std::sync::Wait;
 use tw_types::{Actor, Layout};
 
-/// More turns in a row than an actor has here, and more rounds than a run has.
+/// More steps than an actor makes here without a pause, and more rounds than a run has.
 pub const MOST: u8 = 100;
 
-/// How a run is turned.
+/// The order of a run's scheduling steps.
 #[derive(Clone, Copy)]
 pub enum Course<'s> {
-    /// Turn by turn, as it stands in the text.
+    /// The steps of a script.
     Script(&'s str),
-    /// Engines, then workers, then servers, each until it is idle or the run is over, round after round until all are over; and
-    /// the run is stopped before the turn behind so many.
+    /// Engines, then workers, then servers, each until it is idle or the run is over; and so on until the run is over for all. The run is stopped
+    /// after this many steps.
     Rounds(u64),
 }
 
-/// What was said of turns, a line each, and the events that were told with it.
+/// The results of steps, a line each, and the events that were reported with them.
 #[derive(Drop)]
 pub struct Talk {
     pub text: Text,
-    /// How many turns are left before the run is stopped.
+    /// How many steps are left before the run is stopped.
     pub left: u64,
-    /// What was said first behind the stop.
+    /// The first result after the stop.
     pub behind: Option<(Said, u64)>,
-    /// Whether all that was said behind the stop is the same.
+    /// Whether all results after the stop are the same.
     pub is_one: bool,
-    /// Why the turns weren't made to their end.
+    /// Why the steps weren't made to their end.
     pub complaint: Option<Complaint>,
 }
 
@@ -50,7 +50,7 @@ impl Talk {
     }
 }
 
-/// One turn, which is written down. It is stopped before where no turn is left.
+/// Makes one step, and adds its result. Stops the run first if no step is left.
 fn turn<K: Drop, T: Table<K>, R: Wait>(
     rt: &R,
     alloc: Global,
@@ -76,7 +76,7 @@ fn turn<K: Drop, T: Table<K>, R: Wait>(
     Ok(answer.said)
 }
 
-/// The turns of an actor until it is idle or the run is over; whether that is over.
+/// Makes an actor's steps until it is idle or the run is over. Returns whether the run is over.
 fn turn_on<K: Drop, T: Table<K>, R: Wait>(
     rt: &R,
     alloc: Global,
@@ -97,10 +97,10 @@ fn turn_on<K: Drop, T: Table<K>, R: Wait>(
     Err(Complaint::Endless)
 }
 
-/// As many actors as there may be.
+/// The maximal number of actors.
 pub const PLACES: u8 = 24;
 
-/// The actor of a place, if there is one: engines, then workers, then servers.
+/// Returns the actor of a place, if there is one: engines come first, then workers, then servers.
 pub fn actor_at(layout: Layout, place: u8) -> Option<Actor> {
     let actor = match place {
         0..=3 => Actor::Engine(place),
@@ -131,7 +131,7 @@ fn turn_rounds<K: Drop, T: Table<K>, R: Wait>(
     Err(Complaint::Endless)
 }
 
-/// What stands before a sign, and the number behind it, or one that no register has.
+/// Returns the text before a sign, and the number after it, or a number that no register has.
 fn cut_register(text: &str, sign: char) -> Result<(&str, usize), Complaint> {
     match text.split_once(sign) {
         Some((before, number)) => Ok((before.trim(), number.parse::<usize>()?)),
@@ -139,7 +139,7 @@ fn cut_register(text: &str, sign: char) -> Result<(&str, usize), Complaint> {
     }
 }
 
-/// Takes what a register keeps, if it keeps something.
+/// Takes the content of a register, if there is any.
 fn taken<K: Drop>(kept: &mut [Option<K>], register: usize) -> Option<K> {
     match kept.get_mut(register) {
         Some(slot) => slot.take(),
@@ -147,7 +147,7 @@ fn taken<K: Drop>(kept: &mut [Option<K>], register: usize) -> Option<K> {
     }
 }
 
-/// One item of a script, which is handed what is kept: a turn of the first table, or behind `b ` of the second one.
+/// Executes an item of a script: `stop`, or a step of an actor of the first table, or of the second after `b `. Submits `kept`.
 fn turn_item<K: Drop, A: Table<K>, B: Table<K>, R: Wait>(
     rt: &R,
     alloc: Global,
@@ -168,7 +168,7 @@ fn turn_item<K: Drop, A: Table<K>, B: Table<K>, R: Wait>(
     Ok(())
 }
 
-/// Plays a script: `e0 <1 >2` is a turn of e0 that hands in what register 1 keeps, and whose Done register 2 keeps.
+/// Executes a script: `e0 <1 >2` is a step of e0 that submits the content of register 1, and puts its `Done` into register 2.
 fn play<K: Drop, A: Table<K>, B: Table<K>, R: Wait>(
     rt: &R,
     alloc: Global,
@@ -193,7 +193,8 @@ fn play<K: Drop, A: Table<K>, B: Table<K>, R: Wait>(
     Ok(())
 }
 
-/// What is said where a table is turned so, beside another one of the same program; and why it wasn't turned to its end.
+/// Makes the steps of a course on the first table; a script may also have steps of the second one, which has the same program. Returns all results,
+/// and why the course wasn't completed.
 pub fn turned<K: Drop, A: Table<K>, B: Table<K>, R: Wait>(
     rt: &R,
     alloc: Global,

@@ -1,4 +1,4 @@
-//! Cases of seats that are driven one after another in one thread.
+//! Cases of seats that are driven in one thread, one after another.
 
 ghost use Rattle.std.specs.Prelude.{◌≡◌, ◌<◌, vec_len};
 ghost use Rattle.tw_host.specs.Seats.{actor_count};
@@ -16,7 +16,7 @@ use tw_host::{Closed, Host, Named, Seat};
 use tw_verify::Verified;
 use tw_workers::{Driven, NoGate, drive};
 
-/// Drives the first seat, which comes behind the others. Whether memory ran out.
+/// Drives the first seat, and puts it after the others. Returns whether an allocation failed.
 fn drive_first<'a, N: Named, R: Wait + Clock>(
     rt: &R,
     alloc: Global,
@@ -32,8 +32,8 @@ fn drive_first<'a, N: Named, R: Wait + Clock>(
     memory
 }
 
-/// Drives the engine's seat to the end of the run, and then the others'; or stops the run first. Whether memory ran out, and how
-/// the host closes; None where it isn't opened, doesn't publish that it is over, or lost a wake.
+/// Drives the engine's seat to the end of the run, then the others; or stops the run first. Returns whether an allocation failed, and how the host
+/// closed. Returns None if the host isn't opened, doesn't publish the end, or lost a wake.
 fn driven_by<N: Named, R: Wait + Clock>(
     rt: &R,
     alloc: Global,
@@ -69,7 +69,7 @@ fn driven_by<N: Named, R: Wait + Clock>(
     }
 }
 
-/// How many events there are, which, and the report, where the seats of one engine, server and worker are driven.
+/// Drives the seats of one engine, one server and one worker. Returns how many events there are, the events, and the report.
 pub fn drives_text<R: Wait + Clock>(
     rt: &R,
     alloc: Global,

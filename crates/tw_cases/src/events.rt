@@ -1,11 +1,11 @@
-//! Events as a line tells them.
+//! The events of a line.
 
 use crate::complaint::Complaint;
 use std::alloc::Global;
 use tw_report::event_of;
 use tw_types::{Actor, Event};
 
-/// The events of a text such as `take e0, local e0 1, call e0`.
+/// Reads the events of a text such as `take e0, local e0 1, call e0`.
 pub fn read_events(alloc: Global, text: &str) -> Result<Vec<Event>, Complaint> {
     let mut events = Vec::new(alloc);
     if text.is_empty() {
@@ -17,7 +17,7 @@ pub fn read_events(alloc: Global, text: &str) -> Result<Vec<Event>, Complaint> {
     Ok(events)
 }
 
-/// An event as histories tell it, and besides one of any number of steps.
+/// Reads an event as a trace has it, or a local one with any number of steps.
 fn read_event(text: &str) -> Result<Event, Complaint> {
     match text.strip_prefix("local ") {
         Some(rest) => {
@@ -28,7 +28,7 @@ fn read_event(text: &str) -> Result<Event, Complaint> {
     }
 }
 
-/// An actor such as `e0`, `s3` or `w15`.
+/// Reads an actor such as `e0`, `s3` or `w15`.
 pub fn read_actor(text: &str) -> Result<Actor, Complaint> {
     if let Some(number) = text.strip_prefix('e') {
         return Ok(Actor::Engine(number.parse::<u8>()?));

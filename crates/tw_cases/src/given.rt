@@ -1,4 +1,4 @@
-//! What the words and bytes of a case give to its runs.
+//! The runs of a case, made from its words and bytes.
 
 use crate::complaint::Complaint;
 use crate::layouts::read_layout;
@@ -9,7 +9,7 @@ use std::alloc::Global;
 use tw_types::{Input, Layout};
 use tw_verify::{Verified, verify};
 
-/// What a run is given: the second inputs are another one's, beside it.
+/// The inputs, the layout and the limit of a run. `others` are the inputs of a second run.
 #[derive(Drop)]
 pub struct Given {
     pub inputs: Vec<Input>,
@@ -19,7 +19,7 @@ pub struct Given {
     pub order: Order,
 }
 
-/// A layout, and where they stand ` reversed` or ` shuffled`, ` limit N`, ` with INPUTS` and ` and INPUTS`.
+/// Reads a layout, then ` reversed` or ` shuffled`, ` limit N`, ` with INPUTS` and ` and INPUTS`, if they are there.
 pub fn read_given(alloc: Global, words: &str) -> Result<Given, Complaint> {
     let (words, inputs) = words.split_once(" with ").unwrap_or((words, ""));
     let (inputs, others) = inputs.split_once(" and ").unwrap_or((inputs, inputs));
@@ -38,7 +38,7 @@ pub fn read_given(alloc: Global, words: &str) -> Result<Given, Complaint> {
     })
 }
 
-/// The program that bytes spell, where it is accepted.
+/// Decodes and verifies a program.
 pub fn read_verified(alloc: Global, bytes: &[u8]) -> Result<Verified, Complaint> {
     match verify(alloc, read_program(alloc, bytes)?) {
         Ok(verified) => Ok(verified),

@@ -1,24 +1,24 @@
-//! Memory that is kept from others.
+//! Memory that is withheld from other code.
 
 use std::alloc::{AllocError, Global};
 
-/// More pieces than a process's addresses have of the largest size that is given.
+/// More pieces of the largest size than a process has addresses for.
 const MOST: usize = 200_000;
 
-/// `malloc` keeps freed pieces of up to this size apart by their sizes, and gives each to a request of its own size alone.
+/// `malloc` keeps freed pieces of up to this size in lists by size, and reuses each only for a request of its own size.
 const KEPT_SIZES: usize = 1040;
 
-/// Pieces of memory that are held and never touched, so that they take addresses alone. While all are held no more memory is given, and no
+/// Allocated pieces of memory that are never touched, so that they take only addresses. While all are held, an allocation fails, and so does a new
 /// thread, since it needs a stack.
 #[derive(Drop)]
 pub struct Hoard {
     pieces: Vec<Vec<u8>>,
-    /// How many of them are held all the time.
+    /// How many of the pieces are always held.
     large: usize,
 }
 
 impl Hoard {
-    /// All that can be had in large pieces.
+    /// Allocates as many large pieces as possible.
     pub fn new(alloc: Global) -> Result<Hoard, AllocError> {
         let mut hoard = Hoard {
             pieces: Vec::with_capacity(alloc, MOST)?,
@@ -29,7 +29,7 @@ impl Hoard {
         Ok(hoard)
     }
 
-    /// Takes pieces of these sizes, the largest first, until none is given.
+    /// Allocates pieces of these sizes, the largest first, until an allocation fails.
     pub fn take(&mut self, alloc: Global, largest: usize, least: usize) {
         let mut size = largest;
         for _ in 0..MOST {
@@ -48,14 +48,14 @@ impl Hoard {
         }
     }
 
-    /// Takes all but a piece of so many bytes. False where there aren't so many.
+    /// Allocates all memory except a piece of `bytes` bytes. Returns false if there isn't such a piece.
     pub fn leave(&mut self, alloc: Global, bytes: usize) -> bool {
         let left: Result<Vec<u8>, AllocError> = Vec::with_capacity(alloc, bytes);
         self.take(alloc, 1 << 30, 16);
         left.is_ok()
     }
 
-    /// Gives back all but the large pieces.
+    /// Frees all pieces except the large ones.
     pub fn relieve(&mut self) {
         self.pieces.truncate(self.large);
     }

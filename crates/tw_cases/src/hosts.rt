@@ -1,4 +1,4 @@
-//! Cases of pools and hosts that one thread turns, side by side.
+//! Cases of pools and hosts that one thread runs, step by step.
 
 ghost use Rattle.std.specs.Prelude.{◌≡◌};
 ghost use Rattle.tw_host.specs.Seats.{actor_count};
@@ -18,7 +18,7 @@ use tw_pool::{Events, Final, History, Pool};
 use tw_types::{Actor, Event, Input, Layout};
 use tw_verify::Verified;
 
-/// A run that is over: what was said of its turns, and what is left.
+/// A run that is over: the results of its steps, its events, and its end.
 #[derive(Drop)]
 pub struct Ran {
     pub talk: Talk,
@@ -26,7 +26,7 @@ pub struct Ran {
     pub left: Final,
 }
 
-/// Two pools of one program, with the inputs and with the others.
+/// Opens two pools of one program, with the inputs and with the others.
 fn open_pools<'a, N: Named>(
     alloc: Global,
     verified: &'a Verified,
@@ -69,7 +69,7 @@ fn run_pool<'a, N: Named, R: Wait>(
     })
 }
 
-/// A host of a run with these inputs.
+/// Opens a host with these inputs.
 fn open_host<'a, M: Named, N: Named>(
     alloc: Global,
     blank: Blank,
@@ -88,7 +88,7 @@ fn open_host<'a, M: Named, N: Named>(
     }
 }
 
-/// Two hosts of one program, with the inputs and with the others.
+/// Opens two hosts of one program, with the inputs and with the others.
 fn open_hosts<'a, N: Named, M: Named>(
     alloc: Global,
     blank: Blank,
@@ -114,7 +114,7 @@ fn open_hosts<'a, N: Named, M: Named>(
     }
 }
 
-/// What is told of a host, with what each seat was told.
+/// Runs a host, and returns its output and the events that were reported to each seat.
 fn run_host<'a, N: Named, M: Named, R: Wait>(
     rt: &R,
     alloc: Global,
@@ -139,14 +139,14 @@ fn run_host<'a, N: Named, M: Named, R: Wait>(
     Ok(text)
 }
 
-/// Adds how many wakes got lost, if there are such.
+/// Adds how many wakes were lost, if any.
 fn put_late(text: &mut Text, late: u64) {
     if late != 0 {
         text.number("late wakes ", late);
     }
 }
 
-/// Adds how a host closed, and behind it what each seat was told.
+/// Adds how a host closed, and then the events that were reported to each seat.
 fn put_closed(text: &mut Text, closed: &Closed) {
     match closed {
         Closed::Ended {
@@ -159,11 +159,11 @@ fn put_closed(text: &mut Text, closed: &Closed) {
                 put_told(text, told);
             }
         }
-        Closed::Differs { .. } => text.put("a seat was told something else"),
+        Closed::Differs { .. } => text.put("a seat has other events"),
     }
 }
 
-/// Adds why a run was over, its report, and its events.
+/// Adds why a run is over, its report, and its events.
 fn put_left(text: &mut Text, left: &Final, history: &History) {
     if let Some(closing) = left.closing() {
         let (said, number) = over(closing);
@@ -175,7 +175,7 @@ fn put_left(text: &mut Text, left: &Final, history: &History) {
     put_events(text, history, None);
 }
 
-/// Adds what a seat was told.
+/// Adds the events that were reported to a seat.
 fn put_told(text: &mut Text, told: &Events) {
     text.put("a seat\n");
     for index in 0..told.len() {
@@ -183,7 +183,7 @@ fn put_told(text: &mut Text, told: &Events) {
     }
 }
 
-/// Adds the events of a history, or of one actor in it.
+/// Adds the events of a run, or only those of one actor.
 pub fn put_events(text: &mut Text, history: &History, actor: Option<Actor>) {
     for index in 0..history.len() {
         let event = history.event(index);
@@ -193,7 +193,7 @@ pub fn put_events(text: &mut Text, history: &History, actor: Option<Actor>) {
     }
 }
 
-/// Who made an event.
+/// Returns the actor that made an event.
 fn maker(event: Event) -> Actor {
     match event {
         Event::Take(actor) | Event::Local(actor, _) | Event::Call(actor) | Event::End(actor) => {
@@ -204,7 +204,7 @@ fn maker(event: Event) -> Actor {
     }
 }
 
-/// What is to be told of a host where a pool was turned like it: the seats are told each actor's events, in the order of the actors.
+/// Returns the expected output of a host, from a pool with the same steps: each seat has its actor's events, in the order of the actors.
 fn wanted(alloc: Global, pool: &Ran, layout: Layout) -> Text {
     let mut text = Text::new(alloc);
     text.add(&pool.talk.text);
@@ -216,7 +216,7 @@ fn wanted(alloc: Global, pool: &Ran, layout: Layout) -> Text {
     text
 }
 
-/// What is told of a host.
+/// Returns the output of a host.
 fn host_text<R: Wait>(
     rt: &R,
     alloc: Global,
@@ -229,7 +229,7 @@ fn host_text<R: Wait>(
     run_host::<Brand, Brand, R>(rt, alloc, blank, second, verified, given, course)
 }
 
-/// Makes the events of a history on the reference machine.
+/// Replays the events of a run on the reference machine. Returns an error if it doesn't make them all.
 pub fn steps_history(
     alloc: Global,
     bytes: &[u8],
@@ -243,7 +243,7 @@ pub fn steps_history(
     steps_all(alloc, bytes, given, events.as_slice())
 }
 
-/// Whether a pool was turned to its end, the host said and left the same, and the reference machine makes all events.
+/// Checks that a pool completed its steps, that the host has the same output, and that the reference machine makes all events.
 fn agree(
     alloc: Global,
     bytes: &[u8],
@@ -260,7 +260,7 @@ fn agree(
     steps_history(alloc, bytes, given, &pool.history)
 }
 
-/// What a pool said and left, where a host that is turned alike said and left the same, and the reference machine makes all its events.
+/// Runs a course on a pool and on a host. Returns the pool's run if both agree, and the reference machine makes all events.
 pub fn run_both<R: Wait>(
     rt: &R,
     alloc: Global,
@@ -277,7 +277,7 @@ pub fn run_both<R: Wait>(
     }
 }
 
-/// What a script's turns say, with the events that they make, and at the end why the run was over.
+/// Returns the results of a script's steps, each with its events.
 pub fn turns_text<R: Wait>(
     rt: &R,
     alloc: Global,
@@ -290,7 +290,7 @@ pub fn turns_text<R: Wait>(
     ran.talk.text.into_line()
 }
 
-/// How many events a run in rounds has, and its report.
+/// Returns how many events a run in rounds has, and its report.
 pub fn rounds_text<R: Wait>(
     rt: &R,
     alloc: Global,

@@ -30,7 +30,7 @@ use std::thread::Threads;
 use std::time::Clock;
 use tw_verify::Verified;
 
-/// What a case comes to: the first field is its kind, with words that belong to it; the others are what it is given.
+/// Runs a case, and returns its output. The first field has the kind and its words, the others the input.
 pub fn outcome<H: AllocGlobal + Files + Threads + Wait + Clock + Sync>(
     rt: &H,
     book: &Book,
@@ -58,7 +58,7 @@ pub fn outcome<H: AllocGlobal + Files + Threads + Wait + Clock + Sync>(
     }
 }
 
-/// The kinds that are given the words and the input of a session, or of several.
+/// Runs a kind of case with the arguments and the input of a session, or of several.
 fn session_kind<H: AllocGlobal + Threads + Wait + Clock + Sync>(
     rt: &H,
     book: &Book,
@@ -79,7 +79,7 @@ fn session_kind<H: AllocGlobal + Threads + Wait + Clock + Sync>(
     }
 }
 
-/// The kinds that are given bytes, and events or turns behind them.
+/// Runs a kind of case with bytes, and then events or steps.
 fn program_kind<H: AllocGlobal + Threads + Wait + Clock + Sync>(
     rt: &H,
     kind: &str,
@@ -104,7 +104,7 @@ fn program_kind<H: AllocGlobal + Threads + Wait + Clock + Sync>(
     }
 }
 
-/// The kinds that run a program, which is verified here.
+/// Runs a kind of case with a program, which is verified here.
 fn run_kind<H: AllocGlobal + Threads + Wait + Clock + Sync>(
     rt: &H,
     kind: &str,
@@ -139,7 +139,7 @@ fn run_text<H: AllocGlobal + Threads + Wait + Clock + Sync>(
     }
 }
 
-/// The kinds that ask something of a program as it stands.
+/// Runs a kind of case that doesn't run its program.
 fn still_kind(
     alloc: Global,
     kind: &str,

@@ -1,11 +1,11 @@
-//! Layouts as a line tells them.
+//! The layouts of a line.
 
 use crate::complaint::Complaint;
 use crate::text::Text;
 use std::alloc::Global;
 use tw_types::Layout;
 
-/// The layout of a text such as `1 1 4`; without words two of each kind.
+/// Reads a layout such as `1 1 4`. An empty text is two of each kind.
 pub fn read_layout(text: &str) -> Result<Layout, Complaint> {
     if text.is_empty() {
         return layout_of((2, 2, 2));
@@ -13,7 +13,7 @@ pub fn read_layout(text: &str) -> Result<Layout, Complaint> {
     layout_of(read_numbers(text)?)
 }
 
-/// The layout of these numbers of engines, servers and workers.
+/// Makes a layout of these numbers of engines, servers and workers.
 pub fn layout_of((engines, servers, workers): (u8, u8, u8)) -> Result<Layout, Complaint> {
     match Layout::new(engines, servers, workers) {
         Ok(layout) => Ok(layout),
@@ -35,7 +35,7 @@ fn read_numbers(text: &str) -> Result<(u8, u8, u8), Complaint> {
     ))
 }
 
-/// What a layout of three numbers has, or why there is none.
+/// Returns the layout of three numbers, or why there is none.
 pub fn layout_text(alloc: Global, words: &str) -> Result<String, Complaint> {
     let (engines, servers, workers) = read_numbers(words)?;
     let mut text = Text::new(alloc);

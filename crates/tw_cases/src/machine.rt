@@ -1,4 +1,4 @@
-//! Cases of the plain machine.
+//! Cases of the reference machine.
 
 ghost use Rattle.std.specs.Prelude.{IfOk};
 ghost use Rattle.tw_code.specs.machine.Bounds.{AreBelow, opening_bound};
@@ -16,7 +16,7 @@ use tw_machine::{Plain, Stopped};
 use tw_session::input_of;
 use tw_types::{Actor, Event, Input};
 
-/// The machine of a program, opened as the words of a case say: a layout, and behind `with` the inputs.
+/// Opens the machine of a program with the words of a case: a layout, and inputs after `with`.
 fn opened(alloc: Global, words: &str, bytes: &[u8]) -> Result<Plain, Complaint>
     ensures { IfOk result (λ plain. AreBelow opening_bound plain.state) }
 {
@@ -36,7 +36,7 @@ fn run(alloc: Global, words: &str, bytes: &[u8], events: &str) -> Result<Course,
     played(alloc, plain, events.as_slice())
 }
 
-/// What the last event came to, behind each earlier one that didn't go.
+/// Returns the result of the last event, and before it each earlier event that failed.
 pub fn machine_text(
     alloc: Global,
     words: &str,
@@ -55,7 +55,7 @@ pub fn machine_text(
     }
 }
 
-/// Adds those of the first events that didn't go.
+/// Adds those of the first events that failed.
 fn put_refused(text: &mut Text, answers: &[Result<(), Stopped>]) {
     let mut number = 0_u64;
     for answer in answers {
@@ -80,7 +80,7 @@ fn put_answer(text: &mut Text, answer: Result<(), Stopped>) {
     }
 }
 
-/// The events that didn't go, and the state that is left.
+/// Returns the events that failed, and the final state.
 pub fn state_text(
     alloc: Global,
     words: &str,
@@ -94,7 +94,7 @@ pub fn state_text(
     text.into_line()
 }
 
-/// How many local instructions go from where engine 0 stands, of at most so many.
+/// Returns how many local instructions engine 0 can execute after these events, at most `most`.
 pub fn steps_text(
     alloc: Global,
     most: &str,
@@ -114,7 +114,7 @@ fn local_steps(alloc: Global, plain: &Plain, most: u64) -> Result<u64, Complaint
     }
 }
 
-/// `opened` and the layout, or the refusal as it is debugged, which is as it is displayed. The program comes back in both cases.
+/// Returns `opened` and the layout, or the error, whose Debug and Display forms are the same. The program is returned in both cases.
 pub fn open_text(alloc: Global, inputs: &str, bytes: &[u8]) -> Result<String, Complaint> {
     let layout = layout_of((1, 1, 1))?;
     let inputs = read_inputs(alloc, inputs)?;
@@ -133,7 +133,7 @@ pub fn open_text(alloc: Global, inputs: &str, bytes: &[u8]) -> Result<String, Co
     }
 }
 
-/// Makes all events on the machine of a program.
+/// Replays all events on the machine of a program.
 pub fn steps_all(
     alloc: Global,
     bytes: &[u8],
@@ -153,7 +153,7 @@ pub fn steps_all(
     }
 }
 
-/// Inputs by their words, as `tw run` takes them.
+/// Reads inputs as `tw run` does.
 pub fn read_inputs(alloc: Global, text: &str) -> Result<Vec<Input>, Complaint> {
     let mut inputs = Vec::new(alloc);
     for word in text.split_whitespace() {

@@ -1,6 +1,6 @@
-//! Plays the cases of its input, one a line: tells those that come to something else than is wanted, and how many do not.
+//! Runs the cases of its input, one on each line. Prints each case whose output differs from the expected one, and how many passed.
 //!
-//! `README.md` says how a case is written, and `kinds` has the kinds of cases.
+//! `README.md` has the form of a case, and `kinds` has the kinds of cases.
 #![tactic(auto)]
 
 mod book;

@@ -1,4 +1,4 @@
-//! Cases of texts with names.
+//! Cases of symbolic assembly.
 
 use crate::complaint::Complaint;
 use crate::words::unescaped;
@@ -9,7 +9,7 @@ use tw_asm::assemble;
 use tw_binary::encode;
 use tw_symbols::expanded_text;
 
-/// The assembly text for which a text stands, with a slash for each line end; or its first refusal, or that it stands for itself.
+/// Returns the expanded text, with a slash for each line end; or `itself` if it has no names, or its first error.
 pub fn names_text(alloc: Global, text: &str) -> Result<String, Complaint> {
     let bytes = unescaped(alloc, text)?;
     let Ok(text) = String::from_utf8(bytes) else {
@@ -34,7 +34,7 @@ fn one_line(alloc: Global, plain: &str) -> Result<String, Complaint> {
     Ok(line.as_str().trim().to_string(alloc)?)
 }
 
-/// Whether the programs of a file with names and of one without are the same bytes.
+/// Returns whether a file of symbolic assembly and one of plain assembly have the same program.
 pub fn alike_text<R: AllocGlobal + Files>(rt: &R, files: &str) -> Result<String, Complaint> {
     let Some((named, plain)) = files.split_once(' ') else {
         return Err(Complaint::Names);

@@ -1,4 +1,4 @@
-//! Cases of the lowest crates, which a name tells: types, rights, laws, and the texts of errors that no session shows.
+//! Cases of the lowest crates, by name: types, rights, theorems, and the texts of errors that no session shows.
 
 use crate::complaint::Complaint;
 use crate::given::read_verified;
@@ -10,7 +10,7 @@ use tw_rights::{Arg, Bundle, Held, ReadRight, RightFile, WriteRight};
 use tw_types::{Actor, DataType, DatumId, Scalar, Value, counts_kept};
 use tw_verify::{Verified, no_trap};
 
-/// Three containers round an int: their number, whether the int is found again, and whether a fourth fits.
+/// Makes three containers around an int. Returns the depth, whether the int is found inside, and whether a fourth container is possible.
 fn three_containers() -> Option<(u8, bool, bool)> {
     let three = DataType::int().cont()?.cont()?.cont()?;
     let inside = three.element()?.element()?.element()?;
@@ -18,8 +18,8 @@ fn three_containers() -> Option<(u8, bool, bool)> {
     Some((three.depth(), is_int, three.cont().is_some()))
 }
 
-/// Containers of both kinds round a text: whether each has the subscripts that it was made with, the outermost first, and whether a
-/// fourth fits.
+/// Makes containers of both kinds around a text. Returns whether each has the subscripts that it was made with, the outermost first, and whether a
+/// fourth container is possible.
 fn containers_of_both_kinds() -> Option<(bool, bool)> {
     let three = DataType::text().tcont()?.cont()?.tcont()?;
     let two = three.element()?;
@@ -67,7 +67,7 @@ fn read(id: u64) -> ReadRight {
     ReadRight::of(DatumId::new(id), 0)
 }
 
-/// The id of what was taken, and 100 more where it may be written; 0 where nothing was.
+/// Returns the id of a right that was taken, plus 100 if it is a write right; 0 if there was none.
 fn spent(held: Option<Held>) -> u64 {
     match held {
         Some(Held::Read(right)) => right.spend().number(),
@@ -76,7 +76,7 @@ fn spent(held: Option<Held>) -> u64 {
     }
 }
 
-/// What is peeked at and taken of a file with two rights, and which places are empty.
+/// Adds what is peeked at and taken in a file with two rights, and which places are empty.
 fn put_file(text: &mut Text) {
     let mut file = RightFile::new();
     file.place(0, Held::Read(read(4)));
@@ -94,7 +94,7 @@ fn put_file(text: &mut Text) {
     file.shut();
 }
 
-/// A bundle of read rights on the data of eight ids from 0 on.
+/// Makes a bundle of eight read rights, on data with ids from 0.
 fn eight(alloc: Global) -> Result<Bundle, AllocError> {
     let mut args = Vec::with_capacity(alloc, Bundle::MAX_LEN)?;
     for id in 0..Bundle::MAX_LEN {
@@ -103,7 +103,7 @@ fn eight(alloc: Global) -> Result<Bundle, AllocError> {
     Ok(Bundle::of(args))
 }
 
-/// How many arguments eight are, the id of the third, and whether there is a ninth.
+/// Adds the number of arguments in a bundle of eight, the id of the third, and whether there is a ninth.
 fn put_eight(text: &mut Text, alloc: Global) {
     let Ok(bundle) = eight(alloc) else {
         return text.lose();
@@ -116,7 +116,7 @@ fn put_eight(text: &mut Text, alloc: Global) {
     bundle.shut();
 }
 
-/// A number, or the id of a right, of what was popped; 99 where nothing was.
+/// Returns the number, or the id of the right, that was popped; 99 if there was none.
 fn popped(arg: Option<Arg>) -> u64 {
     match arg {
         Some(Arg::Val(Value::Int(number))) => u64::try_from(number).unwrap_or(98),
@@ -127,7 +127,7 @@ fn popped(arg: Option<Arg>) -> u64 {
     }
 }
 
-/// A bundle of 7 and a read right on datum 3.
+/// Makes a bundle of 7 and a read right on datum 3.
 fn two(alloc: Global) -> Result<Bundle, AllocError> {
     let mut args = Vec::with_capacity(alloc, 2)?;
     args.push_reserved(Arg::Val(Value::Int(7)));
@@ -135,7 +135,7 @@ fn two(alloc: Global) -> Result<Bundle, AllocError> {
     Ok(Bundle::of(args))
 }
 
-/// What is popped of two arguments in three times.
+/// Adds the results of three pops from a bundle of two.
 fn put_pops(text: &mut Text, alloc: Global) {
     let Ok(mut bundle) = two(alloc) else {
         return text.lose();
@@ -146,7 +146,7 @@ fn put_pops(text: &mut Text, alloc: Global) {
     bundle.shut();
 }
 
-/// The laws compute nothing. Adds how many procedures the program has.
+/// Calls the theorems, which compute nothing. Adds how many procedures the program has.
 fn put_laws(text: &mut Text, verified: Verified) {
     no_trap(&verified);
     counts_kept();
@@ -163,7 +163,7 @@ fn put_errors(text: &mut Text) {
     text.display(&NoMemory);
 }
 
-/// What is told of a part of the lowest crates.
+/// Returns the output of a named part of the lowest crates.
 pub fn part_text(alloc: Global, name: &str, bytes: &[u8]) -> Result<String, Complaint> {
     let mut text = Text::new(alloc);
     match name {

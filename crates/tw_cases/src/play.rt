@@ -1,4 +1,4 @@
-//! Events on the plain machine.
+//! Events on the reference machine.
 
 ghost use Rattle.std.specs.Prelude.{◌↔◌, ◌≤◌, length, IsTrue};
 ghost use Rattle.tw_code.specs.machine.Bounds.{AreBelow, opening_bound, size_of};
@@ -8,14 +8,14 @@ use std::alloc::Global;
 use tw_machine::{Plain, Stopped};
 use tw_types::Event;
 
-/// The machine after some events, and what each of them came to.
+/// The machine after some events, and the result of each.
 #[derive(Drop)]
 pub struct Course {
     pub plain: Plain,
     pub answers: Vec<Result<(), Stopped>>,
 }
 
-/// Whether an event does at most a thousand million instructions.
+/// Returns whether an event executes at most 1,000,000,000 instructions.
 fn is_short(event: Event) -> bool
     ensures { IsTrue result ↔ (size_of event ≤ 1000000000) }
 {
@@ -26,7 +26,7 @@ fn is_short(event: Event) -> bool
     }
 }
 
-/// Plays at most 10,000 events, those after one that didn't go too.
+/// Executes at most 10,000 events, also those after one that failed.
 pub fn played(alloc: Global, first: Plain, events: &[Event]) -> Result<Course, Complaint>
     requires { AreBelow opening_bound first.state }
 {

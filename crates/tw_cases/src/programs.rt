@@ -9,7 +9,7 @@ use tw_code::Program;
 use tw_types::{DataType, Scalar};
 use tw_verify::verify;
 
-/// The program that the bytes of a case spell.
+/// Decodes the program of a case.
 pub fn read_program(alloc: Global, bytes: &[u8]) -> Result<Program, Complaint> {
     match decode(alloc, bytes) {
         Ok(program) => Ok(program),
@@ -17,7 +17,7 @@ pub fn read_program(alloc: Global, bytes: &[u8]) -> Result<Program, Complaint> {
     }
 }
 
-/// The text, and more where the program isn't the one of these bytes.
+/// Returns the text, and a complaint if the program has another encoding than these bytes.
 pub fn with_bytes(
     alloc: Global,
     mut text: Text,
@@ -32,7 +32,7 @@ pub fn with_bytes(
     text.into_line()
 }
 
-/// `program`, or the fault as it is displayed.
+/// Returns `program`, or the fault's text.
 pub fn decode_text(alloc: Global, bytes: &[u8]) -> Result<String, Complaint> {
     let mut text = Text::new(alloc);
     match decode(alloc, bytes) {
@@ -49,7 +49,7 @@ pub fn decode_text(alloc: Global, bytes: &[u8]) -> Result<String, Complaint> {
     }
 }
 
-/// How many fronts of the bytes lack bytes at their end; or what the first other one comes to.
+/// Returns how many prefixes of the bytes lack bytes at their end; or the first prefix with another result.
 pub fn fronts_text(alloc: Global, bytes: &[u8]) -> Result<String, Complaint> {
     let mut text = Text::new(alloc);
     for length in 0..bytes.len() {
@@ -68,7 +68,7 @@ pub fn fronts_text(alloc: Global, bytes: &[u8]) -> Result<String, Complaint> {
     text.into_line()
 }
 
-/// `accepted`, or the refusal as it is displayed. The program comes back in both cases.
+/// Returns `accepted`, or the error's text. The program is returned in both cases.
 pub fn verify_text(alloc: Global, bytes: &[u8]) -> Result<String, Complaint> {
     let mut text = Text::new(alloc);
     match verify(alloc, read_program(alloc, bytes)?) {

@@ -1,4 +1,4 @@
-//! Cases of sessions and of runs in threads to which memory or threads are refused, by a hoard of all addresses but for a few.
+//! Cases of sessions and of threaded runs that are short of memory or threads: a hoard takes all addresses except a few.
 
 use crate::complaint::Complaint;
 use crate::given::Given;
@@ -15,7 +15,7 @@ use tw_host::Closed;
 use tw_verify::Verified;
 use tw_workers::{NoGate, run};
 
-/// A session, which writes into a room that takes no memory.
+/// Runs a session, which writes into a buffer without allocating.
 fn written<H: AllocGlobal + Threads + Wait + Clock + Sync>(
     rt: &H,
     words: &[String],
@@ -26,10 +26,10 @@ fn written<H: AllocGlobal + Threads + Wait + Clock + Sync>(
     (code, room)
 }
 
-/// How much further down the stack a session may go where memory is refused than where it is there.
+/// How much deeper the stack of a session may be if an allocation fails, in bytes.
 const DEEPER: usize = 65_536;
 
-/// The same from a place further down the stack. While all addresses are held the stack can't grow, so it grows here before.
+/// Like `written`, but deeper in the stack. The stack can't grow while all addresses are held, so it grows here before.
 fn written_below<H: AllocGlobal + Threads + Wait + Clock + Sync>(
     rt: &H,
     words: &[String],
@@ -42,8 +42,8 @@ fn written_below<H: AllocGlobal + Threads + Wait + Clock + Sync>(
     (code.wrapping_add(untouched), room)
 }
 
-/// With how few bytes a session says that memory ran out, in steps of 64, before it comes to this text with this status. Nothing where
-/// it comes to something else.
+/// Runs a session with more and more memory, in steps of 64 bytes, until it returns this status and this text. Returns how often it was out of memory
+/// before; None if it ever returned anything else.
 fn refused_before<H: AllocGlobal + Threads + Wait + Clock + Sync>(
     rt: &H,
     hoard: &mut Hoard,
@@ -69,7 +69,7 @@ fn refused_before<H: AllocGlobal + Threads + Wait + Clock + Sync>(
     None
 }
 
-/// What a session comes to where memory is there; and, with each few bytes more, either that or that memory ran out.
+/// Returns the output of a session with enough memory; and whether, with less, it has the same output or is out of memory.
 pub fn scarce_text<H: AllocGlobal + Threads + Wait + Clock + Sync>(
     rt: &H,
     words: &[String],
@@ -90,7 +90,7 @@ pub fn scarce_text<H: AllocGlobal + Threads + Wait + Clock + Sync>(
     text.into_line()
 }
 
-/// A run in threads, while no piece is left that a stack fits in; nothing where it isn't opened, or memory didn't run out.
+/// Runs a program in threads while no free piece of memory is large enough for a stack. Returns None if the run isn't opened, or isn't out of memory.
 fn run_without_stacks<H: AllocGlobal + Threads + Wait + Clock + Sync>(
     rt: &H,
     verified: &Verified,
@@ -110,7 +110,7 @@ fn run_without_stacks<H: AllocGlobal + Threads + Wait + Clock + Sync>(
     }
 }
 
-/// That the reference machine makes the events of a host that is closed.
+/// Checks that the reference machine makes the events of a closed host.
 fn stepped_text(
     alloc: Global,
     bytes: &[u8],
@@ -124,7 +124,7 @@ fn stepped_text(
     Ok("memory, and the reference machine makes the events".to_string(alloc)?)
 }
 
-/// Whether a run in threads is refused one, says so, and has events that the reference machine makes.
+/// Checks that a run that can't start a thread reports it, and that the reference machine makes its events.
 pub fn unthreaded_text<H: AllocGlobal + Threads + Wait + Clock + Sync>(
     rt: &H,
     bytes: &[u8],

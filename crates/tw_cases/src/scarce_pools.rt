@@ -1,4 +1,4 @@
-//! Cases of pools that one thread turns, to which memory is refused.
+//! Cases of pools that one thread runs and that are short of memory.
 
 ghost use Rattle.std.specs.Prelude.{◌≡◌};
 
@@ -16,17 +16,17 @@ use tw_pool::{OpenError, Pool};
 use tw_types::{Actor, Layout};
 use tw_verify::Verified;
 
-/// What is done where memory is refused: the same turn is made again, once there is memory; or the run is shut at once.
+/// The reaction to a failed allocation: the step is repeated with more memory, or the run is closed at once.
 #[derive(Clone, Copy, PartialEq, Eq)]
 enum AtRejection {
     Again,
     Shut,
 }
 
-/// How turns have ended.
+/// The result of an actor's steps.
 #[derive(Clone, Copy, PartialEq, Eq)]
 enum Came {
-    /// The opening was refused for memory.
+    /// The pool isn't opened, because an allocation failed.
     Unopened,
     Idle,
     Over,
@@ -34,7 +34,7 @@ enum Came {
     Astray,
 }
 
-/// Whether memory was refused so far, and what is done then.
+/// Whether an allocation failed so far, and what is done then.
 #[derive(Drop)]
 struct Lack<'h> {
     hoard: &'h mut Hoard,
@@ -42,7 +42,7 @@ struct Lack<'h> {
     is_met: bool,
 }
 
-/// The turns of an actor until it is idle or the run is over.
+/// Makes an actor's steps until it is idle or the run is over.
 fn turn_on<K: Drop, T: Table<K>, R: Wait>(
     rt: &R,
     alloc: Global,
@@ -105,7 +105,7 @@ fn turn_rounds<K: Drop, T: Table<K>, R: Wait>(
     Came::Astray
 }
 
-/// What a run with so few bytes comes to; its report is added.
+/// Runs a pool with `bytes` bytes of memory, and adds its report.
 fn run_with<'a, N: Named, R: Wait>(
     rt: &R,
     alloc: Global,
@@ -139,8 +139,8 @@ fn run_with<'a, N: Named, R: Wait>(
     }
 }
 
-/// Whether runs with each few bytes more come to this report, or are shut before and can be read; up to the first to which no memory is
-/// refused.
+/// Runs a pool with more and more memory, up to the first run in which no allocation fails. Returns whether each has this report, or is closed early
+/// and can be read.
 fn agree<R: Wait>(
     rt: &R,
     alloc: Global,
@@ -172,7 +172,7 @@ fn agree<R: Wait>(
     false
 }
 
-/// The report of a run in rounds to which hardly any memory is refused, where it comes to its end.
+/// Returns the report of a run in rounds with enough memory. The text is lost if the run doesn't end.
 fn whole_of<R: Wait>(
     rt: &R,
     alloc: Global,
@@ -193,8 +193,8 @@ fn whole_of<R: Wait>(
     whole
 }
 
-/// The report of a run in rounds; and whether runs with each few bytes more come to it, where a refused turn is made again, and where the
-/// run is shut there can be read.
+/// Returns the report of a run in rounds; and whether runs with less memory have the same report if failed steps are repeated, and can be read if
+/// they are closed.
 pub fn scarce_pool_text<R: Wait>(
     rt: &R,
     alloc: Global,

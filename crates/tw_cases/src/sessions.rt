@@ -14,7 +14,7 @@ use std::time::Clock;
 use tw_session::{InStream, OutStream, Status, complain, session};
 use tw_workers::NoGate;
 
-/// The status and the whole text of a session with these words and this input.
+/// Returns the status and the whole text of a session with these arguments and this input.
 pub fn tw_text<H: AllocGlobal + Threads + Wait + Clock + Sync>(
     rt: &H,
     words: &[String],
@@ -25,7 +25,7 @@ pub fn tw_text<H: AllocGlobal + Threads + Wait + Clock + Sync>(
     session_text(rt.alloc(), code, written, is_unread)
 }
 
-/// How a session ends. All sessions are called here, so that the contract of `session` is read once.
+/// Runs a session. All sessions are called here, so that the contract of `session` is read once.
 fn status_of<H, R: InStream, W: OutStream>(
     rt: &H,
     words: &[String],
@@ -38,7 +38,7 @@ where
     session(rt, &NoGate, words, reader, writer)
 }
 
-/// The status of a session.
+/// Runs a session, and returns its status.
 pub fn code_of<H, R: InStream, W: OutStream>(
     rt: &H,
     words: &[String],
@@ -51,7 +51,7 @@ where
     status_of(rt, words, reader, writer).code()
 }
 
-/// What a session without input says on standard error, or `nothing`.
+/// Returns the standard error of a session without input, or `nothing`.
 pub fn errors_text<H: AllocGlobal + Threads + Wait + Clock + Sync>(
     rt: &H,
     words: &str,
@@ -69,10 +69,10 @@ pub fn errors_text<H: AllocGlobal + Threads + Wait + Clock + Sync>(
     text.into_line()
 }
 
-/// Stands for a status where the library answers otherwise than the session.
+/// The status that is returned if the library's result differs from the session's.
 const OTHERWISE: u8 = 99;
 
-/// The status of a session, how many bytes it left unread, and what it wrote. Where the library answers otherwise, that status and no text.
+/// Runs a session. Returns its status, the number of unread bytes, and the text. If the library's result differs, returns `OTHERWISE` and no text.
 pub fn ended<H: AllocGlobal + Threads + Wait + Clock + Sync>(
     rt: &H,
     words: &[String],
@@ -90,7 +90,8 @@ pub fn ended<H: AllocGlobal + Threads + Wait + Clock + Sync>(
     }
 }
 
-/// The status and the text of a session, where the library says the same with no room, with too much by a byte, and with any between.
+/// Returns the status and the text of a session. The status is `OTHERWISE` if the library's result differs with any buffer size up to one byte more
+/// than the text.
 pub fn called_text<H: AllocGlobal + Threads + Wait + Clock + Sync>(
     rt: &H,
     words: &[String],
@@ -106,7 +107,7 @@ pub fn called_text<H: AllocGlobal + Threads + Wait + Clock + Sync>(
     }
 }
 
-/// The status of a session, and the last line of its text.
+/// Returns the status of a session, and the last line of its text.
 pub fn ends_text<H: AllocGlobal + Threads + Wait + Clock + Sync>(
     rt: &H,
     words: &[String],
@@ -121,7 +122,7 @@ pub fn ends_text<H: AllocGlobal + Threads + Wait + Clock + Sync>(
     Ok(format!(in rt.alloc(); "{code} .. {last}")?)
 }
 
-/// The status of a session without input, and which of these phrases its text lacks.
+/// Returns the status of a session without input, and which of these phrases its text lacks.
 pub fn phrases_text<H: AllocGlobal + Threads + Wait + Clock + Sync>(
     rt: &H,
     words: &str,
@@ -147,7 +148,7 @@ fn lacks_text(alloc: Global, code: u8, written: &str, phrases: &str) -> Result<S
     text.into_line()
 }
 
-/// The parts of an input, which ` then ` parts.
+/// Reads the pieces of an input, which are separated by ` then `.
 pub fn read_input(alloc: Global, book: &Book, text: &str) -> Result<Vec<u8>, Complaint> {
     let mut input = Vec::new(alloc);
     for part in text.split(" then ") {
@@ -156,7 +157,7 @@ pub fn read_input(alloc: Global, book: &Book, text: &str) -> Result<Vec<u8>, Com
     Ok(input)
 }
 
-/// Text as it stands, text so many times, or the digits of bytes, with a history behind them or without.
+/// Reads a text, a repeated text, or bytes as digits, which events may follow.
 fn read_part(alloc: Global, book: &Book, text: &str) -> Result<Vec<u8>, Complaint> {
     if let Some(bytes) = text.strip_prefix("hex ") {
         return match bytes.split_once(" events ") {
@@ -174,7 +175,7 @@ fn digits_of(alloc: Global, bytes: &[u8]) -> Result<Vec<u8>, Complaint> {
     Ok(hex::encode(alloc, bytes)?.into_bytes())
 }
 
-/// The digits of bytes, a line `events`, and lines that commas part.
+/// Returns the digits of bytes, a line `events`, and the lines, which commas separate.
 fn with_history(
     alloc: Global,
     book: &Book,
@@ -192,7 +193,7 @@ fn repeated(alloc: Global, times: usize, text: &str) -> Result<Vec<u8>, Complain
     Ok(text.as_slice().repeat(alloc, times)?)
 }
 
-/// How many cuts a text has, where a session answers each with a line of a known form; else the first that it doesn't.
+/// Returns how many shorter prefixes an input has, if a session answers each with a line of a known form; otherwise the first that it doesn't.
 pub fn cuts_text<H: AllocGlobal + Threads + Wait + Clock + Sync>(
     rt: &H,
     words: &[String],
@@ -215,7 +216,7 @@ pub fn cuts_text<H: AllocGlobal + Threads + Wait + Clock + Sync>(
     text.into_line()
 }
 
-/// Whether it tells the digits of bytes, or a text's fault and its line.
+/// Returns whether the text has the digits of bytes, or the fault of an assembly text and its line.
 fn is_known(told: &str) -> bool {
     if let Some(digits) = told.strip_prefix("0 ") {
         return digits.bytes().all(|byte| byte.is_ascii_hexdigit());
@@ -229,7 +230,7 @@ fn is_known(told: &str) -> bool {
     }
 }
 
-/// The status, whether the input was left unread, and the text, in one line.
+/// Returns the status, whether input was left unread, and the text, as one line.
 fn session_text(
     alloc: Global,
     code: u8,

@@ -1,4 +1,4 @@
-//! Cases of commands as a reader is shown them, each with what it prints.
+//! Cases of commands in documents, with their output.
 
 use crate::complaint::Complaint;
 use crate::sessions::ended;
@@ -10,7 +10,7 @@ use std::sync::Wait;
 use std::thread::Threads;
 use std::time::Clock;
 
-/// How many commands a file shows that print what stands below them; or the first that prints something else.
+/// Returns how many commands of a file print what is below them; or the first that prints something else.
 pub fn shown_text<H: AllocGlobal + Files + Threads + Wait + Clock + Sync>(
     rt: &H,
     file: &str,
@@ -31,7 +31,7 @@ pub fn shown_text<H: AllocGlobal + Files + Threads + Wait + Clock + Sync>(
     text.into_line()
 }
 
-/// What the last of some sessions prints, where each reads a file or what the one before wrote.
+/// Returns the output of the last session of a pipe. Each reads a file, or the output of the one before.
 fn printed<H: AllocGlobal + Files + Threads + Wait + Clock + Sync>(
     rt: &H,
     command: &str,
@@ -43,7 +43,7 @@ fn printed<H: AllocGlobal + Files + Threads + Wait + Clock + Sync>(
     String::from_utf8(written).map_err(|_| Complaint::WrittenBytes)
 }
 
-/// What a session writes that is given a file, where it names one, or else these bytes.
+/// Returns the output of a session that reads a file, if it names one, or these bytes.
 fn played<H: AllocGlobal + Files + Threads + Wait + Clock + Sync>(
     rt: &H,
     part: &str,

@@ -1,4 +1,4 @@
-//! The state of the plain machine as a text.
+//! The state of the reference machine as a text.
 
 use crate::programs::put_type;
 use crate::text::Text;
@@ -6,7 +6,7 @@ use crate::waiting::put_waiting;
 use tw_machine::{Datum, Frame, State};
 use tw_types::{Actor, DatumId, Ending, Value};
 
-/// Adds how the run has ended, the tasks that run, what waits, the outputs, and the data of the first 99 numbers, each as a line.
+/// Adds how the run ended, the running tasks, what waits, the outputs, and the data with ids 1 to 99, a line each.
 pub fn put_state(text: &mut Text, state: &State) {
     match state.ending() {
         Some(Ending::Quiet) => text.put("quiet\n"),
@@ -50,7 +50,7 @@ fn put_data(text: &mut Text, state: &State) {
     }
 }
 
-/// A datum as `d1 int 7 reads 1 writes 0 closed`.
+/// Adds a datum such as `d1 int 7 reads 1 writes 0 closed`.
 fn put_datum(text: &mut Text, number: u64, datum: &Datum) {
     text.number("d", number);
     text.put(" ");
@@ -65,7 +65,7 @@ fn put_datum(text: &mut Text, number: u64, datum: &Datum) {
     });
 }
 
-/// A value, or members by rising subscript, as ` members 2 at -3 d5 at 8 d4`.
+/// Adds a value, or the members by rising subscript, such as ` members 2 at -3 d5 at 8 d4`.
 fn put_content(text: &mut Text, datum: &Datum) {
     if datum.ty().depth() == 0 {
         match datum.value() {

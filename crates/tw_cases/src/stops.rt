@@ -11,7 +11,7 @@ use std::sync::Wait;
 use tw_pool::History;
 use tw_verify::Verified;
 
-/// Whether a history is a beginning of another one.
+/// Returns whether the events of a run are a prefix of another run's.
 fn is_beginning(history: &History, whole: &History) -> bool {
     let mut is_so = history.len() <= whole.len();
     for index in 0..history.len() {
@@ -20,7 +20,7 @@ fn is_beginning(history: &History, whole: &History) -> bool {
     is_so
 }
 
-/// Whether the events of a run that may have been stopped are a beginning of these, and all that was said behind the stop is why it was
+/// Returns whether the events of a run that may have been stopped are a prefix of the whole run's, and each result after the stop is why the run is
 /// over.
 fn is_stopped_well(ran: &Ran, whole: &History) -> bool {
     let closing = ran.left.closing().map(over);
@@ -33,7 +33,7 @@ fn is_stopped_well(ran: &Ran, whole: &History) -> bool {
     is_told && closing == Some((wanted, 0)) && is_beginning(&ran.history, whole)
 }
 
-/// How many events a run has that is stopped before the turn behind so many, and whether it was stopped before it was over.
+/// Stops a run after this many steps. Returns how many events it has, and whether it was stopped before its end.
 fn stopped_after<R: Wait>(
     rt: &R,
     alloc: Global,
@@ -51,7 +51,8 @@ fn stopped_after<R: Wait>(
     }
 }
 
-/// How many events a run has, and how many beginnings of them there are where it is stopped after each number of turns.
+/// Stops runs after 0, 1, 2 .. steps, until one isn't stopped. Returns how many events the whole run has, and how many different prefixes of them the
+/// runs have.
 fn beginnings_text<R: Wait>(
     rt: &R,
     alloc: Global,
@@ -79,7 +80,7 @@ fn beginnings_text<R: Wait>(
     Err(Complaint::Endless)
 }
 
-/// The same, of the whole run's events.
+/// Like `beginnings_text`, but makes the whole run first.
 pub fn stops_text<R: Wait>(
     rt: &R,
     alloc: Global,

@@ -1,5 +1,4 @@
-//! Cases of sessions over readers that are slow, fail in mid-stream, never end or never fail, over writers that fail, and without
-//! words.
+//! Cases of sessions with readers that are slow, fail, never end or never fail, with writers that fail, and without arguments.
 
 use crate::complaint::Complaint;
 use crate::sessions::code_of;
@@ -12,7 +11,7 @@ use std::thread::Threads;
 use std::time::Clock;
 use tw_session::{InStream, OutStream, without_words};
 
-/// Gives at most one byte a call, and fails at the call behind so many. Where it is slow, every second call is interrupted.
+/// A reader that returns at most one byte per call, and fails after `calls` calls. If it is slow, every second call is interrupted.
 #[derive(Drop)]
 struct Source<'a> {
     rest: &'a [u8],
@@ -41,7 +40,7 @@ impl Read for Source<'_> {
     }
 }
 
-/// Gives digits without end, as many a call as there is room for, and counts them.
+/// A reader that returns digits without end, as many as fit, and counts them.
 #[derive(Drop)]
 struct Endless {
     given: usize,
@@ -55,7 +54,7 @@ impl Read for Endless {
     }
 }
 
-/// Takes three bytes a call and `room` bytes in all, and then fails, as a pipe does that is closed. A flush may fail.
+/// A writer that takes three bytes per call and `room` bytes in all, and then fails like a closed pipe. A flush may fail.
 #[derive(Drop)]
 struct Sink {
     taken: Vec<u8>,
@@ -85,7 +84,7 @@ impl Write for Sink {
     }
 }
 
-/// What is left of an input that is read without fail.
+/// An input that never fails, without what is read already.
 #[derive(Drop)]
 struct Held<'a> {
     rest: &'a [u8],
@@ -109,7 +108,7 @@ impl InStream for Held<'_> {
     }
 }
 
-/// Keeps the first bytes that are written to it, and never fails.
+/// A writer that keeps the first 256 bytes, and never fails.
 #[derive(Drop)]
 pub struct Room {
     bytes: [u8; 256],
@@ -126,7 +125,7 @@ impl Room {
         }
     }
 
-    /// What was written, up to the room's end.
+    /// Returns what was written, up to 256 bytes.
     pub fn written(&self) -> &[u8] {
         &self.bytes[..self.count.min(256)]
     }
@@ -151,14 +150,14 @@ impl OutStream for Room {
     }
 }
 
-/// Adds a status, and behind it what was written.
+/// Adds a status, and then what was written.
 pub fn put_told(text: &mut Text, code: u8, written: &[u8]) {
     text.number("", u64::from(code));
     text.put(if written.is_empty() { "\n" } else { " " });
     text.put_bytes(written);
 }
 
-/// What a session comes to over a source.
+/// Returns the output of a session that reads from a source.
 fn over_source<H: AllocGlobal + Threads + Wait + Clock + Sync>(
     rt: &H,
     words: &[String],
@@ -171,7 +170,7 @@ fn over_source<H: AllocGlobal + Threads + Wait + Clock + Sync>(
     text
 }
 
-/// What a session comes to of a reader that fails at whichever of its calls up to the input's end, and how often it is that.
+/// Runs sessions whose reader fails at each call before the end of the input. Returns their common output, and how many there are.
 fn failing<H: AllocGlobal + Threads + Wait + Clock + Sync>(
     rt: &H,
     words: &[String],
@@ -207,7 +206,7 @@ fn without_end<H: AllocGlobal + Threads + Wait + Clock + Sync>(rt: &H, words: &[
     text
 }
 
-/// The status of a session into a writer, how often it was called after it was full, and what it has taken.
+/// Runs a session. Returns its status, how often the writer was called after it was full, and what it took.
 fn into_sink<H: AllocGlobal + Threads + Wait + Clock + Sync>(
     rt: &H,
     words: &[String],
@@ -230,7 +229,7 @@ fn into_sink<H: AllocGlobal + Threads + Wait + Clock + Sync>(
     (code, calls_after, taken)
 }
 
-/// Of how many writers with room for a front of the text alone that front is written, with status 7 and one call behind it.
+/// Returns how many writers that are too small for the text have a full prefix of it, a session with status 7, and one call afterwards.
 fn full<H: AllocGlobal + Threads + Wait + Clock + Sync>(
     rt: &H,
     words: &[String],
@@ -249,7 +248,7 @@ fn full<H: AllocGlobal + Threads + Wait + Clock + Sync>(
     text
 }
 
-/// What is told of a session whose writer takes all, and hands it on or can't.
+/// Returns the output of a session whose writer takes everything, and succeeds or fails to flush.
 fn handed<H: AllocGlobal + Threads + Wait + Clock + Sync>(
     rt: &H,
     words: &[String],
@@ -262,7 +261,7 @@ fn handed<H: AllocGlobal + Threads + Wait + Clock + Sync>(
     text
 }
 
-/// A session over streams that never fail, how much it left, and whether what it wrote was handed on.
+/// Runs a session with streams that never fail. Returns its output, how much input is left, and whether the output was passed on.
 fn steady<H: AllocGlobal + Threads + Wait + Clock + Sync>(
     rt: &H,
     words: &[String],
@@ -290,7 +289,7 @@ fn unworded(alloc: Global, kind: ErrorKind) -> Text {
     text
 }
 
-/// What comes of a session with these words over such streams.
+/// Runs a session with these arguments and streams of this kind.
 fn streamed<H: AllocGlobal + Threads + Wait + Clock + Sync>(
     rt: &H,
     kind: &str,
@@ -320,7 +319,7 @@ fn streamed<H: AllocGlobal + Threads + Wait + Clock + Sync>(
     }
 }
 
-/// The same in one line.
+/// Like `streamed`, but returns one line.
 pub fn stream_text<H: AllocGlobal + Threads + Wait + Clock + Sync>(
     rt: &H,
     kind: &str,

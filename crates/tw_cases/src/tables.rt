@@ -1,4 +1,4 @@
-//! Pools and hosts that one thread turns, by one trait.
+//! Pools and hosts that one thread runs, with one trait for both.
 
 ghost use Rattle.std.specs.Prelude.{◌≡◌, ◌<◌, IfSome, length, vec_len};
 ghost use Rattle.tw_host.specs.Seats.{actor_count};
@@ -12,7 +12,7 @@ use tw_host::{Closed, Host, Named, Seat};
 use tw_pool::{Closing, Final, History, Pool, Turn};
 use tw_types::{Actor, Event};
 
-/// A Done of the program of a run.
+/// The result of a job of the program of a run.
 #[derive(Drop)]
 pub struct Kept<'a, N: Named> {
     done: Done<'a>,
@@ -20,7 +20,7 @@ pub struct Kept<'a, N: Named> {
     ghost of: { done.before.program ≡ N.run.program },
 }
 
-/// What a turn answers.
+/// The result of a scheduling step.
 #[derive(Clone, Copy, PartialEq, Eq)]
 pub enum Said {
     Quiet,
@@ -53,7 +53,7 @@ impl Said {
         }
     }
 
-    /// Whether the run is over.
+    /// Returns whether the run is over.
     pub fn is_over(self) -> bool {
         matches!(
             self,
@@ -61,18 +61,18 @@ impl Said {
         )
     }
 
-    /// Whether the actor goes on.
+    /// Returns whether the actor has more to do.
     pub fn goes_on(self) -> bool {
         matches!(self, Said::Run | Said::Ended | Said::Went)
     }
 }
 
-/// What a turn answers, with the number of the task or of the rules.
+/// The result of a step, with the number of its task, or of unmet rules.
 #[derive(Clone, Copy)]
 pub struct Answer {
     pub said: Said,
     pub number: u64,
-    /// Whether memory was refused to the job.
+    /// Whether an allocation failed in the job.
     pub is_short: bool,
 }
 
@@ -84,7 +84,7 @@ fn bare(said: Said, number: u64) -> Answer {
     }
 }
 
-/// The answer with a Done, which is kept.
+/// Returns the result of a step with a job's result, which is put into `kept`.
 fn with_done<'a, N: Named>(said: Said, done: Done<'a>, kept: &mut Option<Kept<'a, N>>) -> Answer
     requires { done.before.program ≡ N.run.program }
 {
@@ -101,7 +101,7 @@ fn with_done<'a, N: Named>(said: Said, done: Done<'a>, kept: &mut Option<Kept<'a
     }
 }
 
-/// Why a run is over.
+/// Returns why a run is over.
 pub fn over(closing: Closing) -> (Said, u64) {
     match closing {
         Closing::Quiet => (Said::Quiet, 0),
@@ -111,7 +111,7 @@ pub fn over(closing: Closing) -> (Said, u64) {
     }
 }
 
-/// What a turn answers, whose job is run. The Done of the job that it lends, or the Done that it gives back, is kept.
+/// Returns the result of a step, and runs its job. Puts the job's result, or a result that is returned, into `kept`.
 fn answer_of<'a, N: Named>(alloc: Global, turn: Turn<'a>, kept: &mut Option<Kept<'a, N>>) -> Answer
     requires { IsAnswerOf N.run.program turn }
 {
@@ -140,9 +140,9 @@ fn done_of<'a, N: Named>(kept: Option<Kept<'a, N>>) -> Option<Done<'a>>
     }
 }
 
-/// What one thread turns. A Done that is kept is handed in, and what comes back is kept in its place.
+/// A pool or a host, run by one thread. A step submits the result in `kept`, and puts its own there.
 pub trait Table<K> {
-    /// One turn of an actor, whose job is run; nothing where it is none of the run's, or its seat was told something else.
+    /// Makes one step of an actor, and runs its job. Returns None if it isn't an actor of the run, or its seat got a wrong event.
     fn turn<R: Wait>(
         &mut self,
         rt: &R,
@@ -153,14 +153,14 @@ pub trait Table<K> {
 
     fn stop<R: Wait>(&mut self, rt: &R);
 
-    /// The event that an actor is told behind so many.
+    /// Returns the event of this index among those that are reported to an actor.
     fn told(&self, actor: Actor, index: usize) -> Option<Event>;
 
-    /// How many events an actor is told.
+    /// Returns how many events are reported to an actor.
     fn count(&self, actor: Actor) -> usize;
 }
 
-/// A pool: each actor is told the whole history.
+/// A pool. All events are reported to each actor.
 pub struct Pooled<'a, N: Named> {
     pool: Pool<'a>,
     run: PhantomData<N>,
@@ -217,7 +217,7 @@ impl<'a, N: Named> Table<Kept<'a, N>> for Pooled<'a, N> {
     }
 }
 
-/// In which order seats come back.
+/// The order in which seats are returned.
 #[derive(Clone, Copy, PartialEq, Eq)]
 pub enum Order {
     Kept,
@@ -257,7 +257,7 @@ impl<'a, M: Named, N: Named> Seated<'a, M, N> {
         }
     }
 
-    /// Brings the seats into another order.
+    /// Changes the order of the seats.
     pub fn reorder(&mut self, order: Order) {
         if order != Order::Kept {
             self.seats.reverse();
@@ -267,7 +267,7 @@ impl<'a, M: Named, N: Named> Seated<'a, M, N> {
         }
     }
 
-    /// Returns how many wakes got lost.
+    /// Returns how many wakes were lost.
     pub fn late_wakes<R: Wait>(&self, rt: &R) -> u64 {
         self.host.late_wakes(rt)
     }

@@ -1,4 +1,4 @@
-//! What is told of a case, piece by piece.
+//! The output of a case, piece by piece.
 
 use crate::complaint::Complaint;
 use std::alloc::Global;
@@ -8,7 +8,7 @@ use tw_report::{put_event_line, put_numbered};
 use tw_run_output::report;
 use tw_types::Event;
 
-/// A text that grows. Where memory runs out it is lost, which is asked once, at its end: so whoever adds to it has no case for that.
+/// A growing text. If an allocation fails it is lost, which is checked once, at its end, so that callers need no case for it.
 #[derive(Drop)]
 pub struct Text {
     bytes: Vec<u8>,
@@ -47,18 +47,18 @@ impl Text {
         }
     }
 
-    /// Adds words and a number behind them.
+    /// Adds words, followed by a number.
     pub fn number(&mut self, words: &str, number: u64) {
         self.is_whole &= put_numbered(self.alloc, &mut self.bytes, words, number as usize).is_ok();
     }
 
-    /// Adds words and whether something is so.
+    /// Adds words, followed by `true` or `false`.
     pub fn told(&mut self, words: &str, is_so: bool) {
         self.put(words);
         self.put(if is_so { "true" } else { "false" });
     }
 
-    /// Adds that the library says something else, unless it says the same.
+    /// Adds a complaint if the library's result differs.
     pub fn put_other(&mut self, is_same: bool) {
         if !is_same {
             self.put(" but the library says something else");
@@ -83,28 +83,28 @@ impl Text {
         }
     }
 
-    /// Memory ran out elsewhere.
+    /// Loses the text, because an allocation failed elsewhere.
     pub fn lose(&mut self) {
         self.is_whole = false;
     }
 
-    /// What was added so far.
+    /// Returns the text so far.
     pub fn written(&self) -> &[u8] {
         self.bytes.as_slice()
     }
 
-    /// Whether it is this text.
+    /// Returns whether it equals the other text, and neither is lost.
     pub fn is(&self, other: &Text) -> bool {
         self.is_whole && other.is_whole && self.bytes.as_slice() == other.bytes.as_slice()
     }
 
-    /// Whether it begins and ends so.
+    /// Returns whether it begins and ends with these texts.
     pub fn stands_between(&self, first: &str, last: &str) -> bool {
         let bytes = self.bytes.as_slice();
         self.is_whole && bytes.starts_with(first.as_bytes()) && bytes.ends_with(last.as_bytes())
     }
 
-    /// The text with a slash for each line end but the last.
+    /// Returns the text with a slash for each line end except the last.
     pub fn into_line(self) -> Result<String, Complaint> {
         let Text {
             bytes,

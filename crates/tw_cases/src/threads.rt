@@ -1,4 +1,4 @@
-//! Cases of runs in threads.
+//! Cases of threaded runs.
 
 use crate::complaint::Complaint;
 use crate::given::Given;
@@ -17,21 +17,20 @@ use tw_workers::{Gate, run};
 
 const MOST_POLLS: u64 = 1_000_000;
 
-/// Stands round the jobs of a run: each actor's task is there from the one call to the other. It may hold the first job until another
-/// actor has been given one.
+/// A job observer: it keeps each actor's task from one call to the other. It may hold the first job until another actor gets one.
 #[derive(Drop)]
 struct Watch {
     holds: bool,
-    /// The task of each actor whose job is run, or 0.
+    /// The task of each actor whose job is running, or 0.
     tasks: Vec<AtomicU64>,
     before: AtomicU64,
     after: AtomicU64,
-    /// Whether a call came out of its order, or of another task, or the polls ran out.
+    /// Whether a call was out of order or for another task, or the polls ran out.
     is_broken: AtomicBool,
-    /// The place of the actor that was given a job first, and 1; 0 before there is one.
+    /// The place of the actor that got the first job, plus 1; 0 before there is one.
     first: AtomicU64,
     has_other: AtomicBool,
-    /// How many wakes of idle threads got lost.
+    /// How many wakes of idle threads were lost.
     late: AtomicU64,
 }
 
@@ -117,7 +116,7 @@ impl Gate for Watch {
     }
 }
 
-/// Adds what the gate saw.
+/// Adds what the job observer saw.
 fn put_seen(text: &mut Text, watch: &Watch) {
     text.number("before ", watch.before.load(Ordering::SeqCst));
     text.number(" after ", watch.after.load(Ordering::SeqCst));
@@ -134,7 +133,7 @@ fn put_seen(text: &mut Text, watch: &Watch) {
     text.put("\n");
 }
 
-/// Adds how many events there were, and which if that is asked, and the report.
+/// Adds how many events there are, the events if `is_traced`, and the report.
 pub fn put_end(text: &mut Text, closed: &Closed, is_traced: bool) {
     let Closed::Ended {
         history,
@@ -142,7 +141,7 @@ pub fn put_end(text: &mut Text, closed: &Closed, is_traced: bool) {
         ..
     } = closed
     else {
-        text.put("a seat was told something else");
+        text.put("a seat has other events");
         return;
     };
     text.number("events ", history.len() as u64);
@@ -153,7 +152,7 @@ pub fn put_end(text: &mut Text, closed: &Closed, is_traced: bool) {
     text.put_report(outcome);
 }
 
-/// What comes of a run in threads: how often the gate was called, how many events there were, and the report. The first job may be held
+/// Runs a program in threads. Returns how often the job observer was called, how many events there are, and the report. The first job may be held
 /// until another worker has one.
 pub fn threads_text<R: AllocGlobal + Threads + Wait + Clock + Sync>(
     rt: &R,

@@ -1,12 +1,12 @@
-//! What waits on the plain machine, as a text.
+//! Waiting tasks, rules and notices of the reference machine, as a text.
 
 use crate::state::put_value;
 use crate::text::Text;
 use tw_machine::{Arg, State};
 use tw_types::Stage;
 
-/// Adds the tasks that wait, as `t2 procedure 1 priority 0 any d2 7`, and the rules, as
-/// `r1 e0 procedure 1 priority 0 target 3 d2 unasked d1 free`, by their numbers, and the notices in their order, as `n2 r1 0`.
+/// Adds the waiting tasks, such as `t2 procedure 1 priority 0 any d2 7`, by number. Then adds the rules, such as `r1 e0 procedure 1 priority 0 target
+/// 3 d2 unasked d1 free`, by number, and the notices in their order, such as `n2 r1 0`.
 pub fn put_waiting(text: &mut Text, state: &State) {
     for (number, task) in state.tasks() {
         text.number("t", *number);

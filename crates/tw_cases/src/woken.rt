@@ -1,4 +1,4 @@
-//! Cases of runs in threads whose actors wait for one another.
+//! Cases of threaded runs whose actors wait for one another.
 
 ghost use Rattle.std.specs.Prelude.{◌≡◌, false};
 
@@ -10,19 +10,20 @@ use std::sync::Wait;
 use std::sync::atomic::{AtomicBool, AtomicU64, Ordering};
 use std::thread;
 use std::thread::Threads;
-use std::time::{Clock, Duration};
+use std::time::Clock;
 use tw_host::Closed;
 use tw_types::Actor;
 use tw_verify::Verified;
 use tw_workers::{Gate, Progress, run};
 
-/// How often a run is looked at, a millisecond apart, before it takes too long.
-const MOST_LOOKS: u64 = 10_000;
+/// How often a run is checked before it takes too long. Between two checks the thread yields, so this takes some three seconds where nothing else runs,
+/// and far longer on a busy machine, where the run's threads have to wait for a processor too.
+const MOST_LOOKS: u64 = 10_000_000;
 
 /// How often a program is run.
 const TIMES: u64 = 5;
 
-/// Looks at a run until it is over, and not at its jobs.
+/// A job observer that watches a run until it is over, and ignores its jobs.
 #[derive(Drop)]
 struct Onlooker {
     saw_end: AtomicBool,
@@ -37,7 +38,7 @@ impl Onlooker {
         }
     }
 
-    /// Adds what is wrong with a run. True where nothing is.
+    /// Adds the faults of a run. Returns whether there are none.
     fn put_faults(&self, text: &mut Text) -> bool {
         let saw_end = self.saw_end.load(Ordering::SeqCst);
         if !saw_end {
@@ -63,13 +64,13 @@ impl Gate for Onlooker {
 
     fn after_job<R: Wait>(&self, _rt: &R, _actor: Actor, _task: u64) {}
 
-    fn monitor<R: Wait + Clock, P: Progress>(&self, rt: &R, run: &P) {
+    fn monitor<R: Wait + Clock, P: Progress>(&self, _rt: &R, run: &P) {
         for _ in 0..MOST_LOOKS {
             if run.events().is_none() {
                 self.saw_end.store(true, Ordering::SeqCst);
                 return;
             }
-            thread::sleep(rt, Duration::from_millis(1));
+            thread::yield_now();
         }
     }
 
@@ -78,17 +79,17 @@ impl Gate for Onlooker {
     }
 }
 
-/// Adds the report of a host that is closed. True where its seats were told its events.
+/// Adds the report of a closed host. Returns whether its seats got its events.
 fn put_left(text: &mut Text, closed: &Closed) -> bool {
     let Closed::Ended { outcome, .. } = closed else {
-        text.put("a seat was told something else");
+        text.put("a seat has other events");
         return false;
     };
     text.put_report(outcome);
     true
 }
 
-/// Adds the report of one run, and before it what is wrong. True where nothing is.
+/// Adds the faults of one run, and its report. Returns whether there are no faults.
 fn put_run<R: Threads + Wait + Clock + Sync>(
     rt: &R,
     alloc: Global,
@@ -111,8 +112,8 @@ fn put_run<R: Threads + Wait + Clock + Sync>(
     }
 }
 
-/// Returns the report of a program that is run several times: each run has the same one, ends soon, and no wake is late. Else what one run comes to
-/// that isn't so.
+/// Returns the report of a program that is run several times, if all reports are the same, each run ends soon, and no wake is late. Otherwise returns
+/// the output of a run that differs.
 pub fn woken_text<R: AllocGlobal + Threads + Wait + Clock + Sync>(
     rt: &R,
     verified: &Verified,

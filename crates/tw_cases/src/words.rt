@@ -1,9 +1,9 @@
-//! Text as a line tells it, with escapes for what a line can't have.
+//! The text of a line, with escapes for bytes that a line can't have.
 
 use crate::complaint::Complaint;
 use std::alloc::Global;
 
-/// The bytes of a text in which `\t`, `\r`, `\n` and `\xHH` stand for bytes.
+/// Returns the bytes of a text, in which `\t`, `\r`, `\n` and `\xHH` are escapes.
 pub fn unescaped(alloc: Global, text: &str) -> Result<Vec<u8>, Complaint> {
     let mut bytes = Vec::new(alloc);
     let mut pieces = text.split('\\');
@@ -16,7 +16,7 @@ pub fn unescaped(alloc: Global, text: &str) -> Result<Vec<u8>, Complaint> {
     Ok(bytes)
 }
 
-/// Adds a piece that stands behind a backslash.
+/// Adds the bytes of a piece that follows a backslash.
 fn put_escaped(bytes: &mut Vec<u8>, piece: &str) -> Result<(), Complaint> {
     let (byte, rest) = escape(piece)?;
     bytes.push(byte)?;
@@ -24,7 +24,7 @@ fn put_escaped(bytes: &mut Vec<u8>, piece: &str) -> Result<(), Complaint> {
     Ok(())
 }
 
-/// The byte that an escape stands for, and what follows.
+/// Reads an escape. Returns its byte, and the rest.
 fn escape(piece: &str) -> Result<(u8, &str), Complaint> {
     if let Some(rest) = piece.strip_prefix('t') {
         return Ok((b'\t', rest));
@@ -48,7 +48,7 @@ fn hex_escape(piece: &str) -> Result<(u8, &str), Complaint> {
     Ok((u8::from_str_radix(digits, 16)?, rest))
 }
 
-/// The words of a command line. A pair of quotes stands for the empty word.
+/// Reads the arguments of a command line. A pair of quotes is the empty argument.
 pub fn read_words(alloc: Global, text: &str) -> Result<Vec<String>, Complaint> {
     let mut words = Vec::new(alloc);
     for word in text.split_whitespace() {
@@ -57,7 +57,7 @@ pub fn read_words(alloc: Global, text: &str) -> Result<Vec<String>, Complaint> {
     Ok(words)
 }
 
-/// The input word `texts:` with so many members, each a text of so many letters: `1000 x 4096` stands as `1000x4096`.
+/// Returns the input `texts:` with several members, each a text of many letters: `1000x4096` is for 1,000 members of 4,096 letters.
 fn texts_word(alloc: Global, sizes: &str) -> Result<String, Complaint> {
     let Some((members, letters)) = sizes.split_once('x') else {
         return Err(Complaint::Number);
