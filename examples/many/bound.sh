@@ -4,15 +4,15 @@
 #
 #   bound.sh TW PROGRAM [LIMIT]
 #
-# If the program has no bounds, or more than LIMIT events, the limit bounds the run: then no event does more instructions than the
-# greatest budget. The speeds are 50,000,000 instructions and 100,000 events a second; docs/PROOFS.md has 400 and 6 million for one
-# core of a common machine, but texts take longer, and a machine may have other work.
+# The limit bounds a program that has no bounds, or more than LIMIT events. Then no event does more instructions than the greatest
+# budget. The assumed speeds are 50,000,000 instructions and 100,000 events a second. One core of a common machine is many times as
+# fast, but texts take longer, and a machine may have other work.
 tw=$1 program=$2 limit=${3:-10000} text=''
 case $program in
     *.[tT][wW] | *.[tT][wW][nN]) text=--text ;;
 esac
-told=$("$tw" check $text --bounds <"$program") || { printf '%s\n' "$told" >&2; exit 1; }
-printf '%s\n' "$told" | awk -v limit="$limit" '
+answer=$("$tw" check $text --bounds <"$program") || { printf '%s\n' "$answer" >&2; exit 1; }
+printf '%s\n' "$answer" | awk -v limit="$limit" '
     $1 == "proc" && $5 > greatest { greatest = $5 }
     $1 == "bound" { bound[$2] = $3 }
     END {

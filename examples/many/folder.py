@@ -1,5 +1,5 @@
 # SPDX-License-Identifier: Apache-2.0
-"""What the scripts beside share: a folder's inputs (NAME.in, an input a line), and the table that table.sh prints of results."""
+"""Functions that the scripts here share: a folder's inputs (NAME.in, an input a line), and the table that table.sh prints of results."""
 
 import pathlib
 import sys

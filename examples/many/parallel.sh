@@ -15,14 +15,14 @@ shift 4
 mkdir -p "$results" && results=$(readlink -f "$results") || exit
 
 # The options before `--` are for parallel; each of those after it is quoted for the shell that parallel starts.
-count=$# behind='' options=''
+count=$# passed='' options=''
 while [ "$count" -gt 0 ]; do
     word=$1 count=$((count - 1))
     shift
-    if [ -n "$behind" ]; then
+    if [ -n "$passed" ]; then
         options="$options '$(printf %s "$word" | sed "s/'/'\\\\''/g")'"
     elif [ "$word" = -- ]; then
-        behind=yes
+        passed=yes
     else
         set -- "$@" "$word"
     fi

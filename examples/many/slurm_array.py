@@ -1,5 +1,5 @@
 # SPDX-License-Identifier: Apache-2.0
-"""Runs one job's share of a folder of inputs, and writes it to RESULTS in one step; the jobs' tables together are the whole one.
+"""Runs one job's share of a folder of inputs, and writes it to RESULTS in one step. The jobs' tables together are the whole one.
 
     sbatch --array=0-9 --wrap='python3 slurm_array.py PROGRAM INPUTS RESULTS'
     cat RESULTS/*.table | sort

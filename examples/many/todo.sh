@@ -11,7 +11,7 @@ text=''
 case $program in
     *.[tT][wW] | *.[tT][wW][nN]) text=--text && set -- --text "$@" ;;
 esac
-told=$("$tw" check $text <"$program") || { printf '%s\n' "$told" >&2; exit 1; }
+answer=$("$tw" check $text <"$program") || { printf '%s\n' "$answer" >&2; exit 1; }
 [ -n "$(find "$inputs" -maxdepth 1 -name '*.in' -print -quit)" ] || { echo "there is no file $inputs/NAME.in" >&2; exit 66; }
 key=$("$(dirname "$(readlink -f "$0")")/key.sh" "$tw" "$program" "$@") || exit
 echo "$key"
