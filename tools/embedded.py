@@ -4,6 +4,7 @@
 from __future__ import annotations
 
 import doctest
+import importlib
 import os
 import re
 import shlex
@@ -11,7 +12,8 @@ import subprocess
 import sys
 import time
 from collections.abc import Callable
-from functools import partial
+from functools import cache, partial
+from typing import Any
 
 root, room, *parts = sys.argv[1:]
 languages = [it for it in parts if it != "stack"]
@@ -36,31 +38,38 @@ def started(program: str, words: list[str], data: bytes = b"") -> Answer:
     return done.returncode, done.stdout
 
 
-def by_python(words: list[str], data: bytes) -> Answer:
-    """Returns what the Python module answers."""
-    import yuglemit
+@cache
+def module() -> Any:
+    """Returns the Python package."""
+    return importlib.import_module("yuglemit")
 
-    status, text = yuglemit.session(words, data)
+
+def by_python(words: list[str], data: bytes) -> Answer:
+    """Returns what the Python package answers."""
+    status, text = module().session(words, data)
     return int(status), bytes(text)
 
 
-answers: dict[str, Callable[[list[str], bytes], Answer]] = {it: by_python if it == "python" else partial(started, f"{room}/{it}") for it in languages}
+def answer_of(language: str, words: list[str], data: bytes) -> Answer:
+    """Returns what a language's example answers."""
+    return by_python(words, data) if language == "python" else started(f"{room}/{language}", words, data)
 
 
 def compare(words: list[str], data: bytes = b"") -> None:
     """Compares one answer of each language with the program's."""
     in_turn = ["--in-turn"] if words[:1] == ["run"] and not {"--help", "--in-turn"} & {*words} else []
     wanted = started(tw, words[:1] + in_turn + words[1:], data)
-    for language, answer in answers.items():
+    options: list[list[str]] = [[], in_turn] if in_turn else [[]]
+    for language in languages:
         if not words and language in ("cpp", "rust"):
             continue  # without words these show what the calls give
-        for more in ([], in_turn) if in_turn else ([],):
-            got = answer(words[:1] + more + words[1:], data)
+        for more in options:
+            got = answer_of(language, words[:1] + more + words[1:], data)
             say(got == wanted, language, words, got[0], wanted[0], got[1][:100], wanted[1][:100])
 
 
 def shown_words(name: str) -> list[list[str]]:
-    """Returns the words behind `run` and others that examples/sessions.txt shows for a file."""
+    """Returns the words after `run` and others that examples/sessions.txt shows for a file."""
     with open(f"{folder}/sessions.txt", encoding="utf-8") as file:
         found = re.findall(rf"^\$ \./tw (?:run|replay|picture) examples/{re.escape(name)}\b(.*)$", file.read(), re.M)
     return [words for words in map(shlex.split, found) if words and "--inputs" not in words]
@@ -71,14 +80,15 @@ def compare_example(name: str) -> None:
     with open(f"{folder}/{name}", "rb") as file:
         data = file.read()
     text = ["--text"] if name.endswith((".tw", ".twn")) else []
-    listed = [[command, *text, *places] for command in ("check", "disasm") for places in ([], ["--places"])]
-    for words in (["asm"], ["asm", "--names"], ["asm", "--names", "--plain"], *listed):
-        compare(words, data)
-    for words in [[], ["--engines", "2", "--servers", "2", "--workers", "4"], *shown_words(name)]:
-        for more in ([], ["--trace"], ["--stats"], ["--picture"]):
-            compare(["run", *text, *more, *words], data)
-        for command in (["replay"], ["replay", "--stats"], ["picture"]):
-            compare([*command, *text, *words], data)
+    for command in ("asm", "asm --names", "asm --names --plain", "check", "check --places", "disasm", "disasm --places"):
+        words = command.split()
+        compare(words[:1] + (text if words[0] != "asm" else []) + words[1:], data)
+    layouts: list[list[str]] = [[], ["--engines", "2", "--servers", "2", "--workers", "4"]]
+    for given in layouts + shown_words(name):
+        for option in ("", "--trace", "--stats", "--picture"):
+            compare(["run", *text, *option.split(), *given], data)
+        for command in ("replay", "replay --stats", "picture"):
+            compare([*command.split(), *text, *given], data)
     # A byte in the middle is another one.
     middle = len(data) // 2
     for words in (["asm"], ["check", *text], ["run", *text, "--limit", "300"]):
@@ -103,36 +113,45 @@ def compare_unread(words: list[str]) -> None:
 
 def compare_call(name: str, order: list[str], text: str, call: Callable[[], str]) -> None:
     """Compares what a function of the Python module gives, or refuses, with the program's text."""
-    import yuglemit
-
     try:
         got = call()
-    except yuglemit.Refused as why:
+    except module().Refused as why:
         got = why.text
     wanted = started(tw, order, text.encode())[1].decode()
     say(got == wanted, "python", name, order, got[:100], wanted[:100])
 
 
+def hex_of(text: str) -> str:
+    return str(module().assemble(text).hex()) + "\n"
+
+
+def checked(text: str) -> str:
+    return str(module().load(text).checked)
+
+
+def reported(text: str, inputs: list[str]) -> str:
+    return str(module().load(text).run(*map(module().read_input, inputs), workers=2).text)
+
+
 def compare_calls() -> None:
     """Compares the functions of the Python module with the program."""
-    import yuglemit
-
+    yuglemit = module()
     for name in sorted(it for it in os.listdir(folder) if it.endswith((".tw", ".twn"))):
         with open(f"{folder}/{name}", encoding="utf-8") as file:
             text = file.read()
         inputs = [word for word in (shown_words(name) or [[]])[0] if ":" in word]
         order = ["asm", "--names"] if name.endswith(".twn") else ["asm"]
-        compare_call(name, order, text, lambda text=text: yuglemit.assemble(text).hex() + "\n")
-        compare_call(name, ["check", "--text"], text, lambda text=text: yuglemit.load(text).checked)
+        compare_call(name, order, text, partial(hex_of, text))
+        compare_call(name, ["check", "--text"], text, partial(checked, text))
         order = ["run", "--text", "--in-turn", "--workers", "2", *inputs]
         if inputs or not re.search(r"^proc control.*\b(closed|ref)\b", text, re.M):  # inputs that main doesn't ask for are a TypeError
-            compare_call(name, order, text, lambda text=text, inputs=inputs: yuglemit.load(text).run(*map(yuglemit.read_input, inputs), workers=2).text)
+            compare_call(name, order, text, partial(reported, text, inputs))
         try:
-            told = "accepted" if yuglemit.verify(yuglemit.assemble(text)) else ""
+            answer = "accepted" if yuglemit.verify(yuglemit.assemble(text)) else ""
         except yuglemit.Refused as why:
-            told = why.text.splitlines()[0]
+            answer = why.text.splitlines()[0]
         lines = started(tw, ["check", "--text"], text.encode())[1].decode().splitlines()
-        say(told in lines, "python", name, "verify", told, lines[:1])
+        say(answer in lines, "python", name, "verify", answer, lines[:1])
     os.chdir(root)
     failed, tried = doctest.testfile(f"{root}/embed/python/README.md", module_relative=False)
     if os.path.exists("run.svg"):
@@ -148,10 +167,10 @@ def compare_stack() -> None:
     for given in hostile.all_inputs():
         data = given.make(1 << 20).encode()
         for command in given.commands:
-            status, told = started(f"{room}/stack", command.split(), data)
+            status, answer = started(f"{room}/stack", command.split(), data)
             say(status == 0, "stack", given.name, command, status)
-            if status == 0 and int(told) > most:
-                most, whose = int(told), f"{command} of {given.name}"
+            if status == 0 and int(answer) > most:
+                most, whose = int(answer), f"{command} of {given.name}"
     print(f"the most stack: {most} bytes, {whose}")
 
 
@@ -166,35 +185,34 @@ def seconds(times: int, what: Callable[[], object]) -> float:
 def seconds_of(language: str, words: list[str], data: bytes) -> float:
     """Returns how long a call of C or Python takes."""
     if language == "python":
-        import yuglemit
-
-        return seconds(5000, (lambda: yuglemit.verify(data)) if words == ["verify"] else lambda: yuglemit.session(words, data))
-    told = subprocess.run([f"{room}/c", *words], input=data, capture_output=True, env={**os.environ, "TIMES": "20000"}, check=False).stderr
-    return float(told.split()[0]) / 1e6
+        return seconds(5000, partial(module().verify, data) if words == ["verify"] else partial(module().session, words, data))
+    answer = subprocess.run([f"{room}/c", *words], input=data, capture_output=True, env={**os.environ, "TIMES": "20000"}, check=False).stderr
+    return float(answer.split()[0]) / 1e6
 
 
 def print_rates() -> None:
     """Prints how many calls a second are made."""
-    with open(f"{folder}/fan_out.tw", "rb") as file:
+    with open(f"{folder}/fan_out.twn", "rb") as file:
         text = file.read()
-    program = bytes.fromhex(started(tw, ["asm"], text)[1].decode())
+    program = bytes.fromhex(started(tw, ["asm", "--names"], text)[1].decode())
     for words in (["check", "--text"], ["run", "--text"], ["verify"]):
         data = program if words == ["verify"] else text
         rates = []
         if words != ["verify"]:
             order = words + (["--in-turn"] if words[0] == "run" else [])
-            rates.append(f"starting tw {1 / seconds(300, lambda order=order: started(tw, order, text)):,.0f}")
+            rates.append(f"starting tw {1 / seconds(300, partial(started, tw, order, text)):,.0f}")
         rates += [f"{it} {1 / seconds_of(it, words, data):,.0f}" for it in languages if it in ("c", "python")]
-        print(f"calls a second, {words[0]} of fan_out.tw: {', '.join(rates)}")
+        print(f"calls a second, {words[0]} of fan_out.twn: {', '.join(rates)}")
 
 
 def compare_all() -> None:
     """Compares all that was asked for."""
     for name in sorted(it for it in os.listdir(folder) if it.endswith((".tw", ".twn", ".hex", ".history"))):
         compare_example(name)
-    explained = [["explain", f"{letter}{number:02}"] for letter in "AFHOVEX" for number in range(20)]
-    for words in (["--help"], ["--version"], ["run", "--help"], [], ["fly"], ["run", "--workers", "17"], ["run", "int:x"], ["explain"],
-                  ["run", "text:a\r"], *explained, *(["explain", f"C{number}"] for number in range(17))):
+    orders: list[list[str]] = [["--help"], ["--version"], ["run", "--help"], [], ["fly"], ["run", "--workers", "17"], ["run", "int:x"], ["explain"], ["run", "text:a\r"]]
+    orders += [["explain", f"{letter}{number:02}"] for letter in "AFHOVEX" for number in range(20)]
+    orders += [["explain", f"C{number}"] for number in range(17)]
+    for words in orders:
         compare(words)
     for words in (["--help"], ["--version"], ["run", "--help"], ["help", "run"], ["fly"], ["run", "--workers", "17"], ["run", "int:x"], ["explain", "V04"]):
         compare_unread(words)

@@ -1,6 +1,6 @@
 #!/bin/sh
 # SPDX-License-Identifier: Apache-2.0
-# Builds the library, and its examples in C, C++ and Rust. Runs them and the Python module over every example with and without inputs,
+# Builds the library, and its examples in C, C++ and Rust, and runs the Rust crate's tests. Runs the examples and the Python module over every example with and without inputs,
 # and compares text and status with the program tw (which runs by --in-turn). Runs the examples of embed/python/README.md too. Prints each
 # that differs, ends with `N same, 0 differ`, and fails if one does. After that it prints how many calls a second each makes, beside
 # starting the program.
@@ -11,7 +11,7 @@
 # `stack` makes calls over the inputs of tools/hostile.sh, 1 MiB of each, in a thread with a stack of 64 KiB, and prints the most that a
 # call took of it.
 #
-# Needs a C and a C++ compiler (cc, c++), rustc, and Python 3.9.
+# Needs a C and a C++ compiler (cc, c++), cargo, and Python 3.9.
 root=$(dirname "$(dirname "$(readlink -f "$0")")")
 out=$root/crates/tw_embed/out
 [ $# -gt 0 ] || set -- c cpp rust python stack
@@ -19,14 +19,21 @@ out=$root/crates/tw_embed/out
 room=$(mktemp -d)
 trap 'rm -rf "$room"' EXIT
 warnings="-Wall -Wextra -pedantic -Werror"
+
+# Runs the tests of the Rust crate, and builds its example.
+build_rust() {
+    (cd "$root/embed/rust" && export YUGLEMIT_FOLDER="$out" CARGO_TARGET_DIR="$room/target" RUSTFLAGS="-D warnings" && cargo test --offline --quiet &&
+        cargo build --offline --quiet --release --example example && cp "$room/target/release/examples/example" "$room/rust")
+}
+
 for language; do
     case $language in
         c) cc -std=c99 -O2 $warnings -o "$room/c" "$root/embed/c/example.c" "$out/libyuglemit.a" ;;
-        cpp) c++ -std=c++17 -O2 $warnings -o "$room/cpp" "$root/embed/cpp/example.cpp" "$out/libyuglemit.a" ;;
-        rust) rustc --edition 2024 -O -D warnings -L "$out" -o "$room/rust" "$root/embed/rust/example.rs" ;;
+        cpp) c++ -std=c++17 -O2 $warnings -o "$room/cpp" -pthread -I "$root/embed" "$root/embed/cpp/example.cpp" "$out/libyuglemit.a" ;;
+        rust) build_rust ;;
         python) ;;
         stack) cc -std=c99 -O2 $warnings -pthread -o "$room/stack" "$root/tools/embedded.c" "$out/libyuglemit.a" ;;
-        *) echo "there is no language $language here: c, cpp, rust, python; or stack" >&2; exit 2 ;;
+        *) echo "unknown language $language: c, cpp, rust, python; or stack" >&2; exit 2 ;;
     esac || exit
 done
 python3 -B "$root/tools/embedded.py" "$root" "$room" "$@"

@@ -209,44 +209,19 @@ def write_wheel(room: Path) -> Path:
 
 # ---- The Rust crate
 
-CARGO = """[package]
-name = "yuglemit"
-version = "{version}"
-edition = "2024"
-license = "Apache-2.0"
-description = "Proved host of dataflow programs, as a static library"
-links = "yuglemit"
-
-[lib]
-path = "src/lib.rs"
-"""
-
-BUILD = """//! Links the static library, which is in this crate's folder.
-fn main() {
-    let folder = std::env::var("CARGO_MANIFEST_DIR").expect("cargo sets it");
-    println!("cargo:rustc-link-search=native={folder}/lib");
-    println!("cargo:rerun-if-changed=lib/libyuglemit.a");
-}
-"""
-
-
 def write_crate(room: Path) -> Path:
-    """Writes the Rust crate: a folder that builds with no network."""
+    """Writes the Rust crate, with the library in it: a folder that builds with no network."""
     base = plain(room)
     crate = DIST / f"yuglemit-{VERSION}-crate"
     if crate.exists():
         shutil.rmtree(crate)
-    for part in ("src", "lib", "examples"):
-        (crate / part).mkdir(parents=True)
+    shutil.copytree(ROOT / "embed/rust", crate, ignore=shutil.ignore_patterns("target", "Cargo.lock"))
+    (crate / "lib").mkdir()
     three = VERSION + ".0" * (2 - VERSION.count("."))
-    (crate / "Cargo.toml").write_text(CARGO.format(version=three), encoding="utf-8")
-    (crate / "build.rs").write_text(BUILD, encoding="utf-8")
-    shutil.copy(ROOT / "embed/rust/yuglemit.rs", crate / "src/lib.rs")
-    example = (ROOT / "embed/rust/example.rs").read_text(encoding="utf-8")
-    (crate / "examples/example.rs").write_text(re.sub(r"^mod yuglemit;\n", "", example, flags=re.M), encoding="utf-8")
+    manifest = (crate / "Cargo.toml").read_text(encoding="utf-8")
+    (crate / "Cargo.toml").write_text(re.sub(r'^version = ".*"$', f'version = "{three}"', manifest, flags=re.M), encoding="utf-8")
     shutil.copy(base / "lib/libyuglemit.a", crate / "lib")
     shutil.copy(ROOT / "LICENSE", crate)
-    shutil.copy(ROOT / "embed/rust/README.md", crate)
     return crate
 
 

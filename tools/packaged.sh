@@ -92,14 +92,14 @@ check_plain_system() {
     check "man tw" "MANPAGER=cat man tw | grep -q 'dataflow programs'"
     check "bash completes" "bash -c '. /usr/share/bash-completion/completions/tw; COMP_WORDS=(tw ru); COMP_CWORD=1; _tw; [ \"\${COMPREPLY[0]}\" = run ]'"
     check "the library loads" "python3 -c 'import ctypes; ctypes.CDLL(\"libyuglemit.so.0\").yuglemit_session'"
-    check "the Debian package goes" "dpkg -P yuglemit"
+    check "the Debian package is removed" "dpkg -P yuglemit"
     files >"$room/after"
     diff "$room/before" "$room/after" >"$room/log"
     report "nothing of it is left" $?
     python_lines >"$system/work/lines.txt"
     check "the wheel installs" "python3 -m venv venv && venv/bin/pip install --no-index --quiet $wheel"
     check "the wheel runs README's lines" "venv/bin/python -m doctest lines.txt"
-    check "the wheel goes" "venv/bin/pip uninstall --yes --quiet yuglemit && ! ls venv/lib/python3*/site-packages | grep -i yuglemit"
+    check "the wheel is removed" "venv/bin/pip uninstall --yes --quiet yuglemit && ! ls venv/lib/python3*/site-packages | grep -i yuglemit"
 }
 
 CMAKE='cmake_minimum_required(VERSION 3.16)

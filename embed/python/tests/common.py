@@ -1,5 +1,5 @@
 # SPDX-License-Identifier: Apache-2.0
-"""What the tests share: the repository's examples, and small programs."""
+"""Things that the tests share: the repository's examples, and small programs."""
 
 from __future__ import annotations
 

@@ -56,14 +56,14 @@ def word(text: str) -> Word:
 
 
 def read_int(text: str) -> Number:
-    """What the machine reads: exactly the texts that str makes of an int in 64 bits."""
+    """The texts that the machine reads as an int: exactly the texts that str makes of an int in 64 bits."""
     if not re.fullmatch(r"0|-?[1-9]\d*", text) or not -(2**63) <= int(text) < 2**63:
         raise Overflow
     return Number(text)
 
 
 def names() -> Dict[str, Any]:
-    """What a function that Python runs finds."""
+    """The names that a function finds if Python runs it."""
     return {
         "Overflow": Overflow,
         "int": read_int,

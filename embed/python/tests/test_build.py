@@ -289,18 +289,18 @@ ERRORS: List[Tuple[str, int, int, str]] = [
 
 class Errors(unittest.TestCase):
     def test_each(self) -> None:
-        for text, line, column, told in ERRORS:
+        for text, line, column, message in ERRORS:
             with self.subTest(text):
                 with self.assertRaises(BuildError) as caught:
                     assert build_text(HEAD + text, "file.py").program
                 why = caught.exception
-                self.assertRegex(why.message, told)
+                self.assertRegex(why.message, message)
                 self.assertEqual((why.line, why.column, why.file), (line, column, "file.py"), why.message)
                 self.assertTrue(str(why).startswith(f"file.py:{line}:{column}: "))
 
 
 class Refused(unittest.TestCase):
-    """What is refused outside of check(..) leaves outputs unset, or gives what `otherwise` says."""
+    """An instruction that is refused outside of check(..) leaves outputs unset, or gives what `otherwise` says."""
 
     def run_text(self, text: str, *inputs: Any) -> yuglemit.Report:
         return build_text(HEAD + text).program.run(*inputs)

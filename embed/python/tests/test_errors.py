@@ -1,5 +1,5 @@
 # SPDX-License-Identifier: Apache-2.0
-"""Where a refusal is: read off the library's lines, never off the program's."""
+"""The place of an error is read off the library's lines, never off the program's."""
 
 from __future__ import annotations
 

@@ -19,18 +19,27 @@ except ImportError:
 class Values(unittest.TestCase):
     def test_texts_come_back_as_they_are(self) -> None:
         program = yuglemit.load(same("closed", "text"))
-        hostile = ["", "--stats", "--help", "--in-turn", "-7", "int:39", "ints:1=7", " a b ", '"', "\\", "\\n", "a\tb", "\r", "ab\r", "\r\r", "é\u2028\u0085\U0001f600\x00"]
-        for text in hostile + ["".join(map(chr, range(1, 0x180))).replace("\n", "")]:
+        hostile = ["", "--stats", "--help", "--in-turn", "-7", "int:39", "ints:1=7", " a b ", '"', "\\", "\\n", "a\tb", "\r", "ab\r", "\r\r", "é\u2028\u0085\U0001f600\x00", "a\nb", "\n", "a\n--limit\n1"]
+        for text in hostile + ["".join(map(chr, range(0, 0x180)))]:
             with self.subTest(text):
                 self.assertEqual(program.run(text).outputs, [text])
 
     def test_texts_of_containers_may_have_line_feeds(self) -> None:
-        report = yuglemit.load(Path(__file__).parents[3] / "examples" / "texts.tw").run({1: "a\nb", 2: "\r", 3: '"\\'})
+        report = yuglemit.load(Path(__file__).parents[3] / "examples" / "texts.twn").run({1: "a\nb", 2: "\r", 3: '"\\'})
         self.assertEqual(report.outputs[0], 'a\nb,\r,"\\')
 
-    def test_text_with_a_line_feed_is_refused_by_name(self) -> None:
+    def test_a_text_with_a_line_feed_has_no_command_line(self) -> None:
+        """A run takes it as a value; what is made by a command, as a trace, can't."""
+        report = yuglemit.load(same("closed", "text")).run("a\nb")
+        self.assertEqual((report.end, report.outputs), ("quiet", ["a\nb"]))
         with self.assertRaisesRegex(ValueError, "input 1: .*line feed"):
-            yuglemit.load(same("closed", "text")).run("a\nb")
+            _ = report.trace
+
+    def test_outputs_are_inputs(self) -> None:
+        words = yuglemit.load(example("words.twn"))
+        found = words.run({1: "the", 2: "a\n", 3: "the"}).outputs
+        self.assertEqual(found, [{"a\n": 1, "the": 2}])
+        self.assertEqual(yuglemit.load(sized("tcont int")).run(found[0]).outputs, [2])
 
     def test_ints(self) -> None:
         program = yuglemit.load(same("closed", "int"))
@@ -61,8 +70,8 @@ class Values(unittest.TestCase):
             (Path("x"), "expected an int, got PosixPath"),
             ({1: 2}, "expected an int, got dict"),
         ]
-        for value, told in wrong:
-            with self.subTest(value), self.assertRaisesRegex(TypeError, f"input 1: .*{told}"):
+        for value, message in wrong:
+            with self.subTest(value), self.assertRaisesRegex(TypeError, f"input 1: .*{message}"):
                 program.run(value)
 
     def test_what_is_no_member(self) -> None:

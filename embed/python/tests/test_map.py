@@ -101,14 +101,14 @@ class Map(unittest.TestCase):
 
     def test_lost_process(self) -> None:
         program = yuglemit.load("proc control closed int write int\nregs int int\nGET v0 d0\nDROPR d0\nREPEAT 1000\nREPEAT 1000\nREPEAT 5\nEND\nEND\nEND\nSTORE d1 v0\nRET\n")  # 10 ms and more
-        with ProcessPoolExecutor(2, mp_context=multiprocessing.get_context("fork")) as pool, warnings.catch_warnings(record=True) as told:
+        with ProcessPoolExecutor(2, mp_context=multiprocessing.get_context("fork")) as pool, warnings.catch_warnings(record=True) as warned:
             warnings.simplefilter("always")
             pool.submit(os.getpid).result()
             victim = next(iter(pool._processes))
             threading.Timer(0.05, os.kill, (victim, signal.SIGKILL)).start()
             reports = [it.outputs for it in yuglemit.map(program, range(100), pool, 2)]
         self.assertEqual(reports, [[it] for it in range(100)])
-        self.assertTrue(any("runs again" in str(it.message) for it in told))
+        self.assertTrue(any("runs again" in str(it.message) for it in warned))
 
     def test_nothing_is_left_when_it_is_given_up(self) -> None:
         slow = yuglemit.load("proc control\nregs\nREPEAT 1000\nREPEAT 1000\nEND\nEND\nRET\n")

@@ -26,10 +26,10 @@ def load_tests(loader: unittest.TestLoader, tests: unittest.TestSuite, pattern: 
 
 class Package(unittest.TestCase):
     def test_version(self) -> None:
-        status, told = yuglemit.session(["--version"])
+        status, answer = yuglemit.session(["--version"])
         self.assertEqual(status, 0)
         if yuglemit.__version__ != "0":  # a folder of modules without the repository has none
-            self.assertEqual(told.decode().split(), ["tw", yuglemit.__version__])
+            self.assertEqual(answer.decode().split(), ["tw", yuglemit.__version__])
         if (ROOT / "VERSION").exists():
             self.assertEqual((ROOT / "VERSION").read_text(encoding="utf-8").strip(), yuglemit.__version__)
 

@@ -7,6 +7,8 @@ import _thread
 import json
 import os
 import pickle
+import resource
+import signal
 import subprocess
 import sys
 import tempfile
@@ -15,6 +17,7 @@ import time
 import unittest
 from concurrent.futures import ThreadPoolExecutor
 from pathlib import Path
+from unittest import mock
 
 import yuglemit
 from common import DOUBLE, EXAMPLES, example
@@ -39,6 +42,41 @@ ADD number number one +0
 END
 DROPW texts
 RET
+"""
+
+# Each event takes some thousand instructions, and there are as many events as the limit allows.
+ENDLESS = """proc control
+regs int int
+INT v1 1
+REPEAT 3
+REPEAT 1000
+ADD v0 v0 v1 no
+no:
+END
+END
+PUT 0 0 any
+RET
+"""
+
+# Interrupts its own run, and prints how long it took until run() raised, and the processor time of the next fifth of a second.
+INTERRUPTED = """
+import os, signal, sys, threading, time
+import yuglemit
+program = yuglemit.load(sys.stdin.read())
+program.bounds
+sent = []
+def send():
+    time.sleep(0.3)
+    sent.append(time.perf_counter())
+    os.kill(os.getpid(), signal.SIGINT)
+threading.Thread(target=send).start()
+try:
+    program.run(limit=1_000_000)
+    print("not interrupted")
+except KeyboardInterrupt:
+    waited, begun = time.perf_counter() - sent[0], time.process_time()
+    time.sleep(0.2)
+    print(waited, time.process_time() - begun)
 """
 
 SLOW = """proc control write int
@@ -69,6 +107,14 @@ class Programs(unittest.TestCase):
         bounds = program.bounds
         self.assertEqual((bounds.tasks, bounds.instructions, bounds.data, bounds.rules, bounds.events), (19, 275, 18, 18, 364))
         self.assertEqual(program.bounds.greatest, max(it.budget for it in program.procedures))
+
+    def test_bounds_with_a_limit(self) -> None:
+        """Main executes PUT and RET, its task INT, REPEAT, 100 times COPY and END, and RET; a task is an event more."""
+        text = "proc control\nregs\nPUT 1 0 any\nRET\nproc leaf\nregs int\nINT v0 1\nREPEAT 100\nCOPY v0 v0\nEND\nRET\n"
+        bounds = yuglemit.load(text).bounds
+        self.assertEqual((bounds.greatest, bounds.instructions, bounds.events), (203, 205, 207))
+        self.assertEqual((bounds.events_within(5), bounds.events_within()), (5, 207))
+        self.assertEqual((bounds.instructions_within(1), bounds.instructions_within()), (203, 205))
 
     def test_bounds_hold(self) -> None:
         chance = {number: number for number in range(8)}
@@ -135,7 +181,7 @@ class Reports(unittest.TestCase):
         report = program.run(39, engines=2, workers=2)
         self.assertEqual((report.events, report.instructions), (33, 24))
         kept = program.run(39, engines=2, workers=2, trace=True)
-        self.assertEqual((kept.trace, kept.text), (report.trace, report.text))
+        self.assertEqual((kept.trace, kept.text, kept.events), (report.trace, report.text, 33))
         self.assertEqual(len(kept.trace.split("\n")), 33 + 3)
         self.assertEqual(program.replay(kept.trace, 39, engines=2, workers=2).outputs, [42])
         self.assertTrue(report.timeline().startswith("<svg"))
@@ -155,7 +201,7 @@ class Reports(unittest.TestCase):
         report = yuglemit.load(LONG).run()
         self.assertEqual(report.outputs, [{number: "x" * 4096 for number in range(100)}])
         self.assertGreater(len(report.text), 400_000)
-        again = yuglemit.load(EXAMPLES / "texts.tw")
+        again = yuglemit.load(EXAMPLES / "texts.twn")
         self.assertEqual(again.run({1: "x" * 4096}).outputs[0], "x" * 4096)
 
 
@@ -180,7 +226,21 @@ class Threads(unittest.TestCase):
         free = (os.cpu_count() or 1) - os.getloadavg()[0] + 1
         self.assertGreaterEqual(best, 3 if free >= 4 else 1.3, f"load {os.getloadavg()[0]}")
 
-    def test_ctrl_c_ends_the_wait(self) -> None:
+    def test_ctrl_c_stops_a_run(self) -> None:
+        """A run of many events ends within a tenth of a second after SIGINT, and its thread works no more. The best of five counts, since
+        other work on the machine only makes it slower."""
+        waits, busy = [], []
+        for _ in range(5):
+            done = subprocess.run([sys.executable, "-c", INTERRUPTED], input=ENDLESS, stdout=subprocess.PIPE, text=True, check=True)
+            waited, worked = map(float, done.stdout.split())
+            waits.append(waited)
+            busy.append(worked)
+            if waited < 0.1 and worked < 0.05:
+                break
+        self.assertLess(min(waits), 0.1)
+        self.assertLess(min(busy), 0.05)
+
+    def test_ctrl_c_ends_the_wait_for_a_long_event(self) -> None:
         program = yuglemit.load(SLOW.format(turns=400))
         started = time.perf_counter()
         threading.Timer(0.3, _thread.interrupt_main).start()
@@ -200,6 +260,101 @@ class Threads(unittest.TestCase):
             started = time.perf_counter()
             child.wait(2)
             self.assertLess(time.perf_counter() - started, 1)
+
+
+class Stops(unittest.TestCase):
+    def test_another_thread_stops_a_run(self) -> None:
+        program, stop = yuglemit.load(ENDLESS), yuglemit.Stop()
+        threading.Timer(0.1, stop.set).start()
+        report = program.run(limit=1_000_000, stop=stop)
+        self.assertEqual((report.end, report.outputs, report.error), ("stopped", [], None))
+        self.assertTrue(0 < report.events < 1_000_000)
+        again = program.run(limit=report.events)
+        self.assertEqual((again.end, again.events, again.trace), ("limit", report.events, report.trace))
+        self.assertEqual(report.instructions, again.instructions)
+
+    def test_a_signal_handler_stops_a_run(self) -> None:
+        program, stop = yuglemit.load(ENDLESS), yuglemit.Stop()
+        before = signal.signal(signal.SIGUSR1, lambda *_: stop.set())
+        try:
+            threading.Timer(0.1, lambda: os.kill(os.getpid(), signal.SIGUSR1)).start()
+            report = program.run(limit=1_000_000, stop=stop)
+        finally:
+            signal.signal(signal.SIGUSR1, before)
+        self.assertEqual(report.end, "stopped")
+
+    def test_a_stop_that_is_set_stops_each_run_until_it_is_cleared(self) -> None:
+        program, stop = yuglemit.load(DOUBLE), yuglemit.Stop()
+        self.assertEqual(program.run(4, stop=stop).outputs, [8])
+        stop.set()
+        for _ in range(2):
+            report = program.run(4, stop=stop)
+            self.assertEqual((report.end, report.events, report.outputs, report.unfinished), ("stopped", 0, [None], [0]))
+        with self.assertRaisesRegex(ValueError, "before its first event"):
+            _ = report.trace
+        self.assertTrue(stop.is_set())
+        stop.clear()
+        self.assertEqual(program.run(4, stop=stop).outputs, [8])
+
+    def test_one_stop_for_runs_in_several_threads(self) -> None:
+        program, stop = yuglemit.load(ENDLESS), yuglemit.Stop()
+        with ThreadPoolExecutor(4) as pool:
+            runs = [pool.submit(program.run, limit=1_000_000, stop=stop) for _ in range(4)]
+            time.sleep(0.1)
+            stop.set()
+            self.assertEqual([run.result().end for run in runs], ["stopped"] * 4)
+
+    def test_an_interrupt_leaves_the_stop_alone(self) -> None:
+        program, stop = yuglemit.load(ENDLESS), yuglemit.Stop()
+        threading.Timer(0.1, _thread.interrupt_main).start()
+        with self.assertRaises(KeyboardInterrupt):
+            program.run(limit=1_000_000, stop=stop)
+        self.assertFalse(stop.is_set())
+        self.assertEqual(program.run(limit=20, stop=stop).end, "limit")
+
+    def test_a_map_that_nobody_reads_ends_its_runs(self) -> None:
+        reports = yuglemit.map(yuglemit.load("proc control\nregs\nPUT 0 0 any\nRET\n"), [()] * 3, limit=100)
+        self.assertEqual([it.end for it in reports], ["limit"] * 3)
+        before = threading.active_count()
+        reports = yuglemit.map(yuglemit.load(ENDLESS), [()] * 50, limit=1_000_000)
+        threading.Timer(0.2, lambda: os.kill(os.getpid(), signal.SIGINT)).start()
+        with self.assertRaises(KeyboardInterrupt):
+            next(reports)
+        ended = time.perf_counter() + 5
+        while threading.active_count() > before and time.perf_counter() < ended:
+            time.sleep(0.01)
+        self.assertLessEqual(threading.active_count(), before)
+
+    def test_a_stop_stays_in_its_process(self) -> None:
+        with self.assertRaisesRegex(TypeError, "own process"):
+            pickle.dumps(yuglemit.Stop())
+
+
+class Handles(unittest.TestCase):
+    def test_a_program_is_verified_once(self) -> None:
+        """After the first run, runs only run: no session is asked for."""
+        program = yuglemit.load(EXAMPLES / "two_inputs.twn")
+        program.run({1: 7}, 1)
+        with mock.patch("yuglemit._native.session", side_effect=AssertionError), mock.patch("yuglemit._native.load", side_effect=AssertionError):
+            report = program.run({1: 7, 5: -3}, -4)
+            self.assertEqual((report.outputs, report.events > 0), ([{-4: 2, 2: -4}], True))
+
+    def test_threads_share_a_program(self) -> None:
+        """Sixteen threads run one program at once, and each gets its own answer."""
+        program = yuglemit.load(EXAMPLES / "two_inputs.twn")
+        with ThreadPoolExecutor(16) as pool:
+            found = list(pool.map(lambda number: program.run({1: 7, 5: -3}, number).outputs, range(400)))
+        self.assertEqual(found, [program.run({1: 7, 5: -3}, number).outputs for number in range(400)])
+
+    def test_memory_is_freed(self) -> None:
+        """A thousand programs, runs and stops leave no memory."""
+        def work(times: int) -> int:
+            for number in range(times):
+                yuglemit.load(DOUBLE).run(number, stop=yuglemit.Stop())
+                yuglemit.load(EXAMPLES / "words.twn").run({1: "the" * 100})
+            return resource.getrusage(resource.RUSAGE_SELF).ru_maxrss
+        before = work(300)
+        self.assertLess(work(1000) - before, 2000)
 
 
 if __name__ == "__main__":

@@ -9,14 +9,16 @@
 """
 
 from ._errors import Refused, Trap
-from ._inputs import Output, Value, read_input
+from ._inputs import Value, read_input
 from ._listing import Bounds, Needs, Parameter, Procedure
 from ._map import map
+from ._native import Output
 from ._program import Program, assemble, explain, load, session, verify
 from ._report import Report, Wait
+from ._stop import Stop
 from ._version import __version__
 
-for _public in (Refused, Trap, Bounds, Needs, Parameter, Procedure, Program, Report, Wait):
+for _public in (Refused, Trap, Bounds, Needs, Parameter, Procedure, Program, Report, Stop, Wait):
     _public.__module__ = "yuglemit"
 
 __all__ = [
@@ -28,6 +30,7 @@ __all__ = [
     "Program",
     "Refused",
     "Report",
+    "Stop",
     "Trap",
     "Value",
     "Wait",

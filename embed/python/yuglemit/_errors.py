@@ -1,13 +1,13 @@
 # SPDX-License-Identifier: Apache-2.0
-"""The exceptions of the package, and how a refusal is read."""
+"""The exceptions of the package, and how an error is read."""
 
 from __future__ import annotations
 
 import re
 from typing import Dict, Optional
 
-# The lines that only the library writes; each begins an answer, or follows a check's listing. The first such line counts: what follows
-# may be quoted from the program, and a listing has no such line, since each of its lines is a statement or begins with `;`.
+# The lines that only the library writes. Each begins an answer, or follows a check's listing. The first such line counts, since later
+# lines may quote the program. A listing has none: each of its lines is a statement or begins with `;`.
 _HEADS = (
     re.compile(
         r"refused (?P<code>[A-Z]\d+)(?: at line (?P<line>\d+)| at byte (?P<byte>\d+)| in procedure (?P<procedure>\d+) at place (?P<place>\d+))?(?!\S)"
@@ -21,7 +21,7 @@ _NUMBERS = ("line", "byte", "procedure", "place", "event", "input")
 
 
 def read_refusal(text: str) -> Dict[str, Optional[str]]:
-    """Reads the code and the position of a refusal off its own lines, never off a line of the program.
+    """Reads the code and the position of an error off its own lines, never off a line of the program.
 
     >>> read_refusal("refused V10 in procedure 1 at place 4\\nat line 9: RET ; at line 3\\n")["line"]
     '9'
@@ -34,15 +34,15 @@ def read_refusal(text: str) -> Dict[str, Optional[str]]:
         for head in _HEADS:
             found = head.match(line)
             if found:
-                told: Dict[str, Optional[str]] = dict.fromkeys((*_NUMBERS, "code", "column"))
-                told.update(found.groupdict())
-                told.update(_read_details(told["code"] or "", lines[number + 1 :]))
-                return told
+                fields: Dict[str, Optional[str]] = dict.fromkeys((*_NUMBERS, "code", "column"))
+                fields.update(found.groupdict())
+                fields.update(_read_details(fields["code"] or "", lines[number + 1 :]))
+                return fields
     return dict.fromkeys((*_NUMBERS, "code", "column"))
 
 
 def _read_details(code: str, rest: list[str]) -> Dict[str, str]:
-    """Reads what stands in the lines after a refusal's first one, as far as the library wrote their beginning."""
+    """Reads the lines after an error's first one, as far as the library wrote their beginning."""
     if code[:1] == "V":
         pattern, candidates = r"at line (?P<line>\d+)(?: in [^\s:]+)?: ", rest[:1]
     elif code[:1] == "O":
@@ -59,10 +59,10 @@ def _read_details(code: str, rest: list[str]) -> Dict[str, str]:
 
 
 class Refused(Exception):
-    """Says that a program, an input or a history is refused.
+    """Says that a program, an input or a trace is rejected.
 
-    `text` is what the library wrote, `code` as "V04" (`explain` tells more of it), and the numbers say where; each of them is None if the
-    refusal doesn't tell it. `line` and `column` count from 1, `procedure` and `place` from 0, `input` and `event` from 1.
+    `text` is what the library wrote, `code` as "V04" (`explain` says more), and the numbers say where; each of them is None if the
+    error doesn't say it. `line` and `column` count from 1, `procedure` and `place` from 0, `input` and `event` from 1.
     """
 
     code: Optional[str]
@@ -77,9 +77,9 @@ class Refused(Exception):
     def __init__(self, text: str) -> None:
         super().__init__(text)
         self.text = text
-        told = read_refusal(text)
-        self.code = told.pop("code")
-        for name, number in told.items():
+        fields = read_refusal(text)
+        self.code = fields.pop("code")
+        for name, number in fields.items():
             setattr(self, name, None if number is None else int(number))
 
     def __str__(self) -> str:
@@ -87,4 +87,4 @@ class Refused(Exception):
 
 
 class Trap(Refused):
-    """Says that an event of a replayed history traps, which no event of an accepted program does."""
+    """Says that an event of a replayed trace traps, which no event of an accepted program does."""

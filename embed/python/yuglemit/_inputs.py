@@ -1,15 +1,15 @@
 # SPDX-License-Identifier: Apache-2.0
-"""Inputs: Python values as the words that the library reads, and such words as Python values."""
+"""Inputs: Python values, checked, and the words of a command line that have such values."""
 
 from __future__ import annotations
 
 import operator
 import re
-from typing import Dict, Mapping, Optional, Union
+from typing import Dict, List, Mapping, Optional, Tuple, Union
 
-Scalar = Union[int, str]
+from ._native import Given, Scalar
+
 Value = Union[int, str, Mapping[int, int], Mapping[int, str], Mapping[str, int], Mapping[str, str]]
-Output = Union[None, int, str, Dict[Scalar, Optional[Scalar]]]
 
 TYPES = ("int", "text", "cont int", "cont text", "tcont int", "tcont text")
 _PREFIXES = {"cont int": "ints:", "cont text": "texts:", "tcont int": "tints:", "tcont text": "ttexts:"}
@@ -90,8 +90,8 @@ def _text(value: object, where: str) -> str:
     return str(value)
 
 
-def _scalar(value: object, kind: str, where: str) -> str:
-    return str(_int(value, where)) if kind == "int" else quoted(_text(value, where))
+def _scalar(value: object, kind: str, where: str) -> Scalar:
+    return _int(value, where) if kind == "int" else _text(value, where)
 
 
 def _type_of(value: object, where: str) -> str:
@@ -106,45 +106,56 @@ def _type_of(value: object, where: str) -> str:
     raise _wrong(where, "an int, a str, or a dict of one of these by int or str", value)
 
 
-def _members(value: Mapping[object, object], kind: str, where: str) -> str:
+def _members(value: Mapping[object, object], kind: str, where: str) -> List[Tuple[Scalar, Scalar]]:
+    """Returns the members of a container by rising subscripts, texts by their bytes."""
     outer, inner = kind.split()
     keyed = "text" if outer == "tcont" else "int"
     if len(value) > _MOST_MEMBERS:
         raise ValueError(f"{where}: {len(value)} members, and at most {_MOST_MEMBERS} are taken")
     pairs = []
     for key, member in value.items():
-        spelled = _scalar(key, keyed, f"{where}, subscript {key!r:.60}")
-        order = str(key).encode() if keyed == "text" else int(spelled)
-        pairs.append((order, f"{spelled}={_scalar(member, inner, f'{where}, member at {key!r:.60}')}"))
-    pairs.sort(key=lambda pair: pair[0])  # type: ignore[arg-type, return-value]
-    return _PREFIXES[kind] + ",".join(spelled for _, spelled in pairs)
+        subscript = _scalar(key, keyed, f"{where}, subscript {key!r:.60}")
+        pairs.append((subscript, _scalar(member, inner, f"{where}, member at {key!r:.60}")))
+    pairs.sort(key=lambda pair: pair[0].encode() if isinstance(pair[0], str) else pair[0])
+    return pairs
 
 
-def word_of(value: object, kind: Optional[str] = None, where: str = "input") -> str:
-    """Returns the word for a value, which has to be of the type `kind` if there is one.
+def given(value: object, kind: Optional[str] = None, where: str = "input") -> Given:
+    """Checks a value, which has to be of the type `kind` if there is one.
 
-    No word is an option, whatever the value is, since each begins with its type.
-
-    >>> word_of(39), word_of("--help"), word_of({2: 7, 1: -3})
-    ('int:39', 'text:--help', 'ints:1=-3,2=7')
-    >>> word_of({}, "tcont text")
-    'ttexts:'
-    >>> word_of({1: 1.9})
+    >>> given({2: 7, 1: -3})
+    Given(kind='cont int', value=[(1, -3), (2, 7)])
+    >>> given({1: 1.9})
     Traceback (most recent call last):
     ...
     TypeError: input, member at 1: expected an int, got float 1.9; there are no fractions
     """
     kind = kind or _type_of(value, where)
-    if kind == "int":
-        return f"int:{_int(value, where)}"
-    if kind == "text":
-        text = _text(value, where)
-        if "\n" in text:
-            raise ValueError(f"{where}: the library can't take a text with a line feed yet, except as a container's member")
-        return "text:" + text
+    if kind in ("int", "text"):
+        return Given(kind, _scalar(value, kind, where))
     if not isinstance(value, Mapping):
         raise _wrong(where, _ASKED[kind], value)
-    return _members(value, kind, where)
+    return Given(kind, _members(value, kind, where))
+
+
+def _spelled(value: Scalar) -> str:
+    return quoted(value) if isinstance(value, str) else str(value)
+
+
+def word_of(checked: Given, where: str = "input") -> str:
+    """Returns the word for a value that is checked.
+
+    No word is an option, whatever the value is, since each begins with its type.
+
+    >>> word_of(given(39)), word_of(given("--help")), word_of(given({2: 7, 1: -3})), word_of(given({}, "tcont text"))
+    ('int:39', 'text:--help', 'ints:1=-3,2=7', 'ttexts:')
+    """
+    kind, value = checked
+    if isinstance(value, list):
+        return _PREFIXES[kind] + ",".join(f"{_spelled(subscript)}={_spelled(member)}" for subscript, member in value)
+    if isinstance(value, str) and "\n" in value:
+        raise ValueError(f"{where}: a text with a line feed can be given to `run`, but no command line has it: replays, traces and timelines don't")
+    return f"{kind}:{value}"
 
 
 _PAIR = re.compile(r'(-?\d+|"(?:\\.|[^"\\])*")=(-?\d+|"(?:\\.|[^"\\])*")(,|$)', re.S)

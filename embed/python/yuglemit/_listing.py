@@ -1,5 +1,5 @@
 # SPDX-License-Identifier: Apache-2.0
-"""What is known of an accepted program before it runs: its procedures, and bounds of what a run of it does."""
+"""Facts about an accepted program before it runs: its procedures, and bounds of its runs."""
 
 from __future__ import annotations
 
@@ -77,7 +77,7 @@ class Bounds:
 
 
 def _parameters_of(words: List[str]) -> Tuple[Parameter, ...]:
-    """Reads the parameters behind `proc KIND`; a word that ends with a colon is a name."""
+    """Reads the parameters after `proc KIND`; a word that ends with a colon is a name."""
     found: List[Parameter] = []
     name: Optional[str] = None
     for word in words:
@@ -113,12 +113,6 @@ def procedures_of(listing: str, source: str, check: str) -> Tuple[Procedure, ...
             parameters = tuple(Parameter(it.mode, it.type, its.name) for it, its in zip(parameters, named[number][2]))
         found.append(Procedure(number, kind, parameters, budgets[number], name))
     return tuple(found)
-
-
-def needs_of(check: str) -> Needs:
-    """Reads the line `needs` of what `check` answers."""
-    found = re.search(r"^needs engines (\d+) workers (\d+)", check, re.M)
-    return Needs(int(found[1]), int(found[2])) if found else Needs(0, 0)
 
 
 def bounds_of(check: str, procedures: Tuple[Procedure, ...]) -> Bounds:

@@ -12,8 +12,9 @@ from typing import Any, Callable, Dict, Iterable, Iterator, List, Optional, Sequ
 
 from ._errors import Refused
 from ._listing import DEFAULT_LIMIT
-from ._program import Program
-from ._report import Made, Report
+from ._program import Program, layout_of
+from ._report import Made, Report, with_cause
+from ._stop import Stop
 
 CHUNK_SECONDS = 0.1
 _CHUNKS_A_PROCESSOR = 4
@@ -33,7 +34,7 @@ def _run_one(program: Program, inputs: Tuple[object, ...], options: Dict[str, An
     try:
         return program.run(*inputs, **options)
     except (Refused, TypeError, ValueError) as why:
-        return Report("refused", error=why)
+        return Report("refused", error=why, kept_text="")
 
 
 def _chunk_size(program: Program, count: int, limit: int) -> int:
@@ -73,7 +74,8 @@ def map(
     `Program.run`. An input that is refused gives a report whose `error` says why. `progress` shows a bar, of tqdm if it is installed; a
     function is called with the numbers of runs done and of all.
 
-    A run is the same each time, so a chunk that ran twice gives the same. What a broken pool of processes lost runs again in threads.
+    Ctrl-C, or ending the iteration, stops the runs of this process's threads; `stop` in `options` stops them from outside. It stays in its
+    process, so it can't go to an executor of processes. A run is the same each time, so a chunk that ran twice gives the same. What a broken pool of processes lost runs again in threads.
 
     >>> import yuglemit
     >>> double = yuglemit.load('''
@@ -97,17 +99,24 @@ def map(
     programs = [program] * len(listed) if isinstance(program, Program) else list(program)
     if len(programs) != len(listed):
         raise ValueError(f"there are {len(programs)} programs and {len(listed)} inputs")
-    made = Program.options(**{name: it for name, it in options.items() if name != "trace"})  # also checks the options, before anything runs
-    limit = int(options.get("limit", DEFAULT_LIMIT))
+    layout = layout_of(**{name: it for name, it in options.items() if name not in ("trace", "stop")})  # also checks them, before anything runs
     own = None if executor is not None else ThreadPoolExecutor(os.cpu_count())
+    stop = None if own is None else _own_stop(programs, options)
     runner = executor if executor is not None else own
     assert runner is not None
-    futures = {_submit(runner, part): part for part in cut(programs, listed, chunk, options)}
+    its_options = options if stop is None else {**options, "stop": stop}
+    futures = {_submit(runner, part): part for part in cut(programs, listed, chunk, its_options)}
 
     def finish(number: int, report: Report) -> Report:
-        return report if report.error is not None else replace(report, made=Made(programs[number], listed[number], made, limit))
+        return report if report.error is not None else with_cause(report, Made(programs[number], listed[number], layout))
 
-    return _in_order(futures, len(listed), finish, _shower(progress, len(listed)), own)
+    return _in_order(futures, len(listed), finish, _shower(progress, len(listed)), own, stop)
+
+
+def _own_stop(programs: Sequence[Program], options: Dict[str, Any]) -> Optional[Stop]:
+    """Returns what stops the runs of this process if nobody waits for them any more, if they may be long."""
+    limit = int(options.get("limit", DEFAULT_LIMIT))
+    return Stop() if "stop" not in options and any(it.is_long(limit) for it in set(programs)) else None
 
 
 def _in_order(
@@ -116,6 +125,7 @@ def _in_order(
     finish: Callable[[int, Report], Report],
     show: Callable[[int], None],
     own: Optional[Executor],
+    stop: Optional[Stop],
 ) -> Iterator[Report]:
     waiting: Dict[int, Report] = {}
     following = 0
@@ -131,6 +141,8 @@ def _in_order(
     finally:
         for future in futures:
             future.cancel()
+        if stop is not None:
+            stop.set()
         if own is not None:
             own.shutdown(wait=False)
 

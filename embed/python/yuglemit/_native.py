@@ -1,25 +1,30 @@
 # SPDX-License-Identifier: Apache-2.0
-"""Calls libyuglemit.so. No other module knows how the library is called.
+"""Calls the library. Only this module and `_library` know how it is called.
 
-The library has two calls today: `yuglemit_session`, a command line with its input, and `yuglemit_verify`. Each call reads its program
-anew; a later interface may keep programs, and then this module changes alone.
+A program that is loaded is kept by the library as a handle, and so are inputs, reports and stop flags (embed/yuglemit.h). A handle is used by
+one call at a time. Runs, sessions and loading release the GIL; short calls keep it, since they take less time than a thread needs to get it again.
 """
 
 from __future__ import annotations
 
 import ctypes
-import os
 import threading
-from functools import lru_cache
-from pathlib import Path
-from typing import Callable, NamedTuple, Sequence, Tuple, TypeVar
+from typing import Any, Callable, Dict, List, NamedTuple, Optional, Sequence, Tuple, TypeVar, Union
+
+from ._library import Ending, Handle, Item, Member, Options, RawVerdict, SourceVerdict, library, short
 
 Answer = Tuple[int, bytes]
 Result = TypeVar("Result")
+Scalar = Union[int, str]
+Output = Union[None, int, str, Dict[Scalar, Optional[Scalar]]]
+
+# The end of a run by its status.
+ENDS = {0: "quiet", 3: "stuck", 4: "limit", 5: "memory", 8: "stopped"}
+_INTERRUPTED_SECONDS = 0.05
 
 
 class Verdict(NamedTuple):
-    """What the verifier says of a program's bytes; `letter` is "" if it accepts them."""
+    """The verifier's answer to a program; `letter` is "" if it accepts it."""
 
     letter: str
     number: int
@@ -29,40 +34,219 @@ class Verdict(NamedTuple):
     place: int
 
 
-class _Verdict(ctypes.Structure):
-    _fields_ = [
-        ("letter", ctypes.c_uint8),
-        ("number", ctypes.c_uint8),
-        ("engines", ctypes.c_uint8),
-        ("workers", ctypes.c_uint8),
-        ("procedure", ctypes.c_size_t),
-        ("place", ctypes.c_size_t),
-    ]
+class Given(NamedTuple):
+    """A value that is checked: its type, as "cont int", and its bytes, number, or members by rising subscripts."""
+
+    kind: str
+    value: Union[int, str, List[Tuple[Scalar, Scalar]]]
 
 
-def _places() -> list[str]:
-    """Lists where the library may be: in the package, at YUGLEMIT_LIBRARY, in the repository's build."""
-    here = Path(__file__).resolve().parent
-    named = os.environ.get("YUGLEMIT_LIBRARY")
-    built = here.parents[2] / "crates" / "tw_embed" / "out" / "libyuglemit.so" if len(here.parents) > 2 else None
-    places = [str(here / "libyuglemit.so"), *([named] if named else []), *([str(built)] if built else [])]
-    return [place for place in places if os.path.exists(place)] or [named or "libyuglemit.so"]
+class Layout(NamedTuple):
+    """How many engines, servers and workers a run has, and its most events."""
+
+    engines: int
+    servers: int
+    workers: int
+    limit: int
 
 
-@lru_cache(maxsize=1)
-def _library() -> ctypes.CDLL:
-    """Loads the library, at the first call that needs it; `yuglemit.build` makes texts without it."""
-    try:
-        library = ctypes.CDLL(_places()[0])
-    except OSError as why:
-        raise ImportError(f"{why}; ./tw build --library makes it, and YUGLEMIT_LIBRARY may say where it is") from None
-    text = [ctypes.c_char_p, ctypes.c_size_t]
-    library.yuglemit_session.argtypes = [*text, *text, ctypes.c_void_p, ctypes.c_size_t, ctypes.POINTER(ctypes.c_uint8)]
-    library.yuglemit_session.restype = ctypes.c_size_t
-    library.yuglemit_verify.argtypes = [*text, ctypes.POINTER(_Verdict)]
-    library.yuglemit_verify.restype = None
-    return library
+class Ran(NamedTuple):
+    """A report: the end, the events, the outputs, and the numbers of outputs that are unset or open."""
 
+    end: str
+    events: int
+    outputs: List[Output]
+    unfinished: List[int]
+
+
+class RunError(Exception):
+    """Says that a run isn't begun: `code` is the number of the error O01 to O04, or the letter of an error of the call."""
+
+    def __init__(self, code: int) -> None:
+        super().__init__(f"O{code:02}" if code < 32 else chr(code))
+        self.code = code
+
+
+# ---- Handles
+
+
+class _Owner:
+    """Owns a handle of the library, which begins empty, and frees it once."""
+
+    __slots__ = ("at", "handle", "_free")
+
+    def __init__(self, free: Callable[[Handle], None]) -> None:
+        self._free = free
+        self.handle = Handle()
+        self.at = ctypes.byref(self.handle)
+
+    def __del__(self) -> None:
+        self._free(self.handle)
+
+
+def _owner(kind: str) -> _Owner:
+    return _Owner(getattr(short(), f"yuglemit_{kind}_free"))
+
+
+def _done(code: int) -> None:
+    """Raises the error of a call, if there is one. The callers rule out all but a failed allocation."""
+    if code == ord("M"):
+        raise MemoryError("yuglemit: out of memory")
+    if code:
+        raise RuntimeError(f"yuglemit: a call returned the error {chr(code)}")
+
+
+# Handles that several threads use, for calls that keep the GIL. A signal handler may set a flag while the same thread has the lock.
+_shared = threading.RLock()
+
+
+class Loaded:
+    """A program that the library keeps. Each run takes a handle of its own, which the next run uses again."""
+
+    def __init__(self, root: _Owner) -> None:
+        self._root = root
+        self._idle: List[_Owner] = []
+
+    def take(self) -> _Owner:
+        """Returns a handle for one run."""
+        try:
+            return self._idle.pop()
+        except IndexError:
+            other = _owner("program")
+            with _shared:
+                _done(short().yuglemit_program_share(self._root.at, other.at))
+            return other
+
+    def give(self, handle: _Owner) -> None:
+        """Keeps a handle for the next run."""
+        self._idle.append(handle)
+
+
+class Flag:
+    """Stops one run, from another thread or from a signal handler."""
+
+    def __init__(self) -> None:
+        self.of_run, self._other = _owner("stop"), _owner("stop")
+        _done(short().yuglemit_stop_new(self.of_run.at))
+        _done(short().yuglemit_stop_share(self.of_run.at, self._other.at))
+
+    def set(self) -> None:
+        """Ends the run before its next event."""
+        with _shared:
+            _done(short().yuglemit_stop_raise(self._other.at))
+
+
+def load(source: bytes, format_: str) -> Tuple[Verdict, Optional[Loaded]]:
+    """Verifies a program, and keeps it if it is accepted. The format is "b" for bytes, "h" for hex text, "t" for assembly text."""
+    root, verdict = _owner("program"), SourceVerdict()
+    library().yuglemit_load_source(source, len(source), ord(format_), root.at, ctypes.byref(verdict))
+    answer = _verdict_of(verdict.verdict)
+    return answer, None if answer.letter else Loaded(root)
+
+
+def _verdict_of(raw: RawVerdict) -> Verdict:
+    return Verdict(chr(raw.letter) if raw.letter else "", raw.number, raw.engines, raw.workers, raw.procedure, raw.place)
+
+
+# ---- Runs
+
+
+def _add_container(inputs: _Owner, kind: str, members: List[Tuple[Scalar, Scalar]]) -> None:
+    outer, inner = kind.split()
+    container, by = _owner("container"), "t" if outer == "tcont" else "i"
+    _done(short().yuglemit_container_new(container.at, ord(by), ord(inner[0])))
+    add = getattr(short(), f"yuglemit_member_{inner}" + ("_by_text" if by == "t" else ""))
+    for subscript, member in members:
+        _done(add(container.at, *_words(subscript), *_words(member)))
+    _done(short().yuglemit_input_container(inputs.at, container.at))
+
+
+def _words(value: Scalar) -> Tuple[Any, ...]:
+    """Returns a scalar as the arguments of a call: a number, or a text with its length."""
+    if isinstance(value, int):
+        return (value,)
+    text = value.encode()
+    return (text, len(text))
+
+
+def _inputs_of(given: Sequence[Given]) -> _Owner:
+    inputs, calls = _owner("inputs"), short()
+    for kind, value in given:
+        if isinstance(value, list):
+            _add_container(inputs, kind, value)
+        elif isinstance(value, int):
+            _done(calls.yuglemit_input_int(inputs.at, value))
+        else:
+            _done(calls.yuglemit_input_text(inputs.at, *_words(value)))
+    return inputs
+
+
+def _call_run(program: Loaded, inputs: _Owner, layout: Layout, stop: Optional[Flag]) -> _Owner:
+    """Makes a run, and returns the handle of its report; the GIL is released."""
+    options = Options(ctypes.sizeof(Options), layout.limit, layout.engines, layout.servers, layout.workers)
+    flag = stop.of_run.at if stop is not None else ctypes.byref(Handle())
+    report, own = _owner("report"), program.take()
+    code = library().yuglemit_run(own.at, inputs.at, ctypes.byref(options), flag, report.at)
+    program.give(own)
+    if code in (5, ord("M")):
+        raise MemoryError("yuglemit: out of memory")
+    if code:
+        raise RunError(code)
+    return report
+
+
+def run(program: Loaded, given: Sequence[Given], layout: Layout, stop: Optional[Flag] = None, long: bool = False) -> Ran:
+    """Makes a run of a program on these values; raises RunError if it can't begin.
+
+    A run that may be long gives way to Ctrl-C, which only the main thread gets: its flag is raised, so that it ends at its next event.
+    """
+    inputs = _inputs_of(given)
+    if long and threading.current_thread() is threading.main_thread():
+        flag = stop if stop is not None else Flag()
+        return _ran(_aside(lambda: _call_run(program, inputs, layout, flag), flag.set))
+    return _ran(_call_run(program, inputs, layout, stop))
+
+
+def _ran(report: _Owner) -> Ran:
+    """Reads a report."""
+    ending = Ending()
+    _done(short().yuglemit_report_ending(report.at, ctypes.byref(ending)))
+    outputs: List[Output] = []
+    unfinished: List[int] = []
+    for number in range(ending.outputs):
+        item = Item()
+        _done(short().yuglemit_report_output(report.at, number, ctypes.byref(item)))
+        outputs.append(_output(report, number, item))
+        if item.kind not in b"it" and not (item.kind == ord("c") and item.closed):
+            unfinished.append(number)
+    return Ran(ENDS[ending.status], ending.events, outputs, unfinished)
+
+
+def _output(report: _Owner, number: int, item: Item) -> Output:
+    if item.kind != ord("c"):
+        return _scalar(item, "text", report, number)
+    members: Dict[Scalar, Optional[Scalar]] = {}
+    member = Member()
+    for place in range(item.length):
+        _done(short().yuglemit_report_member(report.at, number, place, ctypes.byref(member)))
+        subscript = _scalar(member.subscript, "subscript_text", report, number, place)
+        assert subscript is not None
+        members[subscript] = _scalar(member.value, "member_text", report, number, place)
+    return members
+
+
+def _scalar(item: Item, call: str, report: _Owner, *places: int) -> Optional[Scalar]:
+    """Returns an item's number, or its text, which a call writes; None if the item is unset."""
+    if item.kind == ord("i"):
+        return int(item.number)
+    if item.kind != ord("t"):
+        return None
+    room = ctypes.create_string_buffer(item.length or 1)
+    _done(getattr(short(), f"yuglemit_report_{call}")(report.at, *places, room, item.length))
+    return room.raw[: item.length].decode()
+
+
+# ---- Sessions
 
 _rooms = threading.local()
 _FIRST_ROOM = 1 << 16
@@ -83,13 +267,18 @@ def _session(words: bytes, data: bytes) -> Answer:
     length, status = 0, ctypes.c_uint8()
     while True:
         room = _room_of(length)
-        length = _library().yuglemit_session(words, len(words), data, len(data), room, len(room), ctypes.byref(status))
+        length = library().yuglemit_session(words, len(words), data, len(data), room, len(room), ctypes.byref(status))
         if length <= len(room):
             return status.value, ctypes.string_at(room, length)
 
 
-def _aside(call: Callable[[], Result]) -> Result:
-    """Makes a call in a thread of its own, and waits for it. Ctrl-C ends the wait at once; the call itself goes on to its end."""
+def _ignore() -> None:
+    """Does nothing: a session can't be stopped."""
+
+
+def _aside(call: Callable[[], Result], interrupt: Callable[[], None] = _ignore) -> Result:
+    """Makes a call in a thread of its own, and waits for it. Ctrl-C ends the wait, and `interrupt` is called; whatever the call still does is
+    done in its thread."""
     results: list[Result] = []
     errors: list[BaseException] = []
     done = threading.Lock()
@@ -103,9 +292,14 @@ def _aside(call: Callable[[], Result]) -> Result:
         finally:
             done.release()
 
-    threading.Thread(target=work, daemon=True, name="yuglemit").start()
-    while not done.acquire(timeout=0.05):  # Python looks for signals between two
-        pass
+    try:
+        threading.Thread(target=work, daemon=True, name="yuglemit").start()
+        while not done.acquire(timeout=0.05):  # Python looks for signals between two
+            pass
+    except BaseException:
+        interrupt()
+        done.acquire(timeout=_INTERRUPTED_SECONDS)
+        raise
     if errors:
         raise errors[0]
     return results[0]
@@ -126,6 +320,6 @@ def session(words: Sequence[str], data: bytes = b"", long: bool = False) -> Answ
 
 def verify(program: bytes) -> Verdict:
     """Returns what the verifier says of a program's bytes."""
-    told = _Verdict()
-    _library().yuglemit_verify(program, len(program), ctypes.byref(told))
-    return Verdict(chr(told.letter) if told.letter else "", told.number, told.engines, told.workers, told.procedure, told.place)
+    verdict = RawVerdict()
+    library().yuglemit_verify(program, len(program), ctypes.byref(verdict))
+    return _verdict_of(verdict)

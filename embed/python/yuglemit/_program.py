@@ -11,12 +11,14 @@ from typing import Optional, Sequence, Tuple, Union
 
 from . import _native
 from ._errors import Refused, Trap
-from ._inputs import word_of
-from ._listing import DEFAULT_LIMIT, Bounds, Needs, Parameter, Procedure, bounds_of, needs_of, procedures_of
-from ._report import Made, Report, read_end, report_of, split_trace
+from ._inputs import given, word_of
+from ._listing import DEFAULT_LIMIT, Bounds, Needs, Parameter, Procedure, bounds_of, procedures_of
+from ._report import Made, Report, actors, read_end, report_of, report_of_text
+from ._stop import Stop
 
 Source = Union[str, bytes, bytearray, memoryview, "os.PathLike[str]"]
-_LONG = 5_000_000  # instructions: a run of fewer takes less than a tenth of a second
+Bytes = bytes  # in a class that has a property of this name
+_LONG_SECONDS = 0.03  # a run that may take longer is made so that Ctrl-C can stop it
 _MOST_EVENTS = 1_000_000
 
 
@@ -31,43 +33,60 @@ def ask(words: Sequence[str], data: bytes, long: bool = False) -> str:
     return text
 
 
-def _within(name: str, number: int, most: int) -> str:
+def _within(name: str, number: int, most: int) -> int:
     if isinstance(number, bool) or not hasattr(number, "__index__"):
         raise TypeError(f"{name}: expected an int, got {type(number).__name__} {number!r:.40}")
     if not 1 <= int(number) <= most:
         raise ValueError(f"{name}: expected 1 to {most}, got {int(number)}")
-    return str(int(number))
+    return int(number)
 
 
-def _layout(engines: int, servers: int, workers: int) -> Tuple[str, ...]:
-    words = ("--engines", _within("engines", engines, 4), "--servers", _within("servers", servers, 4))
-    return (*words, "--workers", _within("workers", workers, 16))
+def layout_of(engines: int = 1, servers: int = 1, workers: int = 1, limit: int = DEFAULT_LIMIT) -> _native.Layout:
+    """Returns the layout of a run, or raises the error that says which number is out of its range."""
+    counts = (_within("engines", engines, 4), _within("servers", servers, 4), _within("workers", workers, 16))
+    return _native.Layout(*counts, _within("limit", limit, _MOST_EVENTS))
 
 
 class Program:
     """An accepted program. `load` makes one.
 
-    `bytes` are the program's bytes, `source` its text if it was loaded from one, and `checked` what `tw check` writes of it.
+    The library keeps it, verified, so that a run only runs. `source` is its text if it was loaded from one. A program that is pickled is
+    verified again where it arrives.
     """
 
-    def __init__(self, code: bytes, source: Optional[str], checked: str) -> None:
-        self.bytes = code
+    def __init__(self, kept: _native.Loaded, needs: Needs, source: Optional[str], code: Optional[Bytes]) -> None:
+        self._kept = kept
+        self.needs = needs
         self.source = source
-        self.checked = checked
-        self._hex = code.hex().encode()
+        self._code = code
 
     def __repr__(self) -> str:
         main = self.procedures[0]
         return f"<Program {self.hash[:12]}: {', '.join(f'{it.mode} {it}' for it in main.parameters)}>"
 
     def __eq__(self, other: object) -> bool:
-        return isinstance(other, Program) and other.bytes == self.bytes and other.source == self.source
+        return isinstance(other, Program) and other.source == self.source and (self.source is not None or other.bytes == self.bytes)
 
     def __hash__(self) -> int:
         return hash(self.bytes)
 
     def __reduce__(self) -> Tuple[object, ...]:
-        return _loaded, (self.bytes, self.source)
+        return _loaded, (self._code, self.source)
+
+    @cached_property
+    def bytes(self) -> Bytes:
+        """Its bytes."""
+        return self._code if self._code is not None else assemble(self.source or "")
+
+    @cached_property
+    def _hex(self) -> Bytes:
+        return self.bytes.hex().encode()
+
+    @cached_property
+    def checked(self) -> str:
+        """Its budgets and needs, as `tw check` writes them."""
+        text = self.source is not None
+        return ask(["check", *(["--text"] if text else [])], self._data(text))
 
     @cached_property
     def hash(self) -> str:
@@ -84,19 +103,14 @@ class Program:
         """Its procedures, main first, each with its budget."""
         return procedures_of(self.text, self.source or "", self.checked)
 
-    @property
+    @cached_property
     def parameters(self) -> Tuple[Parameter, ...]:
         """The inputs that `run` takes, in their order."""
         return tuple(it for it in self.procedures[0].parameters if it.mode != "write")
 
-    @property
-    def needs(self) -> Needs:
-        """How many engines and workers its targets need."""
-        return needs_of(self.checked)
-
     @cached_property
     def bounds(self) -> Bounds:
-        """What a run of it does at most."""
+        """The bounds of its runs."""
         return bounds_of(ask(["check", "--bounds"], self._hex), self.procedures)
 
     def places(self) -> str:
@@ -104,19 +118,23 @@ class Program:
         text = self.source is not None
         return ask(["check", *(["--text"] if text else []), "--places"], self._data(text))
 
-    def _data(self, text: bool) -> bytes:
+    def _data(self, text: bool) -> Bytes:
         return (self.source or "").encode() if text else self._hex
 
-    def words(self, inputs: Sequence[object]) -> Tuple[str, ...]:
-        """Returns the words of inputs; raises TypeError or ValueError with the number and the name of the first that is none."""
+    def given(self, inputs: Sequence[object]) -> Tuple[_native.Given, ...]:
+        """Checks inputs; raises TypeError or ValueError with the number and the name of the first that is none."""
         asked = self.parameters
         if len(inputs) != len(asked):
-            wanted = f" ({', '.join(map(str, asked))})" if asked else ""
-            raise TypeError(f"the program takes {len(asked)} inputs{wanted}, got {len(inputs)}")
+            expected = f" ({', '.join(map(str, asked))})" if asked else ""
+            raise TypeError(f"the program takes {len(asked)} inputs{expected}, got {len(inputs)}")
         return tuple(
-            word_of(value, it.type, f"input {number}" + (f" ({it.name})" if it.name else ""))
+            given(value, it.type, f"input {number}" + (f" ({it.name})" if it.name else ""))
             for number, (value, it) in enumerate(zip(inputs, asked), 1)
         )
+
+    def words(self, inputs: Sequence[object]) -> Tuple[str, ...]:
+        """Returns the words of inputs on a command line."""
+        return tuple(word_of(it, f"input {number}") for number, it in enumerate(self.given(inputs), 1))
 
     def run(
         self,
@@ -126,12 +144,14 @@ class Program:
         workers: int = 1,
         limit: int = DEFAULT_LIMIT,
         trace: bool = False,
+        stop: Optional[Stop] = None,
     ) -> Report:
         """Runs the program on these inputs, one for each of `parameters`: an int, a str, or a dict of these by int or str.
 
         The run makes at most `limit` events. Its actors take turns in the caller's thread, so the same run has the same events each time;
-        other threads go on meanwhile. `trace=True` keeps the events with the report. Ctrl-C ends the wait for a run at once; the run
-        itself goes on aside until its end.
+        other threads continue meanwhile. `trace=True` keeps the events with the report. `stop` ends the run when another thread sets it.
+        Ctrl-C stops a run too, before its next event; an event takes up to the greatest budget, so a leaf may work on for some time, in a
+        thread of its own, after KeyboardInterrupt is raised.
 
         >>> import yuglemit
         >>> program = yuglemit.load('''
@@ -147,53 +167,83 @@ class Program:
         >>> program.run(21).outputs
         [42]
         """
-        made = Made(self, inputs, self.options(engines, servers, workers, limit), int(limit))
-        words = self.words(inputs)
-        answer = self.answer(made, words, *(["--trace"] if trace else []))
-        events, text = split_trace(answer) if trace else (None, answer)
-        if self.source is not None and read_end(text) == "stuck":  # the text's lines say which rules wait
-            text = ask(["run", "--text", *made.options, *words], self._data(True), True)
-        return report_of(text, made, events)
+        layout = layout_of(engines, servers, workers, limit)
+        checked = self.given(inputs)
+        flag = None if stop is None else stop.flag()
+        try:
+            ran = _native.run(self._kept, checked, layout, flag, self.is_long(layout.limit))
+        except _native.RunError as why:
+            raise self._error(why, Made(self, inputs, layout)) from None
+        if ran.end == "memory":
+            raise MemoryError("yuglemit: out of memory")
+        report = report_of(ran, Made(self, inputs, layout))
+        return report.with_trace() if trace else report
 
-    @staticmethod
-    def options(engines: int = 1, servers: int = 1, workers: int = 1, limit: int = DEFAULT_LIMIT) -> Tuple[str, ...]:
-        """Returns the options of a run, or raises the error that says which number is out of its range."""
-        return (*_layout(engines, servers, workers), "--limit", _within("limit", limit, _MOST_EVENTS))
+    def is_long(self, limit: int = DEFAULT_LIMIT) -> bool:
+        """Returns whether a run with this limit may take so long that one waits for it."""
+        return self.bounds.usual_seconds(limit) > _LONG_SECONDS
 
-    def answer(self, made: Made, words: Sequence[str], *options: str) -> str:
-        """Makes a run, and returns what `tw run` writes with these options."""
-        long = self.bounds.instructions_within(made.limit) > _LONG
-        return ask(["run", *made.options, *options, *words], self._hex, long)
+    def _error(self, why: _native.RunError, made: Made) -> Exception:
+        """Returns the error of a run that can't begin, with the text that `tw run` writes."""
+        if why.code >= 32:
+            return RuntimeError(f"yuglemit: a run returned the error {why}")
+        try:
+            self.answer(made)
+        except Refused as said:
+            return said
+        except ValueError:  # inputs that no command line has
+            pass
+        return Refused(f"refused {why}\n")
+
+    def answer(self, made: Made, *options: str) -> str:
+        """Makes a run again, and returns what `tw run` writes with these options."""
+        return ask(["run", *made.words(), *options, *self.words(made.inputs)], self._hex, self.is_long(made.layout.limit))
+
+    def report_text(self, made: Made) -> str:
+        """Makes a run again, and returns its report as `tw run` writes it; of a run that is stuck with the lines of rules."""
+        text = self.answer(made)
+        if self.source is not None and read_end(text) == "stuck":
+            text = ask(["run", "--text", *made.words(), *self.words(made.inputs)], self._data(True), True)
+        return text
 
     def replay(self, trace: str, *inputs: object, engines: int = 1, servers: int = 1, workers: int = 1) -> Report:
         """Makes the events of a trace, from a run of any machine, and returns the report of the state to which they lead."""
-        words = ["replay", *_layout(engines, servers, workers), *self.words(inputs)]
-        return report_of(ask(words, self._hex + b"\n" + trace.encode(), True))
+        words = ["replay", *actors(layout_of(engines, servers, workers)), *self.words(inputs)]
+        return report_of_text(ask(words, self._hex + b"\n" + trace.encode(), True))
 
     def picture(
         self, trace: str, *inputs: object, engines: int = 1, servers: int = 1, workers: int = 1, first: int = 1, last: int = 4294967295
     ) -> str:
-        """Draws the events of a trace, from one number to another, as an SVG picture."""
-        options = (*_layout(engines, servers, workers), "--from", str(int(first)), "--to", str(int(last)))
+        """Draws the events of a trace, from one number to another, as an SVG timeline."""
+        options = (*actors(layout_of(engines, servers, workers)), "--from", str(int(first)), "--to", str(int(last)))
         return ask(["picture", *options, *self.words(inputs)], self._hex + b"\n" + trace.encode(), True)
+
+
+def _kept(source: bytes, format_: str, words: Sequence[str]) -> Tuple[_native.Loaded, Needs]:
+    """Loads a program; one that isn't accepted is an error, with the text that a command of these words writes."""
+    verdict, kept = _native.load(source, format_)
+    if kept is not None:
+        return kept, Needs(verdict.engines, verdict.workers)
+    if verdict.letter == "M":
+        raise MemoryError("yuglemit: out of memory")
+    ask(words, source if format_ == "t" else source.hex().encode())
+    raise Refused(f"refused {verdict.letter}{verdict.number:02}\n")
 
 
 def _from_text(source: str) -> Program:
     if "\n" not in source.strip():
         raise ValueError("a program's text has several lines; to load a file give pathlib.Path(..)")
-    data = source.encode()
-    checked = ask(["check", "--text"], data)
-    return Program(bytes.fromhex(ask(["asm", "--names"], data)), source, checked)
+    return Program(*_kept(source.encode(), "t", ["check", "--text"]), source, None)
 
 
 def _from_bytes(code: bytes) -> Program:
-    return Program(code, None, ask(["check"], code.hex().encode()))
+    return Program(*_kept(code, "b", ["check"]), None, code)
 
 
 @lru_cache(maxsize=64)
-def _loaded(code: bytes, source: Optional[str]) -> Program:
+def _loaded(code: Optional[bytes], source: Optional[str]) -> Program:
     """Loads a program that came from another process; one process verifies it once."""
-    return _from_bytes(code) if source is None else _from_text(source)
+    return _from_bytes(code or b"") if source is None else _from_text(source)
 
 
 def _from_path(path: Path) -> Program:
@@ -221,7 +271,7 @@ def load(source: Source) -> Program:
     ...
     yuglemit.Refused: refused V10 in procedure 0 at place 1
     at line 4: RET
-    d0 holds write int, asked: empty
+    d0 holds write int, required: empty
     """
     if isinstance(source, str):
         return _from_text(source)
@@ -233,7 +283,7 @@ def load(source: Source) -> Program:
 
 
 def assemble(text: str) -> bytes:
-    """Returns the bytes of the program that an assembly text, or one with names, spells; the verifier isn't asked."""
+    """Returns the bytes of a program in assembly text or symbolic assembly, without verifying it."""
     return bytes.fromhex(ask(["asm", "--names"], text.encode()))
 
 
@@ -241,17 +291,17 @@ def verify(program: Union[bytes, bytearray, memoryview]) -> Needs:
     """Returns what an accepted program's bytes need; raises Refused if the verifier doesn't accept them."""
     if isinstance(program, str) or not isinstance(program, (bytes, bytearray, memoryview)):
         raise TypeError(f"expected a program's bytes, got {type(program).__name__}; assemble(text) makes them")
-    told = _native.verify(bytes(program))
-    if told.letter == "M":
+    verdict = _native.verify(bytes(program))
+    if verdict.letter == "M":
         raise MemoryError("yuglemit: out of memory")
-    if told.letter:
-        where = f"at byte {told.place}" if told.letter == "F" else f"in procedure {told.procedure} at place {told.place}"
-        raise Refused(f"refused {told.letter}{told.number:02} {where}\n")
-    return Needs(told.engines, told.workers)
+    if verdict.letter:
+        where = f"at byte {verdict.place}" if verdict.letter == "F" else f"in procedure {verdict.procedure} at place {verdict.place}"
+        raise Refused(f"refused {verdict.letter}{verdict.number:02} {where}\n")
+    return Needs(verdict.engines, verdict.workers)
 
 
 def explain(code: str) -> str:
-    """Returns what the code of a refusal or a trap means, as "V04"."""
+    """Returns what the code of an error or a trap means, as "V04"."""
     if not isinstance(code, str) or not code[:1].isalpha() or not code.isalnum():
         raise ValueError(f'expected a code as "V04", got {code!r:.40}')
     return ask(["explain", code], b"")

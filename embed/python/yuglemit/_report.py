@@ -5,12 +5,13 @@ from __future__ import annotations
 
 import json
 import re
-from dataclasses import dataclass, field
+from dataclasses import dataclass, field, replace
 from functools import cached_property
 from typing import TYPE_CHECKING, Dict, List, NamedTuple, Optional, Tuple
 
 from ._errors import Refused
-from ._inputs import Output, Scalar, read_scalar
+from ._inputs import read_scalar
+from ._native import Layout, Output, Ran
 
 if TYPE_CHECKING:
     from ._program import Program
@@ -72,43 +73,66 @@ class _Numbers(NamedTuple):
 
 
 def read_numbers(text: str) -> _Numbers:
-    """Reads the statistics behind a report: its events, and the instructions of all its tasks."""
+    """Reads the statistics after a report: its events, and the instructions of all its tasks."""
     events = re.findall(r"^events (\d+)$", text, re.M)
     done = re.findall(r"^procedure \d+ tasks \d+ instructions (\d+) ", text, re.M)
     return _Numbers(int(events[-1]) if events else 0, sum(map(int, done)))
 
 
+def actors(layout: Layout) -> Tuple[str, ...]:
+    """Returns the options of a command that say how many actors there are."""
+    return ("--engines", str(layout.engines), "--servers", str(layout.servers), "--workers", str(layout.workers))
+
+
 @dataclass(frozen=True)
 class Made:
-    """What made a report: the same again makes the same run, since its actors take turns in a fixed order."""
+    """The causes of a report: the same again makes the same run, since its actors take turns in a fixed order."""
 
     program: "Program"
     inputs: Tuple[object, ...]
-    options: Tuple[str, ...]
-    limit: int
+    layout: Layout
+
+    def words(self) -> Tuple[str, ...]:
+        """Returns the options of `tw run`."""
+        return (*actors(self.layout), "--limit", str(self.layout.limit))
+
+    def until(self, report: "Report") -> "Made":
+        """Returns the causes of a report: a run that was stopped is made again by a limit of as many events."""
+        if report.end != "stopped":
+            return self
+        return replace(self, layout=self.layout._replace(limit=report.kept_events or 0))
 
 
 @dataclass(frozen=True)
 class Report:
     """The report of a run.
 
-    `end` is "quiet", "stuck" (rules wait for one another), "limit" (as many events as allowed) or "refused" (only in what `map` returns:
-    then `error` says why). `outputs` has an int, a str or a dict for each output of main, None for one that is unset; `unfinished` the
-    numbers of those that are unset or still open. `text` is the report as `tw run` writes it.
+    `end` is "quiet", "stuck" (rules wait for one another), "limit" (as many events as allowed), "stopped" (by a `Stop`) or "refused" (only
+    in what `map` returns: then `error` says why). `outputs` has an int, a str or a dict for each output of main, None for one that is
+    unset; `unfinished` the numbers of those that are unset or still open.
     """
 
     end: str
     outputs: List[Output] = field(default_factory=list)
-    text: str = ""
     unfinished: List[int] = field(default_factory=list)
     error: Optional[Exception] = None
     made: Optional[Made] = field(default=None, repr=False, compare=False)
+    kept_events: Optional[int] = field(default=None, repr=False, compare=False)
+    kept_text: Optional[str] = field(default=None, repr=False, compare=False)
     kept_trace: Optional[str] = field(default=None, repr=False, compare=False)
+
+    @cached_property
+    def text(self) -> str:
+        """The report as `tw run` writes it; the first access makes the run again. One of a run that was stopped ends with `limit`."""
+        if self.kept_text is not None:
+            return self.kept_text
+        made = self._cause()
+        return made.program.report_text(made)
 
     @property
     def circle(self) -> List[Wait]:
         """The rules that wait for one another in a circle, if the run is stuck."""
-        return read_circle(self.text)
+        return read_circle(self.text) if self.end == "stuck" else []
 
     @cached_property
     def _numbers(self) -> _Numbers:
@@ -116,8 +140,8 @@ class Report:
 
     @property
     def events(self) -> int:
-        """How many events the run had. The first access makes the run again and counts."""
-        return self._numbers.events
+        """How many events the run had."""
+        return self.kept_events if self.kept_events is not None else self._numbers.events
 
     @property
     def instructions(self) -> int:
@@ -130,27 +154,37 @@ class Report:
         return self.kept_trace if self.kept_trace is not None else split_trace(self._again("--trace"))[0]
 
     def timeline(self, first: int = 1, last: int = 4294967295) -> str:
-        """Draws the events of the run, from one number to another, as an SVG picture; it makes the run again."""
+        """Draws the events of the run, from one number to another, as an SVG timeline; it makes the run again."""
         return self._again("--picture", "--from", str(first), "--to", str(last))
 
     def _repr_svg_(self) -> Optional[str]:
         return None if self.made is None else self.timeline()
 
-    def _again(self, *options: str) -> str:
+    def _cause(self) -> Made:
         if self.made is None:
             raise ValueError("there was no run: the report is of a refused input or a replay")
-        return self.made.program.answer(self.made, self.made.program.words(self.made.inputs), *options)
+        if self.made.layout.limit == 0:
+            raise ValueError("the run was stopped before its first event")
+        return self.made
+
+    def _again(self, *options: str) -> str:
+        made = self._cause()
+        return made.program.answer(made, *options)
+
+    def with_trace(self) -> "Report":
+        """Returns the report with the trace of its run, unless it had no event."""
+        return self if self.kept_events == 0 else replace(self, kept_trace=self.trace)
 
     @property
     def json(self) -> str:
         """The report as JSON. A container is an object whose names are its subscripts, a number as its decimal digits."""
-        told: Dict[str, object] = {"end": self.end, "outputs": self.outputs, "unfinished": self.unfinished}
+        fields: Dict[str, object] = {"end": self.end, "outputs": self.outputs, "unfinished": self.unfinished}
         if self.end == "stuck":
-            told["circle"] = [wait._asdict() for wait in self.circle]
+            fields["circle"] = [wait._asdict() for wait in self.circle]
         if self.error is not None:
-            told["error"] = str(self.error)
-            told["code"] = self.error.code if isinstance(self.error, Refused) else None
-        return json.dumps(told, ensure_ascii=False)
+            fields["error"] = str(self.error)
+            fields["code"] = self.error.code if isinstance(self.error, Refused) else None
+        return json.dumps(fields, ensure_ascii=False)
 
 
 def split_trace(answer: str) -> Tuple[str, str]:
@@ -159,10 +193,17 @@ def split_trace(answer: str) -> Tuple[str, str]:
     return trace + "\nend\n", report
 
 
-def report_of(text: str, made: Optional[Made] = None, trace: Optional[str] = None) -> Report:
-    """Reads a report."""
+def report_of(ran: Ran, made: Made) -> Report:
+    """Makes the report of a run."""
+    return with_cause(Report(ran.end, ran.outputs, ran.unfinished, kept_events=ran.events), made)
+
+
+def with_cause(report: Report, made: Made) -> Report:
+    """Returns a report with the causes of its run, by which it is made again."""
+    return replace(report, made=made.until(report))
+
+
+def report_of_text(text: str) -> Report:
+    """Reads a report that a command wrote."""
     outputs, unfinished = read_outputs(text)
-    return Report(read_end(text), outputs, text, unfinished, None, made, trace)
-
-
-__all__ = ["Made", "Report", "Scalar", "Wait", "report_of", "split_trace"]
+    return Report(read_end(text), outputs, unfinished, kept_text=text)

@@ -9,7 +9,7 @@
     def main(x: Int, y: Int, total: Out[Int]):
         out.total = add(square(x), square(y))
 
-The functions are read and compiled, and never run: `build_file` gives the program. What is defined here besides is for editors and type
+The functions are read and compiled, and never run: `build_file` gives the program. All else that is defined here is for editors and type
 checkers, and lets a leaf function be called as plain Python.
 """
 
@@ -67,7 +67,7 @@ def control(function: Function) -> Function:
 
 
 def check(*values: object) -> bool:
-    """As the condition of an `if`: evaluates its arguments; what is refused in them goes to the else."""
+    """As the condition of an `if`: evaluates its arguments; if an instruction in them is refused, the else is taken."""
     return all(not isinstance(it, int) or -(2**63) <= it < 2**63 for it in values)
 
 

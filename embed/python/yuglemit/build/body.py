@@ -30,7 +30,7 @@ class Right:
 
 @dataclass
 class State:
-    """What is known on a way: which variables are set, and which rights are held, by their keys."""
+    """State on one way through the code: which variables are set, and which rights are held, by their keys."""
 
     assigned: Set[str] = field(default_factory=set)
     rights: Dict[str, Right] = field(default_factory=dict)
@@ -42,7 +42,7 @@ class State:
 
 @dataclass
 class Failing:
-    """Where refused instructions go on: a way for each set of rights that was held, all of which come to `home`."""
+    """Where refused instructions continue: a way for each set of rights that was held, all of which lead to `home`."""
 
     home: State
     pads: Dict[FrozenSet[str], Tuple[str, State]] = field(default_factory=dict)
@@ -76,7 +76,7 @@ class Variant:
 
 @dataclass
 class Unit:
-    """What is alike for all procedures of a program: names, what is still to be compiled, and what else the text needs."""
+    """Data that all procedures of a program share: names, functions still to be compiled, and other parts of the text."""
 
     source: Source
     names: Dict[Variant, str] = field(default_factory=dict)
@@ -214,5 +214,5 @@ class Body:
 
 
 def named(key: str) -> str:
-    """Returns how a right's key is told in an error."""
+    """Returns the name of a right's key in errors."""
     return key.rstrip(">") if not key.startswith("#") else "the result of a task"

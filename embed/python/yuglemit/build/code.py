@@ -68,7 +68,7 @@ def tidy(lines: List[Line]) -> List[Line]:
 
 
 def _threaded(lines: List[Line]) -> List[Line]:
-    """Lets each jump to a label behind which a jump stands go to that one's goal."""
+    """Redirects each jump whose target is itself a jump to that one's target."""
     goals = {}
     for number, line in enumerate(lines):
         after = next((it for it in lines[number + 1 :] if not it.is_label and not it.is_comment), None)
@@ -89,7 +89,7 @@ def _without_idle(lines: List[Line]) -> List[Line]:
 
 
 def _reached(lines: List[Line]) -> List[Line]:
-    """Takes out instructions behind a JMP or RET with no label before them; an END is always kept."""
+    """Removes instructions after a JMP or RET that no label precedes; an END is always kept."""
     kept: List[Line] = []
     open_way = True
     for line in lines:

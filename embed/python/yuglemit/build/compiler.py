@@ -25,7 +25,7 @@ MOST_PROCEDURES = 64
 
 @dataclass(frozen=True)
 class Built:
-    """A compiled file: `text` is the program as assembly text with names, `program` the loaded program."""
+    """A compiled file: `text` is the program in symbolic assembly, `program` the loaded program."""
 
     text: str
     file: str
@@ -34,7 +34,7 @@ class Built:
 
     @cached_property
     def program(self) -> "Program":
-        """The program, verified. What the verifier refuses, such as a budget that is too large, is told at the Python line."""
+        """The program, verified. An error of the verifier, such as a budget that is too large, names the Python line."""
         from .. import Refused, load
 
         try:

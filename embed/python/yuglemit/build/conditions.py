@@ -13,7 +13,7 @@ from .values import closed_container, kind_of, value
 
 
 def branch(body: Body, node: ast.expr, yes: str, no: str) -> None:
-    """Writes code that goes to one of two labels."""
+    """Writes code that jumps to one of two labels."""
     if isinstance(node, ast.UnaryOp) and isinstance(node.op, ast.Not):
         branch(body, node.operand, no, yes)
     elif isinstance(node, ast.BoolOp):

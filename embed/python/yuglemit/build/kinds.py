@@ -1,5 +1,5 @@
 # SPDX-License-Identifier: Apache-2.0
-"""Finds what each variable of a function stands for: one kind and one type throughout the function."""
+"""Finds the meaning of each variable of a function: one kind and one type throughout the function."""
 
 from __future__ import annotations
 

@@ -22,7 +22,7 @@ Ends = Callable[[Body], None]
 
 @dataclass
 class _Shape:
-    """What a loop counts: its turns, and the register that each turn raises by a step."""
+    """The counter of a loop: its iterations, and the register that each raises by a step."""
 
     turns: int
     counter: Optional[str]
@@ -85,7 +85,7 @@ def _with_pads(body: Body, turns: Loop, failing: Failing, shape: _Shape, lines: 
 
 
 def _may_end(node: ast.For) -> bool:
-    """Whether a turn may end the loop, as far as its text tells: then it has a flag, whose register nothing else may use from its begin on."""
+    """Says whether an iteration may end the loop, by its text: then it has a flag, whose register nothing else may use from its begin on."""
     kinds = (ast.Break, ast.Return, ast.BinOp, ast.UnaryOp, ast.AugAssign, ast.Call, ast.Subscript, ast.JoinedStr)
     return any(isinstance(it, kinds) for statement in node.body for it in ast.walk(statement))
 
@@ -101,7 +101,7 @@ def _add_flag(body: Body, turns: Loop, before: int, top: int) -> None:
 
 
 def _after(body: Body, turns: Loop, shape: _Shape, ends: Ends) -> None:
-    """Goes on after the loop, as its flag says."""
+    """Continues after the loop, as its flag says."""
     body.state = turns.home.copy()
     body.state.assigned.difference_update(shape.targets)
     if turns.return_sets:
@@ -137,7 +137,7 @@ def _returns(body: Body, turns: Loop, ends: Ends) -> None:
 
 
 def turn_ends(body: Body, flag: int) -> None:
-    """Ends the turn here: goes to the next one, or with a flag to the END, after which no turn does anything."""
+    """Ends the iteration here: jumps to the next one, or with a flag to the END, after which no iteration does anything."""
     if not body.loops:
         body.fail("this is for loops")
     turns = body.loops[-1]

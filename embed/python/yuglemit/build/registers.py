@@ -35,7 +35,7 @@ class Names:
 
 @dataclass
 class Values:
-    """The value registers: variables keep theirs, what is needed for a moment is given back."""
+    """The value registers: variables keep theirs, temporary ones are returned."""
 
     names: Names
     listed: List[Tuple[str, DataType]] = field(default_factory=list)

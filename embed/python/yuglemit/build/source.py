@@ -37,7 +37,7 @@ class Function:
 
     @property
     def outputs(self) -> Tuple[Parameter, ...]:
-        """What the task writes: its Out parameters, then its results."""
+        """The outputs of the task: its Out parameters, then its results."""
         named = [it for it in self.parameters if it.is_out]
         return (*named, *(Parameter(it, kind, True) for it, kind in zip(self.result_names, self.results)))
 
@@ -51,7 +51,7 @@ class Function:
 
 @dataclass
 class Source:
-    """What a file has."""
+    """The contents of a file."""
 
     file: str
     lines: List[str]

@@ -296,7 +296,7 @@ def _put_at(body: Body, at: int, state: State, home: State, done: str) -> None:
 
 
 def _check(body: Body, node: ast.expr, yes: str, no: str) -> State:
-    """Compiles `check(..)`: what is refused in it goes to the else. Returns the state there."""
+    """Compiles `check(..)`: a refused instruction in it leads to the else. Returns the state there."""
     assert isinstance(node, ast.Call)
     if not node.args or node.keywords:
         body.fail("check takes expressions: what may be refused", node)
@@ -336,7 +336,7 @@ def _return(body: Body, node: ast.Return) -> None:
 
 
 def _set_results(body: Body, node: ast.Return) -> Dict[str, str]:
-    """Sets the results; returns the registers of those that are values, unless a loop goes on after them: then each has its own."""
+    """Sets the results; returns the registers of those that are values, unless a loop continues after them: then each has its own."""
     given: Dict[str, str] = {}
     names = body.function.result_names if body.function.results else ()
     if node.value is None or not names:

@@ -18,7 +18,7 @@ _TARGETS = {"worker": "leaf", "engine": "control"}
 
 @dataclass
 class _Call:
-    """What a call has gathered: operands in the order of the parameters, their modes, and what is gone or given back after it."""
+    """The operands of a call in the order of the parameters, their modes, and the registers that are consumed or returned after it."""
 
     operands: List[str] = field(default_factory=list)
     modes: List[str] = field(default_factory=list)
@@ -28,7 +28,7 @@ class _Call:
 
 
 def call_task(body: Body, node: ast.Call, results: Sequence[Optional[str]]) -> None:
-    """Writes a call of a function of the file. Each result goes to a key: that of a variable or of the call around, which gets the right to
+    """Writes a call of a function of the file. Each result is stored under a key: that of a variable or of the call around, which gets the right to
     read it; that of an output, whose right to write is given away; or None, and nobody reads it."""
     function = body.source.functions[called(node) or ""]
     if body.function.kind == "leaf":
@@ -244,7 +244,7 @@ def _give_output(body: Body, key: str, kind: DataType, gathered: _Call) -> None:
 
 
 def new_datum(body: Body, key: str, kind: DataType, wanted: str) -> str:
-    """Writes a NEW: the right to read goes to `key`; returns the key of the right to write."""
+    """Writes a NEW: the right to read is stored under `key`; returns the key of the right to write."""
     write = body.new_key()
     to_write = body.hold(write, f"{wanted}_out", "write", kind)
     to_read = body.hold(key, wanted, "ref", kind)

@@ -1,5 +1,5 @@
 # SPDX-License-Identifier: Apache-2.0
-"""Types of the language: Int, Text, Array and Table, and what a name stands for."""
+"""Types of the language: Int, Text, Array and Table, and the meaning of a name."""
 
 from __future__ import annotations
 
@@ -9,7 +9,7 @@ from typing import Tuple
 
 @dataclass(frozen=True)
 class DataType:
-    """A type, as the words by which the machine's text spells it: ("cont", "int") is Array[Int]."""
+    """A type, as its words in assembly text: ("cont", "int") is Array[Int]."""
 
     words: Tuple[str, ...]
 
@@ -30,7 +30,7 @@ class DataType:
 
     @property
     def spelling(self) -> str:
-        """How the machine's text spells it."""
+        """Returns the type in assembly text."""
         return " ".join(self.words)
 
     @property
@@ -54,7 +54,7 @@ DEEPEST = 3
 
 @dataclass(frozen=True)
 class Kind:
-    """What an expression gives: a "value", known while the task runs; a "future", the result of a task or a member, known later; or a
+    """The kind of an expression: a "value", known while the task runs; a "future", the result of a task or a member, known later; or a
     "container" that the task itself fills or reads."""
 
     form: str

@@ -131,7 +131,7 @@ def _binary(body: Body, node: ast.BinOp, kind: Kind, into: Optional[str]) -> str
 
 
 def _moved(body: Body, register: str, into: Optional[str]) -> str:
-    """Copies a register that was taken for a moment to where it is wanted."""
+    """Copies a temporary register to where it is required."""
     if into is None:
         return register
     body.code.put("COPY", into, register)
@@ -140,7 +140,7 @@ def _moved(body: Body, register: str, into: Optional[str]) -> str:
 
 
 def _put(body: Body, name: str, kind: DataType, into: Optional[str], *operands: str) -> str:
-    """Writes an instruction that may be refused; its operands are given back, and its result may be in one of them."""
+    """Writes an instruction that may be refused; its operands are returned, and its result may be in one of them."""
     register = into
     if register is None:
         for it in operands:
@@ -154,7 +154,7 @@ def _put(body: Body, name: str, kind: DataType, into: Optional[str], *operands: 
 
 
 def _signs(body: Body, remainder: str, right: str, divisor: Optional[int], adjust: str, done: str) -> None:
-    """Goes to `adjust` if a remainder isn't 0 and has another sign than the divisor, else to `done`."""
+    """Jumps to `adjust` if a remainder isn't 0 and has another sign than the divisor, else to `done`."""
     zero = body.temporary(INT)
     body.code.put("INT", zero, 0)
     if divisor is not None and divisor > 0:

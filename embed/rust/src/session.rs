@@ -1,25 +1,5 @@
 // SPDX-License-Identifier: Apache-2.0
-//! Yuglemit for Rust, over libyuglemit.a: the command `tw` as a function, and the verifier.
-//!
-//! As a module of a crate: copy this file, and let build.rs print `cargo:rustc-link-search=FOLDER` for the library's folder.
-
-/// The verdict as the library writes it.
-#[repr(C)]
-#[derive(Clone, Copy, Debug, Default, PartialEq, Eq)]
-struct Told {
-    letter: u8,
-    number: u8,
-    engines: u8,
-    workers: u8,
-    procedure: usize,
-    place: usize,
-}
-
-#[link(name = "yuglemit", kind = "static")]
-unsafe extern "C" {
-    fn yuglemit_session(words: *const u8, words_length: usize, input: *const u8, input_length: usize, room: *mut u8, room_length: usize, status: *mut u8) -> usize;
-    fn yuglemit_verify(bytes: *const u8, length: usize, verdict: *mut Told);
-}
+use crate::raw::{self, yuglemit_session, yuglemit_verify};
 
 /// The output of the command `tw`, and its exit status.
 #[derive(Clone, Debug, PartialEq, Eq)]
@@ -41,6 +21,11 @@ pub enum Verdict {
 }
 
 /// Returns what the command `tw` answers to these arguments if it reads this input; a run is in turn. An argument with a line feed in it is two.
+///
+/// ```
+/// let reply = yuglemit::session(&["run", "--text"], b"proc control write int\nregs int\nINT v0 7\nSTORE d0 v0\nRET\n");
+/// assert!(reply.text.starts_with(b"out 0 int 7\n"));
+/// ```
 pub fn session(words: &[&str], input: &[u8]) -> Reply {
     let lines: String = words.iter().flat_map(|word| [word, "\n"]).collect();
     let mut text = vec![0; 4096];
@@ -58,13 +43,13 @@ pub fn session(words: &[&str], input: &[u8]) -> Reply {
 
 /// Verifies a program's bytes.
 pub fn verify(bytes: &[u8]) -> Verdict {
-    let mut told = Told::default();
+    let mut verdict = raw::Verdict::default();
     // The pointer is the slice's own, and nothing else has the verdict.
-    unsafe { yuglemit_verify(bytes.as_ptr(), bytes.len(), &mut told) };
-    match told.letter {
-        0 => Verdict::Accepted { engines: told.engines, workers: told.workers },
-        b'V' => Verdict::Refused { number: told.number, procedure: told.procedure, place: told.place },
-        b'F' => Verdict::NoProgram { number: told.number, byte: told.place },
+    unsafe { yuglemit_verify(bytes.as_ptr(), bytes.len(), &mut verdict) };
+    match verdict.letter {
+        0 => Verdict::Accepted { engines: verdict.engines, workers: verdict.workers },
+        b'V' => Verdict::Refused { number: verdict.number, procedure: verdict.procedure, place: verdict.place },
+        b'F' => Verdict::NoProgram { number: verdict.number, byte: verdict.place },
         _ => Verdict::NoMemory,
     }
 }

@@ -1,6 +1,5 @@
 // SPDX-License-Identifier: Apache-2.0
 //! With words: as the command `tw`. Without: what the calls give, also from eight threads side by side.
-mod yuglemit;
 
 use std::io::{Read, Write};
 use std::process::ExitCode;

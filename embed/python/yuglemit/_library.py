@@ -1,0 +1,150 @@
+# SPDX-License-Identifier: Apache-2.0
+"""Finds and loads libyuglemit.so, with the types of its calls, as embed/yuglemit.h has them."""
+
+from __future__ import annotations
+
+import ctypes
+import os
+from functools import lru_cache
+from pathlib import Path
+from typing import Any, Callable, Dict, Sequence, Tuple
+
+
+class Handle(ctypes.Structure):
+    """A pointer to memory of the library."""
+
+    _fields_ = [("at", ctypes.c_void_p)]
+
+
+class RawVerdict(ctypes.Structure):
+    """The verifier's answer, as the library writes it."""
+
+    _fields_ = [
+        ("letter", ctypes.c_uint8),
+        ("number", ctypes.c_uint8),
+        ("engines", ctypes.c_uint8),
+        ("workers", ctypes.c_uint8),
+        ("procedure", ctypes.c_size_t),
+        ("place", ctypes.c_size_t),
+    ]
+
+
+class SourceVerdict(ctypes.Structure):
+    """The answer to a source, with the position in its text."""
+
+    _fields_ = [("verdict", RawVerdict), ("line", ctypes.c_size_t), ("word", ctypes.c_size_t), ("column", ctypes.c_size_t)]
+
+
+class Options(ctypes.Structure):
+    """The options of a run."""
+
+    _fields_ = [
+        ("size", ctypes.c_size_t),
+        ("limit", ctypes.c_size_t),
+        ("engines", ctypes.c_uint8),
+        ("servers", ctypes.c_uint8),
+        ("workers", ctypes.c_uint8),
+    ]
+
+
+class Ending(ctypes.Structure):
+    """How a run ended."""
+
+    _fields_ = [("events", ctypes.c_size_t), ("outputs", ctypes.c_size_t), ("status", ctypes.c_uint8)]
+
+
+class Item(ctypes.Structure):
+    """A datum of a report."""
+
+    _fields_ = [
+        ("number", ctypes.c_int64),
+        ("length", ctypes.c_size_t),
+        ("kind", ctypes.c_uint8),
+        ("closed", ctypes.c_uint8),
+        ("scalar", ctypes.c_uint8),
+        ("by", ctypes.c_uint8),
+    ]
+
+
+class Member(ctypes.Structure):
+    """A member of a container in a report."""
+
+    _fields_ = [("subscript", Item), ("value", Item)]
+
+
+def _places() -> list[str]:
+    """Lists where the library may be: in the package, at YUGLEMIT_LIBRARY, in the repository's build."""
+    here = Path(__file__).resolve().parent
+    named = os.environ.get("YUGLEMIT_LIBRARY")
+    built = here.parents[2] / "crates" / "tw_embed" / "out" / "libyuglemit.so" if len(here.parents) > 2 else None
+    places = [str(here / "libyuglemit.so"), *([named] if named else []), *([str(built)] if built else [])]
+    return [place for place in places if os.path.exists(place)] or [named or "libyuglemit.so"]
+
+
+_AT = ctypes.POINTER(Handle)
+_BYTES = (ctypes.c_char_p, ctypes.c_size_t)
+_ROOM = (ctypes.c_void_p, ctypes.c_size_t)
+_KINDS = ("program", "inputs", "container", "stop", "report")
+
+# The types of calls that release the GIL, and of those that keep it. The latter return 0 or the letter of an error.
+_LONG_CALLS: Dict[str, Tuple[Any, Sequence[Any]]] = {
+    "session": (ctypes.c_size_t, (*_BYTES, *_BYTES, *_ROOM, ctypes.POINTER(ctypes.c_uint8))),
+    "verify": (None, (*_BYTES, ctypes.POINTER(RawVerdict))),
+    "load_source": (None, (*_BYTES, ctypes.c_uint8, _AT, ctypes.POINTER(SourceVerdict))),
+    "run": (ctypes.c_uint8, (_AT, _AT, ctypes.POINTER(Options), _AT, _AT)),
+}
+_SHORT_CALLS: Dict[str, Sequence[Any]] = {
+    "program_share": (_AT, _AT),
+    "input_int": (_AT, ctypes.c_int64),
+    "input_text": (_AT, *_BYTES),
+    "input_container": (_AT, _AT),
+    "container_new": (_AT, ctypes.c_uint8, ctypes.c_uint8),
+    "member_int": (_AT, ctypes.c_int64, ctypes.c_int64),
+    "member_text": (_AT, ctypes.c_int64, *_BYTES),
+    "member_int_by_text": (_AT, *_BYTES, ctypes.c_int64),
+    "member_text_by_text": (_AT, *_BYTES, *_BYTES),
+    "stop_new": (_AT,),
+    "stop_share": (_AT, _AT),
+    "stop_raise": (_AT,),
+    "report_ending": (_AT, ctypes.POINTER(Ending)),
+    "report_output": (_AT, ctypes.c_size_t, ctypes.POINTER(Item)),
+    "report_member": (_AT, ctypes.c_size_t, ctypes.c_size_t, ctypes.POINTER(Member)),
+    "report_text": (_AT, ctypes.c_size_t, *_ROOM),
+    "report_member_text": (_AT, ctypes.c_size_t, ctypes.c_size_t, *_ROOM),
+    "report_subscript_text": (_AT, ctypes.c_size_t, ctypes.c_size_t, *_ROOM),
+}
+
+
+def _typed(library: ctypes.CDLL, name: str, returned: Any, types: Sequence[Any]) -> None:
+    try:
+        call = getattr(library, f"yuglemit_{name}")
+    except AttributeError:
+        raise ImportError(f"the library has no call yuglemit_{name}: it is older than this package") from None
+    call.argtypes, call.restype = types, returned
+
+
+def _opened(kind: Callable[[str], ctypes.CDLL]) -> ctypes.CDLL:
+    try:
+        return kind(_places()[0])
+    except OSError as why:
+        raise ImportError(f"{why}; ./tw build --library makes it, and YUGLEMIT_LIBRARY may say where it is") from None
+
+
+@lru_cache(maxsize=1)
+def library() -> ctypes.CDLL:
+    """Loads the library, at the first call that needs it; `yuglemit.build` makes texts without it."""
+    opened = _opened(ctypes.CDLL)
+    for name, (returned, types) in _LONG_CALLS.items():
+        _typed(opened, name, returned, types)
+    return opened
+
+
+@lru_cache(maxsize=1)
+def short() -> ctypes.CDLL:
+    """Loads the library for the calls that keep the GIL."""
+    opened = _opened(ctypes.PyDLL)
+    for name, types in _SHORT_CALLS.items():
+        _typed(opened, name, ctypes.c_uint8, types)
+    for kind in _KINDS:
+        _typed(opened, f"{kind}_free", None, (Handle,))
+    return opened

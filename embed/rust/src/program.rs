@@ -1,0 +1,121 @@
+// SPDX-License-Identifier: Apache-2.0
+use crate::raw::{self, OfInputs, OfProgram, Owner, done};
+use crate::{Error, Refused, Report, Stop, Value};
+
+/// The format of a program's source.
+#[derive(Clone, Copy, Debug, Default, PartialEq, Eq)]
+pub enum Format {
+    /// Bytes begin with `TWB`, hex text has only digits and white space, and anything else is assembly text.
+    #[default]
+    Any,
+    Bytes,
+    Hex,
+    /// Assembly text, symbolic or not.
+    Text,
+}
+
+/// How a run is made.
+#[derive(Clone, Copy)]
+pub struct Options<'a> {
+    /// The most events, 1 to 1,000,000.
+    pub limit: usize,
+    pub engines: u8,
+    pub servers: u8,
+    pub workers: u8,
+    /// Ends the run when it is raised.
+    pub stop: Option<&'a Stop>,
+}
+
+impl Default for Options<'_> {
+    fn default() -> Self {
+        Options { limit: 10_000, engines: 1, servers: 1, workers: 1, stop: None }
+    }
+}
+
+/// A program that is verified.
+pub struct Program {
+    owner: Owner<OfProgram>,
+    engines: u8,
+    workers: u8,
+}
+
+// Each pointer below is a slice's, a local's or an owner's own, and the owners of a call are different ones.
+
+impl Program {
+    /// Loads a program from its bytes, hex text or assembly text.
+    ///
+    /// ```
+    /// use yuglemit::{Error, Program};
+    ///
+    /// let Err(Error::Refused(refused)) = Program::load("proc control write int\nregs int\nINT v0 7\nRET\n") else { panic!() };
+    /// assert_eq!((refused.code().as_str(), refused.place, refused.line), ("V10", 1, 4));
+    /// ```
+    pub fn load(source: impl AsRef<[u8]>) -> Result<Program, Error> {
+        Program::load_as(source, Format::Any)
+    }
+
+    /// Loads a program of this format.
+    pub fn load_as(source: impl AsRef<[u8]>, format: Format) -> Result<Program, Error> {
+        let (source, owner) = (source.as_ref(), Owner::new());
+        let mut found = raw::SourceVerdict::default();
+        unsafe { raw::yuglemit_load_source(source.as_ptr(), source.len(), format.letter(), owner.at(), &mut found) };
+        match found.verdict.letter {
+            0 => Ok(Program { owner, engines: found.verdict.engines, workers: found.verdict.workers }),
+            b'M' => Err(Error::NoMemory),
+            _ => Err(Error::Refused(Refused::of(&found))),
+        }
+    }
+
+    /// Makes another of the same program, for another thread. The program isn't copied.
+    pub fn share(&self) -> Result<Program, Error> {
+        let owner = Owner::new();
+        done(unsafe { raw::yuglemit_program_share(self.owner.at(), owner.at()) })?;
+        Ok(Program { owner, ..*self })
+    }
+
+    /// Returns how many engines and workers its targets need.
+    pub fn needs(&self) -> (u8, u8) {
+        (self.engines, self.workers)
+    }
+
+    /// Returns for each procedure the most instructions that one of its tasks executes.
+    pub fn budgets(&self) -> Result<Vec<u64>, Error> {
+        let mut count = 0;
+        done(unsafe { raw::yuglemit_program_procedures(self.owner.at(), &mut count) })?;
+        (0..count).map(|procedure| self.budget(procedure)).collect()
+    }
+
+    fn budget(&self, procedure: usize) -> Result<u64, Error> {
+        let mut most = 0;
+        done(unsafe { raw::yuglemit_program_budget(self.owner.at(), procedure, &mut most) })?;
+        Ok(most)
+    }
+
+    /// Runs the program in this thread, its actors in turn, with at most 10,000 events.
+    pub fn run(&self, inputs: &[Value]) -> Result<Report, Error> {
+        self.run_with(inputs, &Options::default())
+    }
+
+    /// Runs the program in this thread, its actors in turn.
+    pub fn run_with(&self, inputs: &[Value], options: &Options) -> Result<Report, Error> {
+        let values = Owner::<OfInputs>::new();
+        inputs.iter().try_for_each(|value| value.append(&values))?;
+        let Options { limit, engines, servers, workers, stop } = *options;
+        let raw_options = raw::Options { size: size_of::<raw::Options>(), limit, engines, servers, workers };
+        let (none, report) = (Owner::new(), Owner::new());
+        let stop = stop.map_or(&none, |stop| &stop.owner);
+        done(unsafe { raw::yuglemit_run(self.owner.at(), values.at(), &raw_options, stop.at(), report.at()) })?;
+        Report::of(report)
+    }
+}
+
+impl Format {
+    fn letter(self) -> u8 {
+        match self {
+            Format::Any => 0,
+            Format::Bytes => b'b',
+            Format::Hex => b'h',
+            Format::Text => b't',
+        }
+    }
+}

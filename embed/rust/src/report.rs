@@ -1,0 +1,100 @@
+// SPDX-License-Identifier: Apache-2.0
+use crate::raw::{self, Ending, Handle, Item, OfReport, Owner, done};
+use crate::{Container, Error, Scalar, Type, Value};
+
+/// How a run ended.
+#[derive(Clone, Copy, Debug, PartialEq, Eq)]
+pub enum End {
+    /// No rule and no task is left.
+    Quiet,
+    /// Rules wait for one another.
+    Stuck,
+    /// It had as many events as allowed.
+    Limit,
+    /// A [`Stop`](crate::Stop) was raised; the report is of the events so far.
+    Stopped,
+}
+
+/// The report of a run.
+pub struct Report {
+    owner: Owner<OfReport>,
+    ending: Ending,
+}
+
+// Each pointer below is a local's or an owner's own.
+
+impl Report {
+    pub(crate) fn of(owner: Owner<OfReport>) -> Result<Report, Error> {
+        let mut ending = Ending::default();
+        done(unsafe { raw::yuglemit_report_ending(owner.at(), &mut ending) })?;
+        if ending.status == 5 { Err(Error::NoMemory) } else { Ok(Report { owner, ending }) }
+    }
+
+    /// Returns how the run ended.
+    pub fn end(&self) -> End {
+        match self.ending.status {
+            0 => End::Quiet,
+            3 => End::Stuck,
+            4 => End::Limit,
+            _ => End::Stopped,
+        }
+    }
+
+    /// Returns how many events the run had.
+    pub fn events(&self) -> usize {
+        self.ending.events
+    }
+
+    /// Returns all outputs of main.
+    pub fn outputs(&self) -> Result<Vec<Value>, Error> {
+        (0..self.ending.outputs).map(|output| self.output(output)).collect()
+    }
+
+    /// Returns an output of main.
+    pub fn output(&self, output: usize) -> Result<Value, Error> {
+        let item = self.item(output)?;
+        if item.kind == b'c' {
+            return Ok(Value::Container(self.container(output, &item)?));
+        }
+        let text = |at, room, length| unsafe { raw::yuglemit_report_text(at, output, room, length) };
+        Ok(self.scalar(&item, text)?.map_or(Value::Unset, Value::from))
+    }
+
+    /// Returns whether an output never changes again.
+    pub fn is_closed(&self, output: usize) -> Result<bool, Error> {
+        Ok(self.item(output)?.closed == 1)
+    }
+
+    fn item(&self, output: usize) -> Result<Item, Error> {
+        let mut item = Item::default();
+        done(unsafe { raw::yuglemit_report_output(self.owner.at(), output, &mut item) })?;
+        Ok(item)
+    }
+
+    fn container(&self, output: usize, item: &Item) -> Result<Container, Error> {
+        let members = (0..item.length).map(|place| self.member(output, place)).collect::<Result<_, _>>()?;
+        Ok(Container { by: Type::of(item.by), of: Type::of(item.scalar), members })
+    }
+
+    fn member(&self, output: usize, place: usize) -> Result<(Scalar, Option<Scalar>), Error> {
+        let mut member = raw::Member::default();
+        done(unsafe { raw::yuglemit_report_member(self.owner.at(), output, place, &mut member) })?;
+        let text = |at, room, length| unsafe { raw::yuglemit_report_subscript_text(at, output, place, room, length) };
+        let subscript = self.scalar(&member.subscript, text)?.ok_or(Error::NoIndex)?;
+        let text = |at, room, length| unsafe { raw::yuglemit_report_member_text(at, output, place, room, length) };
+        Ok((subscript, self.scalar(&member.value, text)?))
+    }
+
+    /// Returns an item's number, or its text, which a call writes; none if it is unset.
+    fn scalar(&self, item: &Item, text: impl Fn(*mut Handle, *mut u8, usize) -> u8) -> Result<Option<Scalar>, Error> {
+        match item.kind {
+            b'i' => Ok(Some(Scalar::Int(item.number))),
+            b't' => {
+                let mut room = vec![0; item.length];
+                done(text(self.owner.at(), room.as_mut_ptr(), room.len()))?;
+                Ok(Some(Scalar::Text(String::from_utf8(room).expect("texts are UTF-8"))))
+            }
+            _ => Ok(None),
+        }
+    }
+}

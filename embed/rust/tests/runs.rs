@@ -1,0 +1,138 @@
+// SPDX-License-Identifier: Apache-2.0
+//! Loads programs, runs them, and stops them.
+use std::collections::BTreeMap;
+use std::fs;
+use std::thread;
+
+use yuglemit::{Container, End, Error, Format, Options, Program, Stop, Type, Value, Verdict};
+
+const ENDLESS: &str = "proc control\nregs int int\nINT v1 1\nREPEAT 5\nREPEAT 1000\nADD v0 v0 v1 no\nno:\nEND\nEND\nPUT 0 0 any\nRET\n";
+const REFUSED: &str = "proc control write int\nregs int\nINT v0 7\nRET\n";
+
+/// A program that gives its input back.
+fn same(kind: &str) -> Program {
+    let text = format!("proc control closed {kind} write {kind}\nregs {kind}\nGET v0 d0\nDROPR d0\nSTORE d1 v0\nRET\n");
+    Program::load(text).expect("it is accepted")
+}
+
+/// A program that gives how many members its input has.
+fn sized(kind: &str) -> Program {
+    let version = if kind.starts_with("tcont") { "version 2\n" } else { "" };
+    let text = format!("{version}proc control closed {kind} write int\nregs int\nSIZE v0 d0\nDROPR d0\nSTORE d1 v0\nRET\n");
+    Program::load(text).expect("it is accepted")
+}
+
+/// Loads an example of the repository; a crate without one has none.
+fn example(name: &str) -> Option<Program> {
+    let source = fs::read(format!("{}/../../examples/{name}", env!("CARGO_MANIFEST_DIR"))).ok()?;
+    Some(Program::load(source).expect("it is accepted"))
+}
+
+#[test]
+fn values_return_as_they_are() -> Result<(), Error> {
+    for number in [i64::MIN, -1, 0, i64::MAX] {
+        assert_eq!(same("int").run(&[number.into()])?.outputs()?, [Value::Int(number)]);
+    }
+    let long = "x".repeat(4096);
+    for text in ["", "--help", "a\nb", "a\0b\r", "\u{1f600}", &long] {
+        assert_eq!(same("text").run(&[text.into()])?.outputs()?, [Value::Text(text.into())]);
+    }
+    Ok(())
+}
+
+#[test]
+fn containers_are_inputs() -> Result<(), Error> {
+    let inputs: [(&str, Value); 4] = [
+        ("cont int", [(5, -3), (1, 7)].into()),
+        ("cont text", [(5, "\n"), (1, "")].into()),
+        ("tcont int", [("é", 1), ("", 2)].into()),
+        ("tcont text", BTreeMap::from([("b".to_string(), "1"), ("a".to_string(), "2")]).into()),
+    ];
+    for (kind, value) in inputs {
+        assert_eq!(sized(kind).run(&[value])?.outputs()?, [Value::Int(2)], "{kind}");
+    }
+    Ok(())
+}
+
+#[test]
+fn outputs_are_inputs() -> Result<(), Error> {
+    let Some(program) = example("two_inputs.twn") else { return Ok(()) };
+    let report = program.run(&[[(1, 7), (5, -3)].into(), Value::Int(-4)])?;
+    assert_eq!((report.end(), report.is_closed(0)?), (End::Quiet, true));
+    assert_eq!(report.outputs()?, [Value::from([(-4, 2), (2, -4)])]);
+    assert_eq!(program.run(&[report.output(0)?, 1.into()])?.end(), End::Quiet);
+    Ok(())
+}
+
+#[test]
+fn open_outputs() -> Result<(), Error> {
+    let leaf = "proc leaf closed int write int write int write cont int\nregs int\nDROPR d0\nSTORE d1 v0\nSTORE d2 v0\nDROPW d3\nRET\n";
+    let program = Program::load(format!("proc control write int write cont int\nregs\nNEW d2 d3 int\nRULE 1 0 any 3 2 0 1\nRET\n\n{leaf}"))?;
+    let report = program.run(&[])?;
+    let empty = Container { by: Type::Int, of: Type::Int, members: BTreeMap::new() };
+    assert_eq!((report.end(), report.outputs()?), (End::Stuck, vec![Value::Unset, Value::Container(empty)]));
+    assert_eq!((report.is_closed(0)?, report.is_closed(1)?), (false, false));
+    assert_eq!(report.output(2), Err(Error::NoIndex));
+    Ok(())
+}
+
+#[test]
+fn what_is_no_input() {
+    let mut mixed = Container { by: Type::Int, of: Type::Int, members: BTreeMap::new() };
+    mixed.members.insert("a".into(), Some(1.into()));
+    assert_eq!(sized("cont int").run(&[Value::Container(mixed)]).err(), Some(Error::NoInput));
+    assert_eq!(same("int").run(&[Value::Unset]).err(), Some(Error::NoInput));
+    assert_eq!(same("int").run(&[]).err(), Some(Error::Run(1)));
+    assert_eq!(same("int").run(&["7".into()]).err(), Some(Error::Run(2)));
+    let wide = Options { workers: 17, ..Options::default() };
+    assert_eq!(same("int").run_with(&[7.into()], &wide).err(), Some(Error::NoLayout));
+}
+
+#[test]
+fn errors_say_where() {
+    let Err(Error::Refused(refused)) = Program::load(REFUSED) else { panic!("it is accepted") };
+    assert_eq!(refused.to_string(), "refused V10 in procedure 0 at place 1 at line 4");
+    let Err(Error::Refused(refused)) = Program::load("proc control\nregs int\nADD v0 v0 1 +0\nRET\n") else { panic!("it is accepted") };
+    assert_eq!((refused.code().as_str(), refused.line, refused.word, refused.column), ("A02", 3, 4, 11));
+    let why: Box<dyn std::error::Error> = Program::load_as("", Format::Bytes).err().expect("it is no program").into();
+    assert_eq!(why.to_string(), "refused F03 at byte 0");
+    assert_eq!(yuglemit::verify(b""), Verdict::NoProgram { number: 3, byte: 0 });
+}
+
+#[test]
+fn programs_are_shared_by_threads() -> Result<(), Error> {
+    let program = same("int");
+    let threads: Vec<_> = (0..8)
+        .map(|number| {
+            let its = program.share().expect("it is shared");
+            thread::spawn(move || (0..100).all(|k| its.run(&[(number + k).into()]).and_then(|it| it.output(0)) == Ok(Value::Int(number + k))))
+        })
+        .collect();
+    drop(program);
+    assert!(threads.into_iter().all(|it| it.join().expect("a thread ends")));
+    Ok(())
+}
+
+#[test]
+fn another_thread_stops_a_run() -> Result<(), Error> {
+    let (program, stop) = (Program::load(ENDLESS)?, Stop::new()?);
+    let other = stop.share()?;
+    let options = Options { limit: 1_000_000, stop: Some(&stop), ..Options::default() };
+    let thread = thread::spawn(move || other.raise());
+    let report = program.run_with(&[], &options)?;
+    thread.join().expect("a thread ends");
+    assert!(report.end() == End::Stopped && report.events() < 1_000_000);
+    stop.lower();
+    let report = program.run_with(&[], &Options { limit: 20, ..options })?;
+    assert_eq!((report.end(), report.events()), (End::Limit, 20));
+    Ok(())
+}
+
+#[test]
+fn budgets_and_needs() -> Result<(), Error> {
+    let program = same("int");
+    assert_eq!((program.budgets()?, program.needs()), (vec![4], (0, 0)));
+    let Some(program) = example("for_one_worker.twn") else { return Ok(()) };
+    assert_eq!(program.needs(), (0, 2));
+    Ok(())
+}
