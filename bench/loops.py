@@ -1,5 +1,5 @@
 # SPDX-License-Identifier: Apache-2.0
-"""Times commands in turn and prints the least processor time of each, and its ratio to lua's loop; then that of a round."""
+"""Times commands in turn. Prints the least processor time of each, and its ratio to lua's loop, then that of a round."""
 import os
 import resource
 import subprocess

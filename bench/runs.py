@@ -67,7 +67,7 @@ def empty_tasks(thousands):
 
 
 def long_tasks(count, thousands):
-    """So many tasks of some so many thousand adds, each with the END of its turn."""
+    """Returns a program with this many tasks, each of this many thousand adds with the END of their iteration."""
     return (f"proc control\nregs\nREPEAT {count}\nPUT 1 0 any\nEND\nRET\n"
             f"proc leaf\nregs int int\nINT v1 1\nREPEAT 1000\nREPEAT {thousands}\nADD v0 v0 v1 +0\nEND\nEND\nRET\n")
 

@@ -8,7 +8,7 @@ import {Fields} from "./fields.js";
 import {Library} from "./library.js";
 import {MISTAKES} from "./mistakes.js";
 import {decode} from "./program.js";
-import {readExplanation, readPlaces, readRefusal, readTrace, readVerdict} from "./replies.js";
+import {readExplanation, readPlaces, readRejection, readTrace, readVerdict} from "./replies.js";
 import {Run} from "./run.js";
 import {kept, keep} from "./share.js";
 import {callName, nameAt, namings, scan} from "./source.js";
@@ -19,7 +19,7 @@ import {readInput} from "./values.js";
 
 /** @typedef {import("./share.js").Kept} Kept */
 /** @typedef {import("./replies.js").Verdict} Verdict */
-/** @typedef {import("./replies.js").Refusal} Refusal */
+/** @typedef {import("./replies.js").Rejection} Rejection */
 /** @typedef {import("./mistakes.js").Mistake} Mistake */
 /** An example: its texts by their syntax, with its title, inputs and layout.
  * @typedef {{name: string, title: string, inputs?: string[], engines?: number, servers?: number, workers?: number, ends: string, texts: Record<string, string>}} Example */
@@ -98,8 +98,8 @@ function put(what, undoable) {
 /** Returns the text of saved contents: that of their example if they have none of their own.
  * @param {Kept} what */
 function textOf(what) {
-    const [name, spelled] = what.example.split(" ");
-    return what.text || examples.get(name)?.texts[spelled] || "";
+    const [name, form] = what.example.split(" ");
+    return what.text || examples.get(name)?.texts[form] || "";
 }
 
 /** Remembers the current contents for Undo. */
@@ -171,14 +171,14 @@ function parameterNames({program, names, source}) {
 /** Shows the verdict: beside the heads, at the fault, and below the text.
  * @param {Checked} it */
 async function showVerdict({verdict, source, program}) {
-    const {refusal, budgets} = verdict, heads = new Map(budgets.map(({procedure, budget, more}) => [source.heads[procedure], `budget ${grouped(budget)}${more ? `, ${more}` : ""}`]));
+    const {rejection, budgets} = verdict, heads = new Map(budgets.map(({procedure, budget, more}) => [source.heads[procedure], `budget ${grouped(budget)}${more ? `, ${more}` : ""}`]));
     const most = verdict.accepted && program ? mostEvents(program) : null;
     if (most !== null) heads.set(source.heads[0], `${heads.get(source.heads[0])}, run ${grouped(most)}`);
-    editor.mark({fault: refusal && refusal.line >= 0 ? {line: refusal.line, from: refusal.from, to: refusal.to, message: `${refusal.number}: ${refusal.reason || "see below"}`} : null, heads});
-    $("text").setAttribute("aria-invalid", String(!!refusal));
+    editor.mark({fault: rejection && rejection.line >= 0 ? {line: rejection.line, from: rejection.from, to: rejection.to, message: `${rejection.number}: ${rejection.reason || "see below"}`} : null, heads});
+    $("text").setAttribute("aria-invalid", String(!!rejection));
     $("verdict").className = verdict.accepted ? "good" : "bad";
-    $("verdict").textContent = verdict.accepted ? accepted(verdict, source, most) : refusal ? refusedAt(refusal) : verdict.text;
-    await explain($("why"), refusal);
+    $("verdict").textContent = verdict.accepted ? accepted(verdict, source, most) : rejection ? refusedAt(rejection) : verdict.text;
+    await explain($("why"), rejection);
     showHeld();
 }
 
@@ -195,18 +195,18 @@ function accepted({budgets, engines, workers}, source, most) {
     return `Accepted: no run of it can fail. Budgets: ${budget}${more}. ${events}${needs ? ` It needs ${needs}.` : ""}`;
 }
 
-/** Returns the sentence of a refusal.
- * @param {Refusal} refusal */
-const refusedAt = refusal => `Refused by ${refusal.number}${refusal.line >= 0 ? ` in line ${refusal.line + 1}` : ""}${refusal.reason ? `: ${refusal.reason}` : ""}`;
+/** Returns the sentence about a rejection.
+ * @param {Rejection} rejection */
+const refusedAt = rejection => `Refused by ${rejection.number}${rejection.line >= 0 ? ` in line ${rejection.line + 1}` : ""}${rejection.reason ? `: ${rejection.reason}` : ""}`;
 
-/** Shows what a refusal's number means.
- * @param {HTMLElement} box @param {Refusal | null} refusal */
-async function explain(box, refusal) {
-    const reply = refusal && await library.session(["explain", refusal.number], "");
+/** Shows what a rejection's code means.
+ * @param {HTMLElement} box @param {Rejection | null} rejection */
+async function explain(box, rejection) {
+    const reply = rejection && await library.session(["explain", rejection.number], "");
     box.hidden = !reply || reply.status !== 0;
-    if (!refusal || !reply || reply.status !== 0) return;
+    if (!rejection || !reply || reply.status !== 0) return;
     const {meaning, parts} = readExplanation(reply.text);
-    box.replaceChildren(h("b", {}, `${refusal.number}: `, ...coded(meaning)), h("dl", {}, ...parts.flatMap(([name, words]) => [h("dt", {}, name), h("dd", {}, ...coded(words))])));
+    box.replaceChildren(h("b", {}, `${rejection.number}: `, ...coded(meaning)), h("dl", {}, ...parts.flatMap(([name, words]) => [h("dt", {}, name), h("dd", {}, ...coded(words))])));
 }
 
 /** Returns words with the parts between backticks as code.
@@ -248,11 +248,11 @@ async function run(event, playing) {
     const reply = await library.session(["run", "--text", "--trace", "--limit", limit, ...words], it.text);
     if (mine !== runs) return;
     if (!reply || reply.failed) { answer("", "bad", reply?.failed ?? "stopped"); return; }
-    const {events, report} = readTrace(reply.text), refusal = readRefusal(report, it.source);
+    const {events, report} = readTrace(reply.text), rejection = readRejection(report, it.source);
     last = {report, events, words, text: it.text};
-    answer(report, reply.status ? "bad" : "good", `${endOf(reply.status, refusal)} ${events.length} events, ${reply.ms.toFixed(1)} ms.`);
-    await explain($("answer-why"), refusal);
-    if (refusal || !it.program) { stepper.leave(); return; }
+    answer(report, reply.status ? "bad" : "good", `${endOf(reply.status, rejection)} ${events.length} events, ${reply.ms.toFixed(1)} ms.`);
+    await explain($("answer-why"), rejection);
+    if (rejection || !it.program) { stepper.leave(); return; }
     await showRun(it, events, actors, event, playing, mine);
 }
 let runs = 0;
@@ -260,8 +260,8 @@ let runs = 0;
 /** How runs end, by the exit status.
  * @type {Record<number, string>} */
 const ENDS = {0: "Done.", 3: "Stuck: rules wait for one another.", 4: "Ended by the limit of events.", 5: "Memory ran out."};
-/** @param {number} status @param {Refusal | null} refusal */
-const endOf = (status, refusal) => refusal ? `Not run: ${refusal.number}.` : ENDS[status] ?? `Status ${status}.`;
+/** @param {number} status @param {Rejection | null} rejection */
+const endOf = (status, rejection) => rejection ? `Not run: ${rejection.number}.` : ENDS[status] ?? `Status ${status}.`;
 
 /** Follows the events of a run, and shows one.
  * @param {Checked} it @param {string[]} events @param {string[]} actors @param {number} event @param {boolean} playing @param {number} mine */
@@ -297,20 +297,20 @@ function showCircle(report) {
 
 /** Shows which syntaxes an example has. */
 function showSpelling() {
-    const [name, spelled] = example.split(" "), texts = examples.get(name)?.texts ?? {};
+    const [name, form] = example.split(" "), texts = examples.get(name)?.texts ?? {};
     $("spelled").hidden = Object.keys(texts).length < 2;
-    spelling.value = spelled ?? "names";
+    spelling.value = form ?? "names";
     $("own").hidden = !!example;
     if (example) pick.value = name;
     else pick.value = "";
 }
 
 /** Puts an example on the page, and runs it.
- * @param {string} name @param {string} spelled */
-async function choose(name, spelled) {
+ * @param {string} name @param {string} form */
+async function choose(name, form) {
     const it = examples.get(name);
     if (!it) return;
-    const known = it.texts[spelled] ? spelled : Object.keys(it.texts)[0];
+    const known = it.texts[form] ? form : Object.keys(it.texts)[0];
     remember();
     planted = null;
     $("broken").hidden = true;
@@ -326,16 +326,16 @@ async function choose(name, spelled) {
 async function breakIt(mistake) {
     const whole = planted && planted.text === editor.text ? planted.whole : current(), base = textOf(whole);
     for (const {text} of mistake.plants(base).slice(0, 60)) {
-        const reply = await library.session(["check", "--text"], text), source = scan(text), refusal = reply && readVerdict(reply.text, source).refusal;
-        if (!refusal || !mistake.meets.test(refusal.number)) continue;
+        const reply = await library.session(["check", "--text"], text), source = scan(text), rejection = reply && readVerdict(reply.text, source).rejection;
+        if (!rejection || !mistake.meets.test(rejection.number)) continue;
         if (planted?.text !== editor.text) remember();
         put({...whole, text, example: ""}, true);
         planted = {whole, text};
         stepper.leave();
         await check();
         $("why").hidden = true;
-        editor.reveal(refusal.line);
-        await showBroken(mistake, refusal);
+        editor.reveal(rejection.line);
+        await showBroken(mistake, rejection);
         return;
     }
     $("broken").hidden = false;
@@ -343,12 +343,12 @@ async function breakIt(mistake) {
 }
 
 /** Shows which rule refuses a mistake.
- * @param {Mistake} mistake @param {Refusal} refusal */
-async function showBroken(mistake, refusal) {
+ * @param {Mistake} mistake @param {Rejection} rejection */
+async function showBroken(mistake, rejection) {
     const why = h("div.why", {});
-    await explain(why, refusal);
+    await explain(why, rejection);
     $("broken").hidden = false;
-    $("broken").replaceChildren(h("p", {}, mistake.does), h("p.bad", {}, refusedAt(refusal)), why, h("button", {onclick: undo}, "Undo the mistake"));
+    $("broken").replaceChildren(h("p", {}, mistake.does), h("p.bad", {}, refusedAt(rejection)), why, h("button", {onclick: undo}, "Undo the mistake"));
 }
 
 // Files, and a link.
@@ -423,8 +423,8 @@ async function begin() {
     if (wanted && !examples.has(wanted)) say(`There is no example called ${wanted}. This is the first one.`);
     const chosen = wanted && !/^#p=/.test(location.hash) ? examples.get(wanted) ?? first : null;
     if (chosen || !it || !textOf(it) && it.example) {
-        const shown = chosen ?? first, [spelled] = Object.keys(shown.texts);
-        put({text: "", inputs: shown.inputs ?? [], layout: [shown.engines ?? 1, shown.servers ?? 1, shown.workers ?? 1, 10000], event: 0, example: `${shown.name} ${spelled}`}, false);
+        const shown = chosen ?? first, [form] = Object.keys(shown.texts);
+        put({text: "", inputs: shown.inputs ?? [], layout: [shown.engines ?? 1, shown.servers ?? 1, shown.workers ?? 1, 10000], event: 0, example: `${shown.name} ${form}`}, false);
         await check();
         await run(0, true);
     } else {

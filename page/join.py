@@ -40,7 +40,7 @@ def wrapped(folder: str, name: str) -> str:
 
 
 def spellings(folder: str, examples: str, name: str) -> dict[str, str]:
-    """Returns the texts of an example, by their spelling."""
+    """Returns the texts of an example, by their syntax."""
     texts = {}
     for spelled, path in (("names", f"{examples}/{name}.twn"), ("numbers", f"{examples}/{name}.tw"), ("names", f"{folder}/{name}.twn")):
         if os.path.exists(path):

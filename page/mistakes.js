@@ -5,7 +5,7 @@ import {scan, uncommented, wordsOf} from "./source.js";
 
 /** A planted text, and the line to look at.
  * @typedef {{text: string, line: number}} Planted */
-/** A mistake: its button, its description, the expected refusals, and its edits of a text.
+/** A mistake: its button, its description, the expected rejections, and its edits of a text.
  * @typedef {{title: string, does: string, meets: RegExp, plants: (text: string) => Planted[]}} Mistake */
 
 /** Returns an edit for each line that begins with a word.

@@ -179,7 +179,7 @@ def narrow_segments(content: bytes, elements: bool) -> bytes:
 
 
 class Module:
-    """What is known of a module while its sections are read."""
+    """Facts about a module while its sections are read."""
 
     def __init__(self) -> None:
         self.params: list[int] = []

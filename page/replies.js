@@ -4,36 +4,36 @@
 import {wordsOf} from "./source.js";
 
 /** @typedef {import("./source.js").Source} Source */
-/** A refusal: its code, its line (from 0, or -1), its reason, and the columns of the word at fault.
- * @typedef {{number: string, line: number, reason: string, from: number, to: number}} Refusal */
+/** A rejection: its code, its line (from 0, or -1), its reason, and the columns of the word at fault.
+ * @typedef {{number: string, line: number, reason: string, from: number, to: number}} Rejection */
 /** @typedef {{procedure: number, kind: string, budget: string, more: string}} Budget */
 /** The result of `check`.
- * @typedef {{accepted: boolean, budgets: Budget[], engines: number, workers: number, refusal: Refusal | null, text: string}} Verdict */
+ * @typedef {{accepted: boolean, budgets: Budget[], engines: number, workers: number, rejection: Rejection | null, text: string}} Verdict */
 
 /** Parses the reply to `check`.
  * @param {string} text @param {Source} source @returns {Verdict} */
 export function readVerdict(text, source) {
     const lines = text.split("\n"), needs = /^needs engines (\d+) workers (\d+)/m.exec(text), accepted = lines[0] === "accepted";
     const budgets = [...text.matchAll(/^proc (\d+) (?:.* )?(control|leaf) (?:.* )?budget (\d+)(.*)$/gm)].map(it => ({procedure: +it[1], kind: it[2], budget: it[3], more: it[4].replace(/\(\w+\)/, "").trim()}));
-    return {accepted, budgets, engines: +(needs?.[1] ?? 0), workers: +(needs?.[2] ?? 0), refusal: accepted ? null : readRefusal(text, source), text};
+    return {accepted, budgets, engines: +(needs?.[1] ?? 0), workers: +(needs?.[2] ?? 0), rejection: accepted ? null : readRejection(text, source), text};
 }
 
-/** Reads a refusal; null if the text has none. Only the first line decides, since the others quote the program.
- * @param {string} text @param {Source} source @returns {Refusal | null} */
-export function readRefusal(text, source) {
+/** Reads a rejection; null if the text has none. Only the first line decides, since the others quote the program.
+ * @param {string} text @param {Source} source @returns {Rejection | null} */
+export function readRejection(text, source) {
     const [first, ...rest] = text.split("\n"), number = /^refused ([A-Z]\d+)/.exec(first)?.[1], details = rest.filter(line => line);
     if (!number) return null;
-    const told = /^refused [AHN]\d+ at line (\d+)/.exec(first) ?? /^at line (\d+)/.exec(details[0] ?? "");
-    const line = told ? +told[1] - 1 : placed(first, source);
+    const found = /^refused [AHN]\d+ at line (\d+)/.exec(first) ?? /^at line (\d+)/.exec(details[0] ?? "");
+    const line = found ? +found[1] - 1 : placed(first, source);
     const [from, to] = line >= 0 ? fault(source.text[line] ?? "", details) : [0, 0];
     return {number, line, reason: reasonOf(details, source.text[line] ?? ""), from, to};
 }
 
-/** Returns the line of a refusal that names a procedure and a place, or -1.
+/** Returns the line of a rejection that names a procedure and a place, or -1.
  * @param {string} first @param {Source} source */
 function placed(first, source) {
-    const told = /in procedure (\d+)\b.* at place (\d+)/.exec(first);
-    return told ? source.places[+told[1]]?.[+told[2]] ?? source.heads[+told[1]] ?? -1 : -1;
+    const found = /in procedure (\d+)\b.* at place (\d+)/.exec(first);
+    return found ? source.places[+found[1]]?.[+found[2]] ?? source.heads[+found[1]] ?? -1 : -1;
 }
 
 /** Returns the columns of the word at fault, or else of all words of the line.
@@ -55,11 +55,11 @@ function fault(line, details) {
     return [first.at, end];
 }
 
-/** Returns the reason of a refusal: its details without the lines that quote the program.
+/** Returns the reason of a rejection: its details without the lines that quote the program.
  * @param {string[]} details @param {string} line */
 function reasonOf(details, line) {
     const quoted = line.trim(), isQuote = (/** @type {string} */ it) => it === quoted || it.length > 150 && quoted.startsWith(it.slice(0, 150));
-    const said = details.filter(it => !isQuote(it.trim()) && !/^(at line \d+\b[^:]*|stands for): /.test(it));
+    const said = details.filter(it => !isQuote(it.trim()) && !/^(at line \d+\b[^:]*|expands to): /.test(it));
     return said.join("; ").replace(/^word \d+, column \d+: /, "");
 }
 
@@ -98,10 +98,9 @@ export function readExplanation(text) {
 /** @type {[RegExp, string][]} */
 const ON_PAGE = [
     [/give the option --text, or look at what `tw asm` alone says/, "open the text again from its file"],
-    [/with --text the word is told, and what was expected there; /, ""],
+    [/with --text the word is reported, and what was expected; /, ""],
     [/give --limit a number in the range/, "set the field `limit` to a number in the range"],
-    [/`tw` tells this as `command line refused`/, "the fields are beside Run"],
-    [/give the numbers that `tw check` tells/, "set engines and workers to the numbers below the program"],
+    [/give the numbers that `tw check` prints/, "set engines and workers to the numbers below the program"],
     [/--(workers|engines|servers|limit)/g, "the field `$1`"],
     [/`tw explain (\w+)`/g, "$1"],
     [/hex text is given without --text/, "this page reads text alone"],

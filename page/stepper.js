@@ -100,27 +100,27 @@ export class Stepper {
         if (!run) return;
         this.at = event;
         this.slider.value = String(event);
-        const state = run.at(event), before = event ? run.at(event - 1) : state, told = event ? run.events[event - 1] : null;
+        const state = run.at(event), before = event ? run.at(event - 1) : state, happened = event ? run.events[event - 1] : null;
         const now = viewOf(run, state, this.places, this.actors);
         $("at").textContent = `event ${event} of ${run.length}`;
-        $("what").textContent = told ? sentence(run, told) : "Nothing has happened yet: main waits for an engine.";
+        $("what").textContent = happened ? sentence(run, happened) : "Nothing has happened yet: main waits for an engine.";
         this.slider.setAttribute("aria-valuetext", `${$("at").textContent}: ${$("what").textContent}`);
         show($("state"), now, viewOf(run, before, this.places, this.actors), {pickDatum: id => this.pick(`d${id}`), pickLine: line => this.online(line)});
-        this.light(told, now.running);
+        this.light(happened, now.running);
         this.timeline?.point(event);
         this.buttons();
         this.moved();
     }
 
     /** Lights the event's lines, and marks where actors go on.
-     * @param {Event | null} told @param {import("./model.js").Running[]} running */
-    light(told, running) {
+     * @param {Event | null} happened @param {import("./model.js").Running[]} running */
+    light(happened, running) {
         if (this.stale) return;
         /** @type {Map<number, string[]>} */
         const next = new Map();
         for (const {actor, line} of running) next.set(line, [...next.get(line) ?? [], actor]);
-        this.editor.mark({hits: new Set(told?.lines), next});
-        const line = told?.lines[0] ?? running[0]?.line;
+        this.editor.mark({hits: new Set(happened?.lines), next});
+        const line = happened?.lines[0] ?? running[0]?.line;
         if (line !== undefined) this.editor.reveal(line);
     }
 

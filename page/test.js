@@ -1,6 +1,6 @@
 // SPDX-License-Identifier: Apache-2.0
 // Uses the page in Chromium as a reader would, looks at what a reader sees, and compares it with the program tw:
-// test.js INDEX.html TW EXAMPLES PICTURES [WIDE.wasm NARROW.wasm]; with ONLY=steps,tour in the environment just these parts
+// test.js INDEX.html TW EXAMPLES SCREENSHOTS [WIDE.wasm NARROW.wasm]; with ONLY=steps,tour in the environment just these parts
 import {spawnSync} from "node:child_process";
 import fs from "node:fs";
 import os from "node:os";
@@ -108,13 +108,13 @@ async function steps(reader) {
     const seen = [], all = +(await reader.js('document.getElementById("step").max'));
     for (let k = 1; k <= all; k++) {
         await reader.click("#on");
-        const told = await reader.seen("#what"), lines = await reader.js('[...document.querySelectorAll("#paint .hit")].map(it => it.innerText)');
-        seen.push(told);
+        const shown = await reader.seen("#what"), lines = await reader.js('[...document.querySelectorAll("#paint .hit")].map(it => it.innerText)');
+        seen.push(shown);
         say((await reader.seen("#at")) === `event ${k} of ${all}`, "not at event", k, await reader.seen("#at"));
-        say(lines.length > 0, "no line is lit at event", k, told);
-        if (/computes: ADD/.test(told)) say(lines[0].startsWith("ADD value value value"), "another line is lit", lines);
-        if (/takes task/.test(told)) say(/value/.test(await reader.seen("#state article table")), "no registers", k);
-        if (/makes middle/.test(told)) say(/middle.*int.*not yet written.*open.*1 \/ 1/s.test(await reader.seen("[aria-label='data that are alive'] tr.changed")), "no new datum", await reader.seen("#state"));
+        say(lines.length > 0, "no line is lit at event", k, shown);
+        if (/computes: ADD/.test(shown)) say(lines[0].startsWith("ADD value value value"), "another line is lit", lines);
+        if (/takes task/.test(shown)) say(/value/.test(await reader.seen("#state article table")), "no registers", k);
+        if (/makes middle/.test(shown)) say(/middle.*int.*not yet written.*open.*1 \/ 1/s.test(await reader.seen("[aria-label='data that are alive'] tr.changed")), "no new datum", await reader.seen("#state"));
         say((await reader.js('document.querySelectorAll("#lanes .now").length')) === 1, "the timeline doesn't follow", k);
     }
     for (const part of ["takes task 1: main", "makes rule 2", "not yet, so the rule waits", "turns rule 2 into task 2", "stores a value in middle (datum 3), which closes it", "tells rule 1 that middle (datum 3) is closed", "ends task 3"]) say(seen.some(it => it.includes(part)), "no event", part, seen);
@@ -224,10 +224,10 @@ async function mistakes(reader) {
     say(String(buttons) === String(Object.keys(rules)), "other mistakes", buttons);
     for (const [k, title] of buttons.entries()) {
         await reader.click(`#mistakes button:nth-child(${k + 1})`);
-        const told = await reader.seen("#broken"), planted = await reader.value("text"), verdict = native(["check", "--text"], planted).text;
-        say(verdict.startsWith(`refused ${rules[title]} `) && told.includes(`Refused by ${rules[title]} in line `), title, "isn't refused by", rules[title], verdict, told);
+        const shown = await reader.seen("#broken"), planted = await reader.value("text"), verdict = native(["check", "--text"], planted).text;
+        say(verdict.startsWith(`refused ${rules[title]} `) && shown.includes(`Refused by ${rules[title]} in line `), title, "isn't refused by", rules[title], verdict, shown);
         const meaning = native(["explain", rules[title]], "").text.split("\n")[0].slice(5).replace(/`/g, "");
-        say(told.includes(meaning), title, "isn't explained", told);
+        say(shown.includes(meaning), title, "isn't explained", shown);
         say(await reader.js('!!document.querySelector("#paint .fault")'), title, "isn't underlined");
         await reader.click("#broken button");
         say((await reader.value("text")) === text, title, "isn't undone");
@@ -322,11 +322,11 @@ async function everywhere(reader) {
 // Returns the visible texts whose contrast with their background is below 4.5.
 const CONTRAST = `(() => {
     const rgb = text => (text.match(/[\\d.]+/g) ?? []).map(Number), shine = ([r, g, b]) => [r, g, b].map(c => c / 255).map(c => c <= 0.03928 ? c / 12.92 : ((c + 0.055) / 1.055) ** 2.4).reduce((sum, c, k) => sum + c * [0.2126, 0.7152, 0.0722][k], 0);
-    const behind = it => { for (; it; it = it.parentElement) { const color = rgb(getComputedStyle(it).backgroundColor); if (color.length === 3 || color[3] > 0.9) return color; } return [255, 255, 255]; };
+    const backdrop = it => { for (; it; it = it.parentElement) { const color = rgb(getComputedStyle(it).backgroundColor); if (color.length === 3 || color[3] > 0.9) return color; } return [255, 255, 255]; };
     const wrong = new Set();
     for (const it of document.querySelectorAll("body *")) {
         if (!it.checkVisibility() || it.id === "text" || it.closest("[aria-disabled=true], :disabled, svg, #stale, .stale, select") || ![...it.childNodes].some(part => part.nodeType === 3 && part.data.trim())) continue;
-        const [one, other] = [shine(rgb(getComputedStyle(it).color)), shine(behind(it))].sort((a, b) => b - a), ratio = (one + 0.05) / (other + 0.05);
+        const [one, other] = [shine(rgb(getComputedStyle(it).color)), shine(backdrop(it))].sort((a, b) => b - a), ratio = (one + 0.05) / (other + 0.05);
         if (ratio < 4.5) wrong.add(it.tagName + "." + it.className + " " + it.textContent.slice(0, 20) + " " + ratio.toFixed(2));
     }
     return [...wrong];

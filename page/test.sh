@@ -5,7 +5,7 @@
 # the program tw. Each part ends with `N passed, 0 failed`.
 #
 #   page/test.sh             builds program and page first, and puts screenshots into `page/out/pictures`
-#   page/test.sh PROGRAM     takes that program tw, and the page that is built
+#   page/test.sh PROGRAM     takes that program tw, and the page that is built, else the release's (whose narrowed module isn't compared with the wide one)
 #
 # Needs chromium, node 20 and a C compiler.
 here=$(dirname "$(readlink -f "$0")")
@@ -13,8 +13,13 @@ root=$(dirname "$here")
 out=$here/out
 program=${1:-$root/crates/tw_main/out/tw_main}
 [ $# -gt 0 ] || { "$root/tw" build && "$here/build.sh"; } || exit
-if command -v tsc >/dev/null; then tsc -p "$here" || exit; else echo "no tsc: types aren't looked at"; fi
+mkdir -p "$out/pictures"
+if [ ! -e "$out/index.html" ]; then
+    gzip -dc "$root/release/index.html.gz" >"$out/index.html" && python3 -B "$here/unpack.py" "$out/index.html" "$out/yuglemit.wasm" || exit
+fi
+set --
+[ ! -e "$out/test_wide.wasm" ] || set -- "$out/test_wide.wasm" "$out/test_narrow.wasm"
+if command -v tsc >/dev/null; then tsc -p "$here" || exit; else echo "tsc isn't installed: types aren't checked"; fi
 cc -O2 -o "$out/wide_test" "$here/wide_test.c" && "$out/wide_test" || exit
 node "$here/machine_test.js" "$out/yuglemit.wasm" "$here" "$root/examples" || exit
-mkdir -p "$out/pictures"
-node "$here/test.js" "$out/index.html" "$program" "$root/examples" "$out/pictures" "$out/test_wide.wasm" "$out/test_narrow.wasm"
+node "$here/test.js" "$out/index.html" "$program" "$root/examples" "$out/pictures" "$@"

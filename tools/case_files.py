@@ -128,7 +128,7 @@ def unquoted(text: str | None) -> str:
 
 
 def generated(match: re.Match[str]) -> str:
-    """Returns what a generator stands for: `{repeat 3 "ab"}`, or `{count 8 to 10 "##=x" by ","}`, where `#` is the number."""
+    """Returns the text of a generator: `{repeat 3 "ab"}`, or `{count 8 to 10 "##=x" by ","}`, where `#` is the number."""
     text, joint = unquoted(match["text"]), unquoted(match["by"])
     if match["times"] is not None:
         return joint.join([text] * int(match["times"]))
@@ -200,7 +200,7 @@ class Reader:
             if len(line) > WIDTH:
                 raise self.fault(number, f"a line has at most {WIDTH} columns; {{repeat N \"TEXT\"}} makes longer ones")
             if line != line.rstrip():
-                raise self.fault(number, "blanks at a line's end; \\s stands for one that counts")
+                raise self.fault(number, "blanks at a line's end; \\s is one that counts")
         while self.at < len(self.lines):
             self.read_block()
 
@@ -225,7 +225,7 @@ class Reader:
             self.at += 1
 
     def take_value(self) -> Value:
-        """Reads indented lines; blank ones are part of the value, but for those at its end."""
+        """Reads indented lines; blank ones are part of the value, except those at its end."""
         first = self.at + 1
         lines: list[str] = []
         while self.at < len(self.lines) and (not self.lines[self.at] or self.lines[self.at].startswith(INDENT)):

@@ -31,7 +31,7 @@ MOST_BYTES = 32_000
 
 @dataclass
 class Result:
-    """What the program printed of a case, and how long it took."""
+    """The program's output for a case, and how long it took."""
 
     case: Case
     said: str
@@ -190,7 +190,7 @@ def run_all(cases: list[Case], times: Times, make: Callable[[], Runner], jobs: i
 
 
 def work(runner: Runner, waiting: queue.SimpleQueue[list[Case]], done: queue.SimpleQueue[list[Result] | BaseException | None]) -> None:
-    """Runs batches until none is left. What the program didn't come to, since it stopped, is run by its next process."""
+    """Runs batches until none is left. Cases that the program didn't reach, since it stopped, are run by its next process."""
     try:
         while True:
             try:

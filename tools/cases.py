@@ -1,11 +1,11 @@
 #!/usr/bin/env python3
 """The cases of cases/: runs them, lists them, and makes what CI reads of them.
 
-cases.py --check                    says whether crates/tw_cases has what cases/ gives
-cases.py --make                     writes crates/tw_cases/stdin and stdout
-cases.py --compare FILE             says which cases FILE, an older stdin, has otherwise or besides
-cases.py --list [PATTERN..]         lists cases with their places
-cases.py --run PROGRAM KIND [--update] [PATTERN..]    runs cases by a program of crates/tw_cases; `./tw test` calls it
+    cases.py --check                    says whether crates/tw_cases has what cases/ gives
+    cases.py --make                     writes crates/tw_cases/stdin and stdout
+    cases.py --compare FILE             says which cases FILE, an older stdin, has otherwise or in addition
+    cases.py --list [PATTERN..]         lists cases with their places
+    cases.py --run PROGRAM KIND [--update] [PATTERN..]    runs cases by a program of crates/tw_cases; `./tw test` calls it
 
 A pattern is a case's name, a part of a name or of a file's (as names/errors), or has `*`, `?` or `[` and is the whole of one.
 """
@@ -92,7 +92,7 @@ def rows_in(text: str) -> dict[str, str]:
 
 
 def compare(book: Book, path: Path) -> int:
-    """Says which lines of another stdin cases/ has otherwise, or doesn't have, and which it has besides."""
+    """Says which lines of another stdin cases/ has otherwise, or doesn't have, and which it has in addition."""
     old, new = rows_in(path.read_text(encoding="utf-8")), rows_in(stdin_of(book))
     lost = [name for name in old if name not in new]
     changed = [name for name in old if name in new and old[name] != new[name]]
@@ -177,7 +177,7 @@ def update(failed: list[Result]) -> int:
             continue
         write_answer(result.case, result.got)
         done += 1
-    print(f"tw: {done} cases have what came as their expected output now. Read `git diff cases`: what is expected comes from the")
+    print(f"tw: the expected output of {done} cases is the actual one now. Read `git diff cases`: what is expected comes from the")
     print("tw: format, the rules or arithmetic, and never from what the program printed. Then tools/cases.py --make")
     return 0 if done == len(failed) else 1
 

@@ -5,9 +5,11 @@
 usage: tools/collisions.py COUNT [const | label]
 
 Each name starts at one of the first groups of a table of COUNT names, so that finding one passes all before it.
-With `const` they stand in a text of constants, with `label` in assembly text with labels; else one a line.
-tools/hostile.sh takes the texts for its worst inputs; names hashed with the text they stand in don't collide.
+With `const` they are in a text of constants, with `label` in assembly text with labels; else one a line.
+tools/hostile.sh takes the texts for its worst inputs; names hashed with the text they are in don't collide.
 """
+
+from __future__ import annotations
 
 import sys
 from collections.abc import Iterator
@@ -49,7 +51,7 @@ def after_letter(state: int, letter: int) -> int:
 
 
 def fronts(length: int) -> Iterator[tuple[bytes, int]]:
-    """Yields each text of this many letters that begins a name, with the state behind it."""
+    """Yields each text of this many letters that begins a name, with the state after it."""
     if length == 0:
         yield b"", folded(SEED ^ LENGTH, MULTIPLIER ^ 16)
         return

@@ -29,7 +29,7 @@ instructions() {
 
 # The words with which other lines begin, and the others that the assembler reads.
 first_words() {
-    grep -oh 'b"[a-z]*"' "$assembler/first.rt" "$names/says.rt" | sed 's/^b"\(.*\)"$/\1/' | in_line
+    grep -oh 'b"[a-z]*"' "$assembler/first.rt" "$names/line_expansion.rt" | sed 's/^b"\(.*\)"$/\1/' | in_line
 }
 
 other_words() {

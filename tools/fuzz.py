@@ -1,11 +1,11 @@
 #!/usr/bin/env python3
 """Fuzz tests of the library and the program: tools/fuzz.py KIND SEED COUNT [--seconds N]
 
-fuzz.py --list                       lists the kinds
-fuzz.py run 1 1000                   makes 1000 tests of a kind, the same ones each time
-fuzz.py all 2026-11-27 100000        makes tests of each kind
-fuzz.py run 1 1000 --seconds 30      ends after so many seconds
-fuzz.py run 1 1000 --only 17         makes test 17 alone
+    fuzz.py --list                       lists the kinds
+    fuzz.py run 1 1000                   makes 1000 tests of a kind, the same ones each time
+    fuzz.py all 2026-11-27 100000        makes tests of each kind
+    fuzz.py run 1 1000 --seconds 30      ends after so many seconds
+    fuzz.py run 1 1000 --only 17         makes test 17 alone
 
 The library is that of YUGLEMIT_LIBRARY, the built one, or the release's; the program that of YUGLEMIT_PROGRAM, likewise. A test that
 fails is shrunk and printed as a case, which can go into cases/. The status is 1 if a test failed, or a call crashed or took too long.
@@ -56,7 +56,7 @@ SHRINK_SECONDS = 20.0
 
 @dataclass
 class Shared:
-    """What the process that makes tests leaves to the one that watches it."""
+    """The state that the process that makes tests leaves to the one that watches it."""
 
     test: Any
     failed: Any

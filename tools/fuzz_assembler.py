@@ -104,7 +104,7 @@ class Assembler:
         return self.number(word[1:], 0, 15)
 
     def types(self, words: list[Word]) -> Type:
-        """Returns the type at the front of the words, and takes its words away."""
+        """Returns the type that begins the words, and removes its words."""
         found: list[int] = []
         while True:
             word = words.pop(0) if words else None

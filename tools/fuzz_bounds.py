@@ -70,7 +70,7 @@ def budgets(program: Program) -> list[int]:
 
 @dataclass(frozen=True)
 class Weights:
-    """What is counted: each task, instruction, NEW, RULE, and event of a rule counts so much."""
+    """The weights of what is counted: each task, instruction, NEW, RULE, and event of a rule counts so much."""
 
     task: int = 0
     instr: int = 0

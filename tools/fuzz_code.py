@@ -6,6 +6,7 @@ Nothing here calls the library, so that its answers can be compared with these.
 from __future__ import annotations
 
 from dataclasses import dataclass, replace
+from functools import cached_property
 from typing import Iterator, Union
 
 Type = tuple[int, ...]
@@ -57,11 +58,11 @@ class Instr:
         assert isinstance(found, tuple)
         return found
 
-    @property
+    @cached_property
     def form(self) -> str:
         return FORMS[self.name][1]
 
-    @property
+    @cached_property
     def skip(self) -> int | None:
         """Returns how many instructions it skips, if it can skip."""
         return self.number(len(self.operands) - 1) if self.form.endswith("s") else None

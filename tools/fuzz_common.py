@@ -1,4 +1,4 @@
-"""What the kinds of fuzz tests share: a test, what it answers, and its form as a file of cases/."""
+"""Things that the kinds of fuzz tests share: a test, its answer, and its form as a file of cases/."""
 
 from __future__ import annotations
 
@@ -40,7 +40,10 @@ class Corpus:
 
     @cached_property
     def texts(self) -> list[str]:
-        return [path.read_text(encoding="utf-8") for path in sorted(self.root.glob("*.tw"))]
+        """The programs without names, and the expansions of the others."""
+        answers = [self.library.session(["asm", "--names", "--plain"], text) for text in self.named]
+        expanded = [text for status, text in answers if status == 0]
+        return [path.read_text(encoding="utf-8") for path in sorted(self.root.glob("*.tw")) if not path.with_suffix(".twn").exists()] + expanded
 
     @cached_property
     def named(self) -> list[str]:

@@ -5,15 +5,15 @@ from __future__ import annotations
 import ctypes
 import random
 import threading
-from dataclasses import dataclass, replace
+from dataclasses import dataclass
 from typing import Any, Iterator
 
 import fuzz_make
 from fuzz_bounds import budgets, needs
-from fuzz_code import INT, encode
+from fuzz_code import CONT, INT, TCONT, TEXT, Type, encode
 from fuzz_common import Corpus, FuzzTest, RunTest
 from fuzz_library import Library
-from fuzz_machine import Datum, Machine, Scalar, run_in_turn
+from fuzz_machine import Datum, Machine, Scalar, Value, run_in_turn
 from fuzz_report import status_of
 
 ROOM = 64
@@ -31,8 +31,16 @@ class Ending(ctypes.Structure):
     _fields_ = [("events", ctypes.c_size_t), ("outputs", ctypes.c_size_t), ("status", ctypes.c_uint8)]
 
 
+class Options(ctypes.Structure):
+    _fields_ = [("size", ctypes.c_size_t), ("limit", ctypes.c_size_t), *((name, ctypes.c_uint8) for name in ("engines", "servers", "workers"))]
+
+
 class Verdict(ctypes.Structure):
     _fields_ = [*((name, ctypes.c_uint8) for name in ("letter", "number", "engines", "workers")), ("procedure", ctypes.c_size_t), ("place", ctypes.c_size_t)]
+
+
+class SourceVerdict(ctypes.Structure):
+    _fields_ = [("verdict", Verdict), *((name, ctypes.c_size_t) for name in ("line", "word", "column"))]
 
 
 class Fault(Exception):
@@ -46,17 +54,22 @@ def expect(what: str, expected: object, got: object) -> None:
 
 def handles(library: Library) -> Any:
     """Returns the library, with the types of the calls of handles."""
-    native = library.native._library()
+    native = library.native.library()
     pointer, size, byte = ctypes.c_void_p, ctypes.c_size_t, ctypes.c_uint8
     for name, types in {
         "load": [ctypes.c_char_p, size, pointer, pointer], "program_share": [pointer, pointer], "program_procedures": [pointer, pointer],
+        "load_source": [ctypes.c_char_p, size, byte, pointer, pointer], "container_new": [pointer, byte, byte], "input_container": [pointer, pointer],
+        "member_int": [pointer, ctypes.c_int64, ctypes.c_int64], "member_text": [pointer, ctypes.c_int64, ctypes.c_char_p, size],
+        "member_int_by_text": [pointer, ctypes.c_char_p, size, ctypes.c_int64],
+        "member_text_by_text": [pointer, ctypes.c_char_p, size, ctypes.c_char_p, size], "container_free": [pointer],
+        "stop_new": [pointer], "stop_share": [pointer, pointer], "stop_raise": [pointer], "stop_lower": [pointer], "stop_free": [pointer],
         "program_budget": [pointer, size, pointer], "input_int": [pointer, ctypes.c_int64], "input_text": [pointer, ctypes.c_char_p, size],
-        "run": [pointer, pointer, byte, byte, byte, size, pointer], "report_ending": [pointer, pointer], "report_output": [pointer, size, pointer],
+        "run": [pointer] * 5, "report_ending": [pointer, pointer], "report_output": [pointer, size, pointer],
         "report_member": [pointer, size, size, pointer], "report_text": [pointer, size, pointer, size], "report_member_text": [pointer, size, size, pointer, size],
         "report_subscript_text": [pointer, size, size, pointer, size], "program_free": [pointer], "inputs_free": [pointer], "report_free": [pointer],
     }.items():
         call = getattr(native, f"yuglemit_{name}")
-        call.argtypes, call.restype = types, None if name.endswith("free") or name == "load" else byte
+        call.argtypes, call.restype = types, None if name.endswith("free") or name.startswith("load") else byte
     return native
 
 
@@ -119,7 +132,7 @@ class Report:
 
 @dataclass(frozen=True)
 class HandlesTest(RunTest):
-    """A program is loaded, shared and run twice with inputs that are ints and texts."""
+    """A program is loaded, shared and run: twice to its end, and once with a raised stop flag."""
 
     def fault(self, library: Library) -> str | None:
         native = handles(library)
@@ -138,14 +151,16 @@ class HandlesTest(RunTest):
         verdict = Verdict()
         native.yuglemit_load(data, len(data), ctypes.byref(program), ctypes.byref(verdict))
         code = f"{chr(verdict.letter)}{verdict.number:02}" if verdict.letter else ""
-        told = library.verify(data)
-        expect("verdict", (told.code, told.procedure, told.place), (code, verdict.procedure, verdict.place))
-        expect("a handle", not told.code, bool(program.value))
-        self.compare_program(native, program, not told.code)
-        if not told.code:
+        answer = library.verify(data)
+        expect("verdict", (answer.code, answer.procedure, answer.place), (code, verdict.procedure, verdict.place))
+        expect("a handle", not answer.code, bool(program.value))
+        self.compare_program(native, program, not answer.code)
+        if not answer.code:
             expect("share", 0, native.yuglemit_program_share(ctypes.byref(program), ctypes.byref(shared)))
             self.append(native, inputs)
             self.compare_run(native, program, inputs, report)
+            self.compare_stopped(native, program, inputs)
+            self.compare_hex(native, data, program)
             native.yuglemit_program_free(program)
             program.value = None
             self.compare_aside(native, shared, inputs, report)
@@ -160,13 +175,38 @@ class HandlesTest(RunTest):
             expect("budget", (0, most) if most is not None else ord("X"), (answer, budget.value) if most is not None else answer)
 
     def append(self, native: Any, inputs: Any) -> None:
-        for value in self.inputs:
+        for index, value in enumerate(self.inputs):
             if isinstance(value, str):
                 answer = native.yuglemit_input_text(ctypes.byref(inputs), value.encode(), len(value.encode()))
+            elif isinstance(value, dict):
+                answer = self.append_container(native, inputs, value, self.type_of(index, value))
             else:
-                answer = native.yuglemit_input_int(ctypes.byref(inputs), value if isinstance(value, int) else 0)
+                answer = native.yuglemit_input_int(ctypes.byref(inputs), value)
             expect("input", 0, answer)
         expect("an input that isn't UTF-8", ord("U"), native.yuglemit_input_text(ctypes.byref(inputs), b"a\xff", 2))
+
+    def type_of(self, index: int, value: Value) -> Type:
+        """Returns the type of an input: its own, or the parameter's if it is a container without members."""
+        if not isinstance(value, dict):
+            return (INT,) if isinstance(value, int) else (TEXT,)
+        for subscript, member in value.items():
+            return (CONT if isinstance(subscript, int) else TCONT, INT if isinstance(member, int) else TEXT)
+        types = self.program.inputs
+        return types[index] if index < len(types) and len(types[index]) == 2 else (CONT, INT)
+
+    def append_container(self, native: Any, inputs: Any, value: dict[Any, Scalar], type_: Type) -> int:
+        """Makes a container and moves it to the inputs; then it is empty, and is begun anew by the next one."""
+        container = ctypes.c_void_p()
+        at, letters = ctypes.byref(container), {INT: ord("i"), TEXT: ord("t"), CONT: ord("i"), TCONT: ord("t")}
+        try:
+            expect("container", 0, native.yuglemit_container_new(at, letters[type_[0]], letters[type_[1]]))
+            for subscript in sorted(value, key=lambda s: s.encode() if isinstance(s, str) else s):
+                words = [[word.encode(), len(word.encode())] if isinstance(word, str) else [word] for word in (subscript, value[subscript])]
+                name = ("text" if isinstance(value[subscript], str) else "int") + ("_by_text" if isinstance(subscript, str) else "")
+                expect("a member", 0, getattr(native, f"yuglemit_member_{name}")(at, *words[0], *words[1]))
+            return int(native.yuglemit_input_container(ctypes.byref(inputs), at))
+        finally:
+            native.yuglemit_container_free(container)
 
     def expected(self) -> int:
         """Returns the answer of a run: the number of its error, or 0."""
@@ -176,12 +216,13 @@ class HandlesTest(RunTest):
         types = self.program.inputs
         if len(types) != len(self.inputs):
             return 1
-        if any(type_ != ((INT,) if isinstance(value, int) else (2,)) for type_, value in zip(types, self.inputs)):
+        if any(type_ != self.type_of(index, value) for index, (type_, value) in enumerate(zip(types, self.inputs))):
             return 2
         return 0 if 1 <= self.limit <= 1_000_000 else 4
 
     def compare_run(self, native: Any, program: Any, inputs: Any, report: Any) -> None:
-        answer = native.yuglemit_run(ctypes.byref(program), ctypes.byref(inputs), *self.layout, self.limit, ctypes.byref(report))
+        options, no_stop = Options(ctypes.sizeof(Options), self.limit, *self.layout), ctypes.c_void_p()
+        answer = native.yuglemit_run(*map(ctypes.byref, (program, inputs, options, no_stop, report)))
         expect("run", self.expected(), answer)
         ending = Ending()
         if answer:
@@ -192,6 +233,28 @@ class HandlesTest(RunTest):
         expect("ending", (machine.events, len(machine.outputs), status_of(machine)), (ending.events, ending.outputs, ending.status))
         for output, number in enumerate(machine.outputs):
             Report(native, report, machine).compare(output, number)
+
+    def compare_stopped(self, native: Any, program: Any, inputs: Any) -> None:
+        """Makes a run whose flag is raised: it is opened or refused as ever, and has no event."""
+        stop, other, report, ending = ctypes.c_void_p(), ctypes.c_void_p(), ctypes.c_void_p(), Ending()
+        options = Options(ctypes.sizeof(Options), self.limit, *self.layout)
+        try:
+            expect("a flag", 0, native.yuglemit_stop_new(ctypes.byref(stop)) or native.yuglemit_stop_share(ctypes.byref(stop), ctypes.byref(other)))
+            expect("raised", 0, native.yuglemit_stop_raise(ctypes.byref(other)))
+            answer = native.yuglemit_run(*map(ctypes.byref, (program, inputs, options, stop, report)))
+            expect("a stopped run", self.expected(), answer)
+            if not answer:
+                expect("its ending", 0, native.yuglemit_report_ending(ctypes.byref(report), ctypes.byref(ending)))
+                expect("its ending", (0, 8), (ending.events, ending.status))
+        finally:
+            for handle, name in ((stop, "stop"), (other, "stop"), (report, "report")):
+                getattr(native, f"yuglemit_{name}_free")(handle)
+
+    def compare_hex(self, native: Any, data: bytes, program: Any) -> None:
+        """Loads the program again, from hex text."""
+        verdict, source = SourceVerdict(), data.hex().encode()
+        native.yuglemit_load_source(source, len(source), 0, ctypes.byref(program), ctypes.byref(verdict))
+        expect("hex text", (0, 0, 0, 0), (verdict.verdict.letter, verdict.line, verdict.word, verdict.column))
 
     def compare_aside(self, native: Any, shared: Any, inputs: Any, report: Any) -> None:
         """Makes the run again in another thread, by the other handle, after the first one was freed."""
@@ -220,10 +283,6 @@ class HandlesTest(RunTest):
 
 def make_handles(chance: random.Random, corpus: Corpus) -> FuzzTest:
     program = fuzz_make.program(chance)
-    if chance.random() < 0.7:  # handles have no containers as inputs
-        plain = tuple(param if param.mode == 4 or len(param.type) == 1 else replace(param, type=(INT,)) for param in program.main.params)
-        changed = replace(program, procedures=(replace(program.main, params=plain), *program.procedures[1:]))
-        program = changed if not corpus.library.verify(encode(changed)).code else program
     inputs = tuple(fuzz_make.inputs_of(chance, program))
     if chance.random() < 0.1:
         inputs = (*inputs, 7) if chance.random() < 0.5 else inputs[:-1]

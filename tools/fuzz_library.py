@@ -97,13 +97,13 @@ class Library:
         return done.returncode, done.stdout.decode("utf-8", "backslashreplace")
 
     def verify(self, data: bytes) -> Verdict:
-        told = self.native.verify(data)
-        return Verdict(f"{told.letter}{told.number:02}" if told.letter else "", told.procedure, told.place)
+        answer = self.native.verify(data)
+        return Verdict(f"{answer.letter}{answer.number:02}" if answer.letter else "", answer.procedure, answer.place)
 
     def into_room(self, line: bytes, data: bytes, size: int) -> tuple[int, int, bytes]:
         """Returns status, length and the buffer after a call with a buffer of this size, which has 16 bytes before and after it."""
         room = ctypes.create_string_buffer(b"\xa5" * (size + 32), size + 32)
         status = ctypes.c_uint8(0xA5)
         start = ctypes.addressof(room) + 16
-        length = self.native._library().yuglemit_session(line, len(line), data, len(data), start, size, ctypes.byref(status))
+        length = self.native.library().yuglemit_session(line, len(line), data, len(data), start, size, ctypes.byref(status))
         return status.value, int(length), room.raw

@@ -33,7 +33,7 @@ def run_test(chance: random.Random, corpus: Corpus) -> RunTest:
 
 @dataclass(frozen=True)
 class CheckTest(RunTest):
-    """What `check` writes, and that a run stays within it."""
+    """Compares what `check` writes, and checks that a run stays within it."""
 
     def fault(self, library: Library) -> str | None:
         if not self.is_accepted(library):

@@ -240,7 +240,7 @@ class Paths:
                     left.append(after)
 
     def onward(self, place: int, typing: Typing, loops: tuple[tuple[int, Typing], ...]) -> Iterator[tuple[int, Typing, tuple[tuple[int, Typing], ...]]]:
-        """Yields where a path goes on: each loop remembers its first place, and the typing there."""
+        """Yields where a path continues: each loop remembers its first place, and the typing there."""
         code = self.procedure.code
         instr = code[place]
         here = under(self.program, self.procedure, instr, typing)

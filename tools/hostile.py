@@ -52,7 +52,7 @@ class Input(NamedTuple):
 
 
 class Use(NamedTuple):
-    """What a command took."""
+    """The resources that a command used."""
 
     status: int
     seconds: float
@@ -129,7 +129,7 @@ def heads() -> Iterator[Input]:
     yield Input("val parameters with names", TEXT, numbered("names\nproc control main(", "p%: val int, ", ")\nregs\nRET\n"))
     yield Input("registers with names", TEXT, numbered("names\nproc control main()\nregs ", "p%: int, ", "\nRET\n"))
     yield Input("types of registers", TEXT, padded("proc control\nregs", " int", "\nRET\n"))
-    yield Input("types of registers behind names", TEXT, padded("names\nproc control main()\nregs", " int", "\nRET\n"))
+    yield Input("types of registers after names", TEXT, padded("names\nproc control main()\nregs", " int", "\nRET\n"))
     yield Input("a deep type", TEXT, padded("proc control write", " cont", " int\nregs\nRET\n"))
     yield Input("commas in a head", TEXT, padded("names\nproc control main(", ",", ")\nregs\nRET\n"))
     yield Input("procedures", TEXT, padded("proc control\nregs\nRET\n", "proc leaf\nregs\nRET\n"))
@@ -148,9 +148,9 @@ def names() -> Iterator[Input]:
     yield Input("names that mean nothing", TEXT, padded(NAMED, "INT two 1\n", "RET\n"))
     yield Input("constants that collide", TEXT, colliding("names\n", "const % = 1\n", RETURNS))
     yield Input("labels that collide", TEXT, colliding("proc control\nregs\n", "%:\n", "RET\n"))
-    yield Input("labels that collide behind names", TEXT, colliding(NAMED, "%:\n", "RET\n"))
+    yield Input("labels that collide after names", TEXT, colliding(NAMED, "%:\n", "RET\n"))
     yield Input("labels", TEXT, numbered("proc control\nregs\n", "l%:\n", "RET\n"))
-    yield Input("labels behind names", TEXT, numbered(NAMED, "l%:\n", "RET\n"))
+    yield Input("labels after names", TEXT, numbered(NAMED, "l%:\n", "RET\n"))
     yield Input("skips to labels", TEXT, numbered("proc control\nregs\n", "JMP l%\nl%:\n", "RET\n"))
     yield Input("skips to one label", TEXT, padded("proc control\nregs\n", "JMP end\n", "end:\nRET\n"))
 
@@ -159,18 +159,18 @@ def lines() -> Iterator[Input]:
     """Comments, lines and words."""
     yield Input("one comment", TEXT, padded(RETURNS + ";", "x"))
     yield Input("empty comments", TEXT, padded(RETURNS, ";\n"))
-    yield Input("empty comments behind names", TEXT, padded("names\n" + RETURNS, ";\n"))
+    yield Input("empty comments after names", TEXT, padded("names\n" + RETURNS, ";\n"))
     yield Input("quotes in a comment", TEXT, padded(RETURNS + ";", '"'))
     yield Input("one word", TEXT, padded("", "x"))
     yield Input("words in one line", TEXT, padded("", "a "))
     yield Input("instructions in one line", TEXT, padded("proc control\nregs\n", "RET ", "\n"))
     yield Input("spaces", TEXT, padded("", " ", RETURNS))
     yield Input("line ends", TEXT, padded("", "\n", RETURNS))
-    yield Input("line ends behind names", TEXT, padded("names\n", "\n", RETURNS))
+    yield Input("line ends after names", TEXT, padded("names\n", "\n", RETURNS))
     yield Input("line ends and an error", TEXT, padded(RETURNS, "\n", "x\n"))
     yield Input("carriage returns", TEXT, padded("", "\r", "\n" + RETURNS))
     yield Input("letters of two bytes", TEXT, padded(RETURNS + ";", "é"))
-    yield Input("an error behind comments", TEXT, padded("names\n" + RETURNS, "; x\n", "INT v99 1\n"))
+    yield Input("an error after comments", TEXT, padded("names\n" + RETURNS, "; x\n", "INT v99 1\n"))
 
 
 def values() -> Iterator[Input]:
@@ -209,11 +209,11 @@ def hex_texts() -> Iterator[Input]:
     yield Input("procedures in hex", HEX, padded(MAGIC + "40", "0100000001" + "42"))
     yield Input("the longest code in hex", HEX, fixed(MAGIC + "40" + "0000010" + "11000" + longest + ("0100010" + "11000" + longest) * 63))
     yield Input("the longest texts in hex", HEX, fixed(MAGIC + "01" + "0000010207fe" + ("02001000" + "61" * 4096) * 2045 + "42"))
-    yield Input("digits behind a program", HEX, padded(MAGIC + "0100000000" + "0142", "00"))
+    yield Input("digits after a program", HEX, padded(MAGIC + "0100000000" + "0142", "00"))
 
 
 def histories() -> Iterator[Input]:
-    """Events behind a program."""
+    """Yields events after a program."""
     yield Input("events of tasks", HISTORY, padded(PUTS + "events\n", "take e0\ncall e0\nend e0\n"))
     yield Input("events that don't go", HISTORY, padded(PUTS + "events\n", "take e0\n"))
     yield Input("line ends of a history", HISTORY, padded(PUTS + "events\n", "\n"))
@@ -226,7 +226,7 @@ def histories() -> Iterator[Input]:
 
 
 def inputs() -> Iterator[Input]:
-    """Inputs behind a program."""
+    """Yields inputs after a program."""
     commands = tuple(f"{command} --text" for command in INPUTS)
     yield Input("lines of inputs", commands, padded(TAKES, "int:7\n"))
     yield Input("members", commands, numbered(TAKES + "ints:", "%=1,", "\n"))
@@ -256,26 +256,26 @@ def all_inputs() -> Iterator[Input]:
         yield from kind()
 
 
-def start(program: str, words: list[str], source: Path, told: Path) -> None:
+def start(program: str, words: list[str], source: Path, output: Path) -> None:
     """Becomes the program, with bounds on its processor time and its addresses."""
     resource.setrlimit(resource.RLIMIT_CPU, (STOPPED, STOPPED + 1))
     resource.setrlimit(resource.RLIMIT_AS, (16 << 30, 16 << 30))
     os.dup2(os.open(source, os.O_RDONLY), 0)
-    os.dup2(os.open(told, os.O_WRONLY | os.O_CREAT | os.O_TRUNC, 0o600), 1)
+    os.dup2(os.open(output, os.O_WRONLY | os.O_CREAT | os.O_TRUNC, 0o600), 1)
     os.dup2(os.open(os.devnull, os.O_WRONLY), 2)
     os.execv(program, [program, *words])
 
 
-def used(program: str, words: list[str], source: Path, told: Path) -> Use:
+def used(program: str, words: list[str], source: Path, output: Path) -> Use:
     """Runs the program once, in a child of its own."""
     child = os.fork()
     if child == 0:
         try:
-            start(program, words, source, told)
+            start(program, words, source, output)
         finally:
             os._exit(127)
     _, state, usage = os.wait4(child, 0)
-    return Use(os.waitstatus_to_exitcode(state), usage.ru_utime + usage.ru_stime, usage.ru_maxrss / 1024, told.stat().st_size)
+    return Use(os.waitstatus_to_exitcode(state), usage.ru_utime + usage.ru_stime, usage.ru_maxrss / 1024, output.stat().st_size)
 
 
 def faults(words: str, use: Use, size: int) -> list[str]:
@@ -289,15 +289,15 @@ def faults(words: str, use: Use, size: int) -> list[str]:
         (use.megabytes > most, f"{use.megabytes:.0f} MB where {most:.0f} are allowed"),
         (use.status in (1, 2) and use.written > REASON and not is_listed, f"an error of {use.written} bytes"),
     )
-    return [told for is_so, told in tried if is_so]
+    return [output for is_so, output in tried if is_so]
 
 
 def try_input(program: str, given: Input, most: int, room: Path) -> tuple[int, int]:
     """Runs so many commands on an input, and prints its line and one of each command that fails. Returns how many passed and failed."""
-    source, told = room / "input", room / "told"
+    source, output = room / "input", room / "output"
     data = given.make(WHOLE).encode()
     source.write_bytes(data)
-    uses = [(words, used(program, words.split(), source, told)) for words in given.commands[:most]]
+    uses = [(words, used(program, words.split(), source, output)) for words in given.commands[:most]]
     found = [(words, faults(words, use, len(data))) for words, use in uses]
     slowest, largest = max(use.seconds for _, use in uses), max(use.megabytes for _, use in uses)
     print(f"{given.name}: {slowest:.2f} s, {largest:.0f} MB, of {len(data) / (1 << 20):.1f} MiB", flush=True)

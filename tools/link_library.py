@@ -5,6 +5,8 @@ Both hold the proved archive and the three functions over malloc from which its 
 embed/yuglemit.h alone: the names that begin with `yuglemit_`. All tools are the kit's, so the files are the same on each machine.
 """
 
+from __future__ import annotations
+
 import shutil
 import subprocess
 import sys
@@ -17,7 +19,7 @@ SONAME = "libyuglemit.so.0"
 
 
 def run_tool(kit: Path, room: Path, name: str, *words: str) -> None:
-    """Runs a tool of the kit's LLVM, which goes by the name that it is called by."""
+    """Runs a tool of the kit's LLVM, which acts by the name under which it is called."""
     tool = room / name
     if not tool.is_symlink():
         tool.symlink_to(kit / "toolchain" / "bin" / "clang")

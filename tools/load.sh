@@ -16,8 +16,8 @@ program=$("$root/tools/tw-pick.sh" tw_main) || exit
 done=0
 while [ "$done" -lt "$times" ]; do
     status=0
-    "$program" run --engines=4 --servers=4 --workers=16 --limit=1000000 "$@" <"$room/load.hex" >"$room/out" 2>"$room/told" || status=$?
-    echo "status $status, last line $(tail -n 1 "$room/out"), checksum $(sha256sum <"$room/out" | cut -c1-16), told '$(cat "$room/told")'" >>"$room/ends"
+    "$program" run --engines=4 --servers=4 --workers=16 --limit=1000000 "$@" <"$room/load.hex" >"$room/out" 2>"$room/errors" || status=$?
+    echo "status $status, last line $(tail -n 1 "$room/out"), checksum $(sha256sum <"$room/out" | cut -c1-16), errors '$(cat "$room/errors")'" >>"$room/ends"
     done=$((done + 1))
     [ $((done % 10)) -eq 0 ] && echo "$done of $times" >&2
 done

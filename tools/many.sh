@@ -197,10 +197,10 @@ scripts() {
     check "parallel.sh: a changed input runs again" changed_input
     check "parallel.sh: a changed program runs again" changed_program
     check "parallel.sh: nothing changed, nothing runs" unchanged_is_kept
-    check "parallel.sh: options behind --" options_reach_the_run
-    check "parallel.sh: a refused program starts nothing" refused_before_any_run
+    check "parallel.sh: options after --" options_reach_the_run
+    check "parallel.sh: a rejected program starts nothing" refused_before_any_run
     check "parallel.sh: no inputs" no_inputs
-    check "parallel.sh: refused inputs are answers" refused_input_is_an_answer
+    check "parallel.sh: rejected inputs are answers" refused_input_is_an_answer
     check "parallel.sh: names with blanks, quotes and dollars" hard_names
     for signal in TERM HUP INT KILL; do check "parallel.sh: $signal loses no answer" killed $signal; done
 }
@@ -464,7 +464,7 @@ for engine; do
         scripts | threads | processes | dask | mpi | slurm) $engine ;;
         ssh) ssh_runs ;;
         parallel) installed command -v parallel && parallel_runs ;;
-        *) echo "many.sh: there is no engine $engine" >&2; exit 2 ;;
+        *) echo "many.sh: unknown engine $engine" >&2; exit 2 ;;
     esac
 done
 echo "$passed passed, $failed failed"

@@ -13,20 +13,21 @@ Programs and library are the release's, unpacked, or those that are built; the p
 
 from __future__ import annotations
 
-import base64
 import gzip
 import os
-import re
 import shutil
 import signal
 import subprocess
 import sys
 import tempfile
+import time
 from dataclasses import dataclass
 from pathlib import Path
 
 ROOT = Path(__file__).resolve().parent.parent
-SECONDS = 300
+# The tests of a part may take so many seconds without an edit, and so many times as long with one.
+SECONDS = 900
+TIMES = 10
 
 # The command that tests each part, its quick tests first. @LIBRARY@ and @MODULE@ are the library and the page's module.
 TESTS = {
@@ -94,22 +95,26 @@ MUTANTS = (
     Mutant("bools_are_ints", "python", PYTHON + "_inputs.py", 'return hasattr(value, "__index__") and not _is_bool(value)', 'return hasattr(value, "__index__")'),
     Mutant("ints_of_65_bits", "python", PYTHON + "_inputs.py", "if not -(2**63) <= number < 2**63:", "if not -(2**63) <= number <= 2**63:"),
     Mutant("texts_count_characters", "python", PYTHON + "_inputs.py", "size = len(value.encode())", "size = len(value.encode()) and len(value)"),
-    Mutant("members_are_not_sorted", "python", PYTHON + "_inputs.py", "    pairs.sort(key=lambda pair: pair[0])  # type: ignore[arg-type, return-value]\n", ""),
-    Mutant("texts_sort_by_characters", "python", PYTHON + "_inputs.py", "order = str(key).encode() if keyed", "order = str(key) if keyed", "UTF-8 orders texts as their characters do"),
+    Mutant("members_are_not_sorted", "python", PYTHON + "_inputs.py", "    pairs.sort(key=lambda pair: pair[0].encode() if isinstance(pair[0], str) else pair[0])\n", ""),
+    Mutant("texts_sort_by_characters", "python", PYTHON + "_inputs.py", "pair[0].encode() if isinstance(pair[0], str) else pair[0]", "pair[0]", "UTF-8 orders texts as their characters do"),
     Mutant("quotes_stay_open", "python", PYTHON + "_inputs.py", '''escape = {'"': '\\\\"', "\\\\"''', '''escape = {"\\\\"'''),
     Mutant("limits_read_as_quiet", "python", PYTHON + "_report.py", '_ENDS = ("quiet", "stuck", "limit"', '_ENDS = ("quiet", "stuck"'),
     Mutant("open_outputs_are_finished", "python", PYTHON + "_report.py", 'if not found and " closed " not in line:', "if not found and line == '':"),
     Mutant("unset_members_are_left_out", "python", PYTHON + "_report.py", "read_scalar(found[2]) if found[2] else None", "read_scalar(found[2]) if found[2] else 0"),
     Mutant("statistics_of_main_alone", "python", PYTHON + "_report.py", "sum(map(int, done))", "int(done[0])"),
-    Mutant("errors_by_quoted_lines", "python", PYTHON + "_errors.py", 'r"at line (?P<line>\\d+): ", rest[:1]', 'r".*at line (?P<line>\\d+)", rest'),
+    Mutant("errors_by_quoted_lines", "python", PYTHON + "_errors.py", 'r"at line (?P<line>\\d+)(?: in [^\\s:]+)?: ", rest[:1]', 'r".*at line (?P<line>\\d+)", rest'),
+    Mutant("lines_without_procedures", "python", PYTHON + "_errors.py", "(?: in [^\\s:]+)?: ", ": "),
     Mutant("traps_are_refusals", "python", PYTHON + "_program.py", "raise (Trap if status == 6 else Refused)(text)", "raise Refused(text)"),
     Mutant("no_memory_is_an_answer", "python", PYTHON + "_program.py", "    if status == 5:\n", "    if status == 55:\n"),
-    Mutant("bounds_of_loops_count_once", "python", PYTHON + "_listing.py", "turns.append(turns[-1] * int(words[1]))", "turns.append(turns[-1])"),
-    Mutant("circles_of_tasks_are_bounded", "python", PYTHON + "_listing.py", "        elif state.get(called) == 1:\n            return None\n", "        elif state.get(called) == 1:\n            continue\n"),
+    Mutant("limits_bound_nothing", "python", PYTHON + "_listing.py", "min(limit, self.events)", "self.events"),
+    Mutant("greatest_is_the_first", "python", PYTHON + "_listing.py", "max(it.budget for it in procedures)", "procedures[0].budget"),
     Mutant("maps_by_completion", "python", PYTHON + "_map.py", "            while following in waiting:\n", "            for following in sorted(waiting):\n"),
     Mutant("lost_chunks_stay_lost", "python", PYTHON + "_map.py", "        return run_chunk(part)\n\n\ndef _shower", "        return []\n\n\ndef _shower"),
     Mutant("small_buffers_cut", "python", PYTHON + "_native.py", "        if length <= len(room):\n            return", "        if True:\n            return"),
     Mutant("words_may_have_line_feeds", "python", PYTHON + "_native.py", 'if any("\\n" in word for word in words):', "if False:"),
+    Mutant("interrupts_stop_nothing", "python", PYTHON + "_native.py", "        interrupt()\n", ""),
+    Mutant("open_containers_are_finished", "python", PYTHON + "_native.py", 'item.kind == ord("c") and item.closed', 'item.kind == ord("c")'),
+    Mutant("stops_come_too_late", "python", PYTHON + "_stop.py", "        if self._event.is_set():\n", "        if False:\n"),
     # The page: its machine, its bounds, and what it reads of texts and answers.
     Mutant("sums_have_no_end", "page", "page/machine.js", "ADD: (a, b) => checked(a + b)", "ADD: (a, b) => a + b"),
     Mutant("texts_have_no_end", "page", "page/machine.js", "byteLength(a) + byteLength(b) > LONGEST_TEXT", "byteLength(a) + byteLength(b) > 2 * LONGEST_TEXT"),
@@ -144,6 +149,10 @@ def copy_repository(folder: Path) -> None:
     for kept in ("out/release", "out/unverified"):
         if (ROOT / kept).is_dir():
             shutil.copytree(ROOT / kept, folder / kept)
+    program = Path("crates/tw_main/out/tw_main")
+    if (ROOT / program).exists():
+        (folder / program).parent.mkdir(parents=True, exist_ok=True)
+        shutil.copy2(ROOT / program, folder / program)
 
 
 def unpacked(name: str, folder: Path) -> bytes:
@@ -165,20 +174,18 @@ def module_of(folder: Path) -> Path:
     built = ROOT / "page/out/yuglemit.wasm"
     if built.exists():
         return built
-    found = re.search(rb'wasm = \\?"([A-Za-z0-9+/=]+)', unpacked("index.html", folder))
-    if not found:
-        sys.exit("mutants: release/index.html.gz has no module")
-    module = folder / "out" / "yuglemit.wasm"
-    module.parent.mkdir(parents=True, exist_ok=True)
-    module.write_bytes(gzip.decompress(base64.b64decode(found[1])))
+    page, module = folder / "out" / "index.html", folder / "out" / "yuglemit.wasm"
+    page.parent.mkdir(parents=True, exist_ok=True)
+    page.write_bytes(unpacked("index.html", folder))
+    subprocess.run([sys.executable, "-B", str(folder / "page" / "unpack.py"), str(page), str(module)], check=True)
     return module
 
 
 # --- Trying
 
 
-def test(part: str, folder: Path) -> tuple[bool, str]:
-    """Runs the tests of a part. Returns whether they pass, and the last line that they wrote."""
+def test(part: str, folder: Path, seconds: float = SECONDS) -> tuple[bool, str]:
+    """Runs the tests of a part for so many seconds at most. Returns whether they pass, and the last line that they wrote."""
     command = TESTS[part]
     if "@LIBRARY@" in command:
         command = command.replace("@LIBRARY@", str(library_of(folder)))
@@ -186,16 +193,16 @@ def test(part: str, folder: Path) -> tuple[bool, str]:
         command = command.replace("@MODULE@", str(module_of(folder)))
     run = subprocess.Popen(command, shell=True, cwd=folder, stdin=subprocess.DEVNULL, stdout=subprocess.PIPE, stderr=subprocess.STDOUT, start_new_session=True)
     try:
-        said, _ = run.communicate(timeout=SECONDS)
+        said, _ = run.communicate(timeout=seconds)
     except subprocess.TimeoutExpired:
         os.killpg(run.pid, signal.SIGKILL)
         run.communicate()
-        return False, f"longer than {SECONDS} s"
+        return False, f"longer than {seconds:.0f} s"
     lines = said.decode(errors="replace").strip().splitlines()
     return run.returncode == 0, lines[-1][:100] if lines else ""
 
 
-def attempt(mutant: Mutant, folder: Path) -> bool:
+def attempt(mutant: Mutant, folder: Path, seconds: float) -> bool:
     """Makes the edit, runs the tests, and takes the edit back. Returns whether the tests fail."""
     path = folder / mutant.file
     text = path.read_text(encoding="utf-8")
@@ -203,7 +210,7 @@ def attempt(mutant: Mutant, folder: Path) -> bool:
         sys.exit(f"mutants: {mutant.name}: {mutant.file} has its text {text.count(mutant.old)} times")
     path.write_text(text.replace(mutant.old, mutant.new), encoding="utf-8")
     try:
-        passes, last = test(mutant.part, folder)
+        passes, last = test(mutant.part, folder, seconds)
     finally:
         path.write_text(text, encoding="utf-8")
     word = "killed  " if not passes else "harmless" if mutant.harmless else "SURVIVES"
@@ -235,11 +242,14 @@ def main(words: list[str]) -> int:
     with tempfile.TemporaryDirectory() as name:
         folder = Path(name)
         copy_repository(folder)
+        most: dict[str, float] = {}
         for part in dict.fromkeys(mutant.part for mutant in mutants):
+            begun = time.monotonic()
             passes, last = test(part, folder)
             if not passes:
                 sys.exit(f"mutants: the tests of {part} fail without an edit: {last}")
-        results = [(mutant, attempt(mutant, folder)) for mutant in mutants]
+            most[part] = TIMES * (time.monotonic() - begun) + 60
+        results = [(mutant, attempt(mutant, folder, most[mutant.part])) for mutant in mutants]
     if "--table" in words:
         table(results)
     killed = sum(is_killed for _, is_killed in results)

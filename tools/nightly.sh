@@ -1,20 +1,21 @@
 #!/bin/sh
 # SPDX-License-Identifier: Apache-2.0
-# Runs the fuzz tests of each kind, with the date as seed, and all harnesses, in a clean clone of what is committed. Prints a line for each, with
-# its time and its last line, and at the end how many failed. What crashes, or takes longer than its limit, has failed.
+# Runs all harnesses, and the fuzz tests of each kind with the date as seed, in a clean clone of what is committed. Prints a line for each, with
+# its time, its processor time and its last line, and at the end how many failed. What crashes, or takes longer than its limit, has failed.
 #
 #   tools/nightly.sh                     100,000 tests a kind, and everything whole
 #   tools/nightly.sh --quick             1,000 tests a kind, and a small part of each harness
 #   tools/nightly.sh [--quick] NAME..    these: fuzz, fuzz_run, hostile, ..
 #   SECONDS_A_KIND=60 SEED=7 COUNT=500 tools/nightly.sh fuzz    bounds each kind's time; another seed, another count
+#   PATIENCE=5 tools/nightly.sh          each limit is five times as long, for a machine that does other things too
 #
-# The program and the libraries are those that are built here, else the release's. A harness is left out if its tools aren't installed, or the
-# page isn't built; its line says why. Logs are kept in out/nightly, a folder for each run. Exit status 1 if something failed.
+# Program, libraries and page are those that are built here, else the release's. A harness is left out if its tools aren't installed, or
+# if it tests the release and that isn't fresh; its line says why. Logs are kept in out/nightly, a folder for each run. Exit status 1 if something failed.
 root=$(dirname "$(dirname "$(readlink -f "$0")")")
 seed=${SEED:-$(date +%F)}
-count=${COUNT:-100000} seconds=${SECONDS_A_KIND:-1200}
+count=${COUNT:-100000} seconds=${SECONDS_A_KIND:-1200} patience=${PATIENCE:-1}
 quick='' names=''
-passed=0 failed=0 left=0
+passed=0 failed=0 left=0 child=''
 
 usage() {
     sed -n '3,13s/^# \{0,1\}//p' "$0"
@@ -70,7 +71,13 @@ report() {
         FAILED) failed=$((failed + 1)) ;;
         *) left=$((left + 1)) ;;
     esac
-    printf '%-8s %-14s %6s  %s\n' "$1" "$2" "$3" "$4"
+    printf '%-8s %-14s %-16s %s\n' "$1" "$2" "$3" "$4"
+}
+
+# Sets `used` to the processor seconds that all harnesses have used so far.
+count_used() {
+    times >"$logs/times"
+    used=$(awk 'NR == 2 { for (i = 1; i <= 2; i++) { split($i, part, /[ms]/); all += 60 * part[1] + part[2] } printf "%d", all }' "$logs/times")
 }
 
 # The last line of a log that counts what passed, else the last that isn't empty.
@@ -82,12 +89,16 @@ last_line() {
 # Runs a harness for so many seconds at most: its name, the limit, and the command, in the clone.
 harness() {
     is_named "$1" || return
-    name=$1 limit=$2 log=$logs/$1.log
+    name=$1 limit=$(($2 * patience)) log=$logs/$1.log
     shift 2
-    begun=$(date +%s)
-    (cd "$clone" && exec timeout -k 10 "$limit" "$@") >"$log" 2>&1 </dev/null
-    status=$?
-    took="$(($(date +%s) - begun)) s"
+    count_used
+    before=$used begun=$(date +%s)
+    (cd "$clone" && exec timeout -k 10 "$limit" "$@") >"$log" 2>&1 </dev/null &
+    child=$!
+    wait "$child"
+    status=$? child=''
+    count_used
+    took="$(($(date +%s) - begun)) s, $((used - before)) used"
     case $status in
         0) report ok "$name" "$took" "$(last_line "$log")" ;;
         124 | 137) report FAILED "$name" "$took" "took longer than $limit s; $(last_line "$log")" ;;
@@ -95,18 +106,25 @@ harness() {
     esac
 }
 
-# Like `harness`, if what precedes the name is installed or there; else it is left out.
+# Like `harness`, if what precedes the name is installed; else it is left out.
 harness_with() {
     wanted=$1
     shift
     is_named "$1" || return
     for need in $wanted; do
-        case $need in
-            */*) [ -e "$root/$need" ] || { report "left out" "$1" "" "$need isn't there"; return; } ;;
-            *) command -v "$need" >/dev/null 2>&1 || { report "left out" "$1" "" "$need isn't installed"; return; } ;;
-        esac
+        command -v "$need" >/dev/null 2>&1 || { report "left out" "$1" "" "$need isn't installed"; return; }
     done
     harness "$@"
+}
+
+# A clean clone has only the release to answer by, so it is tried if that is of these sources.
+run_released() {
+    is_named released || return
+    if python3 -B "$clone/tools/release.py" --fresh >"$logs/fresh.log" 2>&1; then
+        harness released 1200 tools/released.sh
+    else
+        report "left out" released "" "$(tail -n 1 "$logs/fresh.log")"
+    fi
 }
 
 run_fuzz() {
@@ -127,32 +145,33 @@ all_lines() {
 run_counted() {
     requests=$(whole_or_quick 100000 60)
     # shellcheck disable=SC2016
-    all_lines refused 3600 '^[0-9]+ requests|status 5, memory|status 0, quiet' sh -c \
+    all_lines refused 3600 '^[0-9]+ allocations|status 5, memory|status 0, quiet' sh -c \
         'tools/refused.sh -n "$1" "$0" run --text int:39 <examples/pipeline.tw && tools/refused.sh -t "$0" run --text --workers 4 int:39 <examples/pipeline.tw' "$program" "$requests"
     times=$(whole_or_quick 100 3)
-    all_lines load 1800 "^ *$times status 0, last line quiet, checksum [0-9a-f]+, told ''\$|^[0-9]+ of $times\$" tools/load.sh "$times"
+    all_lines load 1800 "^ *$times status 0, last line quiet, checksum [0-9a-f]+, errors ''\$|^[0-9]+ of $times\$" tools/load.sh "$times"
 }
 
+# The harnesses, those first that take the least time.
 run_harnesses() {
+    harness shown 600 tools/shown.sh
+    harness json 600 tools/json_runs.py "$program"
+    harness progress 300 tools/progress.py
+    harness_with "cc rt" loaded 900 tools/loaded.sh
+    harness python 900 embed/python/test.sh
+    harness_with "chromium node cc" page 1800 page/test.sh "$program"
     # shellcheck disable=SC2046
-    harness hostile 3600 tools/hostile.sh "$program" $(whole_or_quick "" "--commands 1")
+    harness_with "cc c++ cargo rt" embedded 1200 tools/embedded.sh $(whole_or_quick "" "c cpp python")
+    harness_with "unshare" packaged 2400 tools/packaged.sh
+    run_released
     run_counted
     harness replayed 3600 tools/replayed.sh "$(whole_or_quick 200 4)"
-    harness shown 600 tools/shown.sh
-    # shellcheck disable=SC2046
-    harness_with "cc c++ rustc rt" embedded 1200 tools/embedded.sh $(whole_or_quick "" "c cpp python")
-    harness_with "cc rt" loaded 900 tools/loaded.sh
-    harness progress 300 tools/progress.py
-    harness_with "chromium node cc page/out/index.html" page 1800 page/test.sh "$program"
-    harness python 900 embed/python/test.sh
-    harness_with "unshare" packaged 2400 tools/packaged.sh
-    harness released 1200 tools/released.sh
-    # shellcheck disable=SC2046
     harness broken 3600 python3 tools/broken.py "$program" examples
     # shellcheck disable=SC2046
-    harness_with node mutants 3600 tools/mutants.py $(whole_or_quick "" cases)
+    harness_with node mutants 3600 tools/mutants.py $(whole_or_quick "--table" cases)
     # shellcheck disable=SC2046
     harness many 2400 tools/many.sh $(whole_or_quick "" "threads")
+    # shellcheck disable=SC2046
+    harness hostile 3600 tools/hostile.sh "$program" $(whole_or_quick "" "--commands 1")
 }
 
 while [ $# -gt 0 ]; do
@@ -166,9 +185,11 @@ done
 logs=$root/out/nightly/$(date +%Y-%m-%dT%H%M%S)
 clone=$logs/clone
 mkdir -p "$logs" || exit
-trap 'rm -rf "$clone"' EXIT
+trap 'rm -rf "$clone" "$logs/times"' EXIT
+# A harness is in a process group of its own, whose processes `timeout` ends.
+trap '[ -z "$child" ] || kill "$child"; exit 130' INT TERM HUP
 make_clone
-run_fuzz
 run_harnesses
+run_fuzz
 echo "$passed passed, $failed failed, $left left out; seed $seed, logs in $logs"
 [ "$failed" = 0 ] && [ "$passed" -gt 0 ]

@@ -1,17 +1,32 @@
 #!/usr/bin/env python3
 # SPDX-License-Identifier: Apache-2.0
-"""Runs a program of some seconds by the built `tw` with a pseudo terminal for standard error, and compares what is told there: once a second
-how many events there are so far, and nothing with --quiet, by --in-turn, into a pipe, or of a short run whose program comes late; and why a
-command line is refused. Standard output and the status have to be the same each time. Tells of each that differs, ends with `N as wanted, M not`, and fails where one isn't.
+"""Checks the progress that the built `tw` prints on standard error, with a pseudo terminal.
+
+A run of some seconds prints once a second how many events there are so far. Nothing is printed with --quiet, by --in-turn, into a pipe, or of a
+short run whose program comes late. A rejected command line prints the reason. Standard output and the status are the same each time. Prints each
+that differs, ends with `N as wanted, M not`, and fails if one differs.
 
     tools/progress.py             by the proved program, which is built where it isn't there
     TW_PROGRAM=FILE tools/progress.py    by another one
 """
-import os, pty, re, subprocess, sys, threading, time
 
-ROOT = os.path.dirname(os.path.dirname(os.path.realpath(__file__)))
-PROGRAM = os.environ.get("TW_PROGRAM") or os.path.join(ROOT, "crates/tw_main/out/tw_main")
+from __future__ import annotations
+
+import os
+import pty
+import re
+import subprocess
+import sys
+import threading
+import time
+from pathlib import Path
+from typing import NamedTuple
+
+ROOT = Path(__file__).resolve().parent.parent
+PROGRAM = os.environ.get("TW_PROGRAM") or str(ROOT / "crates" / "tw_main" / "out" / "tw_main")
 SHORT = "proc control write int\nregs int\nINT v0 7\nSTORE d0 v0\nRET\n"
+# The most tasks that an event limit of 1,000,000 allows, with four events each.
+MOST_TASKS = 240_000
 # Tasks of ten thousand iterations each, one after the other on one worker.
 LONG = """proc control
 regs
@@ -34,12 +49,20 @@ RET
 """
 
 
-def run(words, text, on_terminal=True, late=0.0):
-    """What is told, what is written, the status, and how long it took."""
-    ours, theirs = pty.openpty() if on_terminal else os.pipe()
-    told = []
+class Answer(NamedTuple):
+    """The lines on standard error, the output, and the status."""
 
-    def listen():
+    printed: str
+    written: str
+    status: int
+
+
+def run(words: list[str], text: str, on_terminal: bool = True, late: float = 0.0) -> tuple[Answer, float]:
+    """Runs a program, which comes so many seconds late, and returns what came of it and how long it took."""
+    ours, theirs = pty.openpty() if on_terminal else os.pipe()
+    printed: list[bytes] = []
+
+    def listen() -> None:
         while True:
             try:
                 more = os.read(ours, 4096)
@@ -47,7 +70,7 @@ def run(words, text, on_terminal=True, late=0.0):
                 return
             if not more:
                 return
-            told.append(more)
+            printed.append(more)
 
     begun = time.monotonic()
     process = subprocess.Popen([PROGRAM, "run", "--text", "--limit=1000000", *words], stdin=subprocess.PIPE, stdout=subprocess.PIPE, stderr=theirs)
@@ -59,61 +82,72 @@ def run(words, text, on_terminal=True, late=0.0):
     took = time.monotonic() - begun
     listener.join()
     os.close(ours)
-    return b"".join(told).decode().replace("\r\n", "\n"), written, process.returncode, took
+    return Answer(b"".join(printed).decode().replace("\r\n", "\n"), written, process.returncode), took
 
 
-def tasks(count):
-    """A program of at least so many tasks."""
+def tasks(count: int) -> str:
+    """Returns a program of at least so many tasks."""
     return LONG % (min(count, 1000), (count + 999) // 1000)
 
 
-def long_text():
-    """A program whose tasks take some five seconds here."""
-    count = 16
-    while (took := run(["--quiet"], tasks(count))[3]) < 1 and count < 60000:
-        count *= 4
-    return tasks(int(count * 5.5 / took))
+def long_text() -> str:
+    """Returns a program whose tasks take some five seconds here. On a busy machine one that took long once may be short the next time."""
+    count, took = 16, 0.0
+    while took < 4 and count < MOST_TASKS:
+        count = min(MOST_TASKS, int(count * min(4, 5.5 / max(took, 0.1))))
+        took = min(run(["--quiet"], tasks(count))[1] for _ in range(2 if took > 1 else 1))
+    return tasks(count)
 
 
-def is_progress(told, took):
-    """Whether these are the lines of a run that took so many seconds: one for each second from the second on, and the events rise."""
-    lines = told.splitlines()
-    counts = [re.fullmatch(r"tw: ([0-9]+) events so far", line) for line in lines]
-    if not all(counts) or not int(took) - 2 <= len(lines) <= int(took) - 1:
-        return False
-    events = [int(count[1]) for count in counts]
-    return len(events) > 1 and events == sorted(events) and events[0] < events[-1]
+def is_progress(printed: str, took: float) -> bool:
+    """Returns whether these are the lines of a run that took so many seconds: one for each second from the second on, and the events rise.
+
+    One line in five may be missing, since the thread that writes them may be late on a busy machine.
+    """
+    events: list[int] = []
+    for line in printed.splitlines():
+        found = re.fullmatch(r"tw: ([0-9]+) events so far", line)
+        if not found:
+            return False
+        events.append(int(found[1]))
+    return int(0.8 * took) - 2 <= len(events) <= int(took) - 1 and len(events) > 1 and events == sorted(events) and events[0] < events[-1]
 
 
-def main():
-    if not os.access(PROGRAM, os.X_OK) and subprocess.call([os.path.join(ROOT, "tw"), "build"]):
-        return 70
+def long_faults() -> list[str]:
+    """Returns what is wrong with runs of some seconds, or nothing for each that is well."""
     text = long_text()
-    good = bad = 0
-    for name, words, options, is_wanted in [
-        ("a run on a terminal", [], {}, is_progress),
-        ("--quiet", ["--quiet"], {}, lambda told, took: told == ""),
-        ("--in-turn", ["--in-turn"], {}, lambda told, took: told == ""),
-        ("into a pipe", [], {"on_terminal": False}, lambda told, took: told == ""),
-    ]:
-        told, written, status, took = run(words, text, **options)
-        if is_wanted(told, took) and (written, status) == ("quiet\n", 0):
-            good += 1
-        else:
-            bad += 1
-            print(f"{name}, {took:.1f} seconds: told {told!r}, wrote {written!r}, status {status}")
-    for name, words, late, is_wanted in [
-        ("a short run whose program comes late", [], 3.5, ("", "out 0 int 7\nquiet\n", 0)),
-        ("a refused command line", ["--workers=17"], 0.0, ("error: --workers takes a number from 1 to 16\n", "command line refused\n", 2)),
-    ]:
-        told, written, status, took = run(words, SHORT, late=late)
-        if (told, written, status) == is_wanted:
-            good += 1
-        else:
-            bad += 1
-            print(f"{name}: told {told!r}, wrote {written!r}, status {status}")
-    print(f"{good} as wanted, {bad} not")
-    return bad != 0
+    faults: list[str] = []
+    rows: list[tuple[str, list[str], bool]] = [
+        ("a run on a terminal", [], True), ("--quiet", ["--quiet"], True), ("--in-turn", ["--in-turn"], True), ("into a pipe", [], False),
+    ]
+    for name, words, on_terminal in rows:
+        got, took = run(words, text, on_terminal=on_terminal)
+        is_right = is_progress(got.printed, took) if on_terminal and not words else not got.printed
+        is_well = is_right and (got.written, got.status) == ("quiet\n", 0)
+        faults.append("" if is_well else f"{name}, {took:.1f} seconds: {got}")
+    return faults
+
+
+def short_faults() -> list[str]:
+    """Returns what is wrong with short runs, likewise."""
+    faults: list[str] = []
+    rows: list[tuple[str, list[str], float, Answer]] = [
+        ("a short run whose program comes late", [], 3.5, Answer("", "out 0 int 7\nquiet\n", 0)),
+        ("a refused command line", ["--workers=17"], 0.0, Answer("error: --workers takes a number from 1 to 16\n", "command line refused\n", 2)),
+    ]
+    for name, words, late, expected in rows:
+        got, _ = run(words, SHORT, late=late)
+        faults.append("" if got == expected else f"{name}: {got}")
+    return faults
+
+
+def main() -> int:
+    if not os.access(PROGRAM, os.X_OK) and subprocess.call([str(ROOT / "tw"), "build"]):
+        return 70
+    results = long_faults() + short_faults()
+    faults = [fault for fault in results if fault]
+    print("\n".join([*faults, f"{len(results) - len(faults)} as wanted, {len(faults)} not"]))
+    return 1 if faults else 0
 
 
 if __name__ == "__main__":

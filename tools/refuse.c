@@ -1,6 +1,6 @@
 /* SPDX-License-Identifier: Apache-2.0 */
 /* Refuses one request of a program: the one whose number, from 1, is in REFUSE. Requests are those for memory, or, where KIND is
-   `thread`, those for threads. Where REPORT names a file, the number of requests stands there, written anew at each, since a
+   `thread`, those for threads. If REPORT names a file, it gets the number of requests, written anew at each, since a
    program with threads may end without its destructors. Built and loaded by tools/refused.sh. */
 #define _GNU_SOURCE
 #include <dlfcn.h>
@@ -28,7 +28,7 @@ __attribute__((constructor)) static void begin(void) {
     atomic_store(&requests, 0);
 }
 
-/* The numbers are written with leading zeros, so that a shorter one never stands over a longer one. */
+/* The numbers are written with leading zeros, so that a shorter one never covers a longer one in part. */
 static int is_refused(int is_thread) {
     if (is_thread != of_threads)
         return 0;

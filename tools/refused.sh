@@ -36,5 +36,5 @@ while run_refusing "$next" "$@"; [ "$requests" -ge "$next" ]; do
     [ "$next" = "$most" ] && break
     next=$((next + 1))
 done
-echo "$(wc -l <"$room/ends") requests, each refused once"
+echo "$(wc -l <"$room/ends") allocations, each failed once"
 sort "$room/ends" | uniq -c | sort -rn

@@ -46,7 +46,7 @@ ONCE, TWICE = "once", "twice, the same in different folders"
 
 @dataclass(frozen=True)
 class Manifest:
-    """What release/MANIFEST says. `sums` has the sum and size of each unpacked file; `sources` and `code` the sums of the crates' sources."""
+    """The contents of release/MANIFEST. `sums` has the sum and size of each unpacked file; `sources` and `code` the sums of the crates' sources."""
 
     version: str
     kit: str

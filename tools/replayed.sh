@@ -37,22 +37,23 @@ replay_once() {
     [ "$workers" -lt "$3" ] && workers=$3
     layout="--engines=$1 --servers=$2 --workers=$workers"
     run_status=0 replay_status=0
-    "$program" run $layout --limit=1000000 --trace $words <"$room/hex" >"$room/run" 2>"$room/told" || run_status=$?
+    "$program" run $layout --limit=1000000 --trace $words <"$room/hex" >"$room/run" 2>"$room/errors" || run_status=$?
     sed '1,/^end$/d' "$room/run" >"$room/report"
     { cat "$room/hex"; sed '/^end$/,$d' "$room/run"; echo end; } >"$room/history"
     "$program" replay $layout $words <"$room/history" >"$room/replayed" || replay_status=$?
-    [ "$run_status" = "$replay_status" ] && cmp -s "$room/report" "$room/replayed" && [ ! -s "$room/told" ]
+    [ "$run_status" = "$replay_status" ] && cmp -s "$room/report" "$room/replayed" && [ ! -s "$room/errors" ]
 }
 
-for file in "$root"/examples/*.tw; do
-    name=$(basename "$file" .tw)
+for file in "$root"/examples/*.tw "$root"/examples/*.twn; do
+    [ ! -e "${file}n" ] || continue  # the expansion of the next one
+    name=$(basename "${file%.tw*}")
     words=$(inputs_of "$name")
-    "$program" asm <"$file" >"$room/hex"
+    "$program" asm --names <"$file" >"$room/hex"
     "$program" check <"$room/hex" >"$room/check" || { echo "$name: $(cat "$room/check")"; continue; }
     count=0
     while [ "$count" -lt "$times" ]; do
         replay_once $((count % 4 + 1)) $((count / 4 % 4 + 1)) $(((count * 5 + count / 16) % 16 + 1)) || {
-            echo "$name: $layout $words: run $run_status, replay $replay_status; $(diff "$room/report" "$room/replayed" | head -n 2 | tr '\n' ' ') $(head -n 1 "$room/told")"
+            echo "$name: $layout $words: run $run_status, replay $replay_status; $(diff "$room/report" "$room/replayed" | head -n 2 | tr '\n' ' ') $(head -n 1 "$room/errors")"
             exit 1
         }
         count=$((count + 1))

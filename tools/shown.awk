@@ -1,7 +1,7 @@
 # SPDX-License-Identifier: Apache-2.0
 # Writes what documents show to a folder: awk -f tools/shown.awk -v folder=DIR README.md docs/*.md. There shown.txt has each
-# command `$ ./tw ..` that stands in a block of code, with what stands below it, but for the script's own `build` and `test`. A
-# block behind the words "into `sum.twn`" is the file sum.twn; a command `$ sed -i .. sum.twn` in a block makes sum_2.twn of it, and
+# command `$ ./tw ..` in a block of code, with the lines below it, except the script's own `build` and `test`. A
+# block after the words "into `sum.twn`" is the file sum.twn; a command `$ sed -i .. sum.twn` in a block makes sum_2.twn of it, and
 # so on, and a command takes the last.
 
 function current(name) {

@@ -18,12 +18,12 @@ cd "$room" || exit
 compare() {
     [ -n "$command" ] || return 0
     shown=$((shown + 1))
-    sh -c "$command" >printed 2>told </dev/null
+    sh -c "$command" >printed 2>errors </dev/null
     number=$(sed -n '/^refused /{s/^refused \([A-Z][0-9]*\).*/\1/p;q;}' printed)
-    cmp -s printed wanted && { [ -z "$number" ] || grep -qF "./tw explain $number says more" told; } && return
+    cmp -s printed wanted && { [ -z "$number" ] || grep -qF "./tw explain $number says more" errors; } && return
     differ=$((differ + 1))
     echo "\$ $command"
-    diff wanted printed && cat told
+    diff wanted printed && cat errors
 }
 
 compare_all() {

@@ -409,26 +409,26 @@ class NightlyTest(unittest.TestCase):
         path.write_text(text, encoding="utf-8")
         path.chmod(0o755)
 
-    def nightly(self, *words: str) -> tuple[int, list[str]]:
+    def nightly(self, *words: str, patience: int = 1) -> tuple[int, list[str]]:
         git = ["git", "-C", str(self.root), "-c", "user.name=a", "-c", "user.email=a@b"]
-        for command in (["init", "-q"], ["add", "-A"], ["commit", "-qm", "all"]):
+        for command in (["init", "-q"], ["add", "-A"], ["commit", "--allow-empty", "-qm", "all"]):
             subprocess.run([*git, *command], check=True)
-        named = {**os.environ, "SEED": "7", "COUNT": "9", "SECONDS_A_KIND": "3"}
+        named = {**os.environ, "SEED": "7", "COUNT": "9", "SECONDS_A_KIND": "3", "PATIENCE": str(patience)}
         done = subprocess.run([str(self.root / "tools" / "nightly.sh"), *words], env=named, stdout=subprocess.PIPE, text=True, check=False)
         return done.returncode, done.stdout.splitlines()
 
     def test_a_line_for_each(self) -> None:
         status, lines = self.nightly("--quick", "fuzz", "hostile", "shown")
-        self.assertEqual([line.split()[:2] for line in lines[:-1]], [["ok", "fuzz_one"], ["FAILED", "fuzz_two"], ["ok", "hostile"], ["ok", "shown"]])
-        self.assertRegex(lines[0], r"^ok +fuzz_one +\d+ s  one 7 9 --seconds 3$")
-        self.assertRegex(lines[1], r"status 1; two 7 9 --seconds 3$")
-        self.assertRegex(lines[2], r"hostile.sh .*/clone/crates/tw_embed/out/libyuglemit.so$")
+        self.assertEqual([line.split()[:2] for line in lines[:-1]], [["ok", "shown"], ["ok", "hostile"], ["ok", "fuzz_one"], ["FAILED", "fuzz_two"]])
+        self.assertRegex(lines[1], r"hostile.sh .*/clone/crates/tw_embed/out/libyuglemit.so$")
+        self.assertRegex(lines[2], r"^ok +fuzz_one +\d+ s, \d+ used +one 7 9 --seconds 3$")
+        self.assertRegex(lines[3], r"status 1; two 7 9 --seconds 3$")
         self.assertRegex(lines[-1], r"^3 passed, 1 failed, 0 left out; seed 7, logs in ")
         logs = Path(lines[-1].split("logs in ")[1])
         self.assertEqual((status, sorted(path.name for path in logs.iterdir())), (1, ["fuzz_one.log", "fuzz_two.log", "hostile.log", "shown.log"]))
 
     def test_all_well(self) -> None:
-        status, lines = self.nightly("fuzz_one", "page")
+        status, lines = self.nightly("fuzz_one", "released")
         self.assertEqual(status, 0)
         self.assertRegex(lines[-1], r"^1 passed, 0 failed, 1 left out; ")
 
@@ -439,15 +439,21 @@ class NightlyTest(unittest.TestCase):
         self.tool("shown.sh", "#!/bin/sh\necho begun\nsleep 30\n")
         status, lines = self.nightly("hostile", "shown")
         self.assertEqual(status, 1)
-        self.assertRegex(lines[0], r"^FAILED +hostile +\d+ s  status (139|245)")
-        self.assertRegex(lines[1], r"^FAILED +shown +\d+ s  took longer than 1 s; begun$")
+        self.assertRegex(lines[0], r"^FAILED +shown +\d+ s, \d+ used +took longer than 1 s; begun$")
+        self.assertRegex(lines[1], r"^FAILED +hostile +\d+ s, \d+ used +status (139|245)")
+
+    def test_patience(self) -> None:
+        text = (self.root / "tools" / "nightly.sh").read_text(encoding="utf-8")
+        self.tool("nightly.sh", text.replace("harness shown 600", "harness shown 1"))
+        self.tool("shown.sh", "#!/bin/sh\nsleep 2\necho done\n")
+        self.assertEqual([self.nightly("shown", patience=patience)[0] for patience in (1, 30)], [1, 0])
 
     def test_other_endings_of_a_run_fail(self) -> None:
-        self.tool("refused.sh", "#!/bin/sh\necho 2 requests, each refused once\necho '1 status 5, memory'\necho '1 status 0, quiet'\n")
-        self.tool("load.sh", "#!/bin/sh\necho \"100 status 0, last line quiet, checksum 12ab, told ''\"\n")
+        self.tool("refused.sh", "#!/bin/sh\necho 2 allocations, each failed once\necho '1 status 5, memory'\necho '1 status 0, quiet'\n")
+        self.tool("load.sh", "#!/bin/sh\necho \"100 status 0, last line quiet, checksum 12ab, errors ''\"\n")
         self.assertEqual(self.nightly("refused", "load")[0], 0)
         self.tool("refused.sh", "#!/bin/sh\necho '1 status 139, '\n")
-        self.tool("load.sh", "#!/bin/sh\necho \"99 status 0, last line quiet, checksum 12ab, told ''\"\necho \"1 status 0, last line quiet, checksum 12ac, told ''\"\n")
+        self.tool("load.sh", "#!/bin/sh\necho \"99 status 0, last line quiet, checksum 12ab, errors ''\"\necho \"1 status 0, last line quiet, checksum 12ac, errors ''\"\n")
         _, lines = self.nightly("refused", "load")
         self.assertRegex(lines[-1], "^0 passed, 2 failed")
 

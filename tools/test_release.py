@@ -137,24 +137,24 @@ class OfABuild(WithRepository):
         self.edit("KIT-ID", "kit\n")
 
     def copy(self, root: Path, tree: Path, with_checks: bool) -> None:
-        """Stands for the copy and what `rt ci` leaves in it."""
+        """Acts as the copy and what `rt ci` leaves in it."""
         for crate in release.PROGRAMS:
             (tree / f"crates/{crate}/out").mkdir(parents=True)
             (tree / f"crates/{crate}/out/{crate}").write_text("built\n")
 
     def rebuild(self, tree: Path) -> None:
-        """Stands for the second build of the programs."""
+        """Acts as the second build of the programs."""
         (tree / "crates/tw_main/out/tw_main").write_text(self.second)
 
     def build_library(self, kit: Path, tree: Path) -> None:
-        """Stands for the build of the libraries."""
+        """Acts as the build of the libraries."""
         out = tree / f"crates/{release.LIBRARY}/out"
         out.mkdir(parents=True)
         for name in release.LIBRARIES:
             (out / name).write_text("library\n")
 
     def build_page(self, tree: Path) -> None:
-        """Stands for the build of the page."""
+        """Acts as the build of the page."""
         (tree / "page/out").mkdir(parents=True)
         (tree / "page/out" / release.PAGE).write_text("page\n")
 

@@ -6,7 +6,9 @@ from __future__ import annotations
 
 import pathlib
 import sys
+import tempfile
 import unittest
+from unittest import mock
 
 sys.path.insert(0, str(pathlib.Path(__file__).resolve().parent))
 import words  # noqa: E402
@@ -146,6 +148,31 @@ class Links(unittest.TestCase):
         self.assertEqual([self.found(it) for it in ("C.md", "B.md#c", "#b", "../docs/none.png")], [1] * 4)
 
 
+class Code(unittest.TestCase):
+    """Sources, functions and types that documents name."""
+
+    def found(self, text: str) -> list[tuple[int, str]]:
+        with tempfile.TemporaryDirectory() as folder:
+            source = pathlib.Path(folder, "crates/tw_a/src")
+            source.mkdir(parents=True)
+            (source / "b.rt").write_text("/// Calls gone.\npub fn one(x: u8) {}\nenum Two { Three }\n", encoding="utf-8")
+            (source / "c.antt").write_text("abbrev pub four : T\nfour = five\n", encoding="utf-8")
+            with mock.patch.object(words, "ROOT", pathlib.Path(folder)):
+                return [(it.line, it.text) for it in words.dead_code("docs/A.md", words.markdown_lines(text))]
+
+    def test_what_is_there_is_no_finding(self) -> None:
+        self.assertEqual(self.found("In `tw_a/src/b.rt`: `one`, `Two`, and `crates/tw_a/src/c.antt`: `four`. A `gone`.\n"), [])
+
+    def test_a_source_that_isnt_there(self) -> None:
+        self.assertEqual(self.found("A.\n\n| `tw_a/src/gone.rt`: `one` | `tw_a/src` |\n"), [(3, "there is no crates/tw_a/src/gone.rt")])
+
+    def test_a_function_that_isnt_there(self) -> None:
+        self.assertEqual(self.found("- `tw_a/src/b.rt`: `one`,\n  `gone` and\n  `Three`\n"), [(1, "tw_a/src/b.rt has no gone"), (1, "tw_a/src/b.rt has no Three")])
+
+    def test_a_name_that_is_only_used(self) -> None:
+        self.assertEqual(self.found("`tw_a/src/c.antt`: `four` → `five`\n"), [(1, "tw_a/src/c.antt has no five")])
+
+
 class Comments(unittest.TestCase):
     """Comments of sources."""
 
@@ -160,6 +187,13 @@ class Comments(unittest.TestCase):
 
     def test_types_are_left_out(self) -> None:
         self.assertEqual([it.text for it in comments("// @param {Law} it\n", ".js")], ["@param CODE it"])
+
+    def test_docstrings_count(self) -> None:
+        text = '"""Says it.\n\n    it law\n"""\n# And so.\ndef law():\n    """Returns `law`.\n\n    >>> law()\n    """\n'
+        self.assertEqual([it for it in comments(text, ".py") if it.text], [(1, "Says it."), (5, "And so."), (7, "Returns CODE.")])
+
+    def test_blocks_of_code_are_left_out(self) -> None:
+        self.assertEqual([it.text for it in comments("# Says it:\n#\n#   it law\n#   it two\n#\n# And so.\n#   more\n", ".sh")], ["Says it:", "", "", "And so.", "  more"])
 
     def test_openings(self) -> None:
         for text, count in (("/// What it is.", 1), ("/// The same, but more.", 1), ("/// Somewhere.", 0), ("/// Returns.\n/// So it is.", 0)):

@@ -40,7 +40,7 @@ stop_build() {
     kill "$child"
     exec 8>&-
     wait
-    say "stopped; ./tw build goes on where it stopped"
+    say "stopped; the next ./tw build continues from there"
     exit 130
 }
 
@@ -73,7 +73,7 @@ prove_and_build() {
     trap - INT TERM HUP
     if [ "$status" != 0 ]; then
         sed -n 's/^rt: \(tw_[a-z_]*\) NOT PROVED.*/tw: \1 is not proved/p' "$log" >&2
-        say "it could not be built; $log says why"
+        say "the build failed; $log says why"
         exit 70
     fi
     say "built, in $(minutes) min"
@@ -92,7 +92,7 @@ build_command() {
     case $* in
         '') crate=tw_main ;;
         --library) crate=tw_embed ;;
-        *) say "./tw build takes no other argument than --library"; exit 2 ;;
+        *) say "./tw build takes no argument except --library"; exit 2 ;;
     esac
     built=$(built_file "$crate") folder=$root/crates/$crate/out
     log=$folder/build.log
@@ -100,7 +100,7 @@ build_command() {
     mkdir -p "$folder"
     take_turn
     if is_built "$crate"; then
-        say "it is built"
+        say "it is built already"
     else
         prove_and_build
     fi

@@ -175,7 +175,7 @@ hint() {
             say "$me explain ${code%% *} says more" ;;
     esac
     if [ "$kind" = unverified ] && [ "$1" -gt 131 ] && [ "$1" != 143 ]; then
-        say "the unverified build stopped at a fault in its own code; \`rt try\` in crates/tw_main says where"
+        say "the unverified build crashed; \`rt try\` in crates/tw_main says where"
     fi
 }
 

@@ -55,6 +55,7 @@ put_library() {
     archive=$(static_library) || exit 70
     put 644 "$archive" "$libdir/libyuglemit.a"
     put 644 "$root/embed/yuglemit.h" include/yuglemit.h
+    put 644 "$root/embed/cpp/yuglemit.hpp" include/yuglemit.hpp
     put_filled yuglemit.pc 644 "$libdir/pkgconfig/yuglemit.pc"
     put_filled yuglemit-config.cmake 644 "$libdir/cmake/yuglemit/yuglemit-config.cmake"
     put_filled yuglemit-config-version.cmake 644 "$libdir/cmake/yuglemit/yuglemit-config-version.cmake"

@@ -91,10 +91,10 @@ state_of_files() {
 
 # Makes an unverified build of a crate, as the file `program`, and removes older ones than the newest three.
 build_unverified() {
-    say "the sources differ from the release's, so an unverified build is made, which takes one to two minutes and is kept"
+    say "the sources differ from the release's, so an unverified build is made; it takes one to two minutes, and is kept"
     kit=$(dirname "$(dirname "$(readlink -f "$(command -v rt)")")")
     if ! python3 -B "$root/tools/unverified.py" "$kit" "$root" "$1" "$program"; then
-        say "there is no unverified build; \`rt try\` in crates/$1 says more"
+        say "the unverified build failed; \`rt try\` in crates/$1 says more"
         exit 70
     fi
     # (names of sums have no blanks)
@@ -132,7 +132,7 @@ need_proved() {
     [ -n "$out" ] || use_out
     # shellcheck disable=SC2046
     pick_proved "$1" $(sums_of_crate "$1") && return
-    say "neither is crates/$1 built nor does the release have these sources; $2 proves and builds it"
+    say "crates/$1 isn't built, and the release is of other sources; $2 proves and builds it"
     exit 70
 }
 
@@ -140,7 +140,7 @@ need_proved() {
 say_kind() {
     case $kind in
         same_code) say "the proofs or definitions have changed since the release, but not the code: the release's program answers" ;;
-        unverified) say "this answer comes from an unverified build; ./tw build proves and builds" ;;
+        unverified) say "this answer comes from an unverified build; ./tw build makes a proved one" ;;
     esac
 }
 

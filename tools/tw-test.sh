@@ -12,7 +12,7 @@ PATTERN is a case's name, or a part of names or of a file's name: names/errors i
 is the whole of a name. Without a pattern all cases are run.
 
   --list    Lists the cases, where they are and what they are about
-  --update  Writes what came into the files of the cases that failed, for a person to read; not in CI
+  --update  Writes the actual outputs into the files of the failed cases, for review; not in CI
 
 CONTRIBUTING.md, "Cases", says how a case is written.
 TEXT

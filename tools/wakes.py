@@ -24,7 +24,7 @@ SECONDS = 200
 
 @dataclass(frozen=True)
 class Break:
-    """A text of a file, which stands there once, and what stands in its place in the copy."""
+    """A text that a file has once, and the text in its place in the copy."""
 
     name: str
     file: str
@@ -85,14 +85,14 @@ def copy_to(folder: Path) -> None:
 
 
 def played(folder: Path, given: str, wanted: int) -> tuple[bool, str]:
-    """Whether all cases come to what is wanted, and what is told otherwise."""
+    """Says whether all cases have the expected output, and returns the differences otherwise."""
     run = subprocess.run(
         ["rt", "try", "--seconds", str(SECONDS)], cwd=folder / "crates/tw_cases", input=given.encode(), stdout=subprocess.PIPE, stderr=subprocess.STDOUT, check=False
     )
     lines = run.stdout.decode(errors="replace").splitlines()
     good = f"{wanted} cases as wanted" in lines
-    told = [line for line in lines if ": wanted " in line] or lines[-1:]
-    return good, f"{len(told)} told, first: {told[0][:200] if told else ''}"
+    found = [line for line in lines if ": wanted " in line] or lines[-1:]
+    return good, f"{len(found)} lines, first: {found[0][:200] if found else ''}"
 
 
 def tried(folder: Path, broken: Break, given: str, wanted: int) -> bool:
@@ -100,12 +100,12 @@ def tried(folder: Path, broken: Break, given: str, wanted: int) -> bool:
     file = folder / broken.file
     text = file.read_text()
     if text.count(broken.old) != 1:
-        print(f"{broken.name}: its text stands {text.count(broken.old)} times in {broken.file}")
+        print(f"{broken.name}: its text is {text.count(broken.old)} times in {broken.file}")
         return False
     file.write_text(text.replace(broken.old, broken.new))
-    good, told = played(folder, given, wanted)
+    good, found = played(folder, given, wanted)
     file.write_text(text)
-    print(f"{broken.name}: {'NOT NOTICED' if good else 'noticed, ' + told}", flush=True)
+    print(f"{broken.name}: {'NOT NOTICED' if good else 'noticed, ' + found}", flush=True)
     return not good
 
 
@@ -118,9 +118,9 @@ def main(names: list[str]) -> int:
     wanted = sum(not line.startswith("let ") for line in given.splitlines())
     with tempfile.TemporaryDirectory() as room:
         copy_to(Path(room))
-        good, told = played(Path(room), given, wanted)
+        good, found = played(Path(room), given, wanted)
         if not good:
-            print(f"without a break: {told}")
+            print(f"without a break: {found}")
             return 1
         print(f"without a break: {wanted} cases as wanted", flush=True)
         noticed = sum(tried(Path(room), broken, given, wanted) for broken in chosen)

@@ -17,6 +17,6 @@ done | {
         printf '%4d  %s\n' "$(grep -cwF -e "$1" "$file")" "$file"
         count=$((count + 1))
     done
-    echo "$1 stands in $count files"
+    echo "$1 is in $count files"
     [ "$count" -gt 0 ]
 }

@@ -1,6 +1,6 @@
 #!/usr/bin/env python3
 # SPDX-License-Identifier: Apache-2.0
-"""Checks the words of this repository against docs/STYLE.md.
+"""Checks the words of this repository against docs/STYLE.md. Docstrings of Python count as comments.
 
     tools/words.py            prints what is wrong, and fails if anything is
     tools/words.py --sources  prints what is wrong in comments
@@ -13,6 +13,7 @@ are left out.
 
 from __future__ import annotations
 
+import ast
 import json
 import pathlib
 import posixpath
@@ -148,7 +149,28 @@ def comment_lines(text: str, suffix: str) -> list[Line]:
     marker = re.compile(rf"^\s*{MARKERS[suffix]}(?:\s|$)(.*)$")
     found = ((number, marker.match(line)) for number, line in enumerate(text.splitlines(), 1))
     lines = (Line(number, without_code(re.sub(r"\{[^}]*\}", "CODE", match[1]))) for number, match in found if match)
-    return [line for line in lines if not FOR_TOOLS.match(line.text)]
+    outside = list(without_blocks(line for line in lines if not FOR_TOOLS.match(line.text)))
+    return sorted([*outside, *docstring_lines(text)]) if suffix == ".py" else outside
+
+
+def docstring_lines(text: str) -> Iterator[Line]:
+    """Yields the docstrings of a Python source, without their blocks of code and examples."""
+    for node in ast.walk(ast.parse(text)):
+        if isinstance(node, (ast.Module, ast.ClassDef, ast.FunctionDef, ast.AsyncFunctionDef)):
+            prose = re.split(r"\n *>>> ", ast.get_docstring(node, clean=False) or "")[0]
+            margin = " " * (node.body[0].col_offset if node.body else 0)
+            lines = enumerate(prose.split("\n"), node.body[0].lineno if node.body else 1)
+            yield from without_blocks(Line(number, without_code(line.removeprefix(margin))) for number, line in lines)
+
+
+def without_blocks(lines: Iterable[Line]) -> Iterator[Line]:
+    """Leaves out the blocks of code in comments. Two more blanks after an empty line begin a block, as in a list of calls."""
+    before, indented = "", False
+    for line in lines:
+        indented = line.text.startswith("  ") and (indented or not before)
+        before = line.text.strip()
+        if not indented:
+            yield line
 
 
 def is_allowed(path: str, text: str, start: int) -> bool:
@@ -274,6 +296,29 @@ def dead_links(path: str, documents: dict[str, list[Line]]) -> Iterator[Finding]
                 yield Finding(path, line.number, "link", target)
 
 
+# A source in a document, and after a colon the functions or types that it has: `tw_main/src/main.rt`: `main`, `run`.
+CODE = re.compile(r"`(?:crates/)?(tw_\w+/[\w/]+\.(?:rt|antt))`(?::((?:,?\s+(?:and\s+|→\s+)?`\w+`)+))?")
+
+
+def defines(source: str, name: str) -> bool:
+    """Says if a source defines a function, type or definition of this name."""
+    return bool(re.search(rf"\b(?:fn|struct|enum|trait|type|const|data|record|codata) (?:pub )?{name}\b|^ *(?:pub |abbrev )*{name} :", source, re.M))
+
+
+def dead_code(path: str, lines: list[Line]) -> Iterator[Finding]:
+    """Finds the sources, functions and types that a document names and that aren't there."""
+    text = "\n".join(line.text for line in lines)
+    for match in CODE.finditer(text):
+        number, source = lines[text.count("\n", 0, match.start())].number, ROOT / "crates" / match[1]
+        if not source.is_file():
+            yield Finding(path, number, "code", f"there is no crates/{match[1]}")
+            continue
+        code = source.read_text(encoding="utf-8")
+        for name in re.findall(r"`(\w+)`", match[2] or ""):
+            if not defines(code, name):
+                yield Finding(path, number, "code", f"{match[1]} has no {name}")
+
+
 def markdown_findings(documents: dict[str, list[Line]]) -> Iterator[Finding]:
     """Finds all that is wrong in Markdown."""
     for path, lines in documents.items():
@@ -281,6 +326,7 @@ def markdown_findings(documents: dict[str, list[Line]]) -> Iterator[Finding]:
         yield from wrong_words(path, prose)
         yield from long_sentences(path, prose)
         yield from dead_links(path, documents)
+        yield from [] if path in LOGS else dead_code(path, lines)
     yield from repeated(documents)
 
 

@@ -57,7 +57,7 @@ def place(file):
 
 
 def in_order(items):
-    """Groups of items of one file, each behind what it names."""
+    """Groups of items of one file, each after what it names."""
     left, done, groups = set(items), set(), []
     files = {}
     for item in items:
@@ -87,7 +87,7 @@ def in_order(items):
 
 
 def head_of(file):
-    """What a file says of itself, before anything else."""
+    """Returns the comment at the head of a file."""
     lines = []
     for line in read(file).splitlines():
         if not line.startswith(("--", "//!")):
@@ -97,7 +97,7 @@ def head_of(file):
 
 
 def renamed_in(group):
-    """The same, of the items of one file."""
+    """Returns the imports by which the items of one file use names under others."""
     lines = []
     for item in group:
         if hasattr(item, "module"):

@@ -1,5 +1,5 @@
 # SPDX-License-Identifier: Apache-2.0
-"""Definitions: the files of specs/ and proofs/, and what a name in one of them stands for.
+"""Definitions: the files of specs/ and proofs/, and the meaning of a name in one of them.
 
 A name is found as the prover finds it: what is bound beside it, what the file defines, what its `use` lines bring in. What a clause
 binds somewhere counts as bound in all of it. A name that is found nowhere is an error, so nothing is left out in silence.
@@ -118,7 +118,7 @@ class Definitions:
         self.operators = operators([*self.items, *self.names])
 
     def meaning(self, name):
-        """The item, or the words of the library, that a name stands for here; None where it has none."""
+        """Returns the item, or the words of the library, that a name means here; None if it means none."""
         if name in self.items:
             return self.items[name]
         if name in self.constructors:
@@ -164,7 +164,7 @@ def crate_of(path):
 
 
 def found(path, name):
-    """What a name of a module stands for: an item, or its words where it is the library's."""
+    """The meaning of a name of a module: an item, or its words if it is the library's."""
     crate = crate_of(path)
     if not crate:
         return f"{re.sub('^Rattle[.]', '', path)}.{name}"
@@ -183,7 +183,7 @@ def found(path, name):
 
 
 class Scope:
-    """Where the names of a term are looked up, behind those that are bound in it."""
+    """Where the names of a term are looked up, after those that are bound in it."""
 
     def __init__(self, names, modules, own=lambda name: None):
         self.names, self.modules, self.own = names, modules, own
@@ -261,7 +261,7 @@ def bound(scope, words):
 
 
 def used(scope, words, local, unknown):
-    """What the words of a term stand for, but for those that are bound."""
+    """Returns the meanings of a term's words, except those that are bound."""
     meanings = []
     for at, word in enumerate(words):
         if word[0] in '"(){}[],;.' or NUMERAL.match(word) or word in BUILT_IN:
@@ -289,7 +289,7 @@ def used(scope, words, local, unknown):
 
 
 def sequencing(scope, text):
-    """What the lines of each `do` are joined by."""
+    """Returns the operators that join the lines of each `do`."""
     lines, names = text.split("\n"), set()
     for at, line in enumerate(lines):
         if re.search(r"(^|[\s(])do$", line) and at + 1 < len(lines):
@@ -306,7 +306,7 @@ def sequencing(scope, text):
 
 
 def dots_apart(text):
-    """The dot of a binder stands apart from the name before it."""
+    """A blank separates the dot of a binder from the name before it."""
     return re.sub(r"\.(?=\s|$)", " . ", text)
 
 
@@ -315,7 +315,7 @@ def words_of(text):
 
 
 def pieces_of(item):
-    """The parts of a definition, each with the names that it binds besides those within it: the signature, each clause, each field."""
+    """The parts of a definition, each with the names that it binds in addition to those within it: the signature, each clause, each field."""
     module = item.module
     if item.kind == "record":
         at, fields = 0, set()
@@ -347,7 +347,7 @@ def pieces_of(item):
 
 
 def uses_of_definition(item):
-    """What a definition names. What a clause binds counts as bound in all of it, and in no other clause."""
+    """Returns what a definition names. What a clause binds counts as bound in all of it, and in no other clause."""
     module, meanings, unknown, own = item.module, [], [], {item.name}
     if item.kind == "data":
         own |= {name for name, of in module.constructors.items() if of is item}

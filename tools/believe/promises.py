@@ -1,5 +1,5 @@
 # SPDX-License-Identifier: Apache-2.0
-"""Promises: the clauses of a call or a law, and the invariant of a type."""
+"""Promises: the clauses of a call or a theorem, and the invariant of a type."""
 import re
 import sys
 

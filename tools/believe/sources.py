@@ -7,14 +7,14 @@ from definitions import CRATES, Item, ROOT, Scope, bound, fail, imports, read, u
 
 
 def hidden(text):
-    """The text with its comments, and what stands between quotes, as blanks; every other character in its place."""
+    """Returns the text with its comments and quoted parts as blanks; every other character keeps its place."""
     def blank(match):
         return re.sub(r"[^\n]", " ", match.group())
     return re.sub(r"//[^\n]*|\"(?:[^\"\\]|\\.)*\"|'(?:\\[^']*|[^\\'\n])'", blank, text)
 
 
 def closing(text, at):
-    """The place behind the bracket that closes the one here."""
+    """Returns the place after the bracket that closes the one here."""
     depth = 0
     for place in range(at, len(text)):
         if text[place] in "([{":
@@ -375,7 +375,7 @@ def bounds_of(text):
 
 
 def uses_of_term(where, term, local, bounds, names, modules, own_types=None, owner=None):
-    """What a term in code names."""
+    """Returns what a term in code names."""
     unknown = []
 
     def in_rust(name):
