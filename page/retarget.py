@@ -3,7 +3,7 @@
 import re
 import sys
 
-# An instruction of x86-64 by which serde_json looks for bytes to escape, and what it does: each byte is that at its place, or 0 for a negative place.
+# An instruction of x86-64 that serde_json uses. Its replacement: each byte is the one at its place, or 0 for a negative place.
 SHUFFLE = "llvm.x86.ssse3.pshuf.b.128"
 SHUFFLE_BYTES = """\
 define internal <16 x i8> @shuffle_bytes(<16 x i8> %bytes, <16 x i8> %places) {
