@@ -61,11 +61,11 @@ static const wrong sources[] = {
     {"zz", YUGLEMIT_HEX, 'H', 1, 0, 0, 0},
     {"\xff", YUGLEMIT_TEXT, 'H', 3, 0, 0, 0},
     {"\xff", YUGLEMIT_ANY_FORMAT, 'H', 3, 0, 0, 0},
-    {"54 57 42", YUGLEMIT_ANY_FORMAT, 'F', 1, 0, 0, 0},
-    {"TWB", YUGLEMIT_ANY_FORMAT, 'F', 1, 0, 0, 0},
-    {"", YUGLEMIT_ANY_FORMAT, 'F', 1, 0, 0, 0},
+    {"54 57 42", YUGLEMIT_ANY_FORMAT, 'F', 3, 0, 0, 0},
+    {"TWB", YUGLEMIT_ANY_FORMAT, 'F', 3, 0, 0, 0},
+    {"", YUGLEMIT_ANY_FORMAT, 'F', 3, 0, 0, 0},
     {"", YUGLEMIT_TEXT, 'A', 6, 1, 0, 0},
-    {"proc leaf out int\n  regs\n  ENDS d0\n", YUGLEMIT_ANY_FORMAT, 'A', 1, 3, 1, 3},
+    {"proc leaf write int\n  regs\n  ENDS d0\n", YUGLEMIT_ANY_FORMAT, 'A', 1, 3, 1, 3},
 };
 
 static void check_sources(void) {
