@@ -7,8 +7,8 @@ ghost use Rattle.tw_budget.specs.Sound.{IsSound};
 
 use tw_code::{Flow, Instr, Procedure, flow_at};
 
-/// The row of a place: the longest rest of a walk up to the END of the loop that the place is in, and that END. Lengths over the
-/// greatest budget are capped.
+/// The row of a place: how many instructions remain at most, from this place to the END of its innermost loop (or to RET), and
+/// where that END is. Lengths over the greatest budget are capped.
 #[derive(Clone, Copy)]
 pub struct Row {
     pub longest: u64,
@@ -22,6 +22,7 @@ fn capped(length: u64) -> u64
     length.min(Procedure::MAX_BUDGET + 1)
 }
 
+/// Returns the row of a place whose row is known. `from` is for the contract alone: rows from there on are known.
 pub fn row_of(code: &[Instr], rows: &[Row], from: usize, place: usize) -> Row
     requires ahead { from ≤ place }
     requires within { place < length code.now }

@@ -1,4 +1,4 @@
-//! The kinds of cases.
+//! Runs a case by its kind. README.md has the table of kinds. The `match` is split, since a function may have few exits.
 
 use crate::book::Book;
 use crate::bytes::read_bytes;
@@ -30,7 +30,7 @@ use std::thread::Threads;
 use std::time::Clock;
 use tw_verify::Verified;
 
-/// Runs a case, and returns its output. The first field has the kind and its words, the others the input.
+/// Runs a case, and returns its output. The fields are KIND WORDS, then what the kind reads: input, bytes, events.
 pub fn outcome<H: AllocGlobal + Files + Threads + Wait + Clock + Sync>(
     rt: &H,
     book: &Book,
@@ -42,6 +42,7 @@ pub fn outcome<H: AllocGlobal + Files + Threads + Wait + Clock + Sync>(
         "tw" | "called" | "ends" | "scarce" | "cuts" => session_kind(rt, book, kind, words, given),
         "stream" => {
             let (streams, words) = words.split_once(' ').unwrap_or((words, ""));
+            // Takes the last arm there: a kind of stream is no kind of case.
             session_kind(rt, book, streams, words, given)
         }
         "phrases" => phrases_text(rt, words, given),
@@ -51,6 +52,7 @@ pub fn outcome<H: AllocGlobal + Files + Threads + Wait + Clock + Sync>(
         "names" => names_text(rt.alloc(), given),
         "alike" => alike_text(rt, given),
         _ => {
+            // All other kinds begin with a program's bytes.
             let (bytes, rest) = first_field(given);
             let bytes = read_bytes(rt.alloc(), book, bytes)?;
             program_kind(rt, kind, words, bytes.as_slice(), rest)
@@ -58,7 +60,7 @@ pub fn outcome<H: AllocGlobal + Files + Threads + Wait + Clock + Sync>(
     }
 }
 
-/// Runs a kind of case with the arguments and the input of a session, or of several.
+/// Runs a case of sessions. Those of `called`, `scarce` and `cuts` run several.
 fn session_kind<H: AllocGlobal + Threads + Wait + Clock + Sync>(
     rt: &H,
     book: &Book,
@@ -79,7 +81,7 @@ fn session_kind<H: AllocGlobal + Threads + Wait + Clock + Sync>(
     }
 }
 
-/// Runs a kind of case with bytes, and then events or steps.
+/// Runs a case with a program's bytes, then perhaps events or a script.
 fn program_kind<H: AllocGlobal + Threads + Wait + Clock + Sync>(
     rt: &H,
     kind: &str,
@@ -95,6 +97,7 @@ fn program_kind<H: AllocGlobal + Threads + Wait + Clock + Sync>(
             Some(layout) => run_kind(rt, "held", layout, bytes, rest),
             None => run_kind(rt, kind, words, bytes, rest),
         },
+        // `drives` needs an actor of each kind.
         "drives" if words == "stopped" => run_kind(rt, words, "1 1 1", bytes, rest),
         "drives" => run_kind(rt, kind, "1 1 1", bytes, rest),
         "machine" => machine_text(rt.alloc(), words, bytes, rest),
@@ -104,7 +107,7 @@ fn program_kind<H: AllocGlobal + Threads + Wait + Clock + Sync>(
     }
 }
 
-/// Runs a kind of case with a program, which is verified here.
+/// Reads the layout and inputs of a run, verifies the program, and runs it.
 fn run_kind<H: AllocGlobal + Threads + Wait + Clock + Sync>(
     rt: &H,
     kind: &str,
@@ -117,6 +120,7 @@ fn run_kind<H: AllocGlobal + Threads + Wait + Clock + Sync>(
     run_text(rt, kind, bytes, &verified, &given, rest)
 }
 
+/// Like `run_kind`, with a verified program.
 fn run_text<H: AllocGlobal + Threads + Wait + Clock + Sync>(
     rt: &H,
     kind: &str,
@@ -135,11 +139,12 @@ fn run_text<H: AllocGlobal + Threads + Wait + Clock + Sync>(
         "unthreaded" => unthreaded_text(rt, bytes, verified, given),
         "scarce_pool" => scarce_pool_text(rt, rt.alloc(), verified, given),
         "drives" => drives_text(rt, rt.alloc(), verified, given, false),
+        // `drives stopped`
         _ => drives_text(rt, rt.alloc(), verified, given, true),
     }
 }
 
-/// Runs a kind of case that doesn't run its program.
+/// Runs a case that doesn't execute its program.
 fn still_kind(
     alloc: Global,
     kind: &str,

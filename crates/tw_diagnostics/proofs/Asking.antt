@@ -1,4 +1,4 @@
--- Registers are checked as right typing requires.
+-- The register checks of diagnostics are the verifier's.
 use Rattle.std.proofs.Common.{◌≡◌, ℕ, Bool, true, false, cond, List, [], ◌∷◌, ◌++◌, map, None, refl, ap}
 use Rattle.tw_diagnostics.proofs.ReasonNames.{Scalar, Typing, checks_args, checks_data, checks_local, checks_priority, checks_right, checks_value, asks_args, asks_data, asks_local, asks_priority, asks_value, may_stand_for, question_of, right_at, slice_set}
 use Rattle.tw_types.specs.declared.param.Param.{Param}

@@ -1,4 +1,4 @@
--- Typings that an earlier place brings.
+-- Rights that arrive from an earlier place.
 use Rattle.std.proofs.Common.{◌≡◌, ◌⊎◌, inl, inr, ℕ, ◌+◌, ◌<◌, ◌≤◌, List, Some, refl, sym, ap, subst, ◌∙◌, arith}
 use Rattle.std.proofs.lemmas.Bool.{cases_lt}
 use Rattle.std.proofs.lemmas.Option.{same_Some}
@@ -25,7 +25,7 @@ brings_of program p typings before place way i from earlier here goes there = re
 same_place : (code : List Instr) (place : ℕ) (i j : Instr) → slice_get code place ≡ Some i → slice_get code place ≡ Some j → i ≡ j
 same_place code place i j at there = same_Some i j (sym at ∙ there)
 
--- with the outcome of its step, a known place brings what that step leaves
+-- from a known place arrives what its step leaves, with the outcome of that step
 pub brought_is : (program : List Procedure) (p : Procedure) (typings : List Typing) (before place : ℕ) (i : Instr) (from : Typing) → slice_get p.code before ≡ Some i → slice_get typings before ≡ Some from
     → (other : Typing) (b : Brings program p typings before place other) → other ≡ after program b.step.way i from
 brought_is program p typings before place i from at there other b =
@@ -36,7 +36,7 @@ pub nothing_else : (program : List Procedure) (p : Procedure) (typings : List Ty
 nothing_else program p typings way before place here i from at there same other b d by is =
     same d (subst (λ (t : Typing). IsDifference here t d) (brought_is program p typings before place i from at there other b ∙ ap (λ (w : Way). after program w i from) by) is)
 
--- no outcome with which the place doesn't continue here brings anything
+-- nothing arrives with an outcome that doesn't continue here
 pub stays_here : (program : List Procedure) (p : Procedure) (typings : List Typing) (way : Way) (before place : ℕ) (i : Instr) → slice_get p.code before ≡ Some i → (onward way before (flow_of i) ≡ Some place → ⊥)
     → (other : Typing) (b : Brings program p typings before place other) → b.step.way ≡ way → ⊥
 stays_here program p typings way before place i at stays other b by =

@@ -9,7 +9,7 @@ use Rattle.tw_code.specs.machine.Rights.{Typing}
 use Rattle.tw_diagnostics.specs.Meetings.{IsDifference}
 use Rattle.tw_diagnostics.specs.declared.meeting.Difference.{Difference}
 
--- holds if with this outcome the place before brings no typing that differs from what is here
+-- holds if the rights that the place before leaves with this outcome are those here
 abbrev pub BringsNothingElse : List Procedure → Procedure → List Typing → Way → ℕ → ℕ → Typing → Type 0
 BringsNothingElse program p typings way before place here =
     (other : Typing) (b : Brings program p typings before place other) (d : Difference) → b.step.way ≡ way → IsDifference here other d → ⊥

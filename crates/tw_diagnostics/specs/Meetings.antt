@@ -1,4 +1,5 @@
--- Typings that differ but have to be one: where ways meet, which register differs and what each way brings; and which register a loop changes.
+-- Rights that differ but have to be the same: which register differs where two paths meet, and what it holds on each; and which
+-- register a loop changes.
 use Rattle.std.specs.Prelude.{◌≡◌, ◌≢◌, ℕ, ◌<◌, List, Some, slice_get}
 use Rattle.tw_code.specs.declared.instr.Instr.{Instr}
 use Rattle.tw_code.specs.declared.procedure.Procedure.{Procedure}
@@ -15,7 +16,7 @@ pub record IsDifference (first second : Typing) (d : Difference) : Type 0 where
   pub differs : d.first ≢ d.second
   pub alike : (k : ℕ) → k < d.register → right_at first k ≡ right_at second k
 
--- two earlier places that lead to this one, of which the second brings what differs from what is here
+-- two earlier places that lead to this one; the second leaves other rights than those here
 pub record IsMeeting (program : List Procedure) (p : Procedure) (typings : List Typing) (place : ℕ) (m : Meeting) : Type 0 where
   pub here : Typing
   pub typing : slice_get typings place ≡ Some here

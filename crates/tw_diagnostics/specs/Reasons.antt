@@ -48,11 +48,11 @@ abbrev pub place_text : Option ℕ → ℕ → List ℕ
 place_text None place = codes "place " ++ decimal place
 place_text (Some line) place = codes "line " ++ decimal line
 
--- returns what a way brings
+-- returns what the register holds on one path
 abbrev pub side_text : List (List ℕ) → ℕ → ℕ → Option RightType → List ℕ
 side_text lines procedure place right = holding_text right ++ (codes " after " ++ place_text (at_place lines procedure place) place)
 
--- returns the register, and what each of two ways brings
+-- returns the register, and what it holds on each of two paths
 abbrev pub meeting_line : List (List ℕ) → ℕ → Meeting → List ℕ
 meeting_line lines procedure m =
     codes "d" ++ (decimal m.difference.register ++ (codes " is " ++ (side_text lines procedure m.first m.difference.first
@@ -61,7 +61,7 @@ meeting_line lines procedure m =
 abbrev pub TellsMeeting : List (List ℕ) → List Procedure → Procedure → ℕ → List Typing → ℕ → List ℕ → Type 0
 TellsMeeting lines program p procedure typings place text = (m : Meeting) × IsMeeting program p typings place m × (text ≡ meeting_line lines procedure m)
 
--- holds if no two ways bring different typings
+-- holds if no two paths leave different rights here
 abbrev pub HasNoMeeting : List Procedure → Procedure → List Typing → ℕ → Type 0
 HasNoMeeting program p typings place = (m : Meeting) → IsMeeting program p typings place m → ⊥
 

@@ -1,5 +1,5 @@
--- Checks of an instruction's registers at a typing: what each holds and what is required of it, in the order of the questions. The questions are
--- those of right typing (see Same); these also have the register.
+-- Checks of an instruction's registers: what each holds and what is required of it. They are the verifier's checks, in their order
+-- (see Same), with the register.
 use Rattle.std.specs.Prelude.{ℕ, zero, suc, ◌+◌, ◌==◌, Bool, true, false, not, ◌&&◌, ◌||◌, if◌then◌else◌, List, [], ◌∷◌, ◌++◌, Option, Some, None, is_none, is_some, slice_get, slice_set}
 use Rattle.std.specs.List.{find}
 use Rattle.std.specs.Option.{option_and_then}
@@ -29,7 +29,7 @@ use Rattle.tw_diagnostics.specs.declared.register_check.RegisterState.TheVariant
 use Rattle.tw_diagnostics.specs.declared.register_check.Requirement.{Requirement}
 use Rattle.tw_diagnostics.specs.declared.register_check.Requirement.TheVariants as wanted
 
--- returns the question, without its register
+-- returns the verifier's check, without the register
 abbrev pub question_of : RegisterCheck → Question
 question_of a = (a.number, a.is_met)
 

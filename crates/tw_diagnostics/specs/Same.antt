@@ -1,4 +1,4 @@
--- Agreement of the checks with right typing: each check of a register is a question of the definition, in its order.
+-- Agreement with the verifier: each check of a register is one of those of tw_code/specs/accepting/Typing.antt, in their order.
 use Rattle.std.specs.Prelude.{◌≡◌, ℕ, Bool, List, map}
 use Rattle.tw_types.specs.declared.data_type.Scalar.{Scalar}
 use Rattle.tw_types.specs.declared.param.Param.{Param}

@@ -112,7 +112,7 @@ fn end_stop<'a>(
     Some(stop_with(line, here, before, Token::End, due))
 }
 
-/// Returns the position at which a line stops after its first word, if it does.
+/// Returns the position of the error after a line's first word, or `None` if there is none.
 fn position_after<'a>(
     alloc: Global,
     ask: Ask,
@@ -185,7 +185,7 @@ pub(crate) fn first_stop<'a>(alloc: Global, line: &'a str) -> Result<ErrorPositi
     first_word(alloc, line.as_bytes())
 }
 
-/// Returns the position at which a line stops after this first word, if it does.
+/// Returns the position of the error after this first word of a line, or `None` if there is none.
 fn word_stop<'a>(
     alloc: Global,
     ask: Ask,
@@ -225,7 +225,7 @@ fn bytes_stop<'a>(
     }
 }
 
-/// Returns the position at which a line that begins as a statement stops being one, if it does.
+/// Returns the position of the error in a line that begins as a statement, or `None` if there is none.
 pub(crate) fn line_stop<'a>(
     alloc: Global,
     ask: Ask,

@@ -100,7 +100,7 @@ fn first_leading(code: &[Instr], place: usize) -> Option<usize>
     None
 }
 
-/// Returns the difference between what a place brings with this outcome and the typing of another place.
+/// Returns the difference between the rights that a place leaves with this outcome and those at another place.
 fn brought(
     procedures: &[Procedure],
     procedure: &Procedure,
@@ -127,7 +127,7 @@ fn brought(
     }
 }
 
-/// Two places that lead to a third. The second brings a typing that differs from the one there.
+/// Two places that lead to a third, from which different rights arrive there.
 #[derive(Clone, Copy)]
 pub(crate) struct Meeting {
     pub(crate) first: usize,
@@ -135,7 +135,7 @@ pub(crate) struct Meeting {
     pub(crate) difference: Difference,
 }
 
-/// Returns the first place that leads to this one and brings a typing that differs from the one here.
+/// Returns the first place that leads to this one and leaves other rights than those here.
 fn second_of(
     procedures: &[Procedure],
     procedure: &Procedure,
@@ -176,7 +176,7 @@ fn second_of(
     None
 }
 
-/// Returns the first place that leads to this one, and the first that brings a typing that differs from the one here.
+/// Returns the first place that leads to this one, and the first one that leaves other rights than those here.
 pub(crate) fn meeting_at(
     procedures: &[Procedure],
     procedure: &Procedure,

@@ -37,7 +37,7 @@ fn put_holding(out: &mut Vec<u8>, right: Option<RightType>) -> Result<(), AllocE
     }
 }
 
-/// Adds what a way brings.
+/// Adds what the register holds on one path, with the path's last line.
 fn put_side(
     alloc: Global,
     out: &mut Vec<u8>,
@@ -53,7 +53,7 @@ fn put_side(
     put_place(alloc, out, lines, procedure, place)
 }
 
-/// Adds which register differs where ways meet, and what each way brings.
+/// Adds which register differs where two paths meet, and what it holds on each.
 pub(crate) fn put_meeting(
     alloc: Global,
     out: &mut Vec<u8>,

@@ -1,8 +1,10 @@
-//! Theorem: registers are checked as right typing requires.
+//! Theorem: the diagnostics check the same things of registers as the verifier.
 
 ghost use Rattle.tw_diagnostics.specs.Same.{AsksTheSame};
 
-/// Proves that the checks of registers are the questions of right typing.
+/// Proves that each register check here is one of the verifier's (`asks_*` in tw_code), in its order, with the register added. This
+/// holds for local instructions, instructions on data, priorities and arguments. Nothing is computed here: the contract is the
+/// theorem.
 pub fn asks_the_same()
     ensures { AsksTheSame }
 {}

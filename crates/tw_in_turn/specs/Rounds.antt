@@ -58,7 +58,7 @@ pub record IsGrown (old new : PoolView) : Type 0 where
   pub same : new ≡ record old { history = new.history }
   pub within : length new.history ≤ old.limit
 
--- a step of an actor, the result that it keeps, and why no step follows, if none does; the others keep theirs. If the run
+-- a step of an actor, the result that it keeps, and why the run is over, or none if it isn't; the others keep theirs. If the run
 -- continues, there is one more event, or nothing has changed and the actor is idle.
 pub record IsTurned (old : PoolView) (actor : Actor) (new : PoolView) (kept : Option DoneView) (end : Option End) : Type 0 where
   pub answer : Turn

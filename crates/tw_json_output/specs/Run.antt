@@ -18,7 +18,7 @@ link_json l = json.array (json.item (json.number (json.unsigned l.rule)) (json.i
 abbrev pub circle_json : List Link → json.Data
 circle_json links = json.array (items_of (map link_json links))
 
--- add what only a stuck run has: the number of its pending rules, and the circle among them if there is one
+-- adds what only a stuck run has: the number of its pending rules, and the circle among them if there is one
 abbrev pub with_pending : Option ℕ → json.Members → json.Members
 with_pending None members = members
 with_pending (Some rules) members = json.put (codes "pending") (json.number (json.unsigned rules)) members

@@ -1,4 +1,4 @@
-//! The object of an error.
+//! The JSON line of an error.
 
 ghost use Rattle.std.specs.Prelude.{◌≡◌, IfOk, map, string_bytes};
 ghost use Rattle.std.specs.Str.Lines.{lines};
@@ -39,7 +39,7 @@ fn error_members(alloc: Global, text: &[u8]) -> Result<Map<String, Json>, AllocE
     Ok(members)
 }
 
-/// Returns the object of an error as one line, by the text that is printed of it.
+/// Returns the JSON line of an error, given the text that `tw` would print.
 pub fn error_line(alloc: Global, text: &[u8]) -> Result<String, AllocError>
     ensures { IfOk result (λ line. string_bytes line ≡ json_line (error_json text.now)) }
 {

@@ -1,4 +1,4 @@
-//! JSON objects of runs and of errors.
+//! The JSON lines of `tw run --json`: one for a finished run (`RunNumbers` and `RunEnd` are its arguments), one for an error.
 #![tactic(auto)]
 
 mod error_object;

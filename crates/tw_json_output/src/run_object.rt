@@ -1,4 +1,4 @@
-//! The object of a run.
+//! The JSON line of a finished run.
 
 ghost use Rattle.std.specs.Prelude.{◌≡◌, false, IfOk, OnOk, option_map, string_bytes};
 ghost use Rattle.serde_json.specs.Data.{object};
@@ -16,16 +16,16 @@ use tw_types::Link;
 /// Counts of a run.
 #[derive(Clone, Copy)]
 pub struct RunNumbers {
-    /// The number of its events.
+    /// The number of events.
     pub events: u64,
-    /// The number of instructions that they execute.
+    /// The number of instructions executed.
     pub instructions: u128,
 }
 
-/// The way in which a run has ended.
+/// How a run ended.
 #[derive(Drop)]
 pub struct RunEnd<'a> {
-    /// One word: `quiet`, `stuck`, `limit` or `stopped`.
+    /// `quiet`, `stuck`, `limit` or `stopped`. `tw run` never stops one.
     pub status: &'a str,
     /// The number of pending rules, if the run is stuck.
     pub pending: Option<u64>,

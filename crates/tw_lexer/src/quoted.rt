@@ -10,8 +10,8 @@ use crate::escape::{ByteEffect, Escape, read_byte};
 use crate::first::after;
 use std::alloc::{AllocError, Global};
 
-/// Appends the bytes of a text up to its closing quote, and returns the bytes after that. Returns `None` if an escape is wrong, or
-/// if the closing quote is missing.
+/// Decodes bytes up to the closing quote into the empty `text`, and returns the bytes after the quote. Returns `None` if an escape
+/// is wrong or the quote isn't closed.
 fn inside<'a>(text: &mut Vec<u8>, bytes: &'a [u8]) -> Result<Option<&'a [u8]>, AllocError>
     requires { text.old.items ≡ [] }
     ensures { IfOk result (λ read. option_map (λ rest. (text.new.items, rest.now)) read ≡ inside_from Nothing bytes.entry.now) }
@@ -33,7 +33,8 @@ fn inside<'a>(text: &mut Vec<u8>, bytes: &'a [u8]) -> Result<Option<&'a [u8]>, A
     Ok(None)
 }
 
-/// Returns the quoted text at the start, and the bytes after it. Returns `None` if none is there.
+/// Reads a string literal at the start: its contents, without quotes and escapes, and the bytes after it. Returns `None` if there
+/// is no well-formed one.
 pub fn quoted_text(alloc: Global, bytes: &[u8]) -> Result<Option<(String, &[u8])>, AllocError>
     requires { IsUtf8 bytes.now }
     ensures exact { IfOk result (λ read. MatchOption read
@@ -49,11 +50,13 @@ pub fn quoted_text(alloc: Global, bytes: &[u8]) -> Result<Option<(String, &[u8])
         None => Ok(None),
         Some(rest) => match String::from_utf8(text) {
             Ok(text) => Ok(Some((text, rest))),
+            // Escapes make bytes below 0x80 only, so the contents stay UTF-8.
             Err(_) => unreachable!(),
         },
     }
 }
 
+/// Returns a digit of base 16, in lower case.
 fn hex_digit(n: u8) -> u8
     requires { n < 16 }
     ensures { result ≡ hex_digit n }
@@ -61,7 +64,7 @@ fn hex_digit(n: u8) -> u8
     if n < 10 { b'0' + n } else { b'a' + (n - 10) }
 }
 
-/// Appends a byte as quoted texts write it.
+/// Appends a byte, escaped if necessary.
 fn put_escaped(out: &mut Vec<u8>, byte: u8) -> Result<(), AllocError>
     ensures { OnOk result (out.new.items ≡ out.old.items ++ escaped byte) }
 {
@@ -77,7 +80,7 @@ fn put_escaped(out: &mut Vec<u8>, byte: u8) -> Result<(), AllocError>
     }
 }
 
-/// Appends a quoted text, given by its bytes.
+/// Like `put_quoted`, for bytes that may not be UTF-8, such as a word that is cut.
 pub(crate) fn put_quoted_bytes(out: &mut Vec<u8>, text: &[u8]) -> Result<(), AllocError>
     ensures { OnOk result (out.new.items ≡ out.old.items ++ quoted text.now) }
 {
@@ -88,7 +91,7 @@ pub(crate) fn put_quoted_bytes(out: &mut Vec<u8>, text: &[u8]) -> Result<(), All
     out.extend_from_slice(b"\"")
 }
 
-/// Appends a quoted text.
+/// Appends a text as a string literal.
 pub fn put_quoted(out: &mut Vec<u8>, text: &str) -> Result<(), AllocError>
     ensures { OnOk result (out.new.items ≡ out.old.items ++ quoted text.now) }
 {

@@ -2,7 +2,7 @@
 
 use tw_frame::{Done, Job};
 
-/// The reason why no scheduling step makes an event any more.
+/// The reason why a run is over.
 #[derive(Clone, Copy, PartialEq, Eq)]
 pub enum Closing {
     /// No event is enabled, and no rule is pending.
@@ -18,11 +18,11 @@ pub enum Closing {
 /// The result of a scheduling step.
 #[derive(Drop)]
 pub enum Turn<'a> {
-    /// No step makes an event any more. A `Done` that was passed is dropped.
+    /// The run is over. A `Done` that was passed is dropped.
     Over(Closing),
     /// The `Done` isn't of the job that is issued to the actor, and is returned.
     Foreign(Done<'a>),
-    /// The actor's job is issued, and its `Done` is required.
+    /// The caller has the actor's job, and must submit its result first.
     Owed,
     /// An allocation failed, and nothing has changed. A `Done` that was passed is returned.
     NoMemory(Option<Done<'a>>),

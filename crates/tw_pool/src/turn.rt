@@ -1,4 +1,4 @@
-//! Scheduling steps.
+//! The scheduling step of an actor: chooses between a job's result, an owed result, and new work.
 
 ghost use Rattle.std.specs.Prelude.{◌≡◌, IfSome, MatchBool, IsSome, None, true};
 ghost use Rattle.std.specs.FinMap.{get};
@@ -16,6 +16,7 @@ use tw_frame::Done;
 use tw_pool_state::Parts;
 use tw_types::{Actor, Ending};
 
+/// Returns the closing of a run that ended by itself.
 fn closing_of(ending: Ending) -> Closing
     ensures { result ≡ closing_of ending }
 {
@@ -25,7 +26,7 @@ fn closing_of(ending: Ending) -> Closing
     }
 }
 
-/// Returns whether the actor has a task.
+/// Returns whether the actor has a task. Its job is then always issued.
 fn has_task(parts: &Parts<'_>, actor: Actor) -> bool
     requires { HasSeat actor }
     ensures { MatchBool result (IsSome (get parts.now.seats actor)) (get parts.now.seats actor ≡ None) }
@@ -37,7 +38,7 @@ fn has_task(parts: &Parts<'_>, actor: Actor) -> bool
 }
 
 impl<'a> Pool<'a> {
-    /// Returns the end of the run, if it has ended by itself.
+    /// Returns `Quiet` or `Stuck` if no event is enabled.
     #[inline(always)]
     pub fn ending(&self) -> Option<Ending>
         ensures { (s : State) → HasState self.now s → result ≡ ending s }
@@ -45,7 +46,7 @@ impl<'a> Pool<'a> {
         self.parts.ending(self.layout)
     }
 
-    /// Returns why no scheduling step makes an event any more, if none does.
+    /// Returns why the run is over, or `None` if it isn't: it ended by itself, was stopped, or is at its limit, in this order.
     #[inline(always)]
     pub fn closing(&self) -> Option<Closing>
         ensures { (s : State) → HasState self.now s → result ≡ closing_at self.now s }
@@ -62,8 +63,9 @@ impl<'a> Pool<'a> {
         None
     }
 
-    /// Makes one scheduling step of an actor of the layout, with a `Done` of the pool's program or none. It makes at most two events,
-    /// all of the actor. If an allocation fails, nothing changes and the `Done` is returned.
+    /// Makes one scheduling step (a turn) of an actor of the layout. `given` is the result of the actor's job, if it has one to
+    /// submit. A step makes at most two events, all by this actor: the job's local steps, and the instruction after them. If an
+    /// allocation fails, nothing changes, and `NoMemory` returns `given`.
     pub fn turn(&mut self, alloc: Global, actor: Actor, given: Option<Done<'a>>) -> Turn<'a>
         requires actor { is_in self.old.layout actor ≡ true }
         requires program { IfSome given (λ d. d.before.program ≡ self.old.program) }

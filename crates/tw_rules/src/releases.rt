@@ -1,4 +1,4 @@
-//! Releasable rules.
+//! A heap of the numbers of rules that can be released.
 
 ghost use Rattle.std.specs.Prelude.{◌≡◌, ◌<◌, ◌+◌, ◌∷◌, [], IsOk, OnOk, MatchOption, true};
 ghost use Rattle.std.specs.List.Sorted.{IsPermutation};

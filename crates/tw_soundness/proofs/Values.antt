@@ -14,7 +14,7 @@ use Rattle.tw_code.specs.declared.instr.LocalInstr.TheVariants as local
 use Rattle.tw_code.specs.machine.Local.{result_of, joined, int_shown_as, same_value, local_instr}
 use Rattle.tw_soundness.proofs.Steps.{Goes, goes, goes_then, at_some}
 
--- ---- questions
+-- ---- checks
 
 abbrev pub AllYes : List Question → Type 0
 AllYes [] = Unit {0}
@@ -41,7 +41,7 @@ passed test (Some x) e = (x, refl, e)
 
 -- ---- types
 
--- a register that passes the question of its type is declared of that type
+-- a register that passes the check of its type is declared of that type
 pub declared_as : (o : Option Scalar) (ty : Scalar) → passes (λ declared. same_scalar declared ty) o ≡ true → o ≡ Some ty
 declared_as None ty e = cc
 declared_as (Some declared) ty e = ap Some (same_scalars declared ty e)

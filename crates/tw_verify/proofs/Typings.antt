@@ -57,7 +57,7 @@ agree_below program p ts us m n v w (suc bound) (suc k) below t u at there =
 pub agree : (program : List Procedure) (p : Procedure) (ts us : List Typing) (m n : ℕ) → IsWellTyped program p ts m → IsWellTyped program p us n → (k : ℕ) (t u : Typing) → slice_get ts k ≡ Some t → slice_get us k ≡ Some u → t ≡ u
 agree program p ts us m n v w k t u at there = agree_below program p ts us m n v w (suc k) k (omega arith) t u at there
 
--- an earlier place brings the place's typing, in every list that has one there
+-- in every list that has a typing at this place, it is the one that an earlier place leaves
 pub brought_typing : (program : List Procedure) (p : Procedure) (ts us : List Typing) (m n before place : ℕ) (t u : Typing) → IsWellTyped program p ts m → Brings program p ts before place t → IsWellTyped program p us n → slice_get us place ≡ Some u → u ≡ t
 brought_typing program p ts us m n before place t u v b w at =
     let step = b.step in

@@ -75,7 +75,9 @@ fn typing_rejection(
         reached.now.differs changed }
 {
     let own = place_rejection(procedures, procedure, place, instr, &reached.typing);
+    // V07
     let differs = reached.differs.then_some(VerifyError::TypingsDiffer);
+    // V08
     let changed = changed.then_some(VerifyError::TypingChanged);
     lowest(lowest(own, differs), changed)
 }

@@ -19,6 +19,7 @@ pub(crate) struct Reached {
     pub(crate) differs: bool,
 }
 
+/// Records that `typing` reaches the place. A second, different one sets `differs` (V07).
 fn note(reached: Option<Reached>, typing: Typing) -> Option<Reached>
     ensures { result ≡ noted reached typing }
 {
