@@ -35,7 +35,7 @@ pub use Rattle.tw_lexer.specs.declared.numbers.TokenError.{TokenError}
 pub use Rattle.tw_lexer.specs.declared.numbers.TokenError.TheVariants.{Form, Limit}
 pub use Rattle.tw_asm.specs.declared.statement.First.{First}
 pub use Rattle.tw_asm.specs.Disassembly.{code_lines, disassembly, first_ones, goal_from, goals_from, label_at, label_line, label_places, procedure_lines, version_line}
-pub use Rattle.tw_asm.specs.Fault.{AfterHead, AfterVersion, Begins, GoalFault, HasWords, InBody, IsEmpty, IsEndFault, IsFirstFault, IsFirstGoalFault, IsLineFault, IsOutset, IsUnfinished, IsWhole, LineFault, LineSays, LinesSay, MayBegin, MayStand, ParserState, Stage, Start, after, after_line, at_start, empty, instructions, label_twice, labels_ahead, limit, not_forward, operand, procedures, situation, situation_from, unknown, word}
+pub use Rattle.tw_asm.specs.Fault.{AfterHead, AfterVersion, Begins, GoalFault, HasWords, InBody, IsEmpty, IsEndFault, IsFirstFault, IsFirstGoalFault, IsLineFault, IsOutset, IsUnfinished, IsWhole, LineFault, LineSays, LinesSay, MayBegin, MayFollow, ParserState, Stage, Start, after, after_line, at_start, empty, instructions, label_twice, labels_ahead, limit, not_forward, operand, procedures, situation, situation_from, unknown, word}
 pub use Rattle.tw_asm.specs.Parts.{Literal, Name, Natural, Number, Part, Right, Skip, Target, TypeOf, Value, container_word, head_parts, instr_parts, kind_word, mode_word, operand_parts, param_parts, register_part, registers_parts, scalar_word, skip_among, skip_of, version_parts}
 pub use Rattle.tw_asm.specs.Seen.{IsRead, NoName, OnlyName, Read, bytes_of, with_skip}
 pub use Rattle.tw_asm.specs.Spelling.{AreCode, GoesTo, HaveWords, Placed, SpellProcedures, SpellsProcedure, SpellsProgram, SpellsVersion}
@@ -45,5 +45,5 @@ pub use Rattle.tw_asm.specs.reading.Lines.{Line, LineContent, around, code_read,
 pub use Rattle.tw_lexer.specs.Names.{before_colon, is_name}
 pub use Rattle.tw_asm.specs.reading.Operands.{Goal, at_label, both, container_in, further, literal_in, mode_in, name_in, natural_in, number_in, register_in, scalar_in, target_in, text_container}
 pub use Rattle.tw_lexer.specs.Digits.{as_is, digits_in, signed_in}
-pub use Rattle.tw_asm.specs.reading.Progress.{AreClosed, AreFinished, AreNotRead, AreTextRead, AtStart, BehindHead, BehindVersion, Drafted, HasSections, IsEmptyAt, IsGoalOf, IsLimit, IsLimitLine, IsMemory, IsNotClosed, IsNotFinished, LineRead, LinesRead, Place, Progress, Section, Stopped, TakenLine, TakenStatement, Within, WordsRead, begun, drafts_at, ended, labels_at, line_step, outset, progress_from, section_numbers, seen_draft, seen_label, seen_reading, seen_section, seen_stage, situation_of, stage_of, step}
-pub use Rattle.tw_asm.specs.words.Lines.{behind, operand_words, spaced}
+pub use Rattle.tw_asm.specs.reading.Progress.{AreClosed, AreFinished, AreNotRead, AreTextRead, AtStart, HeadRead, VersionRead, Drafted, HasSections, IsEmptyAt, IsGoalOf, IsLimit, IsLimitLine, IsMemory, IsNotClosed, IsNotFinished, LineRead, LinesRead, Place, Progress, Section, Stopped, TakenLine, TakenStatement, Within, WordsRead, begun, drafts_at, ended, labels_at, line_step, outset, progress_from, section_numbers, seen_draft, seen_label, seen_reading, seen_section, seen_stage, situation_of, stage_of, step}
+pub use Rattle.tw_asm.specs.words.Lines.{spaced_all, operand_words, spaced}

@@ -93,9 +93,9 @@ module _ (labels : List ℕ) where
       subst (λ (p : ℕ). Contains (here p (label_at labels p)) (placed number goal)) (sym same) (subst (λ (l : Option ℕ). Contains (here goal l) (placed number goal)) (sym e) (0, omega arith, refl))
 
   -- a label's place is among them
-  label_stands : (place : ℕ) (code : List Instr) (goal number : ℕ) → place ≤ goal → goal ≤ place + length code → label_at labels goal ≡ Some number → Contains (placed_from labels place code) (placed number goal)
-  label_stands place [] goal number low high e = label_here place goal number (omega (arith, low, high)) e
-  label_stands place (i ∷ others) goal number low high e = by (place == goal) refl (λ after. label_stands (place + 1) others goal number after (omega (arith, high)) e)
+  label_is_there : (place : ℕ) (code : List Instr) (goal number : ℕ) → place ≤ goal → goal ≤ place + length code → label_at labels goal ≡ Some number → Contains (placed_from labels place code) (placed number goal)
+  label_is_there place [] goal number low high e = label_here place goal number (omega (arith, low, high)) e
+  label_is_there place (i ∷ others) goal number low high e = by (place == goal) refl (λ after. label_is_there (place + 1) others goal number after (omega (arith, high)) e)
     where
       by : (b : Bool) → (place == goal) ≡ b → (place + 1 ≤ goal → Contains (placed_from labels (place + 1) others) (placed number goal)) → Contains (here place (label_at labels place) ++ placed_from labels (place + 1) others) (placed number goal)
       by true is rest = Contains-append_left (here place (label_at labels place)) (placed_from labels (place + 1) others) (placed number goal) (label_here place goal number (eqb-true place goal is) e)
@@ -140,7 +140,7 @@ record IsWrittenCode (version : Version) (all : List Placed) (place : ℕ) (labe
   pub are : AreCode version all place labels code words
   pub writes : Writes text words
 
-module _ (version : Version) (labels : List ℕ) (few : AreNumbered labels) (all : List Placed) (stand : (goal number : ℕ) → label_at labels goal ≡ Some number → Contains all (placed number goal)) where
+module _ (version : Version) (labels : List ℕ) (few : AreNumbered labels) (all : List Placed) (is_placed : (goal number : ℕ) → label_at labels goal ≡ Some number → Contains all (placed number goal)) where
   -- the line of a label before code
   with_label : (place : ℕ) (label : Option ℕ) (others : List Placed) (code : List Instr) (text : List ℕ) → label_at labels place ≡ label → IsWrittenCode version all place others code text → IsWrittenCode version all place (here place label ++ others) code (label_line label ++ text)
   with_label place None others code text e w = w
@@ -153,16 +153,16 @@ module _ (version : Version) (labels : List ℕ) (few : AreNumbered labels) (all
         writes = writes_both (line_of (goal_word None) (Label (name_of number))) text (l.words ∷ []) w.words (writes_line (GoesTo all place) (Label (name_of number)) (bare_line (goal_word None) (Label (name_of number))) l) w.writes;
       }
 
-  goal_stands : (place skip : ℕ) (label : Option ℕ) → label_at labels (place + 1 + skip) ≡ label → IsGoal (GoesTo all place) label skip
-  goal_stands place skip None e = tt
-  goal_stands place skip (Some number) e = (few (place + 1 + skip) number e, stand (place + 1 + skip) number e)
+  goal_is_there : (place skip : ℕ) (label : Option ℕ) → label_at labels (place + 1 + skip) ≡ label → IsGoal (GoesTo all place) label skip
+  goal_is_there place skip None e = tt
+  goal_is_there place skip (Some number) e = (few (place + 1 + skip) number e, is_placed (place + 1 + skip) number e)
 
   written_instr : (place : ℕ) (i : Instr) → IsInstrOf version i → IsLineOf version (GoesTo all place) (Code i) (bare_line (λ skip. goal_word (label_at labels (place + 1 + skip)) skip) (Code i))
   written_instr place i limits =
       let to : ℕ → Option ℕ = λ skip. label_at labels (place + 1 + skip) in
       let label = option_and_then to (skip_of i) in
       subst (IsLineOf version (GoesTo all place) (Code i)) (ap (join_with_byte 32) (words_of_goal labels place label i refl))
-      (instr_written version (GoesTo all place) label i (had version i limits) (instr_widened version i limits) (λ skip e. subst (λ (s : Option ℕ). IsGoal (GoesTo all place) (option_and_then to s) skip) (sym e) (goal_stands place skip (to skip) refl)))
+      (instr_written version (GoesTo all place) label i (had version i limits) (instr_widened version i limits) (λ skip e. subst (λ (s : Option ℕ). IsGoal (GoesTo all place) (option_and_then to s) skip) (sym e) (goal_is_there place skip (to skip) refl)))
 
   written_code : (place : ℕ) (code : List Instr) → AllByRecursion (IsInstrOf version) code → IsWrittenCode version all place (placed_from labels place code) code (code_lines labels place code)
   written_code place [] h =
@@ -173,12 +173,12 @@ module _ (version : Version) (labels : List ℕ) (few : AreNumbered labels) (all
       let w = written_code (place + 1) others h.1 in
       let skip_word : ℕ → List ℕ = λ skip. goal_word (label_at labels (place + 1 + skip)) skip in
       let l = written_instr place i h.0 in
-      let behind = placed_from labels (place + 1) others in
+      let following = placed_from labels (place + 1) others in
       let text = line_of skip_word (Code i) ++ code_lines labels (place + 1) others in
-      with_label place (label_at labels place) behind (i ∷ others) text refl
+      with_label place (label_at labels place) following (i ∷ others) text refl
       (record {
         words = l.words ∷ w.words;
-        are = AreCode.instruction place i l.words behind others w.words l.spells w.are;
+        are = AreCode.instruction place i l.words following others w.words l.spells w.are;
         writes = writes_both (line_of skip_word (Code i)) (code_lines labels (place + 1) others) (l.words ∷ []) w.words (writes_line (GoesTo all place) (Code i) (bare_line skip_word (Code i)) l) w.writes;
       })
 
@@ -194,8 +194,8 @@ written_procedure version p h wide =
     let labels = label_places p.code in
     let few = numbered p wide in
     let all = placed_from labels 0 p.code in
-    let stand : (goal number : ℕ) → label_at labels goal ≡ Some number → Contains all (placed number goal) = λ goal number e. label_stands labels 0 p.code goal number (omega arith) (omega (arith, label_within p.code goal number e)) e in
-    let code = written_code version labels few all stand 0 p.code h.code.1 in
+    let is_placed : (goal number : ℕ) → label_at labels goal ≡ Some number → Contains all (placed number goal) = λ goal number e. label_is_there labels 0 p.code goal number (omega arith) (omega (arith, label_within p.code goal number e)) e in
+    let code = written_code version labels few all is_placed 0 p.code h.code.1 in
     let head = head_written version (GoesTo [] 0) (goal_word None) p.kind p.params (had_params version p.params h.params.1) wide.params in
     let registers = registers_written version (GoesTo [] 0) (goal_word None) p.registers h.registers in
     let head_line = line_of (goal_word None) (Head p.kind p.params) in

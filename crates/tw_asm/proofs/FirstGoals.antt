@@ -1,8 +1,8 @@
 -- The first goal that can't be resolved is the first fault of its text.
 use Rattle.std.proofs.Common.{◌≡◌, ℕ, zero, suc, ◌+◌, ◌<◌, ◌≤◌, List, [], ◌∷◌, ◌++◌, length, map, take, drop, Option, Some, None, inl, inr, refl, sym, subst, ap, ◌∙◌, arith}
-use Rattle.tw_asm.proofs.AsmNames.{AllByRecursion, AnyShortName, AsmFault, Code, Contains, FaultNo, GoalFault, HasSections, Head, Instr, IsFirstGoalFault, IsLine, IsRead, IsWhole, Label, LineRead, LineSays, LinesRead, LinesSay, MayStand, NamesLabel, OfVersion, Placed, Progress, Read, Registers, Section, ParserState, Statement, Version, Word, after, after_line, at_start, flat_map, labels_ahead, line_once, line_step, lines, map-append, not_forward, outset, situation_from, situation_of, slice_get, slice_index_or, unknown}
+use Rattle.tw_asm.proofs.AsmNames.{AllByRecursion, AnyShortName, AsmFault, Code, Contains, FaultNo, GoalFault, HasSections, Head, Instr, IsFirstGoalFault, IsLine, IsRead, IsWhole, Label, LineRead, LineSays, LinesRead, LinesSay, MayFollow, NamesLabel, OfVersion, Placed, Progress, Read, Registers, Section, ParserState, Statement, Version, Word, after, after_line, at_start, flat_map, labels_ahead, line_once, line_step, lines, map-append, not_forward, outset, situation_from, situation_of, slice_get, slice_index_or, unknown}
 use Rattle.std.proofs.lemmas.List.Elements.{Contains-append_cases, Contains-append_left, Contains-append_right}
-use Rattle.tw_asm.specs.reading.Goals.{FirstUnlinked, Goal, IsNoGoal, StandsAt, section_goals}
+use Rattle.tw_asm.specs.reading.Goals.{FirstUnlinked, Goal, IsNoGoal, IsLabelAt, section_goals}
 use Rattle.tw_asm.proofs.Alike.{AreAlike, alike}
 use Rattle.tw_asm.proofs.NamedLabels.{named_once}
 use Rattle.tw_asm.proofs.Found.{ahead, ahead_by, all_goals, goals_are, goals_from, labels_after, place_after}
@@ -65,7 +65,7 @@ ahead_above place (Some read ∷ others) = above_by read.statement place (ahead 
 -- ---- labels before a line
 
 -- these are the labels of the state, none after the place
-pub record Behind (labels : List Placed) (place : ℕ) (s : ParserState) : Type 0 where
+pub record HasLabelsBefore (labels : List Placed) (place : ℕ) (s : ParserState) : Type 0 where
   pub names : map (λ label. label.name) labels ≡ s.labels
   pub low : AllByRecursion (λ label. label.place ≤ place) labels
 
@@ -73,15 +73,15 @@ low_more : (name : List ℕ) (place : ℕ) (labels : List Placed) → AllByRecur
 low_more name place [] a = (omega arith, tt)
 low_more name place (l ∷ labels) a = (a.0, low_more name place labels a.1)
 
-behind_more : (number : ℕ) (statement : Statement) (labels : List Placed) (place : ℕ) (s : ParserState) → Behind labels place s → Behind (labels_after statement place labels) (place_after statement place) (after number statement s)
-behind_more number (OfVersion version) labels place s b = record { names = b.names; low = b.low }
-behind_more number (Head kind params) labels place s b = record { names = refl; low = tt }
-behind_more number (Registers registers) labels place s b = record { names = b.names; low = b.low }
-behind_more number (Label name) labels place s b = record {
+labels_more : (number : ℕ) (statement : Statement) (labels : List Placed) (place : ℕ) (s : ParserState) → HasLabelsBefore labels place s → HasLabelsBefore (labels_after statement place labels) (place_after statement place) (after number statement s)
+labels_more number (OfVersion version) labels place s b = record { names = b.names; low = b.low }
+labels_more number (Head kind params) labels place s b = record { names = refl; low = tt }
+labels_more number (Registers registers) labels place s b = record { names = b.names; low = b.low }
+labels_more number (Label name) labels place s b = record {
   names = map-append (λ (label : Placed). label.name) labels (record { name = name; place = place } ∷ []) ∙ ap (λ (names : List (List ℕ)). names ++ (name ∷ [])) b.names;
   low = low_more name place labels b.low;
 }
-behind_more number (Code i) labels place s b = record { names = b.names; low = higher place (place + 1) labels (omega arith) b.low }
+labels_more number (Code i) labels place s b = record { names = b.names; low = higher place (place + 1) labels (omega arith) b.low }
 
 -- a name before the line isn't after it
 label_again : (s : ParserState) (other : List ℕ) (said : List (Option Statement)) (name : List ℕ) → (Contains s.labels other → ⊥) → (Contains (s.labels ++ (other ∷ [])) name → Contains (labels_ahead said) name → ⊥)
@@ -89,7 +89,7 @@ label_again : (s : ParserState) (other : List ℕ) (said : List (Option Statemen
 label_again s other said name new others c zero low e = new (subst (Contains s.labels) (sym e) c)
 label_again s other said name new others c (suc k) low e = others (Contains-append_left s.labels (other ∷ []) name c) (k, omega (arith, low), e)
 
-again_by : (number : ℕ) (s : ParserState) (statement : Statement) (said : List (Option Statement)) (name : List ℕ) → MayStand statement s
+again_by : (number : ℕ) (s : ParserState) (statement : Statement) (said : List (Option Statement)) (name : List ℕ) → MayFollow statement s
     → (Contains (after number statement s).labels name → Contains (labels_ahead said) name → ⊥) → Contains s.labels name → Contains (labels_ahead (Some statement ∷ said)) name → ⊥
 again_by number s (OfVersion version) said name m others c d = others c d
 again_by number s (Head kind params) said name m others c d = contains_none name d
@@ -118,7 +118,7 @@ reads_say number s (line ∷ more) (read ∷ others) r = (line_says s line read 
 
 -- ---- a goal that can't be resolved
 
-no_goal_fault : (s : ParserState) (labels : List Placed) (place : ℕ) (others : List (Option Read)) (line : List ℕ) (name : List ℕ) (words : List Word) (which : FaultNo) → Behind labels place s
+no_goal_fault : (s : ParserState) (labels : List Placed) (place : ℕ) (others : List (Option Read)) (line : List ℕ) (name : List ℕ) (words : List Word) (which : FaultNo) → HasLabelsBefore labels place s
     → IsLine words line → NamesLabel s.version name words → IsNoGoal (labels ++ ahead (place + 1) others) place name which → GoalFault s (labels_ahead (said_by others)) line which
 no_goal_fault s labels place others line name words which b l n (inl u) =
     let names = λ (label : Placed). label.name in
@@ -178,7 +178,7 @@ names_it version i (Some other) words name e r = subst (λ (n : List ℕ). Names
   some_is a b p = cc
 
 located_at : (number : ℕ) (s : ParserState) (labels : List Placed) (place : ℕ) (line : List ℕ) (more : List (List ℕ)) (others : List (Option Read)) (f : AsmFault) (statement : Statement) (goal : Option (List ℕ)) (words : List Word)
-    → Behind labels place s → IsLine words line → IsRead s.version (record { statement = statement; goal = goal }) words
+    → HasLabelsBefore labels place s → IsLine words line → IsRead s.version (record { statement = statement; goal = goal }) words
     → (FirstUnlinked (goals_from (number + 1) (labels_after statement place labels) (place_after statement place) others) f → Located (number + 1) (after number statement s) more (said_by others) f)
     → FirstUnlinked (goals_from number labels place (Some (record { statement = statement; goal = goal }) ∷ others)) f → Located number s (line ∷ more) (Some statement ∷ said_by others) f
 located_at number s labels place line more others f (OfVersion version) goal words b l q later u = located_more number s line (Some (OfVersion version)) more (said_by others) f (later u)
@@ -194,7 +194,7 @@ located_at number s labels place line more others f (Code i) goal words b l q la
   wrong = no_goal_fault s labels place others line u.0 words f.no b l (names_it s.version i goal words u.0 u.1 q) u.2;
 }
 
-pub located : (number : ℕ) (s : ParserState) (labels : List Placed) (place : ℕ) (ls : List (List ℕ)) (reads : List (Option Read)) (f : AsmFault) → AreRead number s ls reads → Behind labels place s
+pub located : (number : ℕ) (s : ParserState) (labels : List Placed) (place : ℕ) (ls : List (List ℕ)) (reads : List (Option Read)) (f : AsmFault) → AreRead number s ls reads → HasLabelsBefore labels place s
     → FirstUnlinked (goals_from number labels place reads) f → Located number s ls (said_by reads) f
 located number s labels place [] [] f r b u = absurd u
 located number s labels place [] (read ∷ others) f r b u = absurd r
@@ -203,24 +203,24 @@ located number s labels place (line ∷ more) (None ∷ others) f r b u =
     located_more number s line None more (said_by others) f (located (number + 1) s labels place more others f r.1 (record { names = b.names; low = b.low }) u)
 located number s labels place (line ∷ more) (Some read ∷ others) f r b u =
     located_at number s labels place line more others f read.statement read.goal r.0.0.0 b r.0.0.1 r.0.0.2
-    (λ v. located (number + 1) (after number read.statement s) (labels_after read.statement place labels) (place_after read.statement place) more others f r.1 (behind_more number read.statement labels place s b) v) u
+    (λ v. located (number + 1) (after number read.statement s) (labels_after read.statement place labels) (place_after read.statement place) more others f r.1 (labels_more number read.statement labels place s b) v) u
 
 -- ---- goals before it have no fault
 
-found_no_fault : (s : ParserState) (labels : List Placed) (place skip : ℕ) (number : ℕ) (more : List (List ℕ)) (others : List (Option Read)) (ahead_said : List (List ℕ)) (line : List ℕ) (name : List ℕ) (words : List Word) (which : FaultNo) → Behind labels place s
-    → IsLine words line → NamesLabel s.version name words → StandsAt (labels ++ ahead (place + 1) others) name (place + 1 + skip) → ahead_said ≡ labels_ahead (said_by others)
+found_no_fault : (s : ParserState) (labels : List Placed) (place skip : ℕ) (number : ℕ) (more : List (List ℕ)) (others : List (Option Read)) (ahead_said : List (List ℕ)) (line : List ℕ) (name : List ℕ) (words : List Word) (which : FaultNo) → HasLabelsBefore labels place s
+    → IsLine words line → NamesLabel s.version name words → IsLabelAt (labels ++ ahead (place + 1) others) name (place + 1 + skip) → ahead_said ≡ labels_ahead (said_by others)
     → (Contains s.labels name → Contains (labels_ahead (said_by others)) name → ⊥) → GoalFault s ahead_said line which → ⊥
-found_no_fault s labels place skip number more others ahead_said line name words _ b l n at same once (unknown other ws k m behind forward) =
+found_no_fault s labels place skip number more others ahead_said line name words _ b l n at same once (unknown other ws k m following forward) =
     let e : name ≡ other = named_once name other words n (subst (λ (n : List Word). NamesLabel s.version other n) (line_once ws words line k l) m) in
     elim (Contains-append_cases labels (ahead (place + 1) others) (record { name = name; place = place + 1 + skip }) at) [
-      | inl c ↦ behind (subst (Contains s.labels) e (subst (λ (x : List (List ℕ)). Contains x name) b.names (name_in labels name (place + 1 + skip) c)))
+      | inl c ↦ following (subst (Contains s.labels) e (subst (λ (x : List (List ℕ)). Contains x name) b.names (name_in labels name (place + 1 + skip) c)))
       | inr c ↦ forward (subst (λ (x : List (List ℕ)). Contains x other) (sym same) (subst (Contains (labels_ahead (said_by others))) e (subst (λ (x : List (List ℕ)). Contains x name) (names_ahead (place + 1) others) (name_in (ahead (place + 1) others) name (place + 1 + skip) c))))
     ]
-found_no_fault s labels place skip number more others ahead_said line name words _ b l n at same once (not_forward other ws k m behind) =
+found_no_fault s labels place skip number more others ahead_said line name words _ b l n at same once (not_forward other ws k m following) =
     let e : name ≡ other = named_once name other words n (subst (λ (n : List Word). NamesLabel s.version other n) (line_once ws words line k l) m) in
     elim (Contains-append_cases labels (ahead (place + 1) others) (record { name = name; place = place + 1 + skip }) at) [
       | inl c ↦ absurd (omega (arith, all_of (λ (label : Placed). label.place ≤ place) labels (record { name = name; place = place + 1 + skip }) b.low c))
-      | inr c ↦ once (subst (Contains s.labels) (sym e) behind) (subst (λ (x : List (List ℕ)). Contains x name) (names_ahead (place + 1) others) (name_in (ahead (place + 1) others) name (place + 1 + skip) c))
+      | inr c ↦ once (subst (Contains s.labels) (sym e) following) (subst (λ (x : List (List ℕ)). Contains x name) (names_ahead (place + 1) others) (name_in (ahead (place + 1) others) name (place + 1 + skip) c))
     ]
 
 -- the line of a fault that names a label
@@ -231,8 +231,8 @@ record AtName (version : Version) (line : List ℕ) : Type 0 where
   names : NamesLabel version name words
 
 at_name : (s : ParserState) (said : List (List ℕ)) (line : List ℕ) (which : FaultNo) → GoalFault s said line which → AtName s.version line
-at_name s said line _ (unknown name words l n behind forward) = record { name = name; words = words; is_line = l; names = n }
-at_name s said line _ (not_forward name words l n behind) = record { name = name; words = words; is_line = l; names = n }
+at_name s said line _ (unknown name words l n following forward) = record { name = name; words = words; is_line = l; names = n }
+at_name s said line _ (not_forward name words l n following) = record { name = name; words = words; is_line = l; names = n }
 
 other_statement : (version : Version) (statement : Statement) (goal : Option (List ℕ)) (words : List Word) (line : List ℕ) → IsLine words line → IsRead version (record { statement = statement; goal = goal }) words → AtName version line
     → (i : Instr) × AreAlike statement (Code i)
@@ -244,7 +244,7 @@ no_label_named : (version : Version) (i : Instr) (words : List Word) (line : Lis
 no_label_named version i words line l q a = (subst (λ (ws : List Word). NamesLabel version a.name ws) (line_once a.words words line a.is_line l) a.names).names i q.1
 
 first_here : (number : ℕ) (s : ParserState) (labels : List Placed) (place : ℕ) (line : List ℕ) (more : List (List ℕ)) (others : List (Option Read)) (ahead_said : List (List ℕ)) (f : AsmFault) (which : FaultNo) (statement : Statement) (goal : Option (List ℕ)) (words : List Word)
-    → Behind labels place s → IsLine words line → IsRead s.version (record { statement = statement; goal = goal }) words → ahead_said ≡ labels_ahead (said_by others) → AreRead (number + 1) (after number statement s) more others
+    → HasLabelsBefore labels place s → IsLine words line → IsRead s.version (record { statement = statement; goal = goal }) words → ahead_said ≡ labels_ahead (said_by others) → AreRead (number + 1) (after number statement s) more others
     → FirstUnlinked (goals_from number labels place (Some (record { statement = statement; goal = goal }) ∷ others)) f → GoalFault s ahead_said line which → f.line ≤ number
 first_here number s labels place line more others ahead_said f which (OfVersion version) goal words b l q same a u g = absurd ((other_statement s.version (OfVersion version) goal words line l q (at_name s ahead_said line which g)).1)
 first_here number s labels place line more others ahead_said f which (Head kind params) goal words b l q same a u g = absurd ((other_statement s.version (Head kind params) goal words line l q (at_name s ahead_said line which g)).1)
@@ -266,7 +266,7 @@ first_later number k labels place others f (Code i) goal later (inl u) = no_late
 first_later number k labels place others f (Code i) goal later (inr u) = one_later f.line number k (later u.1)
 
 pub first_at : (number : ℕ) (s : ParserState) (labels : List Placed) (place : ℕ) (ls : List (List ℕ)) (reads : List (Option Read)) (said : List (Option Statement)) (f : AsmFault) (index : ℕ) (line : List ℕ) (which : FaultNo)
-    → AreRead number s ls reads → LinesSay number s ls said → Behind labels place s → FirstUnlinked (goals_from number labels place reads) f
+    → AreRead number s ls reads → LinesSay number s ls said → HasLabelsBefore labels place s → FirstUnlinked (goals_from number labels place reads) f
     → slice_get ls index ≡ Some line → GoalFault (situation_from number s (take index said)) (labels_ahead (drop (index + 1) said)) line which → f.line ≤ number + index
 first_at number s labels place [] [] said f index line which r l b u e g = absurd u
 first_at number s labels place [] (read ∷ others) said f index line which r l b u e g = absurd r
@@ -288,7 +288,7 @@ first_at number s labels place (x ∷ more) (Some read ∷ others) (y ∷ said) 
     let g2 = subst (λ (j : ℕ). GoalFault (situation_from (number + 1) (after_line number y s) (take k said)) (labels_ahead (drop j (y ∷ said))) line which) (one_on k) g in
     first_later number k labels place others f read.statement read.goal
     (λ v. first_at (number + 1) (after number read.statement s) (labels_after read.statement place labels) (place_after read.statement place) more others said f k line which r.1
-    (subst (λ (z : ParserState). LinesSay (number + 1) z more said) t l.1) (behind_more number read.statement labels place s b) v e
+    (subst (λ (z : ParserState). LinesSay (number + 1) z more said) t l.1) (labels_more number read.statement labels place s b) v e
     (subst (λ (z : ParserState). GoalFault (situation_from (number + 1) z (take k said)) (labels_ahead (drop (k + 1) said)) line which) t g2)) u
 
 -- ---- the whole text
@@ -297,7 +297,7 @@ pub first_goal_fault : (text : List ℕ) (version : Version) (all : List Section
 first_goal_fault text version all f h u =
     let reads = h.read.reads in
     let are = are_read 1 outset (lines text) h.read.reads h.read.are_read in
-    let none : Behind [] 0 at_start = record { names = refl; low = tt } in
+    let none : HasLabelsBefore [] 0 at_start = record { names = refl; low = tt } in
     let goals : flat_map section_goals all ≡ goals_from 1 [] 0 h.read.reads =
     ap (flat_map section_goals) h.sections_are ∙ ap all_goals h.read.progress ∙ goals_are 1 outset (lines text) h.read.reads h.read.are_read in
     let v = subst (λ (gs : List Goal). FirstUnlinked gs f) goals u in

@@ -1,7 +1,7 @@
 -- All goals of a text, in the order of its lines.
 use Rattle.std.proofs.Common.{◌≡◌, ℕ, suc, ◌+◌, List, [], ◌∷◌, ◌++◌, length, Option, Some, None, refl, sym, ap, ◌∙◌, append_assoc, arith}
 use Rattle.std.proofs.lemmas.Grind.{flat_map-append}
-use Rattle.tw_asm.proofs.AsmNames.{AtStart, BehindHead, BehindVersion, Code, Drafted, Head, Instr, Label, LinesRead, MayStand, OfVersion, Place, Placed, Progress, Read, Registers, Section, Statement, Version, Within, append-nil, drafts_at, ended, flat_map, labels_at, length-append, line_step, progress_from, situation_of, step}
+use Rattle.tw_asm.proofs.AsmNames.{AtStart, HeadRead, VersionRead, Code, Drafted, Head, Instr, Label, LinesRead, MayFollow, OfVersion, Place, Placed, Progress, Read, Registers, Section, Statement, Version, Within, append-nil, drafts_at, ended, flat_map, labels_at, length-append, line_step, progress_from, situation_of, step}
 use Rattle.tw_asm.specs.reading.Goals.{Goal, goals_in, section_goals}
 use Rattle.tw_asm.proofs.Stages.{body_head, body_start, head_body, head_start, progress, start_body, start_head, version_body, version_head, version_start}
 
@@ -66,9 +66,9 @@ abbrev open_goals : Place → List Placed → List Goal
 open_goals place labels = goals_in (labels_at place ++ labels) 0 (drafts_at place)
 
 ended_goals : (sections : List Section) (place : Place) → flat_map section_goals (ended sections place) ≡ flat_map section_goals sections ++ open_goals place []
-ended_goals sections BehindVersion = sym (append-nil (flat_map section_goals sections))
+ended_goals sections VersionRead = sym (append-nil (flat_map section_goals sections))
 ended_goals sections AtStart = sym (append-nil (flat_map section_goals sections))
-ended_goals sections (BehindHead kind params) = sym (append-nil (flat_map section_goals sections))
+ended_goals sections (HeadRead kind params) = sym (append-nil (flat_map section_goals sections))
 ended_goals sections (Within section) =
     flat_map-append section_goals sections (section ∷ [])
     ∙ ap (λ (gs : List Goal). flat_map section_goals sections ++ gs) (append-nil (section_goals section) ∙ ap (λ (ls : List Placed). goals_in ls 0 section.drafts) (sym (append-nil section.labels)))
@@ -81,29 +81,29 @@ abbrev pub goals_by : ℕ → Progress → List (Option Read) → List Goal
 goals_by number p reads = flat_map section_goals p.sections ++ (open_goals p.place (ahead (length (drafts_at p.place)) reads) ++ goals_from number (labels_at p.place) (length (drafts_at p.place)) reads)
 
 -- reading one line doesn't change all goals
-goals_step : (number : ℕ) (statement : Statement) (goal : Option (List ℕ)) (version : Version) (sections : List Section) (head_line : ℕ) (place : Place) (others : List (Option Read)) → MayStand statement (situation_of (progress version sections head_line place))
+goals_step : (number : ℕ) (statement : Statement) (goal : Option (List ℕ)) (version : Version) (sections : List Section) (head_line : ℕ) (place : Place) (others : List (Option Read)) → MayFollow statement (situation_of (progress version sections head_line place))
     → goals_by (number + 1) (step number statement goal (progress version sections head_line place)) others ≡ goals_by number (progress version sections head_line place) (Some (record { statement = statement; goal = goal }) ∷ others)
 goals_step number (OfVersion n) goal version sections head_line AtStart others m = refl
-goals_step number (OfVersion n) goal version sections head_line BehindVersion others m = version_start m
-goals_step number (OfVersion n) goal version sections head_line (BehindHead kind params) others m = head_start m
+goals_step number (OfVersion n) goal version sections head_line VersionRead others m = version_start m
+goals_step number (OfVersion n) goal version sections head_line (HeadRead kind params) others m = head_start m
 goals_step number (OfVersion n) goal version sections head_line (Within section) others m = body_start m
 goals_step number (Head kind params) goal version sections head_line place others m =
     ap (λ (gs : List Goal). gs ++ goals_from (number + 1) [] 0 others) (ended_goals sections place)
     ∙ append_assoc (flat_map section_goals sections) (open_goals place []) (goals_from (number + 1) [] 0 others)
 goals_step number (Registers registers) goal version sections head_line AtStart others m = start_head m
-goals_step number (Registers registers) goal version sections head_line BehindVersion others m = version_head m
-goals_step number (Registers registers) goal version sections head_line (BehindHead kind params) others m = refl
+goals_step number (Registers registers) goal version sections head_line VersionRead others m = version_head m
+goals_step number (Registers registers) goal version sections head_line (HeadRead kind params) others m = refl
 goals_step number (Registers registers) goal version sections head_line (Within section) others m = body_head m
 goals_step number (Label name) goal version sections head_line AtStart others m = start_body m.0
-goals_step number (Label name) goal version sections head_line BehindVersion others m = version_body m.0
-goals_step number (Label name) goal version sections head_line (BehindHead kind params) others m = head_body m.0
+goals_step number (Label name) goal version sections head_line VersionRead others m = version_body m.0
+goals_step number (Label name) goal version sections head_line (HeadRead kind params) others m = head_body m.0
 goals_step number (Label name) goal version sections head_line (Within section) others m =
     let k = length section.drafts in
     ap (λ (ls : List Placed). flat_map section_goals sections ++ (goals_in ls 0 section.drafts ++ goals_from (number + 1) (section.labels ++ (record { name = name; place = length section.drafts } ∷ [])) (length section.drafts) others))
     (append_assoc section.labels (record { name = name; place = length section.drafts } ∷ []) (ahead (length section.drafts) others))
 goals_step number (Code i) goal version sections head_line AtStart others m = start_body m.0
-goals_step number (Code i) goal version sections head_line BehindVersion others m = version_body m.0
-goals_step number (Code i) goal version sections head_line (BehindHead kind params) others m = head_body m.0
+goals_step number (Code i) goal version sections head_line VersionRead others m = version_body m.0
+goals_step number (Code i) goal version sections head_line (HeadRead kind params) others m = head_body m.0
 goals_step number (Code i) goal version sections head_line (Within section) others m =
     code_goals number i goal sections section others
   where

@@ -17,7 +17,7 @@ pub mod SpelledSections
 pub mod Stages
 pub mod Steps
 pub mod Taking
-pub mod Told
+pub mod FaultTheorems
 pub mod Twice
 pub mod Unique
 pub mod Unspelled

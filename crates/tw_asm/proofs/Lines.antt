@@ -1,49 +1,49 @@
 -- Lines as they are written from left to right.
 use Rattle.std.proofs.Common.{arith, ◌≡◌, ℕ, ◌+◌, ◌<◌, ◌≤◌, suc, List, [], ◌∷◌, ◌++◌, length, map, take, get_or, codes, refl, sym, ap, ◌∙◌, append_assoc, append-nil}
-use Rattle.tw_asm.proofs.AsmNames.{Err, Natural, Ok, OnOk, Part, Result, behind, decimal, flat_map, join_with_byte, operand_parts, operand_words, part_words, spaced, take_all}
+use Rattle.tw_asm.proofs.AsmNames.{Err, Natural, Ok, OnOk, Part, Result, spaced_all, decimal, flat_map, join_with_byte, operand_parts, operand_words, part_words, spaced, take_all}
 use Rattle.std.proofs.Math.Seq.{take-suc}
 use Rattle.std.proofs.lemmas.Grind.{flat_map-append}
 use Rattle.tw_code.specs.declared.sink.Operand as operands
 use Rattle.tw_code.specs.format.Sink.{seen}
 
-pub line_is : (word : List ℕ) (words : List (List ℕ)) → join_with_byte 32 (word ∷ words) ≡ word ++ behind words
+pub line_is : (word : List ℕ) (words : List (List ℕ)) → join_with_byte 32 (word ∷ words) ≡ word ++ spaced_all words
 line_is word [] = sym (append-nil word)
 line_is word (next ∷ words) = ap (λ (rest : List ℕ). word ++ (32 ∷ rest)) (line_is next words)
 
-pub more_behind : (out : List ℕ) (words more : List (List ℕ)) → (out ++ behind words) ++ behind more ≡ out ++ behind (words ++ more)
-more_behind out words more = append_assoc out (behind words) (behind more) ∙ ap (λ (xs : List ℕ). out ++ xs) (sym (flat_map-append spaced words more))
+pub spaced_more : (out : List ℕ) (words more : List (List ℕ)) → (out ++ spaced_all words) ++ spaced_all more ≡ out ++ spaced_all (words ++ more)
+spaced_more out words more = append_assoc out (spaced_all words) (spaced_all more) ∙ ap (λ (xs : List ℕ). out ++ xs) (sym (flat_map-append spaced words more))
 
-pub param_behind : (out : List ℕ) (word : List ℕ) (words : List (List ℕ)) → (out ++ behind (word ∷ [])) ++ behind words ≡ out ++ behind (word ∷ words ++ [])
-param_behind out word words = more_behind out (word ∷ []) words ∙ ap (λ (ws : List (List ℕ)). out ++ behind (word ∷ ws)) (sym (append-nil words))
+pub spaced_param : (out : List ℕ) (word : List ℕ) (words : List (List ℕ)) → (out ++ spaced_all (word ∷ [])) ++ spaced_all words ≡ out ++ spaced_all (word ∷ words ++ [])
+spaced_param out word words = spaced_more out (word ∷ []) words ∙ ap (λ (ws : List (List ℕ)). out ++ spaced_all (word ∷ ws)) (sym (append-nil words))
 
 -- ---- loops over what is written
 
 module _ {X : Type 0} (each : X → List (List ℕ)) (xs : List X) (i : ℕ) where
   -- after one more item its words are written after those of the items before
-  pub wrote : (d : X) (there out new : List ℕ) → i < length xs → out ≡ there ++ behind (flat_map each (take i xs)) → new ≡ out ++ behind (each (get_or xs i d)) → new ≡ there ++ behind (flat_map each (take (i + 1) xs))
+  pub wrote : (d : X) (there out new : List ℕ) → i < length xs → out ≡ there ++ spaced_all (flat_map each (take i xs)) → new ≡ out ++ spaced_all (each (get_or xs i d)) → new ≡ there ++ spaced_all (flat_map each (take (i + 1) xs))
   wrote d there out new inside before after =
       let next : i + 1 ≡ suc i = omega arith in
       after
-      ∙ ap (λ (ys : List ℕ). ys ++ behind (each (get_or xs i d))) before
-      ∙ more_behind there (flat_map each (take i xs)) (each (get_or xs i d))
-      ∙ ap (λ (ws : List (List ℕ)). there ++ behind (flat_map each (take i xs) ++ ws)) (sym (append-nil (each (get_or xs i d))))
-      ∙ ap (λ (ws : List (List ℕ)). there ++ behind ws) (sym (flat_map-append each (take i xs) (get_or xs i d ∷ [])))
-      ∙ ap (λ (ys : List X). there ++ behind (flat_map each ys)) (sym (take-suc xs i d inside) ∙ ap (λ (k : ℕ). take k xs) (sym next))
+      ∙ ap (λ (ys : List ℕ). ys ++ spaced_all (each (get_or xs i d))) before
+      ∙ spaced_more there (flat_map each (take i xs)) (each (get_or xs i d))
+      ∙ ap (λ (ws : List (List ℕ)). there ++ spaced_all (flat_map each (take i xs) ++ ws)) (sym (append-nil (each (get_or xs i d))))
+      ∙ ap (λ (ws : List (List ℕ)). there ++ spaced_all ws) (sym (flat_map-append each (take i xs) (get_or xs i d ∷ [])))
+      ∙ ap (λ (ys : List X). there ++ spaced_all (flat_map each ys)) (sym (take-suc xs i d inside) ∙ ap (λ (k : ℕ). take k xs) (sym next))
 
-  pub wrote_item : (x : X) (there out new : List ℕ) → i < length xs → x ≡ get_or xs i x → out ≡ there ++ behind (flat_map each (take i xs)) → new ≡ out ++ behind (each x) → new ≡ there ++ behind (flat_map each (take (i + 1) xs))
-  wrote_item x there out new inside is before after = wrote x there out new inside before (after ∙ ap (λ (y : X). out ++ behind (each y)) is)
+  pub wrote_item : (x : X) (there out new : List ℕ) → i < length xs → x ≡ get_or xs i x → out ≡ there ++ spaced_all (flat_map each (take i xs)) → new ≡ out ++ spaced_all (each x) → new ≡ there ++ spaced_all (flat_map each (take (i + 1) xs))
+  wrote_item x there out new inside is before after = wrote x there out new inside before (after ∙ ap (λ (y : X). out ++ spaced_all (each y)) is)
 
   -- all words are written, after a first word and some more
   pub wrote_line : {T E : Type 0} (r : Result T E) (old word : List ℕ) (front : List (List ℕ)) (out new : List ℕ) → length xs ≤ i
-      → out ≡ ((old ++ word) ++ behind front) ++ behind (flat_map each (take i xs)) → OnOk r (new ≡ out ++ codes "\n") → OnOk r (new ≡ old ++ (join_with_byte 32 (word ∷ front ++ flat_map each xs) ++ codes "\n"))
+      → out ≡ ((old ++ word) ++ spaced_all front) ++ spaced_all (flat_map each (take i xs)) → OnOk r (new ≡ out ++ codes "\n") → OnOk r (new ≡ old ++ (join_with_byte 32 (word ∷ front ++ flat_map each xs) ++ codes "\n"))
   wrote_line (Ok x) old word front out new all before after =
       after
       ∙ ap (λ (ys : List ℕ). ys ++ codes "\n")
       (
       before
-      ∙ more_behind (old ++ word) front (flat_map each (take i xs))
-      ∙ ap (λ (ys : List X). (old ++ word) ++ behind (front ++ flat_map each ys)) (take_all i xs all)
-      ∙ append_assoc old word (behind (front ++ flat_map each xs))
+      ∙ spaced_more (old ++ word) front (flat_map each (take i xs))
+      ∙ ap (λ (ys : List X). (old ++ word) ++ spaced_all (front ++ flat_map each ys)) (take_all i xs all)
+      ∙ append_assoc old word (spaced_all (front ++ flat_map each xs))
       ∙ ap (λ (line : List ℕ). old ++ line) (sym (line_is word (front ++ flat_map each xs)))
       )
       ∙ append_assoc old (join_with_byte 32 (word ∷ front ++ flat_map each xs)) (codes "\n")

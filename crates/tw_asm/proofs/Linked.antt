@@ -40,11 +40,11 @@ unlinked_front [] others f u = absurd u
 unlinked_front (g ∷ goals) others f (inl u) = inl u
 unlinked_front (g ∷ goals) others f (inr u) = inr (u.0, unlinked_front goals others f u.1)
 
-unlinked_behind : (goals others : List Goal) (code : List Instr) (f : AsmFault) → AreLinkedCode goals code → FirstUnlinked others f → FirstUnlinked (goals ++ others) f
-unlinked_behind [] others [] f l u = u
-unlinked_behind [] others (i ∷ code) f l u = absurd l
-unlinked_behind (g ∷ goals) others [] f l u = absurd l
-unlinked_behind (g ∷ goals) others (i ∷ code) f l u = inr ((i, l.0), unlinked_behind goals others code f l.1 u)
+unlinked_after : (goals others : List Goal) (code : List Instr) (f : AsmFault) → AreLinkedCode goals code → FirstUnlinked others f → FirstUnlinked (goals ++ others) f
+unlinked_after [] others [] f l u = u
+unlinked_after [] others (i ∷ code) f l u = absurd l
+unlinked_after (g ∷ goals) others [] f l u = absurd l
+unlinked_after (g ∷ goals) others (i ∷ code) f l u = inr ((i, l.0), unlinked_after goals others code f l.1 u)
 
 pub procedures_more : (sections : List Section) (procedures : List Procedure) (section : Section) (procedure : Procedure) → AreLinkedProcedures sections procedures → IsLinkedProcedure section procedure
     → AreLinkedProcedures (sections ++ (section ∷ [])) (procedures ++ (procedure ∷ []))
@@ -59,7 +59,7 @@ section_unlinked [] [] section others f l u = unlinked_front (section_goals sect
 section_unlinked [] (p ∷ ps) section others f l u = absurd l
 section_unlinked (s ∷ ss) [] section others f l u = absurd l
 section_unlinked (s ∷ ss) (p ∷ ps) section others f l u =
-    unlinked_behind (section_goals s) (flat_map section_goals (ss ++ (section ∷ others))) p.code f l.0.code (section_unlinked ss ps section others f l.1 u)
+    unlinked_after (section_goals s) (flat_map section_goals (ss ++ (section ∷ others))) p.code f l.0.code (section_unlinked ss ps section others f l.1 u)
 
 -- the list is the items before the loop's position, its item, and the items after
 pub turn_parts : {X : Type 0} (xs : List X) (n : ℕ) (x : X) → n < length xs → x ≡ get_or xs n x → xs ≡ take n xs ++ (x ∷ drop (suc n) xs)

@@ -22,9 +22,9 @@ plain goals (Target None) words other h = h
 plain goals (Target (Some number)) words other h = h
 plain goals part words other h = h
 
-behind_plain : (goals : Goals) (part : Part) (parts : List Part) (first others words : List Word) → is_skip part ≡ false → words ≡ first ++ others → SpellsPart goals part first → LastNamed goals parts others → LastNamed goals (part ∷ parts) words
-behind_plain goals part parts first others words other is h (none_named hs) = none_named (first, others, is, plain goals part first other h, hs)
-behind_plain goals part parts first others words other is h (named_last skip name front goal e) =
+after_plain : (goals : Goals) (part : Part) (parts : List Part) (first others words : List Word) → is_skip part ≡ false → words ≡ first ++ others → SpellsPart goals part first → LastNamed goals parts others → LastNamed goals (part ∷ parts) words
+after_plain goals part parts first others words other is h (none_named hs) = none_named (first, others, is, plain goals part first other h, hs)
+after_plain goals part parts first others words other is h (named_last skip name front goal e) =
     named_last skip name (first ++ front) goal (is ∙ ap (λ (x : List Word). first ++ x) e ∙ sym (append_assoc first front (Bare name ∷ [])))
 
 last_named : (goals : Goals) (parts : List Part) (words : List Word) → skips_last parts ≡ true → SpellParts goals parts words → LastNamed goals parts words
@@ -33,7 +33,7 @@ last_named goals (Skip skip ∷ []) words last (first, others, is, inl h, none) 
 last_named goals (Skip skip ∷ []) words last (first, others, is, inr (name, goal, has), none) =
     named_last skip name [] goal (is ∙ ap (λ (x : List Word). x ++ others) has ∙ ap (λ (x : List Word). Bare name ∷ x) none)
 last_named goals (Skip skip ∷ part ∷ parts) words last h = absurd cc
-last_named goals (part ∷ parts) words last (first, others, is, h, hs) = behind_plain goals part parts first others words refl is h (last_named goals parts others last hs)
+last_named goals (part ∷ parts) words last (first, others, is, h, hs) = after_plain goals part parts first others words refl is h (last_named goals parts others last hs)
 
 -- ---- the last word
 

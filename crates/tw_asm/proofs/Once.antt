@@ -5,7 +5,7 @@ use Rattle.tw_code.specs.declared.form.Form.TheVariants as form
 use Rattle.tw_code.specs.format.Table as table
 use Rattle.tw_types.specs.declared.actor.Kind.TheVariants.{Control, Leaf}
 use Rattle.tw_asm.specs.declared.statement.First.TheVariants as first
-use Rattle.tw_asm.proofs.Rows.{AreAlike, alike_by_sorts, behind_first, class_of_word, different, ends_in_colon, first_name, have_sorts, name_of, operands_of, others, reskip_operand, row, row_among, rows, same}
+use Rattle.tw_asm.proofs.Rows.{AreAlike, alike_by_sorts, after_first, class_of_word, different, ends_in_colon, first_name, have_sorts, name_of, operands_of, others, reskip_operand, row, row_among, rows, same}
 use Rattle.tw_asm.proofs.Spelled.{AreNames, Resolved, all_tied, as_is, bare_is, cons_is, parts_more, resolved, tied_are, with_goal}
 
 -- ---- the parts of a statement
@@ -55,7 +55,7 @@ registers_made (scalar ∷ registers) =
     ap (λ (s : Scalar). s ∷ registers_from (map register_part registers)) (scalar_made scalar) ∙ ap (λ (ss : List Scalar). scalar ∷ ss) (registers_made registers)
 
 abbrev head_from : List Part → Statement
-head_from parts = Head (kind_from (first_name (behind_first parts))) (params_from (behind_first (behind_first parts)))
+head_from parts = Head (kind_from (first_name (after_first parts))) (params_from (after_first (after_first parts)))
 
 head_made : (kind : Kind) (params : List Param) → head_from (head_parts kind params) ≡ Head kind params
 head_made kind params = ap (λ (k : Kind). Head k (params_from (flat_map param_parts params))) (kind_made kind) ∙ ap (Head kind) (params_made params)
@@ -64,11 +64,11 @@ one_head : (k l : Kind) (ps qs : List Param) → head_parts k ps ≡ head_parts 
 one_head k l ps qs e = sym (head_made k ps) ∙ ap head_from e ∙ head_made l qs
 
 one_registers : (rs ss : List Scalar) → registers_parts rs ≡ registers_parts ss → Registers rs ≡ Registers ss
-one_registers rs ss e = ap Registers (sym (registers_made rs) ∙ ap (λ (parts : List Part). registers_from (behind_first parts)) e ∙ registers_made ss)
+one_registers rs ss e = ap Registers (sym (registers_made rs) ∙ ap (λ (parts : List Part). registers_from (after_first parts)) e ∙ registers_made ss)
 
 -- no two instructions have the same parts
 pub one_instr : (i j : Instr) → instr_parts i ≡ instr_parts j → i ≡ j
-one_instr i j e = sym (row i).made ∙ ap (λ (parts : List Part). (row_among (first_name parts) rows).make (behind_first parts)) e ∙ (row j).made
+one_instr i j e = sym (row i).made ∙ ap (λ (parts : List Part). (row_among (first_name parts) rows).make (after_first parts)) e ∙ (row j).made
 
 -- ---- first words
 
@@ -96,8 +96,8 @@ pub record Begins (s : Statement) : Type 0 where
   pub class : class_of_word word ≡ class_of s
 
 abbrev pub begins : (s : Statement) → Begins s
-begins (OfVersion number) = record { word = codes "version"; others = behind_first (version_parts number); parts = refl; class = refl }
-begins (Head kind params) = record { word = codes "proc"; others = behind_first (head_parts kind params); parts = refl; class = refl }
+begins (OfVersion number) = record { word = codes "version"; others = after_first (version_parts number); parts = refl; class = refl }
+begins (Head kind params) = record { word = codes "proc"; others = after_first (head_parts kind params); parts = refl; class = refl }
 begins (Registers registers) = record { word = codes "regs"; others = map register_part registers; parts = refl; class = refl }
 begins (Label name) = record { word = name ++ codes ":"; others = []; parts = refl; class = label_class name }
 begins (Code i) = record { word = name_of i; others = operands_of i; parts = (row i).parts; class = (row i).class }

@@ -126,28 +126,28 @@ line_faults number s line a b m n f g = by (cases_lt x.kind y.kind) (cases_lt y.
 
 -- ---- two readings of the same lines
 
-same_end : (number : ℕ) (s : ParserState) (ls : List (List ℕ)) (said told : List (Option Statement)) → LinesSay number s ls said → LinesSay number s ls told
-    → situation_from number s said ≡ situation_from number s told
+same_end : (number : ℕ) (s : ParserState) (ls : List (List ℕ)) (said also_said : List (Option Statement)) → LinesSay number s ls said → LinesSay number s ls also_said
+    → situation_from number s said ≡ situation_from number s also_said
 same_end number s [] [] [] h l = refl
-same_end number s [] (x ∷ said) told h l = absurd h
-same_end number s [] [] (y ∷ told) h l = absurd l
-same_end number s (line ∷ more) [] told h l = absurd h
+same_end number s [] (x ∷ said) also_said h l = absurd h
+same_end number s [] [] (y ∷ also_said) h l = absurd l
+same_end number s (line ∷ more) [] also_said h l = absurd h
 same_end number s (line ∷ more) (x ∷ said) [] h l = absurd l
-same_end number s (line ∷ more) (x ∷ said) (y ∷ told) h l =
-    same_end (number + 1) (after_line number x s) more said told h.1 (others_say number s line more x y told h.0 l.0 l.1)
-    ∙ ap (λ (t : ParserState). situation_from (number + 1) t told) (both_alike number s line x y h.0 l.0)
+same_end number s (line ∷ more) (x ∷ said) (y ∷ also_said) h l =
+    same_end (number + 1) (after_line number x s) more said also_said h.1 (others_say number s line more x y also_said h.0 l.0 l.1)
+    ∙ ap (λ (t : ParserState). situation_from (number + 1) t also_said) (both_alike number s line x y h.0 l.0)
 
-same_at : (index number : ℕ) (s : ParserState) (ls : List (List ℕ)) (said told : List (Option Statement)) → LinesSay number s ls said → LinesSay number s ls told
-    → situation_from number s (take index said) ≡ situation_from number s (take index told)
-same_at zero number s ls said told h l = refl
+same_at : (index number : ℕ) (s : ParserState) (ls : List (List ℕ)) (said also_said : List (Option Statement)) → LinesSay number s ls said → LinesSay number s ls also_said
+    → situation_from number s (take index said) ≡ situation_from number s (take index also_said)
+same_at zero number s ls said also_said h l = refl
 same_at (suc k) number s [] [] [] h l = refl
-same_at (suc k) number s [] (x ∷ said) told h l = absurd h
-same_at (suc k) number s [] [] (y ∷ told) h l = absurd l
-same_at (suc k) number s (line ∷ more) [] told h l = absurd h
+same_at (suc k) number s [] (x ∷ said) also_said h l = absurd h
+same_at (suc k) number s [] [] (y ∷ also_said) h l = absurd l
+same_at (suc k) number s (line ∷ more) [] also_said h l = absurd h
 same_at (suc k) number s (line ∷ more) (x ∷ said) [] h l = absurd l
-same_at (suc k) number s (line ∷ more) (x ∷ said) (y ∷ told) h l =
-    same_at k (number + 1) (after_line number x s) more said told h.1 (others_say number s line more x y told h.0 l.0 l.1)
-    ∙ ap (λ (t : ParserState). situation_from (number + 1) t (take k told)) (both_alike number s line x y h.0 l.0)
+same_at (suc k) number s (line ∷ more) (x ∷ said) (y ∷ also_said) h l =
+    same_at k (number + 1) (after_line number x s) more said also_said h.1 (others_say number s line more x y also_said h.0 l.0 l.1)
+    ∙ ap (λ (t : ParserState). situation_from (number + 1) t (take k also_said)) (both_alike number s line x y h.0 l.0)
 
 -- ---- the first line that isn't allowed
 
@@ -161,40 +161,40 @@ line_fault_at : (k l : ℕ) (t u : ParserState) (line next : List ℕ) (which : 
 line_fault_at k l t u line next which at e f g h =
     subst (λ (z : List ℕ). LineFault k t z which at) g (subst (λ (v : ParserState). LineFault k v next which at) f (subst (λ (j : ℕ). LineFault j u next which at) e h))
 
-one_line_fault : (number : ℕ) (s : ParserState) (before after : List (List ℕ)) (line next : List ℕ) (others more : List (List ℕ)) (said told : List (Option Statement)) (k l : ℕ) (t u : ParserState) (a b : FaultNo) (m n : ℕ)
-    → before ++ (line ∷ others) ≡ after ++ (next ∷ more) → LinesSay number s before said → LinesSay number s after told → k ≡ length before + number → l ≡ length after + number
-    → situation_from number s said ≡ t → situation_from number s told ≡ u → LineFault k t line a m → LineFault l u next b n → (a ≡ b) × (m ≡ n)
+one_line_fault : (number : ℕ) (s : ParserState) (before after : List (List ℕ)) (line next : List ℕ) (others more : List (List ℕ)) (said also_said : List (Option Statement)) (k l : ℕ) (t u : ParserState) (a b : FaultNo) (m n : ℕ)
+    → before ++ (line ∷ others) ≡ after ++ (next ∷ more) → LinesSay number s before said → LinesSay number s after also_said → k ≡ length before + number → l ≡ length after + number
+    → situation_from number s said ≡ t → situation_from number s also_said ≡ u → LineFault k t line a m → LineFault l u next b n → (a ≡ b) × (m ≡ n)
 one_line_fault number s [] [] line next others more [] [] k l t u a b m n e h j ke le te ue f g =
     line_faults k t line a b m n f (line_fault_at k l t u line next b n (omega (arith, ke, le)) (sym ue ∙ te) (sym (head_line_is line next others more e)) g)
-one_line_fault number s [] [] line next others more (x ∷ said) told k l t u a b m n e h j ke le te ue f g = absurd h
-one_line_fault number s [] [] line next others more [] (y ∷ told) k l t u a b m n e h j ke le te ue f g = absurd j
+one_line_fault number s [] [] line next others more (x ∷ said) also_said k l t u a b m n e h j ke le te ue f g = absurd h
+one_line_fault number s [] [] line next others more [] (y ∷ also_said) k l t u a b m n e h j ke le te ue f g = absurd j
 one_line_fault number s [] (second ∷ after) line next others more [] [] k l t u a b m n e h j ke le te ue f g = absurd j
-one_line_fault number s [] (second ∷ after) line next others more [] (y ∷ told) k l t u a b m n e h j ke le te ue f g =
+one_line_fault number s [] (second ∷ after) line next others more [] (y ∷ also_said) k l t u a b m n e h j ke le te ue f g =
     absurd (line_no_fault k s second y a m j.0 (line_fault_at k k s t second line a m refl (sym te) (head_line_is line second others (after ++ (next ∷ more)) e) f))
-one_line_fault number s [] (second ∷ after) line next others more (x ∷ said) told k l t u a b m n e h j ke le te ue f g = absurd h
-one_line_fault number s (first ∷ before) [] line next others more [] told k l t u a b m n e h j ke le te ue f g = absurd h
+one_line_fault number s [] (second ∷ after) line next others more (x ∷ said) also_said k l t u a b m n e h j ke le te ue f g = absurd h
+one_line_fault number s (first ∷ before) [] line next others more [] also_said k l t u a b m n e h j ke le te ue f g = absurd h
 one_line_fault number s (first ∷ before) [] line next others more (x ∷ said) [] k l t u a b m n e h j ke le te ue f g =
     absurd (line_no_fault l s first x b n h.0 (line_fault_at l l s u first next b n refl (sym ue) (sym (head_line_is first next (before ++ (line ∷ others)) more e)) g))
-one_line_fault number s (first ∷ before) [] line next others more (x ∷ said) (y ∷ told) k l t u a b m n e h j ke le te ue f g = absurd j
-one_line_fault number s (first ∷ before) (second ∷ after) line next others more [] told k l t u a b m n e h j ke le te ue f g = absurd h
+one_line_fault number s (first ∷ before) [] line next others more (x ∷ said) (y ∷ also_said) k l t u a b m n e h j ke le te ue f g = absurd j
+one_line_fault number s (first ∷ before) (second ∷ after) line next others more [] also_said k l t u a b m n e h j ke le te ue f g = absurd h
 one_line_fault number s (first ∷ before) (second ∷ after) line next others more (x ∷ said) [] k l t u a b m n e h j ke le te ue f g = absurd j
-one_line_fault number s (first ∷ before) (second ∷ after) line next others more (x ∷ said) (y ∷ told) k l t u a b m n e h j ke le te ue f g =
+one_line_fault number s (first ∷ before) (second ∷ after) line next others more (x ∷ said) (y ∷ also_said) k l t u a b m n e h j ke le te ue f g =
     let same = head_line_is first second (before ++ (line ∷ others)) (after ++ (next ∷ more)) e in
     let here : LineSays s first y = subst (λ (z : List ℕ). LineSays s z y) (sym same) j.0 in
-    one_line_fault (number + 1) (after_line number x s) before after line next others more said told k l t u a b m n
-    (more_lines_are first second (before ++ (line ∷ others)) (after ++ (next ∷ more)) e) h.1 (others_say number s first after x y told h.0 here j.1)
-    (omega (arith, ke)) (omega (arith, le)) te (ap (λ (v : ParserState). situation_from (number + 1) v told) (both_alike number s first x y h.0 here) ∙ ue) f g
+    one_line_fault (number + 1) (after_line number x s) before after line next others more said also_said k l t u a b m n
+    (more_lines_are first second (before ++ (line ∷ others)) (after ++ (next ∷ more)) e) h.1 (others_say number s first after x y also_said h.0 here j.1)
+    (omega (arith, ke)) (omega (arith, le)) te (ap (λ (v : ParserState). situation_from (number + 1) v also_said) (both_alike number s first x y h.0 here) ∙ ue) f g
 
-next_said : (number : ℕ) (s : ParserState) (before : List (List ℕ)) (line : List ℕ) (more : List (List ℕ)) (said told : List (Option Statement)) → LinesSay number s (before ++ (line ∷ more)) said → LinesSay number s before told
-    → (x : Option Statement) × LineSays (situation_from number s told) line x
-next_said number s [] line more [] told h l = absurd h
+next_said : (number : ℕ) (s : ParserState) (before : List (List ℕ)) (line : List ℕ) (more : List (List ℕ)) (said also_said : List (Option Statement)) → LinesSay number s (before ++ (line ∷ more)) said → LinesSay number s before also_said
+    → (x : Option Statement) × LineSays (situation_from number s also_said) line x
+next_said number s [] line more [] also_said h l = absurd h
 next_said number s [] line more (x ∷ said) [] h l = (x, h.0)
-next_said number s [] line more (x ∷ said) (y ∷ told) h l = absurd l
-next_said number s (first ∷ before) line more [] told h l = absurd h
+next_said number s [] line more (x ∷ said) (y ∷ also_said) h l = absurd l
+next_said number s (first ∷ before) line more [] also_said h l = absurd h
 next_said number s (first ∷ before) line more (x ∷ said) [] h l = absurd l
-next_said number s (first ∷ before) line more (x ∷ said) (y ∷ told) h l =
-    let r = next_said (number + 1) (after_line number x s) before line more said told h.1 (others_say number s first before x y told h.0 l.0 l.1) in
-    (r.0, subst (λ (t : ParserState). LineSays (situation_from (number + 1) t told) line r.0) (both_alike number s first x y h.0 l.0) r.1)
+next_said number s (first ∷ before) line more (x ∷ said) (y ∷ also_said) h l =
+    let r = next_said (number + 1) (after_line number x s) before line more said also_said h.1 (others_say number s first before x y also_said h.0 l.0 l.1) in
+    (r.0, subst (λ (t : ParserState). LineSays (situation_from (number + 1) t also_said) line r.0) (both_alike number s first x y h.0 l.0) r.1)
 
 -- no line has a fault if all lines are allowed
 no_line_fault : {Z : Type 0} (text : List ℕ) (which : FaultNo) (at : ℕ) (said : List (Option Statement)) → LinesSay 1 at_start (lines text) said → IsLineFault text which at → Z
@@ -219,13 +219,13 @@ no_end_fault text which other at number f g =
 name_once : (version : Version) (line name other : List ℕ) (words others : List Word) → IsLine words line → NamesLabel version name words → IsLine others line → NamesLabel version other others → name ≡ other
 name_once version line name other words others is n other_is o = named_once name other words n (subst (λ (ws : List Word). NamesLabel version other ws) (line_once others words line other_is is) o)
 
-goal_faults : (s : ParserState) (ahead behind : List (List ℕ)) (line : List ℕ) (a b : FaultNo) → GoalFault s ahead line a → GoalFault s behind line b → a ≡ b
-goal_faults s ahead behind line _ _ (unknown name words is n before absent) (unknown other others other_is o before2 absent2) = refl
-goal_faults s ahead behind line _ _ (unknown name words is n before absent) (not_forward other others other_is o there) =
+goal_faults : (s : ParserState) (ahead following : List (List ℕ)) (line : List ℕ) (a b : FaultNo) → GoalFault s ahead line a → GoalFault s following line b → a ≡ b
+goal_faults s ahead following line _ _ (unknown name words is n before absent) (unknown other others other_is o before2 absent2) = refl
+goal_faults s ahead following line _ _ (unknown name words is n before absent) (not_forward other others other_is o there) =
     absurd (before (subst (Contains s.labels) (sym (name_once s.version line name other words others is n other_is o)) there))
-goal_faults s ahead behind line _ _ (not_forward name words is n there) (unknown other others other_is o before absent) =
+goal_faults s ahead following line _ _ (not_forward name words is n there) (unknown other others other_is o before absent) =
     absurd (before (subst (Contains s.labels) (name_once s.version line name other words others is n other_is o) there))
-goal_faults s ahead behind line _ _ (not_forward name words is n there) (not_forward other others other_is o there2) = refl
+goal_faults s ahead following line _ _ (not_forward name words is n there) (not_forward other others other_is o there2) = refl
 
 goal_fault_at : (s t : ParserState) (ahead : List (List ℕ)) (line next : List ℕ) (which : FaultNo) → s ≡ t → next ≡ line → GoalFault s ahead next which → GoalFault t ahead line which
 goal_fault_at s t ahead line next which e f g = subst (λ (z : List ℕ). GoalFault t ahead z which) f (subst (λ (v : ParserState). GoalFault v ahead next which) e g)

@@ -1,6 +1,6 @@
 -- The line numbers that are kept for instructions are those of their lines.
 use Rattle.std.proofs.Common.{◌≡◌, ◌⊎◌, ℕ, zero, suc, ◌+◌, ◌<◌, List, [], ◌∷◌, ◌++◌, length, map, get_or, take, Option, Some, None, MatchOption, inl, inr, refl, sym, subst, ap, ◌∙◌, append_assoc, arith}
-use Rattle.tw_asm.proofs.AsmNames.{AtStart, BehindHead, BehindVersion, Code, Drafted, HasSections, Head, Instr, Kind, Label, LineRead, LinesRead, MayStand, OfVersion, Param, Place, Procedure, Progress, Read, Registers, Section, ParserState, Statement, Version, Within, after_line, append-nil, ended, length-append, length-map, line_step, lines, map-append, outset, progress_from, section_numbers, situation, situation_from, situation_of, slice_get, step}
+use Rattle.tw_asm.proofs.AsmNames.{AtStart, HeadRead, VersionRead, Code, Drafted, HasSections, Head, Instr, Kind, Label, LineRead, LinesRead, MayFollow, OfVersion, Param, Place, Procedure, Progress, Read, Registers, Section, ParserState, Statement, Version, Within, after_line, append-nil, ended, length-append, length-map, line_step, lines, map-append, outset, progress_from, section_numbers, situation, situation_from, situation_of, slice_get, step}
 use Rattle.tw_asm.specs.Origins.{AreOrigins, ComesFrom, at_place, instr_at}
 use Rattle.tw_asm.specs.reading.Goals.{AreLinkedProcedures}
 use Rattle.tw_asm.proofs.Linked.{linked_length}
@@ -91,7 +91,7 @@ kept_within : (sections : List Section) (section : Section) → kept sections (W
 kept_within sections section = map-append section_numbers sections (section ∷ [])
 
 head_said : (number : ℕ) (kind : Kind) (params : List Param) (goal : Option (List ℕ)) (sections : List Section) (head_line : ℕ) (place : Place) (said : List (Option Statement)) → AreSaid said (kept sections place)
-    → AreSaid (said ++ (Some (Head kind params) ∷ [])) (kept (ended sections place) (BehindHead kind params))
+    → AreSaid (said ++ (Some (Head kind params) ∷ [])) (kept (ended sections place) (HeadRead kind params))
 head_said number kind params goal sections head_line place said a = saids_more said (Some (Head kind params)) (kept sections place) (kept sections place) a (λ k j n e. e)
 
 code_said : (i : Instr) (goal : Option (List ℕ)) (number : ℕ) (version : Version) (sections : List Section) (head_line : ℕ) (section : Section) (said : List (Option Statement)) → AreSaid said (kept sections (Within section))
@@ -115,30 +115,30 @@ code_said i goal number version sections head_line section said a number_is is k
     ]
 
 statement_said : (number : ℕ) (statement : Statement) (goal : Option (List ℕ)) (version : Version) (sections : List Section) (head_line : ℕ) (place : Place) (said : List (Option Statement)) → AreSaid said (kept sections place)
-    → MayStand statement (situation_of (progress version sections head_line place)) → number ≡ length said + 1 → situation_of (progress version sections head_line place) ≡ situation said
+    → MayFollow statement (situation_of (progress version sections head_line place)) → number ≡ length said + 1 → situation_of (progress version sections head_line place) ≡ situation said
     → AreSaid (said ++ (Some statement ∷ [])) (kept (step number statement goal (progress version sections head_line place)).sections (step number statement goal (progress version sections head_line place)).place)
 statement_said number (OfVersion n) goal version sections head_line AtStart said a m number_is is = saids_more said (Some (OfVersion n)) (kept sections AtStart) (kept sections AtStart) a (λ k j n e. e)
-statement_said number (OfVersion n) goal version sections head_line BehindVersion said a m number_is is = version_start m
-statement_said number (OfVersion n) goal version sections head_line (BehindHead kind params) said a m number_is is = head_start m
+statement_said number (OfVersion n) goal version sections head_line VersionRead said a m number_is is = version_start m
+statement_said number (OfVersion n) goal version sections head_line (HeadRead kind params) said a m number_is is = head_start m
 statement_said number (OfVersion n) goal version sections head_line (Within section) said a m number_is is = body_start m
 statement_said number (Head kind params) goal version sections head_line place said a m number_is is = head_said number kind params goal sections head_line place said a
 statement_said number (Registers registers) goal version sections head_line AtStart said a m number_is is = start_head m
-statement_said number (Registers registers) goal version sections head_line BehindVersion said a m number_is is = version_head m
-statement_said number (Registers registers) goal version sections head_line (BehindHead kind params) said a m number_is is =
+statement_said number (Registers registers) goal version sections head_line VersionRead said a m number_is is = version_head m
+statement_said number (Registers registers) goal version sections head_line (HeadRead kind params) said a m number_is is =
     let new : Section = record { kind = kind; params = params; registers = registers; labels = []; drafts = [] } in
     saids_more said (Some (Registers registers)) (map section_numbers sections) (kept sections (Within new)) a
     (λ k j n e. empty_more (map section_numbers sections) n k j (subst (λ (ns : List (List ℕ)). at_place ns k j ≡ Some n) (kept_within sections new) e))
 statement_said number (Registers registers) goal version sections head_line (Within section) said a m number_is is = body_head m
 statement_said number (Label name) goal version sections head_line AtStart said a m number_is is = start_body m.0
-statement_said number (Label name) goal version sections head_line BehindVersion said a m number_is is = version_body m.0
-statement_said number (Label name) goal version sections head_line (BehindHead kind params) said a m number_is is = head_body m.0
+statement_said number (Label name) goal version sections head_line VersionRead said a m number_is is = version_body m.0
+statement_said number (Label name) goal version sections head_line (HeadRead kind params) said a m number_is is = head_body m.0
 statement_said number (Label name) goal version sections head_line (Within section) said a m number_is is =
     let new : Section = record section { labels = section.labels ++ (record { name = name; place = length section.drafts } ∷ []) } in
     saids_more said (Some (Label name)) (kept sections (Within section)) (kept sections (Within new)) a
     (λ k j n e. subst (λ (ns : List (List ℕ)). at_place ns k j ≡ Some n) (kept_within sections new ∙ sym (kept_within sections section)) e)
 statement_said number (Code i) goal version sections head_line AtStart said a m number_is is = start_body m.0
-statement_said number (Code i) goal version sections head_line BehindVersion said a m number_is is = version_body m.0
-statement_said number (Code i) goal version sections head_line (BehindHead kind params) said a m number_is is = head_body m.0
+statement_said number (Code i) goal version sections head_line VersionRead said a m number_is is = version_body m.0
+statement_said number (Code i) goal version sections head_line (HeadRead kind params) said a m number_is is = head_body m.0
 statement_said number (Code i) goal version sections head_line (Within section) said a m number_is is = code_said i goal number version sections head_line section said a number_is is
 
 line_said : (number : ℕ) (line : List ℕ) (read : Option Read) (p : Progress) (said : List (Option Statement)) → AreSaid said (kept p.sections p.place) → LineRead (situation_of p) line read

@@ -57,7 +57,7 @@ record IsBegun (version : Version) (ws : List Word) (whole : Result (List Param)
   words : ws ≡ words_of ty.containers ty.scalar ++ rest
   had : HasType version ty
   read_is : read ≡ limited ty
-  behind : ReadsParams version rest whole
+  following : ReadsParams version rest whole
 
 abbrev IsKept : Version → List Word → Result (List Param) TokenError → Option (Result NestedScalar TokenError) → Type 0
 IsKept version ws whole None = ReadsParams version ws whole × NoType version ws
@@ -103,7 +103,7 @@ module _ (version : Version) where
 
   begins_kept : (w : Word) (ws : List Word) (whole : Result (List Param) TokenError) → IsKept version ws whole None → (r : Result Scalar TokenError) → Reads (λ s. w ≡ Bare (scalar_word s)) Free r
       → IsKept version (w ∷ ws) (begins whole r).whole (begins whole r).begun
-  begins_kept w ws whole kept (Ok s) h = record { ty = record { containers = []; scalar = s }; rest = ws; words = ap (λ (v : Word). v ∷ ws) h.0; had = tt; read_is = refl; behind = kept.0 }
+  begins_kept w ws whole kept (Ok s) h = record { ty = record { containers = []; scalar = s }; rest = ws; words = ap (λ (v : Word). v ∷ ws) h.0; had = tt; read_is = refl; following = kept.0 }
   begins_kept w ws whole kept (Err Form) h = (no_whole w ws kept.1 h, no_type w ws kept.1 h)
   begins_kept w ws whole kept (Err Limit) h = absurd (h.1 h.0.0 h.0.1 tt)
 
@@ -189,7 +189,7 @@ module _ (version : Version) where
           (carried (λ x. x.0 ∷ x.1) (HasFirst mode) (λ x. IsShallowParam x.0 × AllByRecursion IsShallowParam x.1) (AreParams version (w ∷ ws)) (AllByRecursion IsShallowParam)
           (first_to mode h.0) (first_back mode h.0) (λ x k m. m) (λ x k m. m) (both (as_is (param_of mode) (under mode (limited b.ty))) whole)
           (both_read (λ p. (p ≡ param_of mode b.ty) × HasParam version p) IsShallowParam (AreParams version b.rest) (AllByRecursion IsShallowParam) (as_is (param_of mode) (under mode (limited b.ty))) whole
-          (item_read mode b.ty b.had) b.behind)),
+          (item_read mode b.ty b.had) b.following)),
       no_type_before mode h.0,
     )
     ends_kept no_container (Err Form) h = (no_more no_container h, no_more_type no_container h)
@@ -216,7 +216,7 @@ module _ (version : Version) where
       words = ap (λ (v : Word). v ∷ ws) h.0.0 ∙ ap (λ (vs : List Word). Bare (container_word by) ∷ vs) b.words;
       had = (h.0.1, b.had);
       read_is = ap (contained (Ok by)) b.read_is ∙ deeper by b.ty;
-      behind = b.behind;
+      following = b.following;
     }
     goes_on_kept (Err Form) h m k = ends_kept h m k
     goes_on_kept (Err Limit) h m k = absurd (h.1 h.0.0 h.0.1 tt)

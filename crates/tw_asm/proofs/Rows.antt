@@ -118,21 +118,21 @@ abbrev part_in : List Part → Part
 part_in [] = Natural 0
 part_in (part ∷ parts) = part
 
-abbrev parts_behind : List Part → List Part
-parts_behind [] = []
-parts_behind (part ∷ parts) = parts
+abbrev parts_after : List Part → List Part
+parts_after [] = []
+parts_after (part ∷ parts) = parts
 
 abbrev contents_in : (fs : List Form) → List Part → Contents fs
 contents_in [] parts = tt
-contents_in (form.Value ∷ fs) parts = (size (part_in parts), contents_in fs (parts_behind parts))
-contents_in (form.Right ∷ fs) parts = (size (part_in parts), contents_in fs (parts_behind parts))
-contents_in (form.Number ∷ fs) parts = (signed (part_in parts), contents_in fs (parts_behind parts))
-contents_in (form.Iterations ∷ fs) parts = (size (part_in parts), contents_in fs (parts_behind parts))
-contents_in (form.Literal ∷ fs) parts = (text (part_in parts), contents_in fs (parts_behind parts))
-contents_in (form.TypeOf ∷ fs) parts = (type_in (part_in parts), contents_in fs (parts_behind parts))
-contents_in (form.Skip ∷ fs) parts = (size (part_in parts), contents_in fs (parts_behind parts))
-contents_in (form.Callee ∷ fs) parts = (size (part_in parts), contents_in fs (parts_behind parts))
-contents_in (form.Target ∷ fs) parts = (target_in (part_in parts), contents_in fs (parts_behind parts))
+contents_in (form.Value ∷ fs) parts = (size (part_in parts), contents_in fs (parts_after parts))
+contents_in (form.Right ∷ fs) parts = (size (part_in parts), contents_in fs (parts_after parts))
+contents_in (form.Number ∷ fs) parts = (signed (part_in parts), contents_in fs (parts_after parts))
+contents_in (form.Iterations ∷ fs) parts = (size (part_in parts), contents_in fs (parts_after parts))
+contents_in (form.Literal ∷ fs) parts = (text (part_in parts), contents_in fs (parts_after parts))
+contents_in (form.TypeOf ∷ fs) parts = (type_in (part_in parts), contents_in fs (parts_after parts))
+contents_in (form.Skip ∷ fs) parts = (size (part_in parts), contents_in fs (parts_after parts))
+contents_in (form.Callee ∷ fs) parts = (size (part_in parts), contents_in fs (parts_after parts))
+contents_in (form.Target ∷ fs) parts = (target_in (part_in parts), contents_in fs (parts_after parts))
 contents_in (form.Args ∷ fs) parts = (map size parts, contents_in fs [])
 
 pub record Row : Type 0 where
@@ -169,15 +169,15 @@ abbrev pub first_name : List Part → List ℕ
 first_name (Name word ∷ parts) = word
 first_name parts = []
 
-abbrev pub behind_first : List Part → List Part
-behind_first [] = []
-behind_first (part ∷ parts) = parts
+abbrev pub after_first : List Part → List Part
+after_first [] = []
+after_first (part ∷ parts) = parts
 
 abbrev pub name_of : Instr → List ℕ
 name_of i = first_name (instr_parts i)
 
 abbrev pub operands_of : Instr → List Part
-operands_of i = behind_first (instr_parts i)
+operands_of i = after_first (instr_parts i)
 
 abbrev pub reskip : ℕ → Part → Part
 reskip skip (Skip old) = Skip skip

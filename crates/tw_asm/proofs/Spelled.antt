@@ -181,9 +181,9 @@ module _ (goals : Goals) (name : List ℕ) (skip : ℕ) (goal : goals skip name)
   kept (Target (Some n)) not f h = (h, h)
   kept p not f h = (h, h)
 
-  behind_kept : (p : Part) (ps : List Part) (f x words : List Word) → (sort_of p ≡ 7 → ⊥) → words ≡ f ++ x → SpellsPart (OnlyName name) p f → Resolved goals skip ps x → Resolved goals skip (p ∷ ps) words
-  behind_kept p ps f x words not is h (as_is hs) = as_is (f, x, is, (kept p not f h).0, hs)
-  behind_kept p ps f x words not is h (with_goal hs) = with_goal (f, x, is, (kept p not f h).1, hs)
+  after_kept : (p : Part) (ps : List Part) (f x words : List Word) → (sort_of p ≡ 7 → ⊥) → words ≡ f ++ x → SpellsPart (OnlyName name) p f → Resolved goals skip ps x → Resolved goals skip (p ∷ ps) words
+  after_kept p ps f x words not is h (as_is hs) = as_is (f, x, is, (kept p not f h).0, hs)
+  after_kept p ps f x words not is h (with_goal hs) = with_goal (f, x, is, (kept p not f h).1, hs)
 
   at_goal : (n : ℕ) (ps : List Part) (f x words : List Word) → ps ≡ [] → words ≡ f ++ x → SpellsPart (OnlyName name) (Skip n) f → SpellParts (OnlyName name) ps x → Resolved goals skip (Skip n ∷ ps) words
   at_goal n [] f x words none is (inl h) hs = as_is (f, x, is, inl h, hs)
@@ -193,4 +193,4 @@ module _ (goals : Goals) (name : List ℕ) (skip : ℕ) (goal : goals skip name)
   pub resolved : (ps : List Part) (words : List Word) → skips_last ps ≡ true → SpellParts (OnlyName name) ps words → Resolved goals skip ps words
   resolved [] words last h = as_is h
   resolved (Skip n ∷ ps) words last (f, x, is, h, hs) = at_goal n ps f x words (last_is ps last) is h hs
-  resolved (p ∷ ps) words last (f, x, is, h, hs) = behind_kept p ps f x words (λ seven. different (sort_of p) 7 seven refl) is h (resolved ps x last hs)
+  resolved (p ∷ ps) words last (f, x, is, h, hs) = after_kept p ps f x words (λ seven. different (sort_of p) 7 seven refl) is h (resolved ps x last hs)

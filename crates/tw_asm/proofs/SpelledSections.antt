@@ -1,6 +1,6 @@
 -- The procedures that are read, and the words that denote them.
 use Rattle.std.proofs.Common.{true, ◌≡◌, ◌≢◌, ℕ, suc, ◌+◌, ◌<◌, ◌≤◌, List, [], ◌∷◌, ◌++◌, length, map, Option, Some, None, inl, inr, refl, sym, subst, ap, ◌∙◌, append_assoc, arith}
-use Rattle.tw_asm.proofs.AsmNames.{AllByRecursion, AllPairs, AnyShortName, AreCode, AtStart, Bare, BehindHead, BehindVersion, Code, Contains, Drafted, Goals, GoesTo, HasInstr, HasSections, HaveWords, Head, Instr, IsGoalOf, IsInLimits, IsInstr, IsInstrOf, IsLine, IsOperand, IsProcedureOf, IsProgramOf, IsRead, IsWhole, Kind, Label, LinesRead, MayStand, NoName, OfVersion, One, Opcode, Operand, Param, Place, Placed, Procedure, Progress, Read, Registers, Scalar, Section, SpellProcedures, Spells, SpellsProcedure, SpellsProgram, SpellsVersion, Statement, Two, Version, Within, Word, append-nil, begun, ended, get_or_default, has_opcode, holds, length-append, line_step, lines, map-append, outset, progress_from, row, situation_of, step, version_by, with_skip}
+use Rattle.tw_asm.proofs.AsmNames.{AllByRecursion, AllPairs, AnyShortName, AreCode, AtStart, Bare, HeadRead, VersionRead, Code, Contains, Drafted, Goals, GoesTo, HasInstr, HasSections, HaveWords, Head, Instr, IsGoalOf, IsInLimits, IsInstr, IsInstrOf, IsLine, IsOperand, IsProcedureOf, IsProgramOf, IsRead, IsWhole, Kind, Label, LinesRead, MayFollow, NoName, OfVersion, One, Opcode, Operand, Param, Place, Placed, Procedure, Progress, Read, Registers, Scalar, Section, SpellProcedures, Spells, SpellsProcedure, SpellsProgram, SpellsVersion, Statement, Two, Version, Within, Word, append-nil, begun, ended, get_or_default, has_opcode, holds, length-append, line_step, lines, map-append, outset, progress_from, row, situation_of, step, version_by, with_skip}
 use Rattle.std.proofs.lemmas.List.Quantifiers.{all_pairs_push}
 use Rattle.tw_code.specs.declared.form.Form.TheVariants as form
 use Rattle.tw_asm.specs.reading.Goals.{AreLinkedCode, AreLinkedProcedures, HasLabelsWithin, IsLinkedProcedure, IsLinkedTo, goals_in}
@@ -182,15 +182,15 @@ linked_procedures version _ _ (p ∷ ps) (a_section x others first after a n mor
 
 abbrev pub IsPlace : Version → Place → List (List Word) → Type 0
 IsPlace version AtStart words = words ≡ []
-IsPlace version BehindVersion words = words ≡ []
-IsPlace version (BehindHead kind params) words = (head : List Word) × (words ≡ head ∷ []) × Spells version NoName (Head kind params) head × IsInLimits (Head kind params)
+IsPlace version VersionRead words = words ≡ []
+IsPlace version (HeadRead kind params) words = (head : List Word) × (words ≡ head ∷ []) × Spells version NoName (Head kind params) head × IsInLimits (Head kind params)
 IsPlace version (Within section) words = IsSection version section words
 
 -- holds if the version's words are before all others; at the start there are none
 abbrev pub IsFront : Place → Version → List Section → List (List Word) → List (List Word) → Type 0
 IsFront AtStart version sections front done = (version ≡ One) × (sections ≡ []) × (front ≡ []) × (done ≡ [])
-IsFront BehindVersion version sections front done = SpellsVersion version front
-IsFront (BehindHead kind params) version sections front done = SpellsVersion version front
+IsFront VersionRead version sections front done = SpellsVersion version front
+IsFront (HeadRead kind params) version sections front done = SpellsVersion version front
 IsFront (Within section) version sections front done = SpellsVersion version front
 
 pub record IsSpelled (p : Progress) (words : List (List Word)) : Type 0 where
@@ -227,7 +227,7 @@ unsaid_there : (version : Version) (front : List (List Word)) → version ≡ On
 unsaid_there version front v f = subst (λ (x : Version). SpellsVersion x front) (sym v) (subst (SpellsVersion One) (sym f) SpellsVersion.unsaid)
 
 version_step : (number n : ℕ) (goal : Option (List ℕ)) (version : Version) (sections : List Section) (head_line : ℕ) (place : Place) (all : List (List Word)) (words : List Word)
-    → IsSpelled (progress version sections head_line place) all → IsRead version (record { statement = OfVersion n; goal = goal }) words → MayStand (OfVersion n) (situation_of (progress version sections head_line place)) → goal ≡ None
+    → IsSpelled (progress version sections head_line place) all → IsRead version (record { statement = OfVersion n; goal = goal }) words → MayFollow (OfVersion n) (situation_of (progress version sections head_line place)) → goal ≡ None
     → IsSpelled (step number (OfVersion n) goal (progress version sections head_line place)) (all ++ (words ∷ []))
 version_step number n goal version sections head_line AtStart all words s r m g =
     let fits = read_limits version (OfVersion n) goal words r in
@@ -242,12 +242,12 @@ version_step number n goal version sections head_line AtStart all words s r m g 
       place_is = refl;
       few = s.few;
     }
-version_step number n goal version sections head_line BehindVersion all words s r m g = version_start m
-version_step number n goal version sections head_line (BehindHead kind params) all words s r m g = head_start m
+version_step number n goal version sections head_line VersionRead all words s r m g = version_start m
+version_step number n goal version sections head_line (HeadRead kind params) all words s r m g = head_start m
 version_step number n goal version sections head_line (Within section) all words s r m g = body_start m
 
 head_step : (number : ℕ) (kind : Kind) (params : List Param) (goal : Option (List ℕ)) (version : Version) (sections : List Section) (head_line : ℕ) (place : Place) (all : List (List Word)) (words : List Word)
-    → IsSpelled (progress version sections head_line place) all → IsRead version (record { statement = Head kind params; goal = goal }) words → MayStand (Head kind params) (situation_of (progress version sections head_line place)) → goal ≡ None
+    → IsSpelled (progress version sections head_line place) all → IsRead version (record { statement = Head kind params; goal = goal }) words → MayFollow (Head kind params) (situation_of (progress version sections head_line place)) → goal ≡ None
     → IsSpelled (step number (Head kind params) goal (progress version sections head_line place)) (all ++ (words ∷ []))
 head_step number kind params goal version sections head_line AtStart all words s r m g = record {
   front = s.front;
@@ -259,7 +259,7 @@ head_step number kind params goal version sections head_line AtStart all words s
   place_is = (words, refl, plain version (Head kind params) goal words g r, read_limits version (Head kind params) goal words r);
   few = omega (arith, m.1);
 }
-head_step number kind params goal version sections head_line BehindVersion all words s r m g = record {
+head_step number kind params goal version sections head_line VersionRead all words s r m g = record {
   front = s.front;
   done = s.done;
   current = words ∷ [];
@@ -269,7 +269,7 @@ head_step number kind params goal version sections head_line BehindVersion all w
   place_is = (words, refl, plain version (Head kind params) goal words g r, read_limits version (Head kind params) goal words r);
   few = omega (arith, m.1);
 }
-head_step number kind params goal version sections head_line (BehindHead k ps) all words s r m g = elim (m.0) [ inl e ↦ absurd e | inr e ↦ head_body e.0 ]
+head_step number kind params goal version sections head_line (HeadRead k ps) all words s r m g = elim (m.0) [ inl e ↦ absurd e | inr e ↦ head_body e.0 ]
 head_step number kind params goal version sections head_line (Within section) all words s r m g =
     let some : 0 < length section.drafts = elim (m.0) [ inl e ↦ absurd e | inr e ↦ e.1 ] in
     record {
@@ -287,11 +287,11 @@ none_pairs : AllPairs (λ (a b : List ℕ). a ≢ b) []
 none_pairs = λ i j d a b. absurd (omega (arith, b))
 
 registers_step : (number : ℕ) (registers : List Scalar) (goal : Option (List ℕ)) (version : Version) (sections : List Section) (head_line : ℕ) (place : Place) (all : List (List Word)) (words : List Word)
-    → IsSpelled (progress version sections head_line place) all → IsRead version (record { statement = Registers registers; goal = goal }) words → MayStand (Registers registers) (situation_of (progress version sections head_line place)) → goal ≡ None
+    → IsSpelled (progress version sections head_line place) all → IsRead version (record { statement = Registers registers; goal = goal }) words → MayFollow (Registers registers) (situation_of (progress version sections head_line place)) → goal ≡ None
     → IsSpelled (step number (Registers registers) goal (progress version sections head_line place)) (all ++ (words ∷ []))
 registers_step number registers goal version sections head_line AtStart all words s r m g = start_head m
-registers_step number registers goal version sections head_line BehindVersion all words s r m g = version_head m
-registers_step number registers goal version sections head_line (BehindHead kind params) all words s r m g =
+registers_step number registers goal version sections head_line VersionRead all words s r m g = version_head m
+registers_step number registers goal version sections head_line (HeadRead kind params) all words s r m g =
     let h = s.place_is in
     record {
       front = s.front;
@@ -358,11 +358,11 @@ body_step version sections head_line section labels drafts all words s more once
     }
 
 label_step : (number : ℕ) (name : List ℕ) (goal : Option (List ℕ)) (version : Version) (sections : List Section) (head_line : ℕ) (place : Place) (all : List (List Word)) (words : List Word)
-    → IsSpelled (progress version sections head_line place) all → IsRead version (record { statement = Label name; goal = goal }) words → MayStand (Label name) (situation_of (progress version sections head_line place)) → goal ≡ None
+    → IsSpelled (progress version sections head_line place) all → IsRead version (record { statement = Label name; goal = goal }) words → MayFollow (Label name) (situation_of (progress version sections head_line place)) → goal ≡ None
     → IsSpelled (step number (Label name) goal (progress version sections head_line place)) (all ++ (words ∷ []))
 label_step number name goal version sections head_line AtStart all words s r m g = start_body m.0
-label_step number name goal version sections head_line BehindVersion all words s r m g = version_body m.0
-label_step number name goal version sections head_line (BehindHead kind params) all words s r m g = head_body m.0
+label_step number name goal version sections head_line VersionRead all words s r m g = version_body m.0
+label_step number name goal version sections head_line (HeadRead kind params) all words s r m g = head_body m.0
 label_step number name goal version sections head_line (Within section) all words s r m g =
     let here : 0 + length section.drafts ≡ length section.drafts = omega arith in
     body_step version sections head_line section (section.labels ++ (record { name = name; place = length section.drafts } ∷ [])) section.drafts all words s
@@ -372,25 +372,25 @@ label_step number name goal version sections head_line (Within section) all word
     (new_name section.labels name (length section.drafts) s.place_is.once m.1) s.place_is.few
 
 code_step : (number : ℕ) (i : Instr) (goal : Option (List ℕ)) (version : Version) (sections : List Section) (head_line : ℕ) (place : Place) (all : List (List Word)) (words : List Word)
-    → IsSpelled (progress version sections head_line place) all → IsRead version (record { statement = Code i; goal = goal }) words → MayStand (Code i) (situation_of (progress version sections head_line place))
+    → IsSpelled (progress version sections head_line place) all → IsRead version (record { statement = Code i; goal = goal }) words → MayFollow (Code i) (situation_of (progress version sections head_line place))
     → IsSpelled (step number (Code i) goal (progress version sections head_line place)) (all ++ (words ∷ []))
 code_step number i goal version sections head_line AtStart all words s r m = start_body m.0
-code_step number i goal version sections head_line BehindVersion all words s r m = version_body m.0
-code_step number i goal version sections head_line (BehindHead kind params) all words s r m = head_body m.0
+code_step number i goal version sections head_line VersionRead all words s r m = version_body m.0
+code_step number i goal version sections head_line (HeadRead kind params) all words s r m = head_body m.0
 code_step number i goal version sections head_line (Within section) all words s r m =
     let draft : Drafted = record { instr = i; goal = goal; number = number } in
     body_step version sections head_line section section.labels (section.drafts ++ (draft ∷ [])) all words s
     (λ body d. draft_more version 0 section.labels section.drafts body draft words d r) s.place_is.once (omega (arith, m.1, length-append section.drafts (draft ∷ [])))
 
 spelled_step : (number : ℕ) (statement : Statement) (goal : Option (List ℕ)) (p : Progress) (all : List (List Word)) (words : List Word)
-    → IsSpelled p all → IsRead p.version (record { statement = statement; goal = goal }) words → MayStand statement (situation_of p) → IsGoalOf statement goal → IsSpelled (step number statement goal p) (all ++ (words ∷ []))
+    → IsSpelled p all → IsRead p.version (record { statement = statement; goal = goal }) words → MayFollow statement (situation_of p) → IsGoalOf statement goal → IsSpelled (step number statement goal p) (all ++ (words ∷ []))
 spelled_step number (OfVersion n) goal p all words s r m g = version_step number n goal p.version p.sections p.head_line p.place all words s r m g
 spelled_step number (Head kind params) goal p all words s r m g = head_step number kind params goal p.version p.sections p.head_line p.place all words s r m g
 spelled_step number (Registers registers) goal p all words s r m g = registers_step number registers goal p.version p.sections p.head_line p.place all words s r m g
 spelled_step number (Label name) goal p all words s r m g = label_step number name goal p.version p.sections p.head_line p.place all words s r m g
 spelled_step number (Code i) goal p all words s r m g = code_step number i goal p.version p.sections p.head_line p.place all words s r m
 
-pub record AreTold (number : ℕ) (p : Progress) (ls : List (List ℕ)) (reads : List (Option Read)) (all : List (List Word)) : Type 0 where
+pub record AreSpelledLines (number : ℕ) (p : Progress) (ls : List (List ℕ)) (reads : List (Option Read)) (all : List (List Word)) : Type 0 where
   pub words : List (List Word)
   pub lines_are : HaveWords ls words
   pub spelled : IsSpelled (progress_from number p reads) (all ++ words)
@@ -399,16 +399,16 @@ one_line : (ls : List (List ℕ)) (line : List ℕ) (ws : List Word) (words : Li
 one_line ls line ws words first after e l h =
     subst (λ (x : List Word). HaveWords (line ∷ ls) (x ∷ words)) (sym e) (HaveWords.one_more line ls first after words (subst (λ (x : List Word). IsLine x line) e l) h)
 
-pub told : (number : ℕ) (p : Progress) (ls : List (List ℕ)) (reads : List (Option Read)) (all : List (List Word)) → LinesRead number p ls reads → IsSpelled p all → AreTold number p ls reads all
-told number p [] [] all r s = record { words = []; lines_are = HaveWords.end; spelled = subst (IsSpelled p) (sym (append-nil all)) s }
-told number p [] (read ∷ others) all r s = absurd r
-told number p (line ∷ after) [] all r s = absurd r
-told number p (line ∷ after) (None ∷ others) all r s =
-    let t = told (number + 1) p after others all r.1 s in
+pub spelled_lines : (number : ℕ) (p : Progress) (ls : List (List ℕ)) (reads : List (Option Read)) (all : List (List Word)) → LinesRead number p ls reads → IsSpelled p all → AreSpelledLines number p ls reads all
+spelled_lines number p [] [] all r s = record { words = []; lines_are = HaveWords.end; spelled = subst (IsSpelled p) (sym (append-nil all)) s }
+spelled_lines number p [] (read ∷ others) all r s = absurd r
+spelled_lines number p (line ∷ after) [] all r s = absurd r
+spelled_lines number p (line ∷ after) (None ∷ others) all r s =
+    let t = spelled_lines (number + 1) p after others all r.1 s in
     record { words = t.words; lines_are = HaveWords.blank line after t.words r.0 t.lines_are; spelled = t.spelled }
-told number p (line ∷ after) (Some read ∷ others) all r s =
+spelled_lines number p (line ∷ after) (Some read ∷ others) all r s =
     let f = first_of_words AnyShortName read.statement r.0.0.0 (read_says p.version read r.0.0.0 r.0.0.2).0 in
-    let t = told (number + 1) (line_step number (Some read) p) after others (all ++ (r.0.0.0 ∷ [])) r.1 (spelled_step number read.statement read.goal p all r.0.0.0 s r.0.0.2 r.0.1 r.0.2) in
+    let t = spelled_lines (number + 1) (line_step number (Some read) p) after others (all ++ (r.0.0.0 ∷ [])) r.1 (spelled_step number read.statement read.goal p all r.0.0.0 s r.0.0.2 r.0.1 r.0.2) in
     record {
       words = r.0.0.0 ∷ t.words;
       lines_are = one_line after line r.0.0.0 t.words (Bare f.word) f.others f.parts r.0.0.1 t.lines_are;
@@ -419,21 +419,21 @@ told number p (line ∷ after) (Some read ∷ others) all r s =
 
 pub record AreEnded (version : Version) (sections : List Section) (words : List (List Word)) : Type 0 where
   pub front : List (List Word)
-  pub behind : List (List Word)
-  pub parts : words ≡ front ++ behind
+  pub following : List (List Word)
+  pub parts : words ≡ front ++ following
   pub version_is : SpellsVersion version front
-  pub sections_are : AreSections version sections behind
+  pub sections_are : AreSections version sections following
   pub some : 1 ≤ length sections
   pub few : length sections ≤ 64
 
 ended_at : (version : Version) (sections : List Section) (head_line : ℕ) (place : Place) (words : List (List Word)) → IsSpelled (progress version sections head_line place) words → IsWhole (situation_of (progress version sections head_line place))
     → AreEnded version (ended sections place) words
 ended_at version sections head_line AtStart words s w = start_body w.0
-ended_at version sections head_line BehindVersion words s w = version_body w.0
-ended_at version sections head_line (BehindHead kind params) words s w = head_body w.0
+ended_at version sections head_line VersionRead words s w = version_body w.0
+ended_at version sections head_line (HeadRead kind params) words s w = head_body w.0
 ended_at version sections head_line (Within section) words s w = record {
   front = s.front;
-  behind = s.done ++ s.current;
+  following = s.done ++ s.current;
   parts = s.parts;
   version_is = s.front_is;
   sections_are = section_more version sections s.done section s.current s.sections_are s.place_is w.1;
@@ -451,7 +451,7 @@ pub record AreSpelled (text : List ℕ) (version : Version) (sections : List Sec
 
 pub sections_spelled : (text : List ℕ) (version : Version) (all : List Section) → HasSections text version all → AreSpelled text version all
 sections_spelled text version all h =
-    let t = told 1 outset (lines text) h.read.reads [] h.read.are_read outset_spelled in
+    let t = spelled_lines 1 outset (lines text) h.read.reads [] h.read.are_read outset_spelled in
     let s = subst (λ (p : Progress). IsSpelled p t.words) (sym h.read.progress) t.spelled in
     let e = ended_at h.p.version h.p.sections h.p.head_line h.p.place t.words s h.whole in
     record {
@@ -463,7 +463,7 @@ sections_spelled text version all h =
 pub is_program : (text : List ℕ) (version : Version) (all : List Section) (procedures : List Procedure) → HasSections text version all → AreLinkedProcedures all procedures → IsProgramOf version procedures
 is_program text version all procedures h l =
     let s = sections_spelled text version all h in
-    let m = linked_procedures version all s.ended.behind procedures s.ended.sections_are l in
+    let m = linked_procedures version all s.ended.following procedures s.ended.sections_are l in
     ((omega (arith, m.1, s.ended.some), omega (arith, m.1, s.ended.few)), m.0)
 
 pub spells_program : (text : List ℕ) (version : Version) (all : List Section) (procedures : List Procedure) → HasSections text version all → AreLinkedProcedures all procedures
@@ -472,10 +472,10 @@ spells_program text version all procedures h l =
     let s = sections_spelled text version all h in
     record {
       front = s.ended.front;
-      words = s.ended.behind;
+      words = s.ended.following;
       lines_are = subst (HaveWords (lines text)) s.ended.parts s.lines_are;
       version_is = s.ended.version_is;
-      procedures_are = linked_sections version all s.ended.behind procedures s.ended.sections_are l;
+      procedures_are = linked_sections version all s.ended.following procedures s.ended.sections_are l;
       is_program = is_program text version all procedures h l;
     }
 
@@ -485,4 +485,4 @@ sections_within version _ _ (a_section x others first after a n more) =
     (higher (0 + length x.drafts) 4096 x.labels (omega (arith, a.few)) (labels_within version 0 x.labels x.drafts a.body a.drafts_are), sections_within version others after more)
 
 pub labels_fit : (text : List ℕ) (version : Version) (all : List Section) → HasSections text version all → AllByRecursion HasLabelsWithin all
-labels_fit text version all h = let s = sections_spelled text version all h in sections_within version all s.ended.behind s.ended.sections_are
+labels_fit text version all h = let s = sections_spelled text version all h in sections_within version all s.ended.following s.ended.sections_are

@@ -1,6 +1,6 @@
 -- Reading one more line.
 use Rattle.std.proofs.Common.{◌≡◌, ◌⊎◌, ℕ, suc, ◌+◌, List, [], ◌∷◌, ◌++◌, length, map, Option, Some, None, Result, Ok, Err, MatchResult, inl, inr, refl, sym, subst, ap, ◌∙◌, arith}
-use Rattle.tw_asm.proofs.AsmNames.{AfterHead, AnyShortName, AreNotRead, AreTextRead, AsmFault, AtStart, BehindHead, BehindVersion, Code, FaultNo, Head, InBody, IsLineFault, IsMemory, IsNotFinished, IsRead, IsShortName, IsUnfinished, Label, LineFault, LineRead, LineSays, LinesRead, LinesSay, MayStand, NoName, OfVersion, OnlyName, Place, Placed, Progress, Read, Registers, Say, Section, ParserState, Stage, Statement, Version, Within, Word, after, after_line, enumerate_from, length-append, line_step, lines, map-append, outset, progress_from, situation_from, situation_of, step}
+use Rattle.tw_asm.proofs.AsmNames.{AfterHead, AnyShortName, AreNotRead, AreTextRead, AsmFault, AtStart, HeadRead, VersionRead, Code, FaultNo, Head, InBody, IsLineFault, IsMemory, IsNotFinished, IsRead, IsShortName, IsUnfinished, Label, LineFault, LineRead, LineSays, LinesRead, LinesSay, MayFollow, NoName, OfVersion, OnlyName, Place, Placed, Progress, Read, Registers, Say, Section, ParserState, Stage, Statement, Version, Within, Word, after, after_line, enumerate_from, length-append, line_step, lines, map-append, outset, progress_from, situation_from, situation_of, step}
 use denote.Ref.{Bor}
 use Rattle.tw_lexer.proofs.LineLoops.{StandsAtLine, all_lines}
 use Rattle.tw_asm.proofs.Once.{spells_more}
@@ -11,39 +11,39 @@ use Rattle.tw_asm.proofs.Stages.{body_head, body_start, head_body, head_start, p
 abbrev counted : Version → Stage → ℕ → List (List ℕ) → ℕ → ℕ → ParserState
 counted version stage head_line labels procedures instructions = record { version = version; stage = stage; procedures = procedures; head_line = head_line; labels = labels; instructions = instructions }
 
-step_at : (number : ℕ) (statement : Statement) (goal : Option (List ℕ)) (version : Version) (sections : List Section) (head_line : ℕ) (place : Place) → MayStand statement (situation_of (progress version sections head_line place))
+step_at : (number : ℕ) (statement : Statement) (goal : Option (List ℕ)) (version : Version) (sections : List Section) (head_line : ℕ) (place : Place) → MayFollow statement (situation_of (progress version sections head_line place))
     → situation_of (step number statement goal (progress version sections head_line place)) ≡ after number statement (situation_of (progress version sections head_line place))
 step_at number (OfVersion n) goal version sections head_line AtStart m = refl
-step_at number (OfVersion n) goal version sections head_line BehindVersion m = version_start m
-step_at number (OfVersion n) goal version sections head_line (BehindHead kind params) m = head_start m
+step_at number (OfVersion n) goal version sections head_line VersionRead m = version_start m
+step_at number (OfVersion n) goal version sections head_line (HeadRead kind params) m = head_start m
 step_at number (OfVersion n) goal version sections head_line (Within section) m = body_start m
 step_at number (Head kind params) goal version sections head_line AtStart m =
     let e : length sections + 1 ≡ (length sections + 0) + 1 = omega arith in
     ap (λ (n : ℕ). counted version AfterHead number [] n 0) e
-step_at number (Head kind params) goal version sections head_line BehindVersion m =
+step_at number (Head kind params) goal version sections head_line VersionRead m =
     let e : length sections + 1 ≡ (length sections + 0) + 1 = omega arith in
     ap (λ (n : ℕ). counted version AfterHead number [] n 0) e
-step_at number (Head kind params) goal version sections head_line (BehindHead k ps) m = elim (m.0) [ inl e ↦ absurd e | inr e ↦ head_body e.0 ]
+step_at number (Head kind params) goal version sections head_line (HeadRead k ps) m = elim (m.0) [ inl e ↦ absurd e | inr e ↦ head_body e.0 ]
 step_at number (Head kind params) goal version sections head_line (Within section) m =
     let e : length (sections ++ (section ∷ [])) + 1 ≡ (length sections + 1) + 1 = omega (arith, length-append sections (section ∷ [])) in
     ap (λ (n : ℕ). counted version AfterHead number [] n 0) e
 step_at number (Registers registers) goal version sections head_line AtStart m = start_head m
-step_at number (Registers registers) goal version sections head_line BehindVersion m = version_head m
-step_at number (Registers registers) goal version sections head_line (BehindHead kind params) m = refl
+step_at number (Registers registers) goal version sections head_line VersionRead m = version_head m
+step_at number (Registers registers) goal version sections head_line (HeadRead kind params) m = refl
 step_at number (Registers registers) goal version sections head_line (Within section) m = body_head m
 step_at number (Label name) goal version sections head_line AtStart m = start_body m.0
-step_at number (Label name) goal version sections head_line BehindVersion m = version_body m.0
-step_at number (Label name) goal version sections head_line (BehindHead kind params) m = head_body m.0
+step_at number (Label name) goal version sections head_line VersionRead m = version_body m.0
+step_at number (Label name) goal version sections head_line (HeadRead kind params) m = head_body m.0
 step_at number (Label name) goal version sections head_line (Within section) m =
     ap (λ (names : List (List ℕ)). counted version InBody head_line names (length sections + 1) (length section.drafts)) (map-append (λ (label : Placed). label.name) section.labels (record { name = name; place = length section.drafts } ∷ []))
 step_at number (Code i) goal version sections head_line AtStart m = start_body m.0
-step_at number (Code i) goal version sections head_line BehindVersion m = version_body m.0
-step_at number (Code i) goal version sections head_line (BehindHead kind params) m = head_body m.0
+step_at number (Code i) goal version sections head_line VersionRead m = version_body m.0
+step_at number (Code i) goal version sections head_line (HeadRead kind params) m = head_body m.0
 step_at number (Code i) goal version sections head_line (Within section) m =
     let e : length (section.drafts ++ (record { instr = i; goal = goal; number = number } ∷ [])) ≡ length section.drafts + 1 = omega (arith, length-append section.drafts (record { instr = i; goal = goal; number = number } ∷ [])) in
     ap (λ (n : ℕ). counted version InBody head_line (map (λ (label : Placed). label.name) section.labels) (length sections + 1) n) e
 
-pub step_after : (number : ℕ) (statement : Statement) (goal : Option (List ℕ)) (p : Progress) → MayStand statement (situation_of p) → situation_of (step number statement goal p) ≡ after number statement (situation_of p)
+pub step_after : (number : ℕ) (statement : Statement) (goal : Option (List ℕ)) (p : Progress) → MayFollow statement (situation_of p) → situation_of (step number statement goal p) ≡ after number statement (situation_of p)
 step_after number statement goal p m = step_at number statement goal p.version p.sections p.head_line p.place m
 
 -- ---- statements that are read are those of the text

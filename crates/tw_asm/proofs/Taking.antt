@@ -1,5 +1,5 @@
 -- The fault of a line, by its words.
-use Rattle.tw_asm.proofs.AsmNames.{AnyName, AnyShortName, AreClosed, AreFinished, AsmFault, AtStart, Bare, Begins, BehindHead, BehindVersion, Code, Contains, FaultNo, First, HasWords, HaveForm, Head, InBody, Instr, IsBrokenLine, IsEmptyAt, IsExpected, IsFirstWord, IsGoalOf, IsLimit, IsLimitLine, IsLine, IsLineRead, IsMemory, IsNotClosed, IsNotFinished, IsOutset, Kind, Label, LineFault, MayBegin, MayStand, Param, Place, Progress, Quoted, Say, Section, ParserState, Stage, Statement, Stopped, TakenLine, TakenStatement, Version, Within, Word, WordsRead, begun, blank_no_word, broken_here, broken_no_line, drafts_at, empty, ended, first_word_once, instructions, label_twice, length-append, limit, line_blank, line_once, operand, procedures, situation_of, slice_get, stage_of, step, word}
+use Rattle.tw_asm.proofs.AsmNames.{AnyName, AnyShortName, AreClosed, AreFinished, AsmFault, AtStart, Bare, Begins, HeadRead, VersionRead, Code, Contains, FaultNo, First, HasWords, HaveForm, Head, InBody, Instr, IsBrokenLine, IsEmptyAt, IsExpected, IsFirstWord, IsGoalOf, IsLimit, IsLimitLine, IsLine, IsLineRead, IsMemory, IsNotClosed, IsNotFinished, IsOutset, Kind, Label, LineFault, MayBegin, MayFollow, Param, Place, Progress, Quoted, Say, Section, ParserState, Stage, Statement, Stopped, TakenLine, TakenStatement, Version, Within, Word, WordsRead, begun, blank_no_word, broken_here, broken_no_line, drafts_at, empty, ended, first_word_once, instructions, label_twice, length-append, limit, line_blank, line_once, operand, procedures, situation_of, slice_get, stage_of, step, word}
 use Rattle.tw_asm.specs.declared.statement.Statement as statements
 use Rattle.tw_asm.specs.declared.statement.Statement.TheVariants as statement
 use Rattle.tw_asm.specs.declared.reading.Reading as readings
@@ -48,14 +48,14 @@ form_fault number s line w others expected l p m none =
 
 pub empty_is : (place : Place) → IsEmptyAt place → (stage_of place ≡ InBody) × (length (drafts_at place) ≡ 0)
 empty_is AtStart e = absurd e
-empty_is BehindVersion e = absurd e
-empty_is (BehindHead kind params) e = absurd e
+empty_is VersionRead e = absurd e
+empty_is (HeadRead kind params) e = absurd e
 empty_is (Within section) e = (refl, e)
 
 pub is_empty : (place : Place) → stage_of place ≡ InBody → length (drafts_at place) ≡ 0 → IsEmptyAt place
 is_empty AtStart s e = start_body s
-is_empty BehindVersion s e = version_body s
-is_empty (BehindHead kind params) s e = head_body s
+is_empty VersionRead s e = version_body s
+is_empty (HeadRead kind params) s e = head_body s
 is_empty (Within section) s e = e
 
 pub limit_fault : (number at : ℕ) (p : Progress) (line : List ℕ) (w : Word) (others : List Word) (expected : First) → IsLine (w ∷ others) line → IsExpectedBy p.version w expected → MayBegin (stage_of p.place) expected
@@ -78,8 +78,8 @@ expected_by version w v bytes a b e p q = one_expected version a b bytes (subst 
 cons_head : (w v : Word) (ws vs : List Word) → ◌≡◌ {A = List Word} (w ∷ ws) (v ∷ vs) → w ≡ v
 cons_head w v ws vs e = cc
 
-pub may_stand_there : (version : Version) (stage : Stage) (read : Read) (w : Word) (others : List Word) (expected : First) → IsRead version read (w ∷ others) → IsExpectedBy version w expected → MayBegin stage expected → MayBegin stage (expectation read.statement)
-may_stand_there version stage read w others expected r p m =
+pub may_follow : (version : Version) (stage : Stage) (read : Read) (w : Word) (others : List Word) (expected : First) → IsRead version read (w ∷ others) → IsExpectedBy version w expected → MayBegin stage expected → MayBegin stage (expectation read.statement)
+may_follow version stage read w others expected r p m =
     let f = first_of_words AnyShortName read.statement (w ∷ others) (read_says version read (w ∷ others) r).0 in
     subst (MayBegin stage) (expected_by version w w f.word expected (expectation read.statement) (cons_head w (Bare f.word) others f.others f.parts) p f.expected) m
 
@@ -107,8 +107,8 @@ head_due e = absurd cc
 
 closed_length : (sections : List Section) (place : Place) → MayBegin (stage_of place) first.Head → length (ended sections place) ≡ length sections + begun place
 closed_length sections AtStart m = omega arith
-closed_length sections BehindVersion m = omega arith
-closed_length sections (BehindHead kind params) m = head_due m
+closed_length sections VersionRead m = omega arith
+closed_length sections (HeadRead kind params) m = head_due m
 closed_length sections (Within section) m = omega (arith, length-append sections (section ∷ []))
 
 pub too_many_heads : (p : Progress) (number : ℕ) (kind : Kind) (params : List Param) (f : AsmFault) (all : List Section) → MayBegin (stage_of p.place) first.Head → AreClosed p.sections p.place all → 64 ≤ length all → f.no ≡ fault.Limit → f.line ≡ number
@@ -125,15 +125,15 @@ positive (suc n) none = omega arith
 
 whole_at : (place : Place) → MayBegin (stage_of place) first.Head → (IsEmptyAt place → ⊥) → IsOutset (stage_of place) ⊎ ((stage_of place ≡ InBody) × (0 < length (drafts_at place)))
 whole_at AtStart m none = inl tt
-whole_at BehindVersion m none = inl tt
-whole_at (BehindHead kind params) m none = head_due m
+whole_at VersionRead m none = inl tt
+whole_at (HeadRead kind params) m none = head_due m
 whole_at (Within section) m none = inr (refl, positive (length section.drafts) none)
 
 pub head_taken : (p : Progress) (number : ℕ) (kind : Kind) (params : List Param) (all : List Section) → MayBegin (stage_of p.place) first.Head → AreClosed p.sections p.place all → length all < 64
-    → MayStand (Head kind params) (situation_of p) × (◌≡◌ {A = Progress} (record { version = p.version; sections = all; head_line = number; place = BehindHead kind params }) (step number (Head kind params) None p))
+    → MayFollow (Head kind params) (situation_of p) × (◌≡◌ {A = Progress} (record { version = p.version; sections = all; head_line = number; place = HeadRead kind params }) (step number (Head kind params) None p))
 head_taken p number kind params all m c few =
     let n : length all ≡ length p.sections + begun p.place = ap length c.0 ∙ closed_length p.sections p.place m in
-    ((whole_at p.place m c.1, omega (arith, n, few)), ap (λ (ss : List Section). record { version = p.version; sections = ss; head_line = number; place = BehindHead kind params }) c.0)
+    ((whole_at p.place m c.1, omega (arith, n, few)), ap (λ (ss : List Section). record { version = p.version; sections = ss; head_line = number; place = HeadRead kind params }) c.0)
 
 -- ---- the end
 

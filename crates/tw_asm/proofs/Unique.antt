@@ -12,10 +12,10 @@ use Rattle.tw_asm.proofs.Walk.{AreOnce, contains_cases, contains_none, labels_sh
 words_once : (ls : List (List ℕ)) (a b : List (List Word)) → HaveWords ls a → HaveWords ls b → a ≡ b
 words_once [] _ _ HaveWords.end HaveWords.end = refl
 words_once (line ∷ ls) _ _ (HaveWords.blank _ _ a is more) (HaveWords.blank _ _ b other rest) = words_once ls a b more rest
-words_once (line ∷ ls) _ _ (HaveWords.blank _ _ a is more) (HaveWords.one_more _ _ word behind b other rest) = absurd (never_cons word behind (line_once (word ∷ behind) [] line other is))
-words_once (line ∷ ls) _ _ (HaveWords.one_more _ _ word behind a is more) (HaveWords.blank _ _ b other rest) = absurd (never_cons word behind (line_once (word ∷ behind) [] line is other))
-words_once (line ∷ ls) _ _ (HaveWords.one_more _ _ word behind a is more) (HaveWords.one_more _ _ first after b other rest) =
-    ap (λ (x : List Word). x ∷ a) (line_once (word ∷ behind) (first ∷ after) line is other) ∙ ap (λ (x : List (List Word)). (first ∷ after) ∷ x) (words_once ls a b more rest)
+words_once (line ∷ ls) _ _ (HaveWords.blank _ _ a is more) (HaveWords.one_more _ _ word following b other rest) = absurd (never_cons word following (line_once (word ∷ following) [] line other is))
+words_once (line ∷ ls) _ _ (HaveWords.one_more _ _ word following a is more) (HaveWords.blank _ _ b other rest) = absurd (never_cons word following (line_once (word ∷ following) [] line is other))
+words_once (line ∷ ls) _ _ (HaveWords.one_more _ _ word following a is more) (HaveWords.one_more _ _ first after b other rest) =
+    ap (λ (x : List Word). x ∷ a) (line_once (word ∷ following) (first ∷ after) line is other) ∙ ap (λ (x : List (List Word)). (first ∷ after) ∷ x) (words_once ls a b more rest)
 
 -- ---- the end of a body
 
@@ -26,7 +26,7 @@ IsAnew version (words ∷ others) = (kind : Kind) × (params : List Param) × Sp
 
 anew : (version : Version) (program : List Procedure) (words : List (List Word)) → SpellProcedures version program words → IsAnew version words
 anew version _ _ SpellProcedures.end = tt
-anew version _ _ (SpellProcedures.one_more p others first behind h more) = subst (λ (x : List (List Word)). IsAnew version (x ++ behind)) (sym h.parts) (p.kind, p.params, h.head_is)
+anew version _ _ (SpellProcedures.one_more p others first following h more) = subst (λ (x : List (List Word)). IsAnew version (x ++ following)) (sym h.parts) (p.kind, p.params, h.head_is)
 
 no_label_anew : {Z : Type 0} (version : Version) (goals : Goals) (name : List ℕ) (words : List Word) (others : List (List Word)) → IsAnew version (words ∷ others) → Spells version goals (Label name) words → Z
 no_label_anew version goals name words others a h = absurd (alike (GoesTo [] 0) goals (Head a.0 a.1) (Label name) words a.2 h)
@@ -38,41 +38,41 @@ no_label_code : {Z : Type 0} (version : Version) (G H : Goals) (name : List ℕ)
 no_label_code version G H name i words other e h k = absurd (alike G H (Label name) (Code i) words h (subst (λ (x : List Word). Spells version H (Code i) x) (sym e) k))
 
 -- two bodies with the same labels and words, whatever follows them
-record SameBody (labels others : List Placed) (body front behind rest : List (List Word)) : Type 0 where
+record SameBody (labels others : List Placed) (body front following rest : List (List Word)) : Type 0 where
   labels_are : labels ≡ others
   body_is : body ≡ front
-  rest_is : behind ≡ rest
+  rest_is : following ≡ rest
 
 abbrev placed : List ℕ → ℕ → Placed
 placed name place = record { name = name; place = place }
 
-body_once : (version : Version) (all every : List Placed) (place : ℕ) (labels : List Placed) (code : List Instr) (body : List (List Word)) (others : List Placed) (instrs : List Instr) (front behind rest : List (List Word))
-    → AreCode version all place labels code body → AreCode version every place others instrs front → body ++ behind ≡ front ++ rest → IsAnew version behind → IsAnew version rest → SameBody labels others body front behind rest
-body_once version all every place _ _ _ _ _ _ behind rest (AreCode.end _) (AreCode.end _) e a b = record { labels_are = refl; body_is = refl; rest_is = e }
-body_once version all every place _ _ _ _ _ _ behind rest (AreCode.end _) (AreCode.label _ name words labels code body h limits more) e a b =
+body_once : (version : Version) (all every : List Placed) (place : ℕ) (labels : List Placed) (code : List Instr) (body : List (List Word)) (others : List Placed) (instrs : List Instr) (front following rest : List (List Word))
+    → AreCode version all place labels code body → AreCode version every place others instrs front → body ++ following ≡ front ++ rest → IsAnew version following → IsAnew version rest → SameBody labels others body front following rest
+body_once version all every place _ _ _ _ _ _ following rest (AreCode.end _) (AreCode.end _) e a b = record { labels_are = refl; body_is = refl; rest_is = e }
+body_once version all every place _ _ _ _ _ _ following rest (AreCode.end _) (AreCode.label _ name words labels code body h limits more) e a b =
     no_label_anew version (GoesTo every place) name words (body ++ rest) (subst (IsAnew version) e a) h
-body_once version all every place _ _ _ _ _ _ behind rest (AreCode.end _) (AreCode.instruction _ i words labels code body h more) e a b =
+body_once version all every place _ _ _ _ _ _ following rest (AreCode.end _) (AreCode.instruction _ i words labels code body h more) e a b =
     no_code_anew version (GoesTo every place) i words (body ++ rest) (subst (IsAnew version) e a) h
-body_once version all every place _ _ _ _ _ _ behind rest (AreCode.label _ name words labels code body h limits more) (AreCode.end _) e a b =
-    no_label_anew version (GoesTo all place) name words (body ++ behind) (subst (IsAnew version) (sym e) b) h
-body_once version all every place _ _ _ _ _ _ behind rest (AreCode.instruction _ i words labels code body h more) (AreCode.end _) e a b =
-    no_code_anew version (GoesTo all place) i words (body ++ behind) (subst (IsAnew version) (sym e) b) h
-body_once version all every place _ _ _ _ _ _ behind rest (AreCode.label _ name words labels code body h limits more) (AreCode.instruction _ i first others instrs front k later) e a b =
-    no_label_code version (GoesTo all place) (GoesTo every place) name i words first (cons_is words first (body ++ behind) (front ++ rest) e).0 h k
-body_once version all every place _ _ _ _ _ _ behind rest (AreCode.instruction _ i words labels code body h more) (AreCode.label _ name first others instrs front k limits later) e a b =
-    no_label_code version (GoesTo every place) (GoesTo all place) name i first words (sym (cons_is words first (body ++ behind) (front ++ rest) e).0) k h
-body_once version all every place _ _ _ _ _ _ behind rest (AreCode.label _ name words labels code body h limits more) (AreCode.label _ other first others instrs front k bounds later) e a b =
-    let same = cons_is words first (body ++ behind) (front ++ rest) e in
+body_once version all every place _ _ _ _ _ _ following rest (AreCode.label _ name words labels code body h limits more) (AreCode.end _) e a b =
+    no_label_anew version (GoesTo all place) name words (body ++ following) (subst (IsAnew version) (sym e) b) h
+body_once version all every place _ _ _ _ _ _ following rest (AreCode.instruction _ i words labels code body h more) (AreCode.end _) e a b =
+    no_code_anew version (GoesTo all place) i words (body ++ following) (subst (IsAnew version) (sym e) b) h
+body_once version all every place _ _ _ _ _ _ following rest (AreCode.label _ name words labels code body h limits more) (AreCode.instruction _ i first others instrs front k later) e a b =
+    no_label_code version (GoesTo all place) (GoesTo every place) name i words first (cons_is words first (body ++ following) (front ++ rest) e).0 h k
+body_once version all every place _ _ _ _ _ _ following rest (AreCode.instruction _ i words labels code body h more) (AreCode.label _ name first others instrs front k limits later) e a b =
+    no_label_code version (GoesTo every place) (GoesTo all place) name i first words (sym (cons_is words first (body ++ following) (front ++ rest) e).0) k h
+body_once version all every place _ _ _ _ _ _ following rest (AreCode.label _ name words labels code body h limits more) (AreCode.label _ other first others instrs front k bounds later) e a b =
+    let same = cons_is words first (body ++ following) (front ++ rest) e in
     let names : name ≡ other = alike (GoesTo all place) (GoesTo every place) (Label name) (Label other) words h (subst (λ (x : List Word). Spells version (GoesTo every place) (Label other) x) (sym same.0) k) in
-    let r = body_once version all every place labels code body others instrs front behind rest more later same.1 a b in
+    let r = body_once version all every place labels code body others instrs front following rest more later same.1 a b in
     record {
       labels_are = ap (λ (n : List ℕ). placed n place ∷ labels) names ∙ ap (λ (ls : List Placed). placed other place ∷ ls) r.labels_are;
       body_is = ap (λ (x : List Word). x ∷ body) same.0 ∙ ap (λ (x : List (List Word)). first ∷ x) r.body_is;
       rest_is = r.rest_is;
     }
-body_once version all every place _ _ _ _ _ _ behind rest (AreCode.instruction _ i words labels code body h more) (AreCode.instruction _ j first others instrs front k later) e a b =
-    let same = cons_is words first (body ++ behind) (front ++ rest) e in
-    let r = body_once version all every (place + 1) labels code body others instrs front behind rest more later same.1 a b in
+body_once version all every place _ _ _ _ _ _ following rest (AreCode.instruction _ i words labels code body h more) (AreCode.instruction _ j first others instrs front k later) e a b =
+    let same = cons_is words first (body ++ following) (front ++ rest) e in
+    let r = body_once version all every (place + 1) labels code body others instrs front following rest more later same.1 a b in
     record {
       labels_are = r.labels_are;
       body_is = ap (λ (x : List Word). x ∷ body) same.0 ∙ ap (λ (x : List (List Word)). first ∷ x) r.body_is;
@@ -138,16 +138,16 @@ plain_once version s t words other e h k =
     no_names : AreNames (GoesTo [] 0)
     no_names skip name goal = contains_none (placed name (0 + 1 + skip)) goal
 
-record SameProcedure (p q : Procedure) (behind rest : List (List Word)) : Type 0 where
+record SameProcedure (p q : Procedure) (following rest : List (List Word)) : Type 0 where
   procedure_is : p ≡ q
-  rest_is : behind ≡ rest
+  rest_is : following ≡ rest
 
-procedure_once : (version : Version) (p q : Procedure) (first front behind rest : List (List Word)) → SpellsProcedure version p first → SpellsProcedure version q front → first ++ behind ≡ front ++ rest → IsAnew version behind → IsAnew version rest → SameProcedure p q behind rest
-procedure_once version p q first front behind rest h k e a b =
-    let full : h.head ∷ h.registers ∷ (h.body ++ behind) ≡ k.head ∷ k.registers ∷ (k.body ++ rest) = ap (λ (x : List (List Word)). x ++ behind) (sym h.parts) ∙ (e ∙ ap (λ (x : List (List Word)). x ++ rest) k.parts) in
-    let heads = cons_is h.head k.head (h.registers ∷ (h.body ++ behind)) (k.registers ∷ (k.body ++ rest)) full in
-    let lists = cons_is h.registers k.registers (h.body ++ behind) (k.body ++ rest) heads.1 in
-    let body = body_once version h.labels k.labels 0 h.labels p.code h.body k.labels q.code k.body behind rest h.body_is k.body_is lists.1 a b in
+procedure_once : (version : Version) (p q : Procedure) (first front following rest : List (List Word)) → SpellsProcedure version p first → SpellsProcedure version q front → first ++ following ≡ front ++ rest → IsAnew version following → IsAnew version rest → SameProcedure p q following rest
+procedure_once version p q first front following rest h k e a b =
+    let full : h.head ∷ h.registers ∷ (h.body ++ following) ≡ k.head ∷ k.registers ∷ (k.body ++ rest) = ap (λ (x : List (List Word)). x ++ following) (sym h.parts) ∙ (e ∙ ap (λ (x : List (List Word)). x ++ rest) k.parts) in
+    let heads = cons_is h.head k.head (h.registers ∷ (h.body ++ following)) (k.registers ∷ (k.body ++ rest)) full in
+    let lists = cons_is h.registers k.registers (h.body ++ following) (k.body ++ rest) heads.1 in
+    let body = body_once version h.labels k.labels 0 h.labels p.code h.body k.labels q.code k.body following rest h.body_is k.body_is lists.1 a b in
     let head = head_same p.kind q.kind p.params q.params (plain_once version (Head p.kind p.params) (Head q.kind q.params) h.head k.head heads.0 h.head_is k.head_is) in
     let registers = registers_same p.registers q.registers (plain_once version (Registers p.registers) (Registers q.registers) h.registers k.registers lists.0 h.registers_are k.registers_are) in
     let mine = subst (λ (x : List (List Word)). AreCode version h.labels 0 h.labels p.code x) body.body_is h.body_is in
@@ -155,16 +155,16 @@ procedure_once version p q first front behind rest h k e a b =
     let code = code_once version h.labels 0 h.labels p.code k.body h.labels q.code (once_by_pairs (names_of h.labels) h.once) (labels_short version h.labels 0 h.labels p.code h.body h.body_is) mine other in
     record { procedure_is = procedure_same p q head.0 head.1 registers code; rest_is = body.rest_is }
 
-no_words : {Z : Type 0} (version : Version) (p : Procedure) (first behind : List (List Word)) → SpellsProcedure version p first → [] ≡ first ++ behind → Z
-no_words version p first behind h e = absurd (never_cons h.head (h.registers ∷ (h.body ++ behind)) (ap (λ (x : List (List Word)). x ++ behind) (sym h.parts) ∙ sym e))
+no_words : {Z : Type 0} (version : Version) (p : Procedure) (first following : List (List Word)) → SpellsProcedure version p first → [] ≡ first ++ following → Z
+no_words version p first following h e = absurd (never_cons h.head (h.registers ∷ (h.body ++ following)) (ap (λ (x : List (List Word)). x ++ following) (sym h.parts) ∙ sym e))
 
 procedures_once : (version : Version) (p q : List Procedure) (a b : List (List Word)) → SpellProcedures version p a → SpellProcedures version q b → a ≡ b → p ≡ q
 procedures_once version _ _ _ _ SpellProcedures.end SpellProcedures.end e = refl
 procedures_once version _ _ _ _ SpellProcedures.end (SpellProcedures.one_more q others front rest k later) e = no_words version q front rest k e
-procedures_once version _ _ _ _ (SpellProcedures.one_more p others first behind h more) SpellProcedures.end e = no_words version p first behind h (sym e)
-procedures_once version _ _ _ _ (SpellProcedures.one_more p ps first behind h more) (SpellProcedures.one_more q qs front rest k later) e =
-    let same = procedure_once version p q first front behind rest h k e (anew version ps behind more) (anew version qs rest later) in
-    ap (λ (x : Procedure). x ∷ ps) same.procedure_is ∙ ap (λ (xs : List Procedure). q ∷ xs) (procedures_once version ps qs behind rest more later same.rest_is)
+procedures_once version _ _ _ _ (SpellProcedures.one_more p others first following h more) SpellProcedures.end e = no_words version p first following h (sym e)
+procedures_once version _ _ _ _ (SpellProcedures.one_more p ps first following h more) (SpellProcedures.one_more q qs front rest k later) e =
+    let same = procedure_once version p q first front following rest h k e (anew version ps following more) (anew version qs rest later) in
+    ap (λ (x : Procedure). x ∷ ps) same.procedure_is ∙ ap (λ (xs : List Procedure). q ∷ xs) (procedures_once version ps qs following rest more later same.rest_is)
 
 -- ---- the version
 

@@ -1,6 +1,6 @@
 -- A text with a fault denotes no program.
 use Rattle.std.proofs.Common.{◌≡◌, ◌⊎◌, ℕ, zero, suc, ◌+◌, ◌<◌, List, [], ◌∷◌, ◌++◌, length, take, drop, Option, Some, None, inl, inr, refl, sym, subst, arith}
-use Rattle.tw_asm.proofs.AsmNames.{AfterHead, AfterVersion, AnyName, AnyShortName, Bare, Begins, Code, Contains, FaultNo, First, GoalFault, HasWords, Head, InBody, Instr, IsEmpty, IsExpected, IsFirstFault, IsLine, IsLineFault, IsOutset, IsUnfinished, IsWhole, Label, LineFault, LineSays, LinesSay, MayBegin, MayStand, NamesLabel, OfVersion, Registers, Say, ParserState, SpellsProgram, Stage, Start, Statement, Version, Versioned, Word, after_line, at_start, blank_no_word, first_word_once, labels_ahead, line_blank, lines, not_forward, situation, situation_from, slice_get, unknown}
+use Rattle.tw_asm.proofs.AsmNames.{AfterHead, AfterVersion, AnyName, AnyShortName, Bare, Begins, Code, Contains, FaultNo, First, GoalFault, HasWords, Head, InBody, Instr, IsEmpty, IsExpected, IsFirstFault, IsLine, IsLineFault, IsOutset, IsUnfinished, IsWhole, Label, LineFault, LineSays, LinesSay, MayBegin, MayFollow, NamesLabel, OfVersion, Registers, Say, ParserState, SpellsProgram, Stage, Start, Statement, Version, Versioned, Word, after_line, at_start, blank_no_word, first_word_once, labels_ahead, line_blank, lines, not_forward, situation, situation_from, slice_get, unknown}
 use Rattle.tw_code.proofs.Widening.{widened}
 use Rattle.tw_asm.specs.declared.statement.First.TheVariants as first
 use Rattle.tw_asm.specs.reading.Expected.{expectation}
@@ -27,7 +27,7 @@ begins_outset AfterHead outset = absurd outset
 begins_outset InBody outset = absurd outset
 
 -- a statement that is allowed has an allowed first word
-may_begin : (statement : Statement) (s : ParserState) → MayStand statement s → MayBegin s.stage (expectation statement)
+may_begin : (statement : Statement) (s : ParserState) → MayFollow statement s → MayBegin s.stage (expectation statement)
 may_begin (OfVersion version) s start = subst (λ (stage : Stage). MayBegin stage first.Version) (sym start) (inl refl)
 may_begin (Head kind params) s (inl outset, few) = begins_outset s.stage outset
 may_begin (Head kind params) s (inr whole, few) = subst (λ (stage : Stage). MayBegin stage first.Head) (sym whole.0) (inl refl)
@@ -56,7 +56,7 @@ version_head e = absurd cc
 body_head : {Z : Type 0} → ◌≡◌ {A = First} first.Head first.Body → Z
 body_head e = absurd cc
 
-head_may : (statement : Statement) (s : ParserState) → first.Head ≡ expectation statement → MayStand statement s → (IsOutset s.stage ⊎ IsWhole s) × (s.procedures < 64)
+head_may : (statement : Statement) (s : ParserState) → first.Head ≡ expectation statement → MayFollow statement s → (IsOutset s.stage ⊎ IsWhole s) × (s.procedures < 64)
 head_may (OfVersion version) s e may = version_head e
 head_may (Head kind params) s e may = may
 head_may (Registers registers) s e may = registers_head e
@@ -67,11 +67,11 @@ not_empty : (s : ParserState) → IsOutset s.stage ⊎ IsWhole s → IsEmpty s �
 not_empty s (inl outset) e = not_outset s e.0 outset
 not_empty s (inr whole) e = whole_not_empty s whole e.1
 
-label_may : (statement : Statement) (name : List ℕ) (s : ParserState) → AreAlike statement (Label name) → MayStand statement s → Contains s.labels name → ⊥
+label_may : (statement : Statement) (name : List ℕ) (s : ParserState) → AreAlike statement (Label name) → MayFollow statement s → Contains s.labels name → ⊥
 label_may (Label other) name s a may c = may.1 (subst (Contains s.labels) (sym a) c)
 label_may statement name s a may c = absurd a
 
-code_may : (statement : Statement) (i : Instr) (s : ParserState) → AreAlike statement (Code i) → MayStand statement s → s.instructions < 4096
+code_may : (statement : Statement) (i : Instr) (s : ParserState) → AreAlike statement (Code i) → MayFollow statement s → s.instructions < 4096
 code_may (Code j) i s a may = may.1
 code_may statement i s a may = absurd a
 
@@ -87,7 +87,7 @@ blank_no_fault number s line _ _ blank (LineFault.limit expected b has e unsaid)
 blank_no_fault number s line _ _ blank (LineFault.procedures b has e many) = nothing_begins s line first.Head blank b
 blank_no_fault number s line _ _ blank (LineFault.instructions i words body is say many) = nothing_says s.version (Code i) words line blank is say
 
-said_no_fault : (number : ℕ) (s : ParserState) (line : List ℕ) (statement : Statement) (ws : List Word) (which : FaultNo) (at : ℕ) → IsLine ws line → Say s.version statement ws → MayStand statement s → LineFault number s line which at → ⊥
+said_no_fault : (number : ℕ) (s : ParserState) (line : List ℕ) (statement : Statement) (ws : List Word) (which : FaultNo) (at : ℕ) → IsLine ws line → Say s.version statement ws → MayFollow statement s → LineFault number s line which at → ⊥
 said_no_fault number s line statement ws _ _ l h may (LineFault.word some none) = none (expectation statement) (line_begins AnyShortName statement ws s line l h.0 (may_begin statement s may))
 said_no_fault number s line statement ws _ _ l h may (LineFault.operand expected b formless) = formless (has_words s.version statement ws line l h)
 said_no_fault number s line statement ws _ _ l h may (LineFault.label_twice name words body is say c) = label_may statement name s (says_alike s.version statement (Label name) ws words line l h is say) may c

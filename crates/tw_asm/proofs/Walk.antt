@@ -1,7 +1,7 @@
 -- The lines of a text that denotes a program are allowed, one after another, and each goal is a later label.
 use Rattle.std.proofs.Common.{◌≡◌, ◌≢◌, ◌⊎◌, ℕ, zero, suc, ◌+◌, ◌<◌, ◌≤◌, List, [], ◌∷◌, ◌++◌, length, map, Option, Some, None, inl, inr, refl, sym, subst, ap, ◌∙◌, arith}
 use Rattle.std.proofs.lemmas.List.Elements.{All-contains, All-from_recursion, Contains-push_cases}
-use Rattle.tw_asm.proofs.AsmNames.{AllByRecursion, AllPairs, AnyShortName, AreCode, Code, Contains, Goals, GoesTo, HaveWords, Head, InBody, Instr, IsInstr, IsLine, IsOutset, IsProcedure, IsShortName, IsWhole, Label, LineSays, MayStand, NamesLabel, OfVersion, One, Placed, Procedure, Registers, Say, ParserState, SpellProcedures, Spells, SpellsProcedure, SpellsVersion, Statement, Version, Word, after, after_line, at_start, labels_ahead, line_once, slice_index_or, version_number}
+use Rattle.tw_asm.proofs.AsmNames.{AllByRecursion, AllPairs, AnyShortName, AreCode, Code, Contains, Goals, GoesTo, HaveWords, Head, InBody, Instr, IsInstr, IsLine, IsOutset, IsProcedure, IsShortName, IsWhole, Label, LineSays, MayFollow, NamesLabel, OfVersion, One, Placed, Procedure, Registers, Say, ParserState, SpellProcedures, Spells, SpellsProcedure, SpellsVersion, Statement, Version, Word, after, after_line, at_start, labels_ahead, line_once, slice_index_or, version_number}
 use Rattle.tw_asm.proofs.Alike.{AreAlike, alike}
 use Rattle.tw_asm.proofs.NamedLabels.{named_goal}
 use Rattle.tw_asm.proofs.Twice.{none_spelled}
@@ -76,7 +76,7 @@ WordsSay s [] [] = IsWhole s
 WordsSay s [] (statement ∷ others) = ⊥
 WordsSay s (words ∷ more) [] = ⊥
 WordsSay s (words ∷ more) (statement ∷ others) =
-    Say s.version statement words × MayStand statement s × NamesAhead s (ahead_of others) words × ((number : ℕ) → WordsSay (after number statement s) more others)
+    Say s.version statement words × MayFollow statement s × NamesAhead s (ahead_of others) words × ((number : ℕ) → WordsSay (after number statement s) more others)
 
 no_code : (G : Goals) (statement : Statement) (words : List Word) (s : ParserState) (ahead : List (List ℕ)) → Spells s.version G statement words → ((i : Instr) → AreAlike statement (Code i) → ⊥) → NamesAhead s ahead words
 no_code G statement words s ahead h apart name n = absurd (apart n.i (alike G (λ skip word. word ≡ name) statement (Code n.i) words h n.spells))
@@ -176,25 +176,25 @@ say_here version s statement words e h = subst (λ (v : Version). Say v statemen
 spells_here : (version : Version) (s : ParserState) (G : Goals) (statement : Statement) (words : List Word) → s.version ≡ version → Spells version G statement words → Spells s.version G statement words
 spells_here version s G statement words e h = subst (λ (v : Version). Spells v G statement words) (sym e) h
 
-code_says : (version : Version) (all : List Placed) (place : ℕ) (labels : List Placed) (code : List Instr) (body : List (List Word)) (c : AreCode version all place labels code body) (s : ParserState) (behind : List (List Word)) (rest : List Statement)
+code_says : (version : Version) (all : List Placed) (place : ℕ) (labels : List Placed) (code : List Instr) (body : List (List Word)) (c : AreCode version all place labels code body) (s : ParserState) (following : List (List Word)) (rest : List Statement)
     → Within version all place labels (length code) s → AllByRecursion IsInstr code → ahead_of rest ≡ []
-    → ((t : ParserState) → t.version ≡ version → t.stage ≡ InBody → t.instructions ≡ place + length code → t.procedures ≡ s.procedures → WordsSay t behind rest)
-    → WordsSay s (body ++ behind) (said_in version all place labels code body c ++ rest)
-code_says version all _ _ _ _ (AreCode.end place) s behind rest w fits none then =
+    → ((t : ParserState) → t.version ≡ version → t.stage ≡ InBody → t.instructions ≡ place + length code → t.procedures ≡ s.procedures → WordsSay t following rest)
+    → WordsSay s (body ++ following) (said_in version all place labels code body c ++ rest)
+code_says version all _ _ _ _ (AreCode.end place) s following rest w fits none then =
     let e : place ≡ place + 0 = omega arith in
     then s w.version_is w.stage (w.here ∙ e) refl
-code_says version all _ _ _ _ (AreCode.label place name words labels code others h limits more) s behind rest w fits none then = (
+code_says version all _ _ _ _ (AreCode.label place name words labels code others h limits more) s following rest w fits none then = (
   say_here version s (Label name) words w.version_is (says_short version all place (Label name) words w.short h, limits),
   (w.stage, λ c. w.apart name c (contains_first name (names_of labels))),
   no_code (GoesTo all place) (Label name) words s (ahead_of (said_in version all place labels code others more ++ rest)) (spells_here version s (GoesTo all place) (Label name) words w.version_is h) (λ i a. a),
-  λ number. code_says version all place labels code others more (after number (Label name) s) behind rest (within_label version all place name labels (length code) number s w) fits none then,
+  λ number. code_says version all place labels code others more (after number (Label name) s) following rest (within_label version all place name labels (length code) number s w) fits none then,
 )
-code_says version all _ _ _ _ (AreCode.instruction place i words labels code others h more) s behind rest w fits none then = (
+code_says version all _ _ _ _ (AreCode.instruction place i words labels code others h more) s following rest w fits none then = (
   say_here version s (Code i) words w.version_is (says_short version all place (Code i) words w.short h, fits.0),
   (w.stage, omega (arith, w.here, w.room)),
   goal_ahead version all place labels (suc (length code)) i words s (ahead_of (said_in version all (place + 1) labels code others more ++ rest)) w h (ahead_in version all (place + 1) labels code others more rest none),
   λ number.
-      code_says version all (place + 1) labels code others more (after number (Code i) s) behind rest (within_code version all place labels (length code) number i s w) fits.1 none
+      code_says version all (place + 1) labels code others more (after number (Code i) s) following rest (within_code version all place labels (length code) number i s w) fits.1 none
       (λ t version_is stage count procedures. then t version_is stage (omega (arith, count)) procedures),
 )
 
@@ -219,11 +219,11 @@ within_start version p words h s number other is fits = record {
   once = once_by_pairs (names_of h.labels) h.once;
 }
 
-procedure_says : (version : Version) (p : Procedure) (words : List (List Word)) (h : SpellsProcedure version p words) (s : ParserState) (behind : List (List Word)) (rest : List Statement) → s.version ≡ version → IsProcedure p → IsOutset s.stage ⊎ IsWhole s
-    → s.procedures < 64 → ahead_of rest ≡ [] → ((t : ParserState) → t.version ≡ version → IsWhole t → t.procedures ≡ s.procedures + 1 → WordsSay t behind rest) → WordsSay s (words ++ behind) (procedure_said version p words h ++ rest)
-procedure_says version p words h s behind rest is fits may few none then =
+procedure_says : (version : Version) (p : Procedure) (words : List (List Word)) (h : SpellsProcedure version p words) (s : ParserState) (following : List (List Word)) (rest : List Statement) → s.version ≡ version → IsProcedure p → IsOutset s.stage ⊎ IsWhole s
+    → s.procedures < 64 → ahead_of rest ≡ [] → ((t : ParserState) → t.version ≡ version → IsWhole t → t.procedures ≡ s.procedures + 1 → WordsSay t following rest) → WordsSay s (words ++ following) (procedure_said version p words h ++ rest)
+procedure_says version p words h s following rest is fits may few none then =
     let body = said_in version h.labels 0 h.labels p.code h.body h.body_is in
-    subst (λ (x : List (List Word)). WordsSay s (x ++ behind) (procedure_said version p words h ++ rest)) (sym h.parts) (
+    subst (λ (x : List (List Word)). WordsSay s (x ++ following) (procedure_said version p words h ++ rest)) (sym h.parts) (
       say_here version s (Head p.kind p.params) h.head is (says_plain version (Head p.kind p.params) h.head h.head_is, fits.params),
       (may, few),
       no_code (GoesTo [] 0) (Head p.kind p.params) h.head s (ahead_of (Registers p.registers ∷ body ++ rest)) (spells_here version s (GoesTo [] 0) (Head p.kind p.params) h.head is h.head_is) (λ i a. a),
@@ -232,7 +232,7 @@ procedure_says version p words h s behind rest is fits may few none then =
         refl,
         no_code (GoesTo [] 0) (Registers p.registers) h.registers (after number (Head p.kind p.params) s) (ahead_of (body ++ rest)) (spells_here version s (GoesTo [] 0) (Registers p.registers) h.registers is h.registers_are) (λ i a. a),
         λ other.
-            code_says version h.labels 0 h.labels p.code h.body h.body_is (after other (Registers p.registers) (after number (Head p.kind p.params) s)) behind rest (within_start version p words h s number other is fits) fits.code.1 none
+            code_says version h.labels 0 h.labels p.code h.body h.body_is (after other (Registers p.registers) (after number (Head p.kind p.params) s)) following rest (within_start version p words h s number other is fits) fits.code.1 none
             (λ t version_is stage count procedures. then t version_is (stage, omega (arith, count, fits.code.0.0)) procedures),
       ),
     )
@@ -241,19 +241,19 @@ procedure_says version p words h s behind rest is fits may few none then =
 
 abbrev pub procedures_said : (version : Version) (procedures : List Procedure) (words : List (List Word)) → SpellProcedures version procedures words → List Statement
 procedures_said version _ _ SpellProcedures.end = []
-procedures_said version _ _ (SpellProcedures.one_more p others first behind h more) = procedure_said version p first h ++ procedures_said version others behind more
+procedures_said version _ _ (SpellProcedures.one_more p others first following h more) = procedure_said version p first h ++ procedures_said version others following more
 
 none_ahead : (version : Version) (procedures : List Procedure) (words : List (List Word)) (h : SpellProcedures version procedures words) → ahead_of (procedures_said version procedures words h) ≡ []
 none_ahead version _ _ SpellProcedures.end = refl
-none_ahead version _ _ (SpellProcedures.one_more p others first behind h more) = refl
+none_ahead version _ _ (SpellProcedures.one_more p others first following h more) = refl
 
 pub procedures_say : (version : Version) (procedures : List Procedure) (words : List (List Word)) (h : SpellProcedures version procedures words) (s : ParserState) → s.version ≡ version → AllByRecursion IsProcedure procedures
     → s.procedures + length procedures ≤ 64 → IsWhole s ⊎ (IsOutset s.stage × (1 ≤ length procedures)) → WordsSay s words (procedures_said version procedures words h)
 procedures_say version _ _ SpellProcedures.end s is fits few (inl whole) = whole
 procedures_say version _ _ SpellProcedures.end s is fits few (inr outset) = absurd (omega (arith, outset.1))
-procedures_say version _ _ (SpellProcedures.one_more p others first behind h more) s is fits few may =
-    procedure_says version p first h s behind (procedures_said version others behind more) is fits.0 (may_begin may) (omega (arith, few)) (none_ahead version others behind more)
-    (λ t version_is whole procedures. procedures_say version others behind more t version_is fits.1 (omega (arith, procedures, few)) (inl whole))
+procedures_say version _ _ (SpellProcedures.one_more p others first following h more) s is fits few may =
+    procedure_says version p first h s following (procedures_said version others following more) is fits.0 (may_begin may) (omega (arith, few)) (none_ahead version others following more)
+    (λ t version_is whole procedures. procedures_say version others following more t version_is fits.1 (omega (arith, procedures, few)) (inl whole))
   where
     may_begin : IsWhole s ⊎ (IsOutset s.stage × (1 ≤ suc (length others))) → IsOutset s.stage ⊎ IsWhole s
     may_begin (inl whole) = inr whole
@@ -312,11 +312,11 @@ lines_hold number s _ _ (statement ∷ others) HaveWords.end w = absurd w
 lines_hold number s _ _ statements (HaveWords.blank line ls words none more) w =
     let r = lines_hold (number + 1) s ls words statements more w in
     record { said = None ∷ r.said; hold = (none, blank_names s (labels_ahead r.said) line none, r.hold); ahead = r.ahead }
-lines_hold number s _ _ [] (HaveWords.one_more line ls word behind words is more) w = absurd w
-lines_hold number s _ _ (statement ∷ others) (HaveWords.one_more line ls word behind words is more) w =
+lines_hold number s _ _ [] (HaveWords.one_more line ls word following words is more) w = absurd w
+lines_hold number s _ _ (statement ∷ others) (HaveWords.one_more line ls word following words is more) w =
     let r = lines_hold (number + 1) (after number statement s) ls words others more (w.3 number) in
     record {
       said = Some statement ∷ r.said;
-      hold = (((word ∷ behind, is, w.0), w.1), line_names s (labels_ahead r.said) (ahead_of others) line (word ∷ behind) is r.ahead w.2, r.hold);
+      hold = (((word ∷ following, is, w.0), w.1), line_names s (labels_ahead r.said) (ahead_of others) line (word ∷ following) is r.ahead w.2, r.hold);
       ahead = ahead_more statement r.said others r.ahead;
     }

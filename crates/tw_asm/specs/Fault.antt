@@ -69,19 +69,19 @@ IsOutset InBody = ⊥
 abbrev pub IsWhole : ParserState → Type 0
 IsWhole s = (s.stage ≡ InBody) × (0 < s.instructions)
 
-abbrev pub MayStand : Statement → ParserState → Type 0
-MayStand (OfVersion version) s = s.stage ≡ Start
-MayStand (Head kind params) s = (IsOutset s.stage ⊎ IsWhole s) × (s.procedures < 64)
-MayStand (Registers registers) s = s.stage ≡ AfterHead
-MayStand (Label name) s = (s.stage ≡ InBody) × (Contains s.labels name → ⊥)
-MayStand (Code i) s = (s.stage ≡ InBody) × (s.instructions < 4096)
+abbrev pub MayFollow : Statement → ParserState → Type 0
+MayFollow (OfVersion version) s = s.stage ≡ Start
+MayFollow (Head kind params) s = (IsOutset s.stage ⊎ IsWhole s) × (s.procedures < 64)
+MayFollow (Registers registers) s = s.stage ≡ AfterHead
+MayFollow (Label name) s = (s.stage ≡ InBody) × (Contains s.labels name → ⊥)
+MayFollow (Code i) s = (s.stage ≡ InBody) × (s.instructions < 4096)
 
 -- ---- lines that are allowed
 
 -- holds if the line has this statement, which is allowed in the state, or has no words
 abbrev pub LineSays : ParserState → List ℕ → Option Statement → Type 0
 LineSays s line None = IsLine [] line
-LineSays s line (Some statement) = ((words : List Word) × IsLine words line × Say s.version statement words) × MayStand statement s
+LineSays s line (Some statement) = ((words : List Word) × IsLine words line × Say s.version statement words) × MayFollow statement s
 
 abbrev pub after_line : ℕ → Option Statement → ParserState → ParserState
 after_line number None s = s

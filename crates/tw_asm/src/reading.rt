@@ -2,7 +2,7 @@
 
 ghost use Rattle.std.specs.Prelude.{◌≡◌, ◌↔◌, IsTrue, MatchOption, MatchResult, None, map};
 ghost use Rattle.tw_asm.specs.Fault.{MayBegin};
-ghost use Rattle.tw_asm.specs.reading.Progress.{AreClosed, AreFinished, AreNotRead, BehindVersion, HasSections, IsEmptyAt, IsNotClosed, IsNotFinished, LinesAreRead, TakenLine, TakenStatement, WordsRead, IsLimitLine, seen_reading, seen_section, seen_stage, stage_of};
+ghost use Rattle.tw_asm.specs.reading.Progress.{AreClosed, AreFinished, AreNotRead, VersionRead, HasSections, IsEmptyAt, IsNotClosed, IsNotFinished, LinesAreRead, TakenLine, TakenStatement, WordsRead, IsLimitLine, seen_reading, seen_section, seen_stage, stage_of};
 ghost use Rattle.tw_asm.specs.reading.Expected.{IsExpectedBy, expectation};
 ghost use Rattle.tw_lexer.specs.Seen.{seen as seen_word};
 ghost use Rattle.tw_asm.specs.Seen.{seen as seen_statement};
@@ -169,7 +169,7 @@ fn close<'a>(
 
 /// Takes the version, which comes before all other statements.
 fn take_version<'a>(reading: Reading<'a>, version: Version) -> Reading<'a>
-    ensures { seen_reading result ≡ record (seen_reading reading.entry) { version = version; place = BehindVersion } }
+    ensures { seen_reading result ≡ record (seen_reading reading.entry) { version = version; place = VersionRead } }
 {
     Reading {
         version,

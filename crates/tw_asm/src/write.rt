@@ -10,7 +10,7 @@ ghost use Rattle.tw_asm.specs.Written.{goal_word, line_of, part_words};
 ghost use Rattle.tw_types.specs.DataType.{is_container_by};
 ghost use Rattle.tw_types.specs.declared.data_type.Scalar.TheVariants.{Int, Text};
 ghost use Rattle.tw_code.specs.format.Table.{word_of};
-ghost use Rattle.tw_asm.specs.words.Lines.{behind, operand_words, row_line};
+ghost use Rattle.tw_asm.specs.words.Lines.{spaced_all, operand_words, row_line};
 ghost use Rattle.tw_code.specs.format.Program.{IsInstr};
 ghost use Rattle.tw_code.specs.format.Sink.{seen};
 ghost use Rattle.tw_lexer.specs.Quoted.{quoted};
@@ -70,14 +70,14 @@ fn put_number(alloc: Global, out: &mut Vec<u8>, number: i64) -> Result<(), Alloc
 // ---- a part, with a space before each of its words
 
 fn put_name(out: &mut Vec<u8>, name: &str) -> Result<(), AllocError>
-    ensures { OnOk result (out.new.items ≡ out.old.items ++ behind (name.now ∷ [])) }
+    ensures { OnOk result (out.new.items ≡ out.old.items ++ spaced_all (name.now ∷ [])) }
 {
     put_both(out, " ", name)
 }
 
-#[tactic(auto, using(crate::proofs::Lines::more_behind))]
+#[tactic(auto, using(crate::proofs::Lines::spaced_more))]
 fn put_type(out: &mut Vec<u8>, ty: DataType) -> Result<(), AllocError>
-    ensures { OnOk result (out.new.items ≡ out.old.items ++ behind (part_words (goal_word None) (type_part ty))) }
+    ensures { OnOk result (out.new.items ≡ out.old.items ++ spaced_all (part_words (goal_word None) (type_part ty))) }
 {
     match ty.element() {
         Some(element) => {
@@ -89,21 +89,21 @@ fn put_type(out: &mut Vec<u8>, ty: DataType) -> Result<(), AllocError>
 }
 
 fn put_scalar(out: &mut Vec<u8>, scalar: Scalar) -> Result<(), AllocError>
-    ensures { OnOk result (out.new.items ≡ out.old.items ++ behind (scalar_word scalar ∷ [])) }
+    ensures { OnOk result (out.new.items ≡ out.old.items ++ spaced_all (scalar_word scalar ∷ [])) }
 {
     put_name(out, scalar_word(scalar))
 }
 
-#[tactic(auto, using(crate::proofs::Lines::param_behind))]
+#[tactic(auto, using(crate::proofs::Lines::spaced_param))]
 pub fn put_param(out: &mut Vec<u8>, param: Param) -> Result<(), AllocError>
-    ensures { OnOk result (out.new.items ≡ out.old.items ++ behind (flat_map (part_words (goal_word None)) (param_parts param))) }
+    ensures { OnOk result (out.new.items ≡ out.old.items ++ spaced_all (flat_map (part_words (goal_word None)) (param_parts param))) }
 {
     put_name(out, mode_word(param.mode))?;
     put_type(out, param.ty)
 }
 
 fn put_target(alloc: Global, out: &mut Vec<u8>, target: Option<u8>) -> Result<(), AllocError>
-    ensures { OnOk result (out.new.items ≡ out.old.items ++ behind (part_words (goal_word None) (target_part target))) }
+    ensures { OnOk result (out.new.items ≡ out.old.items ++ spaced_all (part_words (goal_word None) (target_part target))) }
 {
     match target {
         Some(number) => put_numbered(alloc, out, " ", usize::from(number)),
@@ -117,7 +117,7 @@ fn put_goal(
     label: Option<usize>,
     skip: u16,
 ) -> Result<(), AllocError>
-    ensures { OnOk result (out.new.items ≡ out.old.items ++ behind (goal_word label skip ∷ [])) }
+    ensures { OnOk result (out.new.items ≡ out.old.items ++ spaced_all (goal_word label skip ∷ [])) }
 {
     match label {
         Some(label) => put_numbered(alloc, out, " L", label),
@@ -126,20 +126,20 @@ fn put_goal(
 }
 
 fn put_literal(out: &mut Vec<u8>, text: &str) -> Result<(), AllocError>
-    ensures { OnOk result (out.new.items ≡ out.old.items ++ behind (quoted text.now ∷ [])) }
+    ensures { OnOk result (out.new.items ≡ out.old.items ++ spaced_all (quoted text.now ∷ [])) }
 {
     put(out, " ")?;
     put_quoted(out, text)
 }
 
 fn put_argument(alloc: Global, out: &mut Vec<u8>, register: u8) -> Result<(), AllocError>
-    ensures { OnOk result (out.new.items ≡ out.old.items ++ behind (decimal register ∷ [])) }
+    ensures { OnOk result (out.new.items ≡ out.old.items ++ spaced_all (decimal register ∷ [])) }
 {
     put_numbered(alloc, out, " ", usize::from(register))
 }
 
 fn put_args(alloc: Global, out: &mut Vec<u8>, args: &[u8]) -> Result<(), AllocError>
-    ensures { OnOk result (out.new.items ≡ out.old.items ++ behind (flat_map (λ arg. decimal arg ∷ []) args.now)) }
+    ensures { OnOk result (out.new.items ≡ out.old.items ++ spaced_all (flat_map (λ arg. decimal arg ∷ []) args.now)) }
 {
     for arg in args {
         put_argument(alloc, out, *arg)?;
@@ -154,7 +154,7 @@ fn put_operand(
     label: Option<usize>,
     operand: &Operand<'_>,
 ) -> Result<(), AllocError>
-    ensures { OnOk result (out.new.items ≡ out.old.items ++ behind (operand_words (goal_word label) (seen operand.now))) }
+    ensures { OnOk result (out.new.items ≡ out.old.items ++ spaced_all (operand_words (goal_word label) (seen operand.now))) }
 {
     match operand {
         Operand::Value(register) => put_numbered(alloc, out, " v", usize::from(*register)),

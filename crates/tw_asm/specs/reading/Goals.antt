@@ -24,23 +24,23 @@ abbrev pub section_goals : Section → List Goal
 section_goals section = goals_in section.labels 0 section.drafts
 
 -- holds if a label with this name is at this place
-abbrev pub StandsAt : List Placed → List ℕ → ℕ → Type 0
-StandsAt labels name place = Contains labels (record { name = name; place = place })
+abbrev pub IsLabelAt : List Placed → List ℕ → ℕ → Type 0
+IsLabelAt labels name place = Contains labels (record { name = name; place = place })
 
 -- holds if a name is no goal, with this fault
 abbrev pub IsNoGoal : List Placed → ℕ → List ℕ → FaultNo → Type 0
 IsNoGoal labels place name which =
     ((which ≡ fault.UnknownLabel) × (Contains (map (λ label. label.name) labels) name → ⊥))
-    ⊎ ((which ≡ fault.LabelNotForward) × ((at : ℕ) × StandsAt labels name at × (at ≤ place)))
+    ⊎ ((which ≡ fault.LabelNotForward) × ((at : ℕ) × IsLabelAt labels name at × (at ≤ place)))
 
 abbrev pub IsSkipTo : List Placed → ℕ → List ℕ → Result ℕ FaultNo → Type 0
-IsSkipTo labels place name (Ok skip) = StandsAt labels name (place + 1 + skip) × (skip ≤ 4096)
+IsSkipTo labels place name (Ok skip) = IsLabelAt labels name (place + 1 + skip) × (skip ≤ 4096)
 IsSkipTo labels place name (Err which) = IsNoGoal labels place name which
 
 -- holds if this is the instruction with its skip
 abbrev pub IsLinkedTo : List Placed → ℕ → Option (List ℕ) → Instr → Instr → Type 0
 IsLinkedTo labels place None draft i = i ≡ draft
-IsLinkedTo labels place (Some name) draft i = (skip : ℕ) × StandsAt labels name (place + 1 + skip) × (skip ≤ 4096) × (i ≡ with_skip skip draft)
+IsLinkedTo labels place (Some name) draft i = (skip : ℕ) × IsLabelAt labels name (place + 1 + skip) × (skip ≤ 4096) × (i ≡ with_skip skip draft)
 
 abbrev pub IsLinked : Goal → Instr → Type 0
 IsLinked goal i = IsLinkedTo goal.labels goal.place goal.draft.goal goal.draft.instr i

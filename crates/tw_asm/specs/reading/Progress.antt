@@ -22,7 +22,7 @@ use Rattle.tw_asm.specs.declared.reading.Reading as readings
 use Rattle.tw_asm.specs.declared.reading.Section as sections
 use Rattle.tw_asm.specs.declared.reading.Stage as stages
 use Rattle.tw_asm.specs.declared.reading.Stage.TheVariants as stage
-use Rattle.tw_asm.specs.Fault.{Stage, Start, AfterVersion, AfterHead, InBody, ParserState, MayBegin, MayStand, LineFault, IsEndFault, IsLineFault, IsUnfinished, IsWhole}
+use Rattle.tw_asm.specs.Fault.{Stage, Start, AfterVersion, AfterHead, InBody, ParserState, MayBegin, MayFollow, LineFault, IsEndFault, IsLineFault, IsUnfinished, IsWhole}
 use Rattle.tw_asm.specs.Spelling.{Placed}
 use Rattle.tw_asm.specs.reading.Expected.{expectation}
 
@@ -41,8 +41,8 @@ pub record Section : Type 0 where
 
 pub data Place : Type 0 where
   AtStart : Place
-  BehindVersion : Place
-  BehindHead : Kind → List Param → Place
+  VersionRead : Place
+  HeadRead : Kind → List Param → Place
   Within : Section → Place
 
 pub record Progress : Type 0 where
@@ -64,8 +64,8 @@ seen_section section = record { kind = section.kind; params = section.params; re
 
 abbrev pub seen_stage : stages.Stage → Place
 seen_stage stage.Start = AtStart
-seen_stage stage.AfterVersion = BehindVersion
-seen_stage (stage.AfterHead kind params) = BehindHead kind params
+seen_stage stage.AfterVersion = VersionRead
+seen_stage (stage.AfterHead kind params) = HeadRead kind params
 seen_stage (stage.InBody section) = Within (seen_section section)
 
 abbrev pub seen_reading : readings.Reading → Progress
@@ -79,26 +79,26 @@ section_numbers section = map (λ draft. draft.number) section.drafts
 
 abbrev pub stage_of : Place → Stage
 stage_of AtStart = Start
-stage_of BehindVersion = AfterVersion
-stage_of (BehindHead kind params) = AfterHead
+stage_of VersionRead = AfterVersion
+stage_of (HeadRead kind params) = AfterHead
 stage_of (Within section) = InBody
 
 abbrev pub begun : Place → ℕ
 begun AtStart = 0
-begun BehindVersion = 0
-begun (BehindHead kind params) = 1
+begun VersionRead = 0
+begun (HeadRead kind params) = 1
 begun (Within section) = 1
 
 abbrev pub labels_at : Place → List Placed
 labels_at AtStart = []
-labels_at BehindVersion = []
-labels_at (BehindHead kind params) = []
+labels_at VersionRead = []
+labels_at (HeadRead kind params) = []
 labels_at (Within section) = section.labels
 
 abbrev pub drafts_at : Place → List Drafted
 drafts_at AtStart = []
-drafts_at BehindVersion = []
-drafts_at (BehindHead kind params) = []
+drafts_at VersionRead = []
+drafts_at (HeadRead kind params) = []
 drafts_at (Within section) = section.drafts
 
 abbrev pub situation_of : Progress → ParserState
@@ -109,14 +109,14 @@ situation_of p = record { version = p.version; stage = stage_of p.place; procedu
 -- returns the sections that are complete when another one begins
 abbrev pub ended : List Section → Place → List Section
 ended sections AtStart = sections
-ended sections BehindVersion = sections
-ended sections (BehindHead kind params) = sections
+ended sections VersionRead = sections
+ended sections (HeadRead kind params) = sections
 ended sections (Within section) = sections ++ (section ∷ [])
 
 abbrev pub with_types : List Scalar → Place → Place
 with_types registers AtStart = AtStart
-with_types registers BehindVersion = BehindVersion
-with_types registers (BehindHead kind params) = Within (record { kind = kind; params = params; registers = registers; labels = []; drafts = [] })
+with_types registers VersionRead = VersionRead
+with_types registers (HeadRead kind params) = Within (record { kind = kind; params = params; registers = registers; labels = []; drafts = [] })
 with_types registers (Within section) = Within section
 
 abbrev pub labelled : List ℕ → Section → Section
@@ -127,14 +127,14 @@ drafted draft section = record section { drafts = section.drafts ++ (draft ∷ [
 
 abbrev pub in_section : (Section → Section) → Place → Place
 in_section f AtStart = AtStart
-in_section f BehindVersion = BehindVersion
-in_section f (BehindHead kind params) = BehindHead kind params
+in_section f VersionRead = VersionRead
+in_section f (HeadRead kind params) = HeadRead kind params
 in_section f (Within section) = Within (f section)
 
 -- returns the progress after a statement in the line with this number, which names this goal
 abbrev pub step : ℕ → Statement → Option (List ℕ) → Progress → Progress
-step number (OfVersion version) goal p = record p { version = version_by version; place = BehindVersion }
-step number (Head kind params) goal p = record { version = p.version; sections = ended p.sections p.place; head_line = number; place = BehindHead kind params }
+step number (OfVersion version) goal p = record p { version = version_by version; place = VersionRead }
+step number (Head kind params) goal p = record { version = p.version; sections = ended p.sections p.place; head_line = number; place = HeadRead kind params }
 step number (Registers registers) goal p = record p { place = with_types registers p.place }
 step number (Label name) goal p = record p { place = in_section (labelled name) p.place }
 step number (Code i) goal p = record p { place = in_section (drafted (record { instr = i; goal = goal; number = number })) p.place }
@@ -162,7 +162,7 @@ IsGoalOf (Code i) goal = Unit {0}
 
 abbrev pub LineRead : ParserState → List ℕ → Option Read → Type 0
 LineRead s line None = IsLine [] line
-LineRead s line (Some read) = ((words : List Word) × IsLine words line × IsRead s.version read words) × MayStand read.statement s × IsGoalOf read.statement read.goal
+LineRead s line (Some read) = ((words : List Word) × IsLine words line × IsRead s.version read words) × MayFollow read.statement s × IsGoalOf read.statement read.goal
 
 -- holds if the lines, the first with this number, are read as this
 abbrev pub LinesRead : ℕ → Progress → List (List ℕ) → List (Option Read) → Type 0
@@ -181,8 +181,8 @@ IsLimit f at = (f.no ≡ fault.Limit) × (f.line ≡ at)
 
 abbrev pub IsEmptyAt : Place → Type 0
 IsEmptyAt AtStart = ⊥
-IsEmptyAt BehindVersion = ⊥
-IsEmptyAt (BehindHead kind params) = ⊥
+IsEmptyAt VersionRead = ⊥
+IsEmptyAt (HeadRead kind params) = ⊥
 IsEmptyAt (Within section) = length section.drafts ≡ 0
 
 -- holds if a limit is reported at this line: that of the head of an empty procedure, which another head would end, or else the line itself
@@ -199,7 +199,7 @@ abbrev pub Stopped : Progress → ℕ → Read → AsmFault → Type 0
 Stopped p number read f = IsMemory f ⊎ ((line : List ℕ) (words : List Word) → IsLine words line → IsRead p.version read words → LineFault number (situation_of p) line f.no f.line)
 
 abbrev pub TakenStatement : Progress → ℕ → Read → Result readings.Reading AsmFault → Type 0
-TakenStatement p number read (Ok reading) = MayStand read.statement (situation_of p) × (seen_reading reading ≡ step number read.statement read.goal p)
+TakenStatement p number read (Ok reading) = MayFollow read.statement (situation_of p) × (seen_reading reading ≡ step number read.statement read.goal p)
 TakenStatement p number read (Err f) = Stopped p number read f
 
 abbrev pub TakenLine : Progress → ℕ → List ℕ → Result readings.Reading AsmFault → Type 0

@@ -10,8 +10,8 @@ abbrev pub spaced : List ℕ → List ℕ
 spaced word = 32 ∷ word
 
 -- returns the words with a space before each
-abbrev pub behind : List (List ℕ) → List ℕ
-behind words = flat_map spaced words
+abbrev pub spaced_all : List (List ℕ) → List ℕ
+spaced_all words = flat_map spaced words
 
 abbrev pub line_of_parts : (ℕ → List ℕ) → List Part → List ℕ
 line_of_parts skip_word parts = join_with_byte 32 (flat_map (part_words skip_word) parts) ++ codes "\n"

@@ -2,7 +2,7 @@ use Rattle.std.proofs.Common.{map}
 use Rattle.tw_asm.proofs.AsmNames.{err_from_is_err_and, seen_section}
 use Rattle.tw_asm.proofs.Origins.{origins}
 use Rattle.tw_asm.proofs.SpelledSections.{is_program, labels_fit, spells_program}
-use Rattle.tw_asm.proofs.Told.{not_linked, not_read}
+use Rattle.tw_asm.proofs.FaultTheorems.{not_linked, not_read}
 use Rattle.tw_asm.proofs.assembler.assemble_lined.Goals as goal
 
 pub returns-in_err-unlinked : goal.returns-in_err-unlinked

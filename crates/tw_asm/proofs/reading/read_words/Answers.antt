@@ -5,7 +5,7 @@ use Rattle.tw_asm.specs.declared.rejection.Rejection.{Rejection}
 use Rattle.tw_asm.specs.declared.rejection.Rejection.TheVariants as rejection
 use Rattle.tw_asm.specs.Seen.{IsRead, seen}
 use Rattle.tw_asm.specs.LineAnswers.{Answers}
-use Rattle.tw_asm.proofs.Taking.{a_first, any_word_fault, broken_fault, broken_operand, form_fault, limit_fault, may_stand_there, no_first}
+use Rattle.tw_asm.proofs.Taking.{a_first, any_word_fault, broken_fault, broken_operand, form_fault, limit_fault, may_follow, no_first}
 use Rattle.tw_asm.proofs.reading.read_words.Goals as goal
 use Rattle.tw_asm.proofs.reading.read_words.Goals.{then-read, else-read}
 
@@ -42,7 +42,7 @@ returns-in-Ok c =
     let words = ap (map seen_word) first.1 in
     let read = subst (IsRead c.args.reading.now.version (seen c.in-Ok.statement)) (ap (map seen_word) c.deref-2.ensures.value) c.in-Ok.ensures in (
       (map seen_word c.in_ok-read.read.words.items, rw c.if-not-read.false at all, read),
-      may_stand_there c.args.reading.now.version (stage_of (seen_stage c.args.reading.now.stage)) (seen c.in-Ok.statement) (seen_word c.in-Some.word.now) (map seen_word first.0) c.in-Some-expected_of.expected
+      may_follow c.args.reading.now.version (stage_of (seen_stage c.args.reading.now.stage)) (seen c.in-Ok.statement) (seen_word c.in-Some.word.now) (map seen_word first.0) c.in-Some-expected_of.expected
           (subst (IsRead c.args.reading.now.version (seen c.in-Ok.statement)) words read) c.in-Some-expected_of.ensures.0 c.in-Some-expected_of.ensures.1,
     )
 

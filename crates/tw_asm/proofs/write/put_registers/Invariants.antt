@@ -1,6 +1,6 @@
 use Rattle.std.proofs.Common.{◌≡◌, ◌++◌, ◌∷◌, [], codes, take}
-use Rattle.tw_asm.proofs.AsmNames.{behind, flat_map, scalar_word}
+use Rattle.tw_asm.proofs.AsmNames.{spaced_all, flat_map, scalar_word}
 use Rattle.tw_asm.proofs.write.put_registers.Given as goal
 
 abbrev pub invariant-loop-scalar : goal.invariant-loop-scalar
-invariant-loop-scalar l = l.out.items ≡ ((l.fn.out.items ++ codes "regs") ++ behind []) ++ behind (flat_map (λ scalar. scalar_word scalar ∷ []) (take l.scalar-index l.registers))
+invariant-loop-scalar l = l.out.items ≡ ((l.fn.out.items ++ codes "regs") ++ spaced_all []) ++ spaced_all (flat_map (λ scalar. scalar_word scalar ∷ []) (take l.scalar-index l.registers))

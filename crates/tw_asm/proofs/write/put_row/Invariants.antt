@@ -1,8 +1,8 @@
 use Rattle.std.proofs.Common.{◌≡◌, ◌++◌, [], take}
-use Rattle.tw_asm.proofs.AsmNames.{behind, flat_map, goal_word, operand_words, word_of}
+use Rattle.tw_asm.proofs.AsmNames.{spaced_all, flat_map, goal_word, operand_words, word_of}
 use Rattle.tw_code.specs.format.Sink.{seen}
 use Rattle.tw_asm.proofs.write.put_row.Given as goal
 
 abbrev pub invariant-loop-operand : goal.invariant-loop-operand
 invariant-loop-operand l =
-    l.out.items ≡ ((l.fn.out.items ++ word_of l.fn.opcode) ++ behind []) ++ behind (flat_map (λ operand. operand_words (goal_word l.label) (seen operand)) (take l.operand-index l.operands))
+    l.out.items ≡ ((l.fn.out.items ++ word_of l.fn.opcode) ++ spaced_all []) ++ spaced_all (flat_map (λ operand. operand_words (goal_word l.label) (seen operand)) (take l.operand-index l.operands))

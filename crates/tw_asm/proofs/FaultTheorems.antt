@@ -28,30 +28,30 @@ no_memory text at (inl l) = line_no _ _ _ fault.NoMemory at l.wrong refl
 no_memory text at (inr (inl e)) = limit_no e.number
 no_memory text at (inr (inr g)) = goal_no _ _ _ fault.NoMemory g.0.wrong refl
 
-told_no : (text : List ℕ) (which : FaultNo) (at : ℕ) → ((which ≡ fault.NoMemory) × (at ≡ 0)) ⊎ IsFirstFault text which at → IsFault text which at
-told_no text fault.Word at (inl m) = absurd cc
-told_no text fault.Operand at (inl m) = absurd cc
-told_no text fault.UnknownLabel at (inl m) = absurd cc
-told_no text fault.LabelTwice at (inl m) = absurd cc
-told_no text fault.LabelNotForward at (inl m) = absurd cc
-told_no text fault.Limit at (inl m) = absurd cc
-told_no text fault.NoMemory at (inl m) = m.1
-told_no text fault.Word at (inr f) = record { first = f; none = λ program s. fault_none text fault.Word at program f s }
-told_no text fault.Operand at (inr f) = record { first = f; none = λ program s. fault_none text fault.Operand at program f s }
-told_no text fault.UnknownLabel at (inr f) = record { first = f; none = λ program s. fault_none text fault.UnknownLabel at program f s }
-told_no text fault.LabelTwice at (inr f) = record { first = f; none = λ program s. fault_none text fault.LabelTwice at program f s }
-told_no text fault.LabelNotForward at (inr f) = record { first = f; none = λ program s. fault_none text fault.LabelNotForward at program f s }
-told_no text fault.Limit at (inr f) = record { first = f; none = λ program s. fault_none text fault.Limit at program f s }
-told_no text fault.NoMemory at (inr f) = absurd (no_memory text at f)
+as_fault_no : (text : List ℕ) (which : FaultNo) (at : ℕ) → ((which ≡ fault.NoMemory) × (at ≡ 0)) ⊎ IsFirstFault text which at → IsFault text which at
+as_fault_no text fault.Word at (inl m) = absurd cc
+as_fault_no text fault.Operand at (inl m) = absurd cc
+as_fault_no text fault.UnknownLabel at (inl m) = absurd cc
+as_fault_no text fault.LabelTwice at (inl m) = absurd cc
+as_fault_no text fault.LabelNotForward at (inl m) = absurd cc
+as_fault_no text fault.Limit at (inl m) = absurd cc
+as_fault_no text fault.NoMemory at (inl m) = m.1
+as_fault_no text fault.Word at (inr f) = record { first = f; none = λ program s. fault_none text fault.Word at program f s }
+as_fault_no text fault.Operand at (inr f) = record { first = f; none = λ program s. fault_none text fault.Operand at program f s }
+as_fault_no text fault.UnknownLabel at (inr f) = record { first = f; none = λ program s. fault_none text fault.UnknownLabel at program f s }
+as_fault_no text fault.LabelTwice at (inr f) = record { first = f; none = λ program s. fault_none text fault.LabelTwice at program f s }
+as_fault_no text fault.LabelNotForward at (inr f) = record { first = f; none = λ program s. fault_none text fault.LabelNotForward at program f s }
+as_fault_no text fault.Limit at (inr f) = record { first = f; none = λ program s. fault_none text fault.Limit at program f s }
+as_fault_no text fault.NoMemory at (inr f) = absurd (no_memory text at f)
 
-pub told_fault : (text : List ℕ) (f : AsmFault) → IsMemory f ⊎ IsFirstFault text f.no f.line → IsFault text f.no f.line
-told_fault text f x = told_no text f.no f.line x
+pub as_fault : (text : List ℕ) (f : AsmFault) → IsMemory f ⊎ IsFirstFault text f.no f.line → IsFault text f.no f.line
+as_fault text f x = as_fault_no text f.no f.line x
 
 pub not_read : (text : List ℕ) (f : AsmFault) → AreNotRead text f → IsFault text f.no f.line
-not_read text f (inl m) = told_fault text f (inl m)
-not_read text f (inr (inl l)) = told_fault text f (inr (inl l))
-not_read text f (inr (inr e)) = told_fault text f (inr (inr (inl e)))
+not_read text f (inl m) = as_fault text f (inl m)
+not_read text f (inr (inl l)) = as_fault text f (inr (inl l))
+not_read text f (inr (inr e)) = as_fault text f (inr (inr (inl e)))
 
 pub not_linked : (text : List ℕ) (version : Version) (all : List Section) (f : AsmFault) → HasSections text version all → IsMemory f ⊎ FirstUnlinked (flat_map section_goals all) f → IsFault text f.no f.line
-not_linked text version all f h (inl m) = told_fault text f (inl m)
-not_linked text version all f h (inr u) = told_fault text f (inr (inr (inr (first_goal_fault text version all f h u))))
+not_linked text version all f h (inl m) = as_fault text f (inl m)
+not_linked text version all f h (inr u) = as_fault text f (inr (inr (inr (first_goal_fault text version all f h u))))
