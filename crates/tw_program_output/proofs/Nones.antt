@@ -1,6 +1,6 @@
 -- Details after the line with the reason why there is no program.
 use Rattle.std.proofs.Common.{◌≡◌, ◌≢◌, ◌++◌, ℕ, List, [], IsUtf8, inr, refl, sym}
-use Rattle.tw_program_output.proofs.ReplyNames.{Assembly, Hex, AreFaultDetails, AreParseErrorDetails, NoProgram, Refused, RepliesBySource, SpellsNone, Spoken as Reply, StandsFor, Versioned, append-nil, name_details, no_program_line, reply}
+use Rattle.tw_program_output.proofs.ReplyNames.{Assembly, Hex, AreFaultDetails, AreParseErrorDetails, NoProgram, Refused, RepliesBySource, SpellsNone, Spoken as Reply, ExpandsTo, Versioned, append-nil, name_details, no_program_line, reply}
 use Rattle.tw_asm.specs.declared.fault.AsmFault.{AsmFault}
 use Rattle.tw_cli.specs.declared.command.Source.{Source}
 use Rattle.tw_symbols.specs.declared.rejection.NameError.{NameError}
@@ -10,7 +10,7 @@ abbrev pub Adds : List ℕ → NoProgram → List ℕ → List ℕ → Type 0
 Adds input why old new = (source : Source) → SpellsNone source input why → (more : List ℕ) × AreParseErrorDetails input why more × (new ≡ old ++ more)
 
 pub reason_added : (input old new : List ℕ) (f : AsmFault)
-    → (IsUtf8 input → (plain : List ℕ) → StandsFor input plain → (more : List ℕ) × AreFaultDetails input f.no f.line more × (new ≡ old ++ more)) → Adds input (Text f) old new
+    → (IsUtf8 input → (plain : List ℕ) → ExpandsTo input plain → (more : List ℕ) × AreFaultDetails input f.no f.line more × (new ≡ old ++ more)) → Adds input (Text f) old new
 reason_added input old new f told Hex none = absurd none
 reason_added input old new f told Assembly none = told none.0 none.1.0 none.1.1
 

@@ -15,7 +15,7 @@ pub use Rattle.tw_program_output.specs.declared.program.NoProgram.{NoProgram}
 pub use Rattle.tw_program_output.specs.declared.reply.Reply.{Reply}
 pub use Rattle.tw_asm.specs.Fault.{LineSays, LinesSay, ParserState, after_line, at_start, situation, situation_from}
 pub use Rattle.tw_asm.specs.Origins.{AreOrigins, ComesFrom, at_place, instr_at}
-pub use Rattle.tw_symbols.specs.Expansion.{HasNames, IsFirstRejection, StandsFor}
+pub use Rattle.tw_symbols.specs.Expansion.{HasNames, IsFirstRejection, ExpandsTo}
 pub use Rattle.tw_program_output.specs.Listed.{counts_of, typings_in}
 pub use Rattle.tw_program_output.specs.Listing.{IsListing, IsRefusedListing, listing_from, no_typings, procedure_listing, right_column, rights_below, said_line, said_lines}
 pub use Rattle.tw_program_output.specs.Names.{AreFaultDetails, RepliesByPlain, name_details, name_line, written_text}

@@ -1,6 +1,6 @@
 -- The line of a text that is printed.
 use Rattle.std.proofs.Common.{◌≡◌, ℕ, zero, suc, ◌+◌, ◌-◌, ◌<◌, List, [], ◌∷◌, length, Option, Some, None, MatchOption, refl, subst, ap, ◌∙◌, arith}
-use Rattle.tw_program_output.proofs.ReplyNames.{AreOrigins, ComesFrom, ArePlaceDetails, AreTextDetails, LinesSay, Procedure, ParserState, StandsFor, after_line, at_place, at_start, instr_at, length-append, lines}
+use Rattle.tw_program_output.proofs.ReplyNames.{AreOrigins, ComesFrom, ArePlaceDetails, AreTextDetails, LinesSay, Procedure, ParserState, ExpandsTo, after_line, at_place, at_start, instr_at, length-append, lines}
 use Rattle.std.specs.List.{slice_get}
 use Rattle.tw_asm.specs.Statement.{Statement, Code, Head}
 use Rattle.tw_diagnostics.proofs.Heads.{front_no_procedure}
@@ -22,10 +22,10 @@ none_past (x ∷ xs) zero e = absurd cc
 none_past (x ∷ xs) (suc k) e = let h = none_past xs k e in omega (arith, h)
 
 -- the line is there
-pub line_there : (text plain : List ℕ) (procedure place number : ℕ) → StandsFor text plain → ComesFrom plain procedure place number → slice_get (lines text) (number - 1) ≡ None → ⊥
-line_there text plain procedure place number stands c none =
+pub line_there : (text plain : List ℕ) (procedure place number : ℕ) → ExpandsTo text plain → ComesFrom plain procedure place number → slice_get (lines text) (number - 1) ≡ None → ⊥
+line_there text plain procedure place number expands c none =
     let past = none_past (lines text) (number - 1) none in
-    let all = said_length 1 at_start (lines plain) c.said c.say ∙ as_many text plain stands in
+    let all = said_length 1 at_start (lines plain) c.said c.say ∙ as_many text plain expands in
     let long = ap length c.parts ∙ length-append c.before (Some (Code c.i) ∷ c.after) in
     absurd (omega (arith, past, all, long, c.number_is))
 
@@ -48,10 +48,10 @@ pub none_there : (program : List Procedure) (procedure place : ℕ) → program 
 none_there program procedure place none there = there (ap (λ (ps : List Procedure). instr_at ps procedure place) none)
 
 -- the line of the first head is there
-pub head_there : (text plain : List ℕ) (number : ℕ) → StandsFor text plain → IsFirstHead plain number → slice_get (lines text) (number - 1) ≡ None → ⊥
-head_there text plain number stands h none =
+pub head_there : (text plain : List ℕ) (number : ℕ) → ExpandsTo text plain → IsFirstHead plain number → slice_get (lines text) (number - 1) ≡ None → ⊥
+head_there text plain number expands h none =
     let past = none_past (lines text) (number - 1) none in
-    let all = said_length 1 at_start (lines plain) h.said h.say ∙ as_many text plain stands in
+    let all = said_length 1 at_start (lines plain) h.said h.say ∙ as_many text plain expands in
     let long = ap length h.parts ∙ length-append h.before (Some (Head h.kind h.params) ∷ h.after) in
     absurd (omega (arith, past, all, long, h.number_is))
 

@@ -9,7 +9,7 @@ use Rattle.tw_code.specs.machine.Rights.{RightType, Typing, right_at}
 use Rattle.std.specs.Str.Lines.{lines}
 use Rattle.tw_asm.specs.Fault.{LinesSay, ParserState, after_line, at_start}
 use Rattle.tw_asm.specs.Statement.{Statement}
-use Rattle.tw_symbols.specs.Expansion.{StandsFor}
+use Rattle.tw_symbols.specs.Expansion.{ExpandsTo}
 use Rattle.tw_symbols.specs.RightNames.{AreRightNames, named_text, unnamed}
 use Rattle.tw_diagnostics.specs.LineRole.{says_of}
 use Rattle.tw_diagnostics.specs.declared.parser_state.LineRole.{LineRole}
@@ -106,7 +106,7 @@ said_lines names typings number s (line ∷ ls) (x ∷ said) = said_line (names 
 abbrev pub IsListed : Option (List ℕ) → List Procedure → Typings → List ℕ → Type 0
 IsListed None program typings listing = listing ≡ listing_from typings 0 program
 IsListed (Some text) program typings listing =
-    (plain : List ℕ) × (said : List (Option Statement)) × (names : ℕ → ℕ → List ℕ) × StandsFor text plain × LinesSay 1 at_start (lines plain) said × AreRightNames text names
+    (plain : List ℕ) × (said : List (Option Statement)) × (names : ℕ → ℕ → List ℕ) × ExpandsTo text plain × LinesSay 1 at_start (lines plain) said × AreRightNames text names
     × (listing ≡ said_lines names typings 1 at_start (lines text) said)
 
 -- holds for the listing with what the registers of an accepted program hold

@@ -4,7 +4,7 @@ use Rattle.std.specs.Str.{bytes_eq}
 use Rattle.std.specs.Str.Lines.{lines}
 use Rattle.tw_asm.specs.declared.fault.FaultNo.{FaultNo}
 use Rattle.tw_symbols.specs.Answers.{name_number}
-use Rattle.tw_symbols.specs.Expansion.{HasNames, IsFirstRejection, Rejection, StandsFor}
+use Rattle.tw_symbols.specs.Expansion.{HasNames, IsFirstRejection, Rejection, ExpandsTo}
 use Rattle.tw_symbols.specs.declared.meaning.Expected.{Expected}
 use Rattle.tw_symbols.specs.declared.meaning.Expected.TheVariants as asked
 use Rattle.tw_symbols.specs.declared.meaning.Bank.TheVariants as bank
@@ -85,12 +85,12 @@ IsWrittenBefore text plain line before =
 -- holds for that, and for why the expanded line is rejected
 abbrev pub AreFaultDetails : List ℕ → FaultNo → ℕ → List ℕ → Type 0
 AreFaultDetails text which line more =
-    (plain : List ℕ) × (before : List ℕ) × (reason : List ℕ) × StandsFor text plain × IsWrittenBefore text plain line before × IsTextReason plain which line reason × (more ≡ before ++ reason)
+    (plain : List ℕ) × (before : List ℕ) × (reason : List ℕ) × ExpandsTo text plain × IsWrittenBefore text plain line before × IsTextReason plain which line reason × (more ≡ before ++ reason)
 
 -- ---- the expanded text itself
 
 -- holds if it is printed, or the first name error
 abbrev pub RepliesByPlain : List ℕ → Reply → Type 0
 RepliesByPlain text r =
-    RepliesByUtf8 text (((plain : List ℕ) × StandsFor text plain × (r ≡ reply plain Success))
+    RepliesByUtf8 text (((plain : List ℕ) × ExpandsTo text plain × (r ≡ reply plain Success))
     ⊎ ((rejection : Rejection) × IsFirstRejection text rejection × (r ≡ reply (name_line rejection.no rejection.line ++ name_details text rejection.no rejection.line rejection.word) Refused))) r

@@ -14,8 +14,8 @@ use Rattle.tw_cli.specs.declared.command.Assembling.TheVariants as assembling
 use Rattle.tw_cli.specs.declared.command.Source.{Source}
 use Rattle.tw_cli.specs.declared.command.Source.TheVariants.{Hex, Assembly}
 use Rattle.tw_asm.specs.declared.fault.FaultNo.{FaultNo}
-use Rattle.tw_symbols.specs.Answers.{told}
-use Rattle.tw_symbols.specs.Expansion.{IsFirstRejection, StandsFor}
+use Rattle.tw_symbols.specs.Answers.{seen_rejection}
+use Rattle.tw_symbols.specs.Expansion.{IsFirstRejection, ExpandsTo}
 use Rattle.tw_program_output.specs.Lines.{asm_line, fault_line}
 use Rattle.tw_program_output.specs.Input.{digits_in}
 use Rattle.tw_program_output.specs.Names.{AreFaultDetails, RepliesByPlain, name_details, name_line}
@@ -27,10 +27,10 @@ use Rattle.tw_program_output.specs.declared.close.Close.TheVariants.{Refused, Su
 
 -- holds if the expanded text encodes the program
 abbrev pub SpellsText : List ℕ → Versioned → Type 0
-SpellsText text program = (plain : List ℕ) × StandsFor text plain × SpellsProgram program plain
+SpellsText text program = (plain : List ℕ) × ExpandsTo text plain × SpellsProgram program plain
 
 abbrev pub TextHasFault : List ℕ → FaultNo → ℕ → Type 0
-TextHasFault text which line = (plain : List ℕ) × StandsFor text plain × HasFault plain which line
+TextHasFault text which line = (plain : List ℕ) × ExpandsTo text plain × HasFault plain which line
 
 -- holds if the input encodes the program
 abbrev pub Spells : Source → List ℕ → Versioned → Type 0
@@ -49,7 +49,7 @@ SpellsNone Assembly input NotHex = ⊥
 SpellsNone Assembly input (Bytes f) = ⊥
 SpellsNone Assembly input NotUtf8 = IsUtf8 input → ⊥
 SpellsNone Assembly input (Text f) = IsUtf8 input × TextHasFault input f.no f.line
-SpellsNone Assembly input (Named f) = IsUtf8 input × IsFirstRejection input (told f)
+SpellsNone Assembly input (Named f) = IsUtf8 input × IsFirstRejection input (seen_rejection f)
 SpellsNone Assembly input NoMemory = ⊥
 
 abbrev pub no_program_line : NoProgram → List ℕ

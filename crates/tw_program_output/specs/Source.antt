@@ -1,7 +1,7 @@
 -- The model of what the code keeps of a text next to its program.
 use Rattle.std.specs.Prelude.{◌≡◌, ℕ, List, Option, Some, None, IfSome, String, string_bytes}
 use Rattle.std.specs.declared.alloc.Global.{Global}
-use Rattle.tw_symbols.specs.Expansion.{StandsFor}
+use Rattle.tw_symbols.specs.Expansion.{ExpandsTo}
 use Rattle.tw_code.specs.declared.procedure.Procedure.{Procedure}
 use Rattle.tw_code.specs.declared.version.Version.{Version}
 use Rattle.tw_code.specs.format.Program.{IsProgram}
@@ -30,7 +30,7 @@ IsSpelled text program = (version : Version) × SpellsProgram (record { version 
 -- holds if the text and the lines are those of the program
 abbrev pub IsSource : SourceText → List Procedure → Type 0
 IsSource source program =
-    IsProgram program × AreOrigins (plain_of source) program source.lines.procedures × IsSpelled (plain_of source) program × StandsFor source.text.now (plain_of source)
+    IsProgram program × AreOrigins (plain_of source) program source.lines.procedures × IsSpelled (plain_of source) program × ExpandsTo source.text.now (plain_of source)
 
 abbrev pub MayBeSource : Option SourceText → List Procedure → Type 0
 MayBeSource source program = IfSome source (λ s. IsSource s program)
@@ -38,7 +38,7 @@ MayBeSource source program = IfSome source (λ s. IsSource s program)
 -- holds if they are, and the program has an instruction at the place
 abbrev pub IsSourceAt : SourceText → List Procedure → ℕ → ℕ → Type 0
 IsSourceAt source program procedure place =
-    AreOrigins (plain_of source) program source.lines.procedures × (instr_at program procedure place ≡ None → ⊥) × StandsFor source.text.now (plain_of source)
+    AreOrigins (plain_of source) program source.lines.procedures × (instr_at program procedure place ≡ None → ⊥) × ExpandsTo source.text.now (plain_of source)
 
 abbrev pub MayBeSourceAt : Option SourceText → List Procedure → ℕ → ℕ → Type 0
 MayBeSourceAt source program procedure place = IfSome source (λ s. IsSourceAt s program procedure place)

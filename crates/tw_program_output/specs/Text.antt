@@ -6,7 +6,7 @@ use Rattle.tw_asm.specs.Origins.{AreOrigins, ComesFrom}
 use Rattle.tw_code.specs.declared.procedure.Procedure.{Procedure}
 use Rattle.tw_symbols.specs.Registers.{IsWithName}
 use Rattle.tw_symbols.specs.Symbols.{AreNames, name_at}
-use Rattle.tw_symbols.specs.Expansion.{StandsFor}
+use Rattle.tw_symbols.specs.Expansion.{ExpandsTo}
 use Rattle.tw_diagnostics.specs.Reasons.{TellsReason, shape_line}
 use Rattle.tw_diagnostics.specs.LineRole.{IsFirstHead}
 use Rattle.tw_lexer.specs.Shown.{shortened}
@@ -49,14 +49,14 @@ IsLineOf text number trimmed = IsLineAt (lines text) number trimmed
 abbrev pub ArePlaceDetails : List ℕ → VerifyError → List Procedure → ℕ → ℕ → List ℕ → Type 0
 ArePlaceDetails text which program procedure place more =
     (plain : List ℕ) × (number : ℕ) × (line : List ℕ) × (numbers : List (List ℕ)) × (reason : List ℕ) × (told : List ℕ) × (names : List (List ℕ))
-    × StandsFor text plain × ComesFrom plain procedure place number × IsLineOf text number line
+    × ExpandsTo text plain × ComesFrom plain procedure place number × IsLineOf text number line
     × AreOrigins plain program numbers × TellsReason which numbers program procedure place reason × IsWithName text number reason told × AreNames text names
     × (more ≡ line_in_text (name_at names procedure) number line ++ told)
 
 -- holds for the line that begins main, and what is wrong with its shape
 abbrev pub AreMainDetails : List ℕ → List Procedure → List ℕ → Type 0
 AreMainDetails text program more =
-    (plain : List ℕ) × (number : ℕ) × (line : List ℕ) × (main : Procedure) × StandsFor text plain × IsFirstHead plain number × IsLineOf text number line
+    (plain : List ℕ) × (number : ℕ) × (line : List ℕ) × (main : Procedure) × ExpandsTo text plain × IsFirstHead plain number × IsLineOf text number line
     × (slice_get program 0 ≡ Some main) × (more ≡ text_line number line ++ shape_line main.kind main.params)
 
 abbrev pub AreTextDetails : List ℕ → VerifyError → List Procedure → ℕ → ℕ → List ℕ → Type 0

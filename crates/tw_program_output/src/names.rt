@@ -3,8 +3,8 @@
 ghost use Rattle.std.specs.Prelude.{◌≡◌, ◌++◌, ◌-◌, ℕ, List, IfOk, OnOk, codes, decimal, option_map, slice_get};
 ghost use Rattle.std.specs.Str.Lines.{lines};
 ghost use Rattle.tw_diagnostics.specs.Diagnostics.{IsTextReason};
-ghost use Rattle.tw_symbols.specs.Answers.{told};
-ghost use Rattle.tw_symbols.specs.Expansion.{IsFirstRejection, StandsFor};
+ghost use Rattle.tw_symbols.specs.Answers.{seen_rejection};
+ghost use Rattle.tw_symbols.specs.Expansion.{IsFirstRejection, ExpandsTo};
 ghost use Rattle.tw_program_output.specs.Names.{AreFaultDetails, RepliesByPlain, expected_words, fixed_diagnostic, is_same_line, kind_diagnostic, line_text, name_details, name_line, name_diagnostic, binding_words, written_text};
 ghost use Rattle.tw_lexer.specs.Shown.{shortened};
 ghost use Rattle.tw_program_output.specs.Reply.{reply};
@@ -167,7 +167,7 @@ pub fn put_fault_details(
     text: &str,
     fault: AsmFault,
 ) -> Result<(), AllocError>
-    ensures { OnOk result ((plain : List ℕ) → StandsFor text.now plain → (more : List ℕ) × AreFaultDetails text.now fault.no fault.line more × (out.new.items ≡ out.old.items ++ more)) }
+    ensures { OnOk result ((plain : List ℕ) → ExpandsTo text.now plain → (more : List ℕ) × AreFaultDetails text.now fault.no fault.line more × (out.new.items ≡ out.old.items ++ more)) }
 {
     match expanded_text(alloc, text) {
         Ok(None) => put_text_diagnostic(alloc, out, text, fault),
@@ -181,7 +181,7 @@ pub fn put_fault_details(
 
 /// Returns the reply to rejected symbolic assembly.
 fn named_reply(alloc: Global, text: &str, rejection: NameError<'_>) -> Result<Reply, AllocError>
-    ensures { IfOk result (λ r. IsFirstRejection text.now (told rejection.entry) → RepliesByPlain text.now (reply r.text.items r.close)) }
+    ensures { IfOk result (λ r. IsFirstRejection text.now (seen_rejection rejection.entry) → RepliesByPlain text.now (reply r.text.items r.close)) }
 {
     let mut out = Vec::new(alloc);
     put_name_line(alloc, &mut out, rejection)?;

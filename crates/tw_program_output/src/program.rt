@@ -7,7 +7,7 @@ ghost use Rattle.tw_asm.specs.declared.fault.AsmFault.{AsmFault as TextFault};
 ghost use Rattle.tw_cli.specs.declared.command.Source.TheVariants.{Assembly, Hex};
 ghost use Rattle.tw_cli.specs.declared.command.Source.{Source as ReadAs};
 ghost use Rattle.tw_asm.specs.Origins.{AreOrigins};
-ghost use Rattle.tw_symbols.specs.Expansion.{StandsFor};
+ghost use Rattle.tw_symbols.specs.Expansion.{ExpandsTo};
 ghost use Rattle.tw_symbols.specs.declared.rejection.NameNo.TheVariants as no;
 ghost use Rattle.tw_program_output.specs.Names.{AreFaultDetails, name_details};
 ghost use Rattle.tw_program_output.specs.Program.{AreParseErrorDetails, Spells, SpellsNone, SpellsText, no_program_line, source_text};
@@ -103,7 +103,7 @@ fn lined_program<'a>(alloc: Global, plain: &str) -> Result<LinedProgram, NoProgr
 
 /// Returns the program of a text that is its own expanded text.
 fn program_of_itself<'a>(alloc: Global, text: &'a str) -> Result<ReadProgram<'a>, NoProgram<'a>>
-    requires { StandsFor text.now text.now }
+    requires { ExpandsTo text.now text.now }
     ensures spells { IfOk result (λ read. SpellsText text.entry.now read.program) }
     ensures source { IfOk result (λ read. MayBeSource read.source read.program.procedures) }
     ensures text { IfOk result (λ read. text_of read.source ≡ Some text.entry.now) }
@@ -128,7 +128,7 @@ fn program_of_plain<'a>(
     text: &'a str,
     plain: String,
 ) -> Result<ReadProgram<'a>, NoProgram<'a>>
-    requires { StandsFor text.now (string_bytes plain) }
+    requires { ExpandsTo text.now (string_bytes plain) }
     ensures spells { IfOk result (λ read. SpellsText text.entry.now read.program) }
     ensures source { IfOk result (λ read. MayBeSource read.source read.program.procedures) }
     ensures text { IfOk result (λ read. text_of read.source ≡ Some text.entry.now) }
@@ -226,7 +226,7 @@ fn put_fault_diagnostic(
     input: &[u8],
     fault: AsmFault,
 ) -> Result<(), AllocError>
-    ensures { OnOk result (IsUtf8 input.now → (plain : List ℕ) → StandsFor input.now plain → (more : List ℕ) × AreFaultDetails input.now fault.no fault.line more × (out.new.items ≡ out.old.items ++ more)) }
+    ensures { OnOk result (IsUtf8 input.now → (plain : List ℕ) → ExpandsTo input.now plain → (more : List ℕ) × AreFaultDetails input.now fault.no fault.line more × (out.new.items ≡ out.old.items ++ more)) }
 {
     match str::from_utf8(input) {
         Ok(text) => put_fault_details(alloc, out, text, fault),

@@ -6,7 +6,7 @@ ghost use Rattle.tw_asm.specs.Origins.{AreOrigins, ComesFrom, instr_at};
 ghost use Rattle.tw_code.specs.declared.procedure.Procedure.{Procedure as Section};
 ghost use Rattle.tw_program_output.specs.Source.{IsSourceAt, MayBeSourceAt, plain_of, text_of};
 ghost use Rattle.tw_symbols.specs.Registers.{IsWithName};
-ghost use Rattle.tw_symbols.specs.Expansion.{StandsFor};
+ghost use Rattle.tw_symbols.specs.Expansion.{ExpandsTo};
 ghost use Rattle.tw_symbols.specs.Symbols.{AreSymbols};
 ghost use Rattle.tw_diagnostics.specs.Reasons.{TellsReason, shape_line};
 ghost use Rattle.tw_diagnostics.specs.LineRole.{IsFirstHead};
@@ -67,7 +67,7 @@ fn source_line<'b>(
     procedure: usize,
     place: usize,
 ) -> Option<(usize, &'b str)>
-    ensures { (program : List Section) → AreOrigins (plain_of source.now) program source.now.lines.procedures → StandsFor source.now.text.now (plain_of source.now)
+    ensures { (program : List Section) → AreOrigins (plain_of source.now) program source.now.lines.procedures → ExpandsTo source.now.text.now (plain_of source.now)
         → MatchOption result
         (instr_at program procedure place ≡ None)
         (λ found. ComesFrom (plain_of source.now) procedure place found.0 × IsLineOf source.now.text.now found.0 found.1.now) }
@@ -84,7 +84,7 @@ pub fn line_in<'b>(
     procedure: usize,
     place: usize,
 ) -> Option<(usize, &'b str)>
-    ensures { (program : List Section) → map (λ line. line.now) table.now.lines.items ≡ lines source.now.text.now → AreOrigins (plain_of source.now) program source.now.lines.procedures → StandsFor source.now.text.now (plain_of source.now)
+    ensures { (program : List Section) → map (λ line. line.now) table.now.lines.items ≡ lines source.now.text.now → AreOrigins (plain_of source.now) program source.now.lines.procedures → ExpandsTo source.now.text.now (plain_of source.now)
         → MatchOption result
         (instr_at program procedure place ≡ None)
         (λ found. ComesFrom (plain_of source.now) procedure place found.0 × IsLineOf source.now.text.now found.0 found.1.now) }
@@ -179,7 +179,7 @@ fn put_head_details(
     main: &Procedure,
 ) -> Result<(), AllocError>
     requires { length main.now.params < 99 }
-    ensures { OnOk result ((procedure place number : ℕ) → ComesFrom (plain_of source.now) procedure place number → StandsFor source.now.text.now (plain_of source.now)
+    ensures { OnOk result ((procedure place number : ℕ) → ComesFrom (plain_of source.now) procedure place number → ExpandsTo source.now.text.now (plain_of source.now)
         → (first : ℕ) × (line : List ℕ) × IsFirstHead (plain_of source.now) first × IsLineOf source.now.text.now first line
         × (out.new.items ≡ out.old.items ++ (text_line first line ++ shape_line main.now.kind main.now.params))) }
 {

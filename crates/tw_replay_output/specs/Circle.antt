@@ -19,7 +19,7 @@ use Rattle.tw_code.specs.machine.Due.{instr_here}
 use Rattle.tw_code.specs.machine.Opening.{reached}
 use Rattle.tw_code.specs.machine.Pending.{circle}
 use Rattle.tw_code.specs.machine.State.{Frame, State}
-use Rattle.tw_symbols.specs.Expansion.{StandsFor}
+use Rattle.tw_symbols.specs.Expansion.{ExpandsTo}
 use Rattle.tw_symbols.specs.Symbols.{AreNames, bracketed, name_at}
 use Rattle.tw_program_output.specs.Text.{IsLineOf, text_line}
 
@@ -69,7 +69,7 @@ rule_line rule procedure name number line = rule_text rule procedure name ++ tex
 abbrev pub TellsRule : List (List ℕ) → List ℕ → Start → List Event → ℕ → List ℕ → Type 0
 TellsRule names text start events rule more =
     ((plain : List ℕ) × (procedure place number : ℕ) × (action : Action) × (line : List ℕ) × IsMade start events rule procedure place action
-    × StandsFor text plain × ComesFrom plain procedure place number × IsLineOf text number line × (more ≡ rule_line rule action.procedure (name_at names action.procedure) number line))
+    × ExpandsTo text plain × ComesFrom plain procedure place number × IsLineOf text number line × (more ≡ rule_line rule action.procedure (name_at names action.procedure) number line))
     ⊎ (((procedure place : ℕ) (action : Action) → IsMade start events rule procedure place action → ⊥) × (more ≡ []))
 
 -- holds for the lines of the rules of a circle

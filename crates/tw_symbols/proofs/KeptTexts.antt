@@ -1,6 +1,6 @@
 -- Two properties that an expansion keeps if the line's words have them: it has no line feed, and is in UTF-8.
 use Rattle.std.proofs.Common.{[], ◌≡◌, ◌==◌, ◌<◌, ◌≤◌, ◌+◌, ◌/◌, ◌%◌, ℕ, zero, suc, Bool, true, false, cond, List, ◌∷◌, ◌++◌, refl, sym, subst, append_assoc, arith}
-use Rattle.tw_symbols.proofs.TextNames.{AllByRecursion, IsTail, IsUtf8, StandsFirst, append-nil, begins_quoted, decimal, is_sign, nat_lt, pieces, pieces_after, some_piece}
+use Rattle.tw_symbols.proofs.TextNames.{AllByRecursion, IsTail, IsUtf8, StartsWith, append-nil, begins_quoted, decimal, is_sign, nat_lt, pieces, pieces_after, some_piece}
 use Rattle.std.specs.Fmt.{digit_glyph, digits, digits_onto}
 use Rattle.std.proofs.lemmas.Bool.Decides.{nat_tests}
 use Rattle.std.proofs.lemmas.Str.{IsUtf8-append, IsUtf8-nil}
@@ -15,7 +15,7 @@ pub record IsKept (Q : List ℕ → Type 0) : Type 0 where
   pub both : (a b : List ℕ) → Q a → Q b → Q (a ++ b)
   pub byte : (b : ℕ) → 32 ≤ b → b < 128 → Q (b ∷ [])
   pub cut : (word : List ℕ) → Q word → AllByRecursion Q (pieces word)
-  pub first : (word bytes rest : List ℕ) → StandsFirst word bytes rest → Q bytes → Q word × Q rest
+  pub first : (word bytes rest : List ℕ) → StartsWith word bytes rest → Q bytes → Q word × Q rest
   pub tail : (tail bytes : List ℕ) → IsTail tail bytes → Q bytes → Q tail
 
 abbrev pub AllKept : (List ℕ → Type 0) → List (List ℕ) → Type 0
@@ -75,7 +75,7 @@ feeds_rest : (a b : List ℕ) → HasNoLineFeed (a ++ b) → HasNoLineFeed b
 feeds_rest [] b h = h
 feeds_rest (c ∷ a) b h = feeds_rest a b h.1
 
-first_feeds : (word bytes rest : List ℕ) → StandsFirst word bytes rest → HasNoLineFeed bytes → HasNoLineFeed word × HasNoLineFeed rest
+first_feeds : (word bytes rest : List ℕ) → StartsWith word bytes rest → HasNoLineFeed bytes → HasNoLineFeed word × HasNoLineFeed rest
 first_feeds word bytes rest (w, f, e) h =
     let here = feeds_rest f.gap (f.text ++ rest) (subst HasNoLineFeed f.parts h) in
     (subst HasNoLineFeed e (feeds_front f.text rest here), feeds_rest f.text rest here)
@@ -108,23 +108,23 @@ pieces_utf8 front (b ∷ word) u = by (is_sign b) refl (λ (f : List ℕ) (v : I
         all_kept IsUtf8 (some_piece front) (pieces_after [] word) (some_utf8 front (cut_front front b word small u)) (rest [] (cut_rest front b word small u))
     by false e rest = rest (front ++ b ∷ []) (subst IsUtf8 (sym (append_assoc front (b ∷ []) word)) u)
 
-behind_gap : (gap rest : List ℕ) → IsGap gap → IsUtf8 (gap ++ rest) → IsUtf8 rest
-behind_gap [] rest h u = u
-behind_gap (b ∷ gap) rest h u = behind_gap gap rest h.1 (cut_rest [] b (gap ++ rest) (parting_small b h.0) u)
+after_gap : (gap rest : List ℕ) → IsGap gap → IsUtf8 (gap ++ rest) → IsUtf8 rest
+after_gap [] rest h u = u
+after_gap (b ∷ gap) rest h u = after_gap gap rest h.1 (cut_rest [] b (gap ++ rest) (parting_small b h.0) u)
 
 before_edge : (text rest : List ℕ) → IsAtEdge rest → IsUtf8 (text ++ rest) → IsUtf8 text
 before_edge text [] edge u = subst IsUtf8 (append-nil text) u
 before_edge text (b ∷ rest) edge u = cut_front text b rest (edge_small b edge) u
 
-first_utf8 : (word bytes rest : List ℕ) → StandsFirst word bytes rest → IsUtf8 bytes → IsUtf8 word × IsUtf8 rest
+first_utf8 : (word bytes rest : List ℕ) → StartsWith word bytes rest → IsUtf8 bytes → IsUtf8 word × IsUtf8 rest
 first_utf8 word bytes rest (w, f, e) u =
-    (subst IsUtf8 e (before_edge f.text rest f.edge (behind_gap f.gap (f.text ++ rest) f.is_gap (subst IsUtf8 f.parts u))), rest_utf8 w bytes rest f u)
+    (subst IsUtf8 e (before_edge f.text rest f.edge (after_gap f.gap (f.text ++ rest) f.is_gap (subst IsUtf8 f.parts u))), rest_utf8 w bytes rest f u)
 
 cut_utf8 : (word : List ℕ) → IsUtf8 word → AllKept IsUtf8 (pieces word)
 cut_utf8 word u = either (AllKept IsUtf8) (begins_quoted word) (some_piece word) (pieces_after [] word) (some_utf8 word u) (pieces_utf8 [] word u)
 
 tail_utf8 : (tail bytes : List ℕ) → IsTail tail bytes → IsUtf8 bytes → IsUtf8 tail
-tail_utf8 tail bytes is u = behind_gap is.gap tail is.is_gap (subst IsUtf8 is.parts u)
+tail_utf8 tail bytes is u = after_gap is.gap tail is.is_gap (subst IsUtf8 is.parts u)
 
 pub utf8_kept : IsKept IsUtf8
 utf8_kept = record { none = IsUtf8-nil; both = IsUtf8-append; byte = λ b _ small. one_ascii b small; cut = cut_utf8; first = first_utf8; tail = tail_utf8 }

@@ -1,6 +1,6 @@
 -- An expansion has as many lines as its text, and is in UTF-8 if the text is.
 use Rattle.std.proofs.Common.{[], ◌≡◌, ◌==◌, ◌<◌, ◌-◌, ◌+◌, ℕ, suc, Bool, true, false, cond, List, ◌∷◌, ◌++◌, length, take, drop, get_or, Result, Ok, Err, inl, inr, refl, sym, ap, subst, ◌∙◌, append_assoc, append-nil, arith}
-use Rattle.tw_symbols.proofs.TextNames.{AllByRecursion, AreTaken, Broken, IsTaken, IsUtf8, Line, Names, Procedures, Rejection, Said, Says, StandFirst, Worded, at_number, ended, line_rest, line_words, lines, lines_of_parts, lines_say, no_names, onto_first, procedures_of, slice_index, slice_split, strip_carriage_return, take-append-drop, taken_says}
+use Rattle.tw_symbols.proofs.TextNames.{AllByRecursion, AreTaken, Broken, IsTaken, IsUtf8, Line, Names, Procedures, Rejection, Said, Says, StartWith, Worded, at_number, ended, line_rest, line_words, lines, lines_of_parts, lines_say, no_names, onto_first, procedures_of, slice_index, slice_split, strip_carriage_return, take-append-drop, taken_says}
 use Rattle.std.proofs.lemmas.Bool.{eqb-true}
 use Rattle.std.proofs.lemmas.List.Splits.{slice_split-cons_no}
 use Rattle.std.proofs.lemmas.Str.{IsCharBoundary-before_ascii, IsUtf8-append, IsUtf8-nil, IsUtf8-take}
@@ -29,7 +29,7 @@ plain_is : (a b : List ℕ) → ◌≡◌ {A = Result (List ℕ) Rejection} (Ok 
 plain_is a b e = cc
 
 module _ (Q : List ℕ → Type 0) (kept : IsKept Q) where
-  words_in : (ws : List (List ℕ)) (bytes rest : List ℕ) → StandFirst ws bytes rest → Q bytes → AllKept Q ws × Q rest
+  words_in : (ws : List (List ℕ)) (bytes rest : List ℕ) → StartWith ws bytes rest → Q bytes → AllKept Q ws × Q rest
   words_in [] bytes rest e h = (tt, subst Q e h)
   words_in (w ∷ ws) bytes rest (after, first, more) h =
       let one = kept.first w bytes after first h in

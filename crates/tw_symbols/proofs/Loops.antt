@@ -1,6 +1,6 @@
 -- The loops over a text's lines.
 use Rattle.std.proofs.Common.{[], ◌≡◌, ◌⊎◌, ◌≤◌, ℕ, suc, ◌+◌, List, ◌∷◌, ◌++◌, length, map, drop, Ok, Err, refl, sym, ap, subst, ◌∙◌, inl, inr, arith}
-use Rattle.tw_symbols.proofs.TextNames.{AreTaken, Bor, IsMemory, IsTaken, Line, Names, Procedures, Rejection, drop_all, length-append, lines_say, map-append, no_names, procedures_of, taken_says, told, with_line}
+use Rattle.tw_symbols.proofs.TextNames.{AreTaken, Bor, IsMemory, IsTaken, Line, Names, Procedures, Rejection, drop_all, length-append, lines_say, map-append, no_names, procedures_of, taken_says, seen_rejection, with_line}
 use Rattle.tw_symbols.specs.declared.rejection.NameError.{NameError}
 use Rattle.tw_symbols.proofs.Walk.{taken_at, taken_length, taken_more, with_lines_more}
 
@@ -57,7 +57,7 @@ stops p n names front t rejection others at e = rw e (ap (λ (k : ℕ). Err (rec
 pub stopped : (p : Procedures) (ls before others : List (List ℕ)) (line : List ℕ) (index : ℕ) (names : Names) (front : List ℕ) (f : NameError) → ls ≡ before ++ line ∷ others → index ≡ length before
     → HasCome p ls (length before) names front
     → ((t : Line) → IsTaken t line → IsMemory f ⊎ ((f.line ≡ index + 1) × (taken_says p (index + 1) names front t ≡ Err (record { no = f.no; word = f.word.now }))))
-    → (all : List Line) → AreTaken all ls → IsMemory f ⊎ (lines_say p 1 no_names [] all ≡ Err (told f))
+    → (all : List Line) → AreTaken all ls → IsMemory f ⊎ (lines_say p 1 no_names [] all ≡ Err (seen_rejection f))
 stopped p ls before others line index names front f parts at so_far here all are = by (here one.0 one.1)
   where
     one : (t : Line) × IsTaken t line × (drop (length before) all ≡ t ∷ drop (suc (length before)) all)
@@ -66,11 +66,11 @@ stopped p ls before others line index names front f parts at so_far here all are
     same : index + 1 ≡ length before + 1
     same = ap (λ (k : ℕ). k + 1) at
 
-    by : IsMemory f ⊎ ((f.line ≡ index + 1) × (taken_says p (index + 1) names front one.0 ≡ Err (record { no = f.no; word = f.word.now }))) → IsMemory f ⊎ (lines_say p 1 no_names [] all ≡ Err (told f))
+    by : IsMemory f ⊎ ((f.line ≡ index + 1) × (taken_says p (index + 1) names front one.0 ≡ Err (record { no = f.no; word = f.word.now }))) → IsMemory f ⊎ (lines_say p 1 no_names [] all ≡ Err (seen_rejection f))
     by (inl memory) = inl memory
     by (inr (number, says)) =
         inr (so_far all are ∙ ap (lines_say p (length before + 1) names front) one.2
-        ∙ stops p (length before + 1) names front one.0 (told f) (drop (suc (length before)) all) (number ∙ same) (subst (λ (k : ℕ). taken_says p k names front one.0 ≡ Err (record { no = f.no; word = f.word.now })) same says))
+        ∙ stops p (length before + 1) names front one.0 (seen_rejection f) (drop (suc (length before)) all) (number ∙ same) (subst (λ (k : ℕ). taken_says p k names front one.0 ≡ Err (record { no = f.no; word = f.word.now })) same says))
 
 pub come_end : (p : Procedures) (ls : List (List ℕ)) (n : ℕ) (names : Names) (front : List ℕ) → HasCome p ls n names front → n ≡ length ls → (all : List Line) → AreTaken all ls → lines_say p 1 no_names [] all ≡ Ok front
 come_end p ls n names front come e all are =

@@ -1,7 +1,7 @@
 -- A text has one result.
 use Rattle.std.proofs.Common.{◌≡◌, ℕ, List, Result, Ok, Err, inl, inr, refl, sym, ap, ◌∙◌}
 use Rattle.tw_symbols.proofs.TextNames.{Rejection, Says, lines, text_says}
-use Rattle.tw_symbols.specs.Theorems.{NotBoth, OneFirstRejection, StandsForItself, StandsForOne}
+use Rattle.tw_symbols.specs.Theorems.{NotBoth, OneFirstRejection, ExpandsToItself, ExpandsToOne}
 use Rattle.tw_symbols.proofs.Taking.{all_once}
 
 says_once : (text : List ℕ) (x y : Result (List ℕ) Rejection) → Says text x → Says text y → x ≡ y
@@ -16,7 +16,7 @@ err_is a b e = cc
 not_ok_err : (a : List ℕ) (b : Rejection) → ◌≡◌ {A = Result (List ℕ) Rejection} (Ok a) (Err b) → ⊥
 not_ok_err a b e = cc
 
-pub one_text : StandsForOne
+pub one_text : ExpandsToOne
 one_text text plain other (inl says) (inl again) = ok_is plain other (says_once text (Ok plain) (Ok other) says again)
 one_text text plain other (inl says) (inr (no_names, _)) = absurd (no_names says.0)
 one_text text plain other (inr (no_names, _)) (inl says) = absurd (no_names says.0)
@@ -29,5 +29,5 @@ pub never_both : NotBoth
 never_both text plain rejection (inl says) refused = not_ok_err plain rejection (says_once text (Ok plain) (Err rejection) says refused)
 never_both text plain rejection (inr (no_names, _)) refused = no_names refused.0
 
-pub itself : StandsForItself
+pub itself : ExpandsToItself
 itself text no_names = inr (no_names, refl)

@@ -4,7 +4,7 @@ use Rattle.std.specs.Prelude.{slice_get, unwrap_or}
 use Rattle.std.specs.Str.{bytes_eq}
 use Rattle.tw_symbols.proofs.TextNames.{TokenError, Names, Procedures, Table, and_then, is_name, known, meaning, or_else, words_say}
 use Rattle.tw_symbols.specs.Theorems.{IsRenaming, RenamedAlike, renamed_names, renamed_procedures, renamed_table, renamed_word, renamed_words}
-use Rattle.tw_symbols.specs.LineExpansion.{fitting, named, stands, with_word, word_says}
+use Rattle.tw_symbols.specs.LineExpansion.{fitting, named, expands, with_word, word_says}
 use Rattle.tw_symbols.specs.declared.meaning.Expected.{Expected}
 use Rattle.tw_symbols.specs.declared.meaning.Expected.TheVariants as asked
 use Rattle.tw_symbols.specs.declared.meaning.Binding.{Binding}
@@ -28,7 +28,7 @@ module _ (f : List ℕ → List ℕ) (is : IsRenaming f) where
 
   named_too : (front word other : List ℕ) (k : Option Binding) (a : Expected) (text : List ℕ) → named front word k a ≡ Ok text → named front other k a ≡ Ok text
   named_too front word other None a text e = absurd cc
-  named_too front word other (Some x) a text e = fits_too front word other a x (stands a x) text e
+  named_too front word other (Some x) a text e = fits_too front word other a x (expands a x) text e
 
   either_kept : (p : Procedures) (n : Names) (a : Expected) (front word text : List ℕ) (t : Bool) → is_name word ≡ t → cond t (named front word (known p n word) a) (Ok (with_word front word)) ≡ Ok text
       → cond (is_name (f word)) (named front (f word) (known (renamed_procedures f p) (renamed_names f n) (f word)) a) (Ok (with_word front (f word))) ≡ Ok text

@@ -11,7 +11,7 @@ use Rattle.tw_code.specs.format.Table.{opcode_in, forms_of}
 use Rattle.tw_lexer.specs.Digits.{signed_in}
 use Rattle.tw_code.specs.declared.opcode.Opcode.{Opcode}
 use Rattle.tw_code.specs.declared.version.Version.TheVariants.{Two}
-use Rattle.tw_symbols.specs.LineExpansion.{Said, asked_by, at_head, banks_of, begins, begins_first, behind, body_says, constant_says, counted, fitting, has_colon, head_says, instruction_says, is_listed_word, is_names_line, is_unnamed, let_says, line_says, number_of, list_name, list_says, made_one, made_say, made_word, makes, name_before, name_says, named, number_in, only_names, parameters, procedure_name, register_of, registers_say, stands, value_after, value_types, with_word, word_says, words_say}
+use Rattle.tw_symbols.specs.LineExpansion.{Said, asked_by, at_head, banks_of, begins, begins_first, followed_by, body_says, constant_says, counted, fitting, has_colon, head_says, instruction_says, is_listed_word, is_names_line, is_unnamed, let_says, line_says, number_of, list_name, list_says, made_one, made_say, made_word, makes, name_before, name_says, named, number_in, only_names, parameters, procedure_name, register_of, registers_say, expands, value_after, value_types, with_word, word_says, words_say}
 use Rattle.tw_symbols.specs.declared.meaning.Expected.{Expected}
 use Rattle.tw_symbols.specs.declared.meaning.Expected.TheVariants as asked
 use Rattle.tw_symbols.specs.declared.meaning.Bank.{Bank}
@@ -162,9 +162,9 @@ module _ (Q : List ℕ → Type 0) (kept : IsKept Q) where
         subst (λ (x : Names × List ℕ). AllKept Q x.0.types) is h,
       )
 
-  words_more : (names : Names) (front : List ℕ) (ws : List (List ℕ)) → AllKept Q names.types → AllKept Q ws → SaysKept Q front (Ok (names, behind front ws))
+  words_more : (names : Names) (front : List ℕ) (ws : List (List ℕ)) → AllKept Q names.types → AllKept Q ws → SaysKept Q front (Ok (names, followed_by front ws))
   words_more names front ws h k said e =
-      let is = ok_is (names, behind front ws) said e in (
+      let is = ok_is (names, followed_by front ws) said e in (
         flat_map (λ (w : List ℕ). 32 ∷ w) ws,
         ap (λ (x : Names × List ℕ). x.1) (sym is),
         all_spaced ws k,
@@ -191,14 +191,14 @@ module _ (Q : List ℕ → Type 0) (kept : IsKept Q) where
   signed_kept (pos n) = number_kept Q kept n
   signed_kept (negsuc n) = lettered 45 (suc n) (omega arith) (omega arith)
 
-  stood : (a : Expected) (x : Binding) (text : List ℕ) → stands a x ≡ Some text → Q text
-  stood asked.Value (binding.Register bank.Value n by) text e = subst Q (some_is (codes "v" ++ decimal n) text e) (lettered 118 n (omega arith) (omega arith))
-  stood asked.Right (binding.Register bank.Right n by) text e = subst Q (some_is (codes "d" ++ decimal n) text e) (lettered 100 n (omega arith) (omega arith))
-  stood asked.ValueArgument (binding.Register bank.Value n by) text e = subst Q (some_is (decimal n) text e) (number_kept Q kept n)
-  stood asked.RightArgument (binding.Register bank.Right n by) text e = subst Q (some_is (decimal n) text e) (number_kept Q kept n)
-  stood asked.Number (binding.Constant z) text e = subst Q (some_is (signed_decimal z) text e) (signed_kept z)
-  stood asked.Procedure (binding.Procedure n) text e = subst Q (some_is (decimal n) text e) (number_kept Q kept n)
-  stood a x text e = absurd cc
+  bound_text : (a : Expected) (x : Binding) (text : List ℕ) → expands a x ≡ Some text → Q text
+  bound_text asked.Value (binding.Register bank.Value n by) text e = subst Q (some_is (codes "v" ++ decimal n) text e) (lettered 118 n (omega arith) (omega arith))
+  bound_text asked.Right (binding.Register bank.Right n by) text e = subst Q (some_is (codes "d" ++ decimal n) text e) (lettered 100 n (omega arith) (omega arith))
+  bound_text asked.ValueArgument (binding.Register bank.Value n by) text e = subst Q (some_is (decimal n) text e) (number_kept Q kept n)
+  bound_text asked.RightArgument (binding.Register bank.Right n by) text e = subst Q (some_is (decimal n) text e) (number_kept Q kept n)
+  bound_text asked.Number (binding.Constant z) text e = subst Q (some_is (signed_decimal z) text e) (signed_kept z)
+  bound_text asked.Procedure (binding.Procedure n) text e = subst Q (some_is (decimal n) text e) (number_kept Q kept n)
+  bound_text a x text e = absurd cc
 
   -- holds if a text is another one with more after it
   abbrev IsMore : List ℕ → List ℕ → Type 0
@@ -213,7 +213,7 @@ module _ (Q : List ℕ → Type 0) (kept : IsKept Q) where
 
   named_kept : (a : Expected) (front word text : List ℕ) (x : Option Binding) → named front word x a ≡ Ok text → IsMore front text
   named_kept a front word text None e = not_ok _ text e
-  named_kept a front word text (Some x) e = fits front word a x text (stands a x) (stood a x) e
+  named_kept a front word text (Some x) e = fits front word a x text (expands a x) (bound_text a x) e
 
   either_word : (p : Procedures) (names : Names) (a : Expected) (front word text : List ℕ) → Q word
       → cond (is_name word) (named front word (known p names word) a) (Ok (with_word front word)) ≡ Ok text → IsMore front text
@@ -264,15 +264,15 @@ module _ (Q : List ℕ → Type 0) (kept : IsKept Q) where
   head_kept : (p : Procedures) (number : ℕ) (names : Names) (front : List ℕ) (ws : List (List ℕ)) → AllKept Q ws → SaysKept Q front (head_says p number names front ws)
   head_kept p number names front ws k said e =
       let shown = take 1 ws ++ filter is_unnamed (parameters ws) in
-      let first = went_then (name_says p number (procedure_name ws)) (λ (_ : Unit {0}). and_then (list_says p listed.Parameters (at_head names ws) 0 0 (parameters ws)) (λ (after : Names). Ok (after, behind front shown))) said e in
-      let next = went_then (list_says p listed.Parameters (at_head names ws) 0 0 (parameters ws)) (λ (after : Names). Ok (after, behind front shown)) said first.2 in
+      let first = went_then (name_says p number (procedure_name ws)) (λ (_ : Unit {0}). and_then (list_says p listed.Parameters (at_head names ws) 0 0 (parameters ws)) (λ (after : Names). Ok (after, followed_by front shown))) said e in
+      let next = went_then (list_says p listed.Parameters (at_head names ws) 0 0 (parameters ws)) (λ (after : Names). Ok (after, followed_by front shown)) said first.2 in
       let same : next.0.types ≡ (at_head names ws).types = list_types p listed.Parameters (at_head names ws) 0 0 (parameters ws) next.0 next.1 in
       let types : AllKept Q (at_head names ws).types = either (AllKept Q) (is_some (procedure_name ws)) (value_types (parameters ws)) [] (all_types Q (parameters ws) (all_parameters Q ws k)) tt in
       words_more next.0 front shown (subst (AllKept Q) (sym same) types) (all_kept Q (take 1 ws) (filter is_unnamed (parameters ws)) (all_taken Q 1 ws k) (all_filtered Q (parameters ws) (all_parameters Q ws k))) said next.2
 
   registers_kept : (p : Procedures) (names : Names) (front : List ℕ) (ws : List (List ℕ)) → AllKept Q names.types → AllKept Q ws → SaysKept Q front (registers_say p names front ws)
   registers_kept p names front ws h k said e =
-      let went = went_then (list_says p listed.Registers names (length names.types) 0 ws) (λ (after : Names). Ok (after, behind front (after.types ++ filter is_unnamed ws))) said e in
+      let went = went_then (list_says p listed.Registers names (length names.types) 0 ws) (λ (after : Names). Ok (after, followed_by front (after.types ++ filter is_unnamed ws))) said e in
       let types : AllKept Q went.0.types = subst (AllKept Q) (sym (list_types p listed.Registers names (length names.types) 0 ws went.0 went.1)) h in
       words_more went.0 front (went.0.types ++ filter is_unnamed ws) types (all_kept Q went.0.types (filter is_unnamed ws) types (all_filtered Q ws k)) said went.2
 

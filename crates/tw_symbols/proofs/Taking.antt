@@ -1,6 +1,6 @@
 -- The words of a line are one list.
 use Rattle.std.proofs.Common.{[], ◌≡◌, ℕ, ◌+◌, ◌-◌, ◌<◌, List, ◌∷◌, ◌++◌, length, take, refl, sym, ap, subst, ◌∙◌, arith}
-use Rattle.tw_symbols.proofs.TextNames.{AreTaken, AreWords, Broken, IsTail, IsTaken, Line, StandFirst, StandsFirst, Worded, length-append, take_at}
+use Rattle.tw_symbols.proofs.TextNames.{AreTaken, AreWords, Broken, IsTail, IsTaken, Line, StartWith, StartsWith, Worded, length-append, take_at}
 use Rattle.tw_lexer.specs.Words.{IsBlank, IsFirstWord, IsWord, Bare, Quoted, Word}
 use Rattle.tw_lexer.specs.reading.Next.{IsAfterGap}
 use Rattle.tw_lexer.proofs.Once.{blank_no_word, first_word_once, gap_once, word_here}
@@ -16,7 +16,7 @@ text_here w bytes here after f a =
     gap_once a.gap f.gap here (f.text ++ after) a.is_gap f.is_gap a.at_word (word_here w f.text after f.is_word).0 (sym a.parts ∙ f.parts)
 
 -- a word that is cut out after the gap
-pub cut_word : (w : Word) (bytes here after : List ℕ) → IsAfterGap bytes here → IsFirstWord w bytes after → StandsFirst (take (length here - length after) here) bytes after
+pub cut_word : (w : Word) (bytes here after : List ℕ) → IsAfterGap bytes here → IsFirstWord w bytes after → StartsWith (take (length here - length after) here) bytes after
 cut_word w bytes here after a f =
     let e = text_here w bytes here after f a in
     (w, f, sym (cut_front f.text after) ∙ ap (λ (x : List ℕ). take (length x - length after) x) (sym e))
@@ -24,10 +24,10 @@ cut_word w bytes here after a f =
 pub rest_length : (w : Word) (bytes here after : List ℕ) → IsAfterGap bytes here → IsFirstWord w bytes after → (n : ℕ) × (length here ≡ n + length after)
 rest_length w bytes here after a f = (length f.text, ap length (text_here w bytes here after f a) ∙ length-append f.text after)
 
-pub cut_word_at : (w : Word) (bytes here after : List ℕ) (n : ℕ) → IsAfterGap bytes here → IsFirstWord w bytes after → n + length after ≡ length here → StandsFirst (take n here) bytes after
+pub cut_word_at : (w : Word) (bytes here after : List ℕ) (n : ℕ) → IsAfterGap bytes here → IsFirstWord w bytes after → n + length after ≡ length here → StartsWith (take n here) bytes after
 cut_word_at w bytes here after n a f e =
     let count : length here - length after ≡ n = omega (arith, e) in
-    subst (λ (k : ℕ). StandsFirst (take k here) bytes after) count (cut_word w bytes here after a f)
+    subst (λ (k : ℕ). StartsWith (take k here) bytes after) count (cut_word w bytes here after a f)
 
 -- the rest after a word is shorter
 nonempty : (w : Word) (text : List ℕ) → IsWord w text → 0 < length text
@@ -42,13 +42,13 @@ shorter w bytes after f =
     omega (arith, some, all)
 
 -- adds one more word
-pub first_more : (ws : List (List ℕ)) (w line bytes rest : List ℕ) → StandFirst ws line bytes → StandsFirst w bytes rest → StandFirst (ws ++ w ∷ []) line rest
-first_more [] w line bytes rest are first = (rest, subst (λ (b : List ℕ). StandsFirst w b rest) (sym are) first, refl)
+pub first_more : (ws : List (List ℕ)) (w line bytes rest : List ℕ) → StartWith ws line bytes → StartsWith w bytes rest → StartWith (ws ++ w ∷ []) line rest
+first_more [] w line bytes rest are first = (rest, subst (λ (b : List ℕ). StartsWith w b rest) (sym are) first, refl)
 first_more (v ∷ vs) w line bytes rest (after, is, more) first = (after, is, first_more vs w after bytes rest more first)
 
 -- ---- once
 
-first_once : (t u bytes rest after : List ℕ) → StandsFirst t bytes rest → StandsFirst u bytes after → (t ≡ u) × (rest ≡ after)
+first_once : (t u bytes rest after : List ℕ) → StartsWith t bytes rest → StartsWith u bytes after → (t ≡ u) × (rest ≡ after)
 first_once t u bytes rest after (w, f, e) (v, g, d) =
     let one = first_word_once w v bytes rest after f g in
     let same = gap_once f.gap g.gap (f.text ++ rest) (g.text ++ after) f.is_gap g.is_gap (word_here w f.text rest f.is_word).0 (word_here v g.text after g.is_word).0 (sym f.parts ∙ g.parts) in
@@ -56,7 +56,7 @@ first_once t u bytes rest after (w, f, e) (v, g, d) =
     sym (cut_front f.text rest) ∙ ap (λ (x : List ℕ). take (length x - length rest) x) same ∙ ap (λ (x : List ℕ). take (length (g.text ++ after) - length x) (g.text ++ after)) one.1 ∙ cut_front g.text after in
     (sym e ∙ cut ∙ d, one.1)
 
-no_word_there : (t bytes rest : List ℕ) → IsBlank bytes → StandsFirst t bytes rest → ⊥
+no_word_there : (t bytes rest : List ℕ) → IsBlank bytes → StartsWith t bytes rest → ⊥
 no_word_there t bytes rest blank (w, f, e) = blank_no_word w bytes rest blank f
 
 pub words_once : (ws vs : List (List ℕ)) (bytes rest after : List ℕ) → AreWords ws bytes rest → AreWords vs bytes after → (ws ≡ vs) × (rest ≡ after)
@@ -65,11 +65,11 @@ words_once [] (v ∷ vs) bytes rest after (a, blank) ((next, first, more), _) = 
 words_once (w ∷ ws) [] bytes rest after ((next, first, more), _) (b, blank) = absurd (no_word_there w bytes next (subst IsBlank (sym b) blank) first)
 words_once (w ∷ ws) (v ∷ vs) bytes rest after ((next, first, more), blank) ((next_, other, others), empty) =
     let one = first_once w v bytes next next_ first other in
-    let all = words_once ws vs next_ rest after (subst (λ (b : List ℕ). StandFirst ws b rest) one.1 more, blank) (others, empty) in
+    let all = words_once ws vs next_ rest after (subst (λ (b : List ℕ). StartWith ws b rest) one.1 more, blank) (others, empty) in
     (ap (λ (x : List ℕ). x ∷ ws) one.0 ∙ ap (λ (xs : List (List ℕ)). v ∷ xs) all.0, all.1)
 
 -- no word is at the place of something that isn't a word
-no_word_in_tail : (t tail bytes rest : List ℕ) → IsTail tail bytes → StandsFirst t bytes rest → ⊥
+no_word_in_tail : (t tail bytes rest : List ℕ) → IsTail tail bytes → StartsWith t bytes rest → ⊥
 no_word_in_tail t tail bytes rest is (w, f, e) = is.broken.1 w rest f
 
 pub not_both_ways : (ws vs : List (List ℕ)) (bytes rest tail : List ℕ) → AreWords ws bytes rest → IsTaken (Broken vs tail) bytes → ⊥
@@ -78,7 +78,7 @@ not_both_ways [] (v ∷ vs) bytes rest tail (a, blank) (after, (next, first, mor
 not_both_ways (w ∷ ws) [] bytes rest tail ((next, first, more), blank) (after, b, is) = no_word_in_tail w tail bytes next (subst (IsTail tail) (sym b) is) first
 not_both_ways (w ∷ ws) (v ∷ vs) bytes rest tail ((next, first, more), blank) (after, (next_, other, others), is) =
     let one = first_once w v bytes next next_ first other in
-    not_both_ways ws vs next_ rest tail (subst (λ (b : List ℕ). StandFirst ws b rest) one.1 more, blank) (after, others, is)
+    not_both_ways ws vs next_ rest tail (subst (λ (b : List ℕ). StartWith ws b rest) one.1 more, blank) (after, others, is)
 
 tail_once : (t u bytes : List ℕ) → IsTail t bytes → IsTail u bytes → t ≡ u
 tail_once t u bytes a b = gap_once a.gap b.gap t u a.is_gap b.is_gap a.at_word b.at_word (sym a.parts ∙ b.parts)
@@ -89,7 +89,7 @@ broken_once [] (v ∷ vs) bytes t u (after, a, is) (next, (n, first, more), also
 broken_once (w ∷ ws) [] bytes t u (after, (n, first, more), is) (next, b, also) = absurd (no_word_in_tail w u bytes n (subst (IsTail u) (sym b) also) first)
 broken_once (w ∷ ws) (v ∷ vs) bytes t u (after, (n, first, more), is) (next, (m, other, others), also) =
     let one = first_once w v bytes n m first other in
-    let all = broken_once ws vs m t u (after, subst (λ (b : List ℕ). StandFirst ws b after) one.1 more, is) (next, others, also) in
+    let all = broken_once ws vs m t u (after, subst (λ (b : List ℕ). StartWith ws b after) one.1 more, is) (next, others, also) in
     (ap (λ (x : List ℕ). x ∷ ws) one.0 ∙ ap (λ (xs : List (List ℕ)). v ∷ xs) all.0, all.1)
 
 pub taken_once : (a b : Line) (bytes : List ℕ) → IsTaken a bytes → IsTaken b bytes → a ≡ b

@@ -1,14 +1,14 @@
 -- Steps in sequence.
 use Rattle.std.proofs.Common.{◌≡◌, ℕ, List, ◌∷◌, ◌++◌, take, filter, Option, Result, Ok, refl, sym, ap, subst, ◌∙◌, append_assoc}
-use Rattle.tw_symbols.proofs.TextNames.{TokenError, Line, Names, Procedures, and_then, at_head, behind, ended, flat_map, head_says, is_unnamed, line_rest, line_says, line_words, list_says, name_says, parameters, procedure_name, taken_says}
+use Rattle.tw_symbols.proofs.TextNames.{TokenError, Line, Names, Procedures, and_then, at_head, followed_by, ended, flat_map, head_says, is_unnamed, line_rest, line_says, line_words, list_says, name_says, parameters, procedure_name, taken_says}
 use Rattle.std.proofs.lemmas.Grind.{flat_map-append}
 use Rattle.tw_symbols.specs.declared.meaning.Listed.TheVariants.{Parameters}
 
 pub goes_first : {A B : Type 0} (r : Result A TokenError) (a : A) (k : A → Result B TokenError) → r ≡ Ok a → and_then r k ≡ k a
 goes_first r a k e = rw e refl
 
-pub behind_more : (front : List ℕ) (a b : List (List ℕ)) → behind (behind front a) b ≡ behind front (a ++ b)
-behind_more front a b =
+pub followed_by_more : (front : List ℕ) (a b : List (List ℕ)) → followed_by (followed_by front a) b ≡ followed_by front (a ++ b)
+followed_by_more front a b =
     append_assoc front (flat_map (λ word. 32 ∷ word) a) (flat_map (λ word. 32 ∷ word) b) ∙ ap (λ (x : List ℕ). front ++ x) (sym (flat_map-append (λ (word : List ℕ). 32 ∷ word) a b))
 
 -- returns the expansion of a line's words, and the rest after them
@@ -22,14 +22,14 @@ line_said p number names front t words rest e d =
 
 pub head_said : (procedures : Procedures) (number : ℕ) (names : Names) (front : List ℕ) (words : List (List ℕ)) (name : Option (List ℕ)) (u : Unit {0}) (start after : Names) (params : List (List ℕ)) (middle out : List ℕ)
     → name ≡ procedure_name words → name_says procedures number name ≡ Ok u → start ≡ at_head names words → params ≡ parameters words → list_says procedures Parameters start 0 0 params ≡ Ok after
-    → middle ≡ behind front (take 1 words) → out ≡ behind middle (filter is_unnamed params) → head_says procedures number names front words ≡ Ok (after, out)
+    → middle ≡ followed_by front (take 1 words) → out ≡ followed_by middle (filter is_unnamed params) → head_says procedures number names front words ≡ Ok (after, out)
 head_said procedures number names front words name u start after params middle out e1 e2 e3 e4 e5 e6 e7 =
     let checked : name_says procedures number (procedure_name words) ≡ Ok u = subst (λ (x : Option (List ℕ)). name_says procedures number x ≡ Ok u) e1 e2 in
     let listed : list_says procedures Parameters (at_head names words) 0 0 (parameters words) ≡ Ok after =
     subst (λ (x : Names). list_says procedures Parameters x 0 0 (parameters words) ≡ Ok after) e3 (subst (λ (x : List (List ℕ)). list_says procedures Parameters start 0 0 x ≡ Ok after) e4 e5) in
-    let text : out ≡ behind front (take 1 words ++ filter is_unnamed (parameters words)) =
-    e7 ∙ ap (λ (x : List ℕ). behind x (filter is_unnamed params)) e6 ∙ ap (λ (x : List (List ℕ)). behind (behind front (take 1 words)) (filter is_unnamed x)) e4 ∙ behind_more front (take 1 words) (filter is_unnamed (parameters words)) in
+    let text : out ≡ followed_by front (take 1 words ++ filter is_unnamed (parameters words)) =
+    e7 ∙ ap (λ (x : List ℕ). followed_by x (filter is_unnamed params)) e6 ∙ ap (λ (x : List (List ℕ)). followed_by (followed_by front (take 1 words)) (filter is_unnamed x)) e4 ∙ followed_by_more front (take 1 words) (filter is_unnamed (parameters words)) in
     goes_first (name_says procedures number (procedure_name words)) u
-    (λ (_ : Unit {0}). and_then (list_says procedures Parameters (at_head names words) 0 0 (parameters words)) (λ (x : Names). Ok (x, behind front (take 1 words ++ filter is_unnamed (parameters words))))) checked
-    ∙ goes_first (list_says procedures Parameters (at_head names words) 0 0 (parameters words)) after (λ (x : Names). Ok (x, behind front (take 1 words ++ filter is_unnamed (parameters words)))) listed
+    (λ (_ : Unit {0}). and_then (list_says procedures Parameters (at_head names words) 0 0 (parameters words)) (λ (x : Names). Ok (x, followed_by front (take 1 words ++ filter is_unnamed (parameters words))))) checked
+    ∙ goes_first (list_says procedures Parameters (at_head names words) 0 0 (parameters words)) after (λ (x : Names). Ok (x, followed_by front (take 1 words ++ filter is_unnamed (parameters words)))) listed
     ∙ ap (λ (x : List ℕ). Ok (after, x)) (sym text)

@@ -15,7 +15,7 @@ use Rattle.tw_lexer.proofs.Readings.{digits_same}
 use Rattle.tw_symbols.proofs.TextNames.{TokenError, Names, Procedures, Table, is_name, is_some, known, list_says, may_name, meaning, name_register, nat_lt, or_else, refused}
 use Rattle.tw_symbols.specs.Theorems.{ListedByPlace, NamesStay, UsesAreRegisters, begun, read_in}
 use Rattle.tw_symbols.specs.Meanings.{is_bank, is_listed, with_listed, with_register}
-use Rattle.tw_symbols.specs.LineExpansion.{begins, begins_first, counted, fitting, list_name, name_before, named, number_in, register_in, stands, with_word}
+use Rattle.tw_symbols.specs.LineExpansion.{begins, begins_first, counted, fitting, list_name, name_before, named, number_in, register_in, expands, with_word}
 use Rattle.tw_symbols.specs.declared.meaning.Expected.{Expected}
 use Rattle.tw_symbols.specs.declared.meaning.Expected.TheVariants as asked
 use Rattle.tw_symbols.specs.declared.meaning.Bank.{Bank}
@@ -140,7 +140,7 @@ IsSaid a front text b n = (register : List ℕ) × (text ≡ with_word front reg
 in_bank : (b : Bank) (n : ℕ) → n < 16 → register_in (Some b) (result_ok (digits_in 0 15 (decimal n))) ≡ Some (b, n)
 in_bank b n low = ap (λ (r : Result ℕ numbers.TokenError). register_in (Some b) (result_ok r)) (low_read n low)
 
-says_it : (a : Expected) (front word text : List ℕ) (b : Bank) (n : ℕ) (by : Origin) → n < 16 → fitting front word a (binding.Register b n by) (stands a (binding.Register b n by)) ≡ Ok text → IsSaid a front text b n
+says_it : (a : Expected) (front word text : List ℕ) (b : Bank) (n : ℕ) (by : Origin) → n < 16 → fitting front word a (binding.Register b n by) (expands a (binding.Register b n by)) ≡ Ok text → IsSaid a front text b n
 says_it asked.Value front word text bank.Value n by low e = (codes "v" ++ decimal n, sym (ok_is (with_word front (codes "v" ++ decimal n)) text e), in_bank bank.Value n low)
 says_it asked.Right front word text bank.Right n by low e = (codes "d" ++ decimal n, sym (ok_is (with_word front (codes "d" ++ decimal n)) text e), in_bank bank.Right n low)
 says_it asked.ValueArgument front word text bank.Value n by low e = (decimal n, sym (ok_is (with_word front (decimal n)) text e), in_bank bank.Value n low)

@@ -54,7 +54,7 @@ pub names_after_line : (before : List (List ℕ)) (others : List (List ℕ)) →
 names_after_line [] others are has = has
 names_after_line (l ∷ before) others (first, more) has = inr (first, names_after_line before others more has)
 
-pub behind_names : (before : List (List ℕ)) (others : List (List ℕ)) → AreBlank before → HasNames (before ++ others) → HasNames others
-behind_names [] others are has = has
-behind_names (l ∷ before) others (first, more) (inl (rest, names)) = absurd (not_blank [] (codes "names") l rest names first)
-behind_names (l ∷ before) others (first, more) (inr (_, has)) = behind_names before others more has
+pub after_names : (before : List (List ℕ)) (others : List (List ℕ)) → AreBlank before → HasNames (before ++ others) → HasNames others
+after_names [] others are has = has
+after_names (l ∷ before) others (first, more) (inl (rest, names)) = absurd (not_blank [] (codes "names") l rest names first)
+after_names (l ∷ before) others (first, more) (inr (_, has)) = after_names before others more has

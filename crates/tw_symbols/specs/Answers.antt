@@ -4,12 +4,12 @@ use Rattle.std.specs.Fmt.{signed_decimal}
 use Rattle.tw_symbols.specs.Meanings.{TokenError, lists}
 use Rattle.std.specs.Str.Lines.{lines}
 use Rattle.tw_lexer.specs.Words.{IsBlank, IsBroken}
-use Rattle.tw_symbols.specs.Lines.{IsTaken, Line, StandsFirst, line_words, pieces_after}
+use Rattle.tw_symbols.specs.Lines.{IsTaken, Line, StartsWith, line_words, pieces_after}
 use Rattle.tw_symbols.specs.LineExpansion.{Said, is_names_line}
 use Rattle.tw_symbols.specs.Seen.{seen_names}
-use Rattle.tw_symbols.specs.Expansion.{HasNames, Rejection as Told}
+use Rattle.tw_symbols.specs.Expansion.{HasNames, Rejection as SeenRejection}
 use Rattle.tw_symbols.specs.declared.operand_text.OperandText as standings
-use Rattle.tw_symbols.specs.declared.operand_text.OperandText.TheVariants as standing
+use Rattle.tw_symbols.specs.declared.operand_text.OperandText.TheVariants as operand
 use Rattle.tw_symbols.specs.declared.line.First as firsts
 use Rattle.tw_symbols.specs.declared.line.First.TheVariants as first
 use Rattle.tw_symbols.specs.declared.meaning.Bank.{Bank}
@@ -32,9 +32,9 @@ name_number (no.Kind x a) = 5
 name_number no.Limit = 6
 name_number no.NoMemory = 7
 
-abbrev pub standing_text : standings.OperandText → List ℕ
-standing_text (standing.Numbered front number) = front.now ++ decimal number
-standing_text (standing.Number number) = signed_decimal number
+abbrev pub text_of_operand : standings.OperandText → List ℕ
+text_of_operand (operand.Numbered front number) = front.now ++ decimal number
+text_of_operand (operand.Number number) = signed_decimal number
 
 -- returns whether an entry is a name by which this register was listed or made
 abbrev pub lists_entry : Bank → ℕ → Option (List ℕ × Binding) → Bool
@@ -63,21 +63,21 @@ Gives view (Ok x) says = says ≡ Ok (view x)
 Gives view (Err e) says = Fails e says
 
 -- holds if these are the names, and the text that is written now
-abbrev pub SaysBehind : Result names.Names Rejection → List ℕ → Said → Type 0
-SaysBehind result text says = Gives (λ n. (seen_names n, text)) result says
+abbrev pub SaysAfter : Result names.Names Rejection → List ℕ → Said → Type 0
+SaysAfter result text says = Gives (λ n. (seen_names n, text)) result says
 
 -- ---- a whole text
 
 abbrev pub IsMemory : NameError → Type 0
 IsMemory f = (f.no ≡ no.NoMemory) × (f.line ≡ 0) × (f.word.now ≡ [])
 
-abbrev pub told : NameError → Told
-told f = record { line = f.line; no = f.no; word = f.word.now }
+abbrev pub seen_rejection : NameError → SeenRejection
+seen_rejection f = record { line = f.line; no = f.no; word = f.word.now }
 
 -- holds if this is the error, with the number of its line
 abbrev pub IsAtLine : ℕ → Rejection → NameError → Type 0
 IsAtLine number rejection.NoMemory f = IsMemory f
-IsAtLine number (rejection.Flawed which word) f = told f ≡ record { line = number; no = which; word = word.now }
+IsAtLine number (rejection.Flawed which word) f = seen_rejection f ≡ record { line = number; no = which; word = word.now }
 
 -- holds if these are the names and the text after a line of this number, or its error, or memory ran out
 abbrev pub SaidAt : ℕ → Result names.Names NameError → List ℕ → Said → Type 0
@@ -104,4 +104,4 @@ IsNamed false text = HasNames (lines text) → ⊥
 abbrev pub IsFirst : firsts.First → List ℕ → Type 0
 IsFirst first.End bytes = IsBlank bytes
 IsFirst first.Broken bytes = IsBroken bytes
-IsFirst (first.Text word rest) bytes = StandsFirst word.now bytes rest.now × IsUtf8 rest.now × (length rest.now < length bytes)
+IsFirst (first.Text word rest) bytes = StartsWith word.now bytes rest.now × IsUtf8 rest.now × (length rest.now < length bytes)

@@ -77,8 +77,8 @@ abbrev pub Says : List ℕ → Result (List ℕ) Rejection → Type 0
 Says text says = HasNames (lines text) × ((all : List Line) × AreTaken all (lines text) × (text_says all ≡ says))
 
 -- holds if the second text is the expansion of the first
-abbrev pub StandsFor : List ℕ → List ℕ → Type 0
-StandsFor text plain = Says text (Ok plain) ⊎ ((HasNames (lines text) → ⊥) × (plain ≡ text))
+abbrev pub ExpandsTo : List ℕ → List ℕ → Type 0
+ExpandsTo text plain = Says text (Ok plain) ⊎ ((HasNames (lines text) → ⊥) × (plain ≡ text))
 
 abbrev pub IsFirstRejection : List ℕ → Rejection → Type 0
 IsFirstRejection text rejection = Says text (Err rejection)

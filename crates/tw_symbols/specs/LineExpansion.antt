@@ -31,20 +31,20 @@ abbrev pub Said : Type 0
 Said = Result (Names × List ℕ) TokenError
 
 -- returns a text with words added, each after a space
-abbrev pub behind : List ℕ → List (List ℕ) → List ℕ
-behind front words = front ++ flat_map (λ word. 32 ∷ word) words
+abbrev pub followed_by : List ℕ → List (List ℕ) → List ℕ
+followed_by front words = front ++ flat_map (λ word. 32 ∷ word) words
 
 -- ---- words that may be names
 
 -- returns the replacement of a name if its meaning is of the required kind: a register's letter and number, or as an argument the number alone
-abbrev pub stands : Expected → Binding → Option (List ℕ)
-stands asked.Value (binding.Register bank.Value number by) = Some (codes "v" ++ decimal number)
-stands asked.Right (binding.Register bank.Right number by) = Some (codes "d" ++ decimal number)
-stands asked.ValueArgument (binding.Register bank.Value number by) = Some (codes "" ++ decimal number)
-stands asked.RightArgument (binding.Register bank.Right number by) = Some (codes "" ++ decimal number)
-stands asked.Number (binding.Constant number) = Some (signed_decimal number)
-stands asked.Procedure (binding.Procedure number) = Some (codes "" ++ decimal number)
-stands a x = None
+abbrev pub expands : Expected → Binding → Option (List ℕ)
+expands asked.Value (binding.Register bank.Value number by) = Some (codes "v" ++ decimal number)
+expands asked.Right (binding.Register bank.Right number by) = Some (codes "d" ++ decimal number)
+expands asked.ValueArgument (binding.Register bank.Value number by) = Some (codes "" ++ decimal number)
+expands asked.RightArgument (binding.Register bank.Right number by) = Some (codes "" ++ decimal number)
+expands asked.Number (binding.Constant number) = Some (signed_decimal number)
+expands asked.Procedure (binding.Procedure number) = Some (codes "" ++ decimal number)
+expands a x = None
 
 -- returns a text with a space and a word added
 abbrev pub with_word : List ℕ → List ℕ → List ℕ
@@ -56,7 +56,7 @@ fitting front word a x (Some text) = Ok (with_word front text)
 
 abbrev pub named : List ℕ → List ℕ → Option Binding → Expected → Result (List ℕ) TokenError
 named front word None a = refused no.Unknown word
-named front word (Some x) a = fitting front word a x (stands a x)
+named front word (Some x) a = fitting front word a x (expands a x)
 
 -- returns a text with the expansion of a word, which is the word itself if no name is required or it is none
 abbrev pub word_says : Procedures → Names → Expected → List ℕ → List ℕ → Result (List ℕ) TokenError
@@ -270,17 +270,17 @@ abbrev pub head_says : Procedures → ℕ → Names → List ℕ → List (List 
 head_says procedures number names front words =
     and_then (name_says procedures number (procedure_name words)) (λ _.
     and_then (list_says procedures listed.Parameters (at_head names words) 0 0 (parameters words)) (λ after.
-    Ok (after, behind front (take 1 words ++ filter is_unnamed (parameters words)))))
+    Ok (after, followed_by front (take 1 words ++ filter is_unnamed (parameters words)))))
 
 abbrev pub registers_say : Procedures → Names → List ℕ → List (List ℕ) → Said
 registers_say procedures names front words =
-    and_then (list_says procedures listed.Registers names (length names.types) 0 words) (λ after. Ok (after, behind front (after.types ++ filter is_unnamed words)))
+    and_then (list_says procedures listed.Registers names (length names.types) 0 words) (λ after. Ok (after, followed_by front (after.types ++ filter is_unnamed words)))
 
 -- ---- lines
 
 abbrev pub body_says : Procedures → Names → Option Opcode → List ℕ → List (List ℕ) → Said
 body_says procedures names (Some o) front words = instruction_says procedures names o front (flat_map pieces words)
-body_says procedures names None front words = Ok (names, behind front words)
+body_says procedures names None front words = Ok (names, followed_by front words)
 
 -- returns the names after a line whose words expand to nothing
 abbrev pub only_names : List ℕ → Result Names TokenError → Said

@@ -19,17 +19,17 @@ line_rest (Worded words rest) = rest
 line_rest (Broken words tail) = []
 
 -- holds if the bytes begin with this text as a word, and then this rest
-abbrev pub StandsFirst : List ℕ → List ℕ → List ℕ → Type 0
-StandsFirst text bytes rest = (word : Word) × (first : IsFirstWord word bytes rest) × (first.text ≡ text)
+abbrev pub StartsWith : List ℕ → List ℕ → List ℕ → Type 0
+StartsWith text bytes rest = (word : Word) × (first : IsFirstWord word bytes rest) × (first.text ≡ text)
 
 -- holds if the bytes begin with these words, one after the other, and then this rest
-abbrev pub StandFirst : List (List ℕ) → List ℕ → List ℕ → Type 0
-StandFirst [] bytes rest = bytes ≡ rest
-StandFirst (word ∷ words) bytes rest = (after : List ℕ) × StandsFirst word bytes after × StandFirst words after rest
+abbrev pub StartWith : List (List ℕ) → List ℕ → List ℕ → Type 0
+StartWith [] bytes rest = bytes ≡ rest
+StartWith (word ∷ words) bytes rest = (after : List ℕ) × StartsWith word bytes after × StartWith words after rest
 
 -- holds if the bytes have just these words, and then this rest
 abbrev pub AreWords : List (List ℕ) → List ℕ → List ℕ → Type 0
-AreWords words bytes rest = StandFirst words bytes rest × IsBlank rest
+AreWords words bytes rest = StartWith words bytes rest × IsBlank rest
 
 -- bytes that begin with no word, and all that follows their gap
 pub record IsTail (tail bytes : List ℕ) : Type 0 where
@@ -41,7 +41,7 @@ pub record IsTail (tail bytes : List ℕ) : Type 0 where
 
 abbrev pub IsTaken : Line → List ℕ → Type 0
 IsTaken (Worded words rest) bytes = AreWords words bytes rest
-IsTaken (Broken words tail) bytes = (after : List ℕ) × StandFirst words bytes after × IsTail tail after
+IsTaken (Broken words tail) bytes = (after : List ℕ) × StartWith words bytes after × IsTail tail after
 
 -- holds if these are the words of the lines, in their order
 abbrev pub AreTaken : List Line → List (List ℕ) → Type 0

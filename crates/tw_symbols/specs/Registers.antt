@@ -53,8 +53,8 @@ name_text (Some name) = codes " (" ++ (name ++ codes ")")
 
 -- returns a message, and after the register with which it begins that register's name, if it has one
 abbrev pub with_name : Table → List ℕ → List ℕ
-with_name table told = first_part told ++ (name_text (name_of table (register_of (first_part told))) ++ drop (length (first_part told)) told)
+with_name table register_text = first_part register_text ++ (name_text (name_of table (register_of (first_part register_text))) ++ drop (length (first_part register_text)) register_text)
 
 -- holds if `more` is the message with a name, by the names that the lines of the text up to this one have defined
 abbrev pub IsWithName : List ℕ → ℕ → List ℕ → List ℕ → Type 0
-IsWithName text number told more = (all : List Line) × AreTaken all (lines text) × (more ≡ with_name (registers_at all number) told)
+IsWithName text number register_text more = (all : List Line) × AreTaken all (lines text) × (more ≡ with_name (registers_at all number) register_text)

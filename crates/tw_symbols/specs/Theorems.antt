@@ -11,7 +11,7 @@ use Rattle.tw_symbols.specs.Lines.{AreTaken, Line, line_words}
 use Rattle.tw_symbols.specs.Meanings.{Names, Procedures, Table, is_bank, is_name, known, meaning}
 use Rattle.tw_symbols.specs.Registers.{registers_at}
 use Rattle.tw_symbols.specs.LineExpansion.{begins, list_says, number_in, register_in, register_of, with_word, word_says, words_say}
-use Rattle.tw_symbols.specs.Expansion.{HasNames, IsFirstRejection, Rejection, StandsFor, taken_says}
+use Rattle.tw_symbols.specs.Expansion.{HasNames, IsFirstRejection, Rejection, ExpandsTo, taken_says}
 use Rattle.tw_symbols.specs.declared.meaning.Expected.{Expected}
 use Rattle.tw_symbols.specs.declared.meaning.Expected.TheVariants as asked
 use Rattle.tw_symbols.specs.declared.meaning.Bank.{Bank}
@@ -22,23 +22,23 @@ use Rattle.tw_symbols.specs.declared.meaning.Origin.TheVariants as origin
 use Rattle.tw_symbols.specs.declared.meaning.Binding.{Binding}
 use Rattle.tw_symbols.specs.declared.meaning.Binding.TheVariants as binding
 
-abbrev pub StandsForOne : Type 0
-StandsForOne = (text plain other : List ℕ) → StandsFor text plain → StandsFor text other → plain ≡ other
+abbrev pub ExpandsToOne : Type 0
+ExpandsToOne = (text plain other : List ℕ) → ExpandsTo text plain → ExpandsTo text other → plain ≡ other
 
 abbrev pub OneFirstRejection : Type 0
 OneFirstRejection = (text : List ℕ) (rejection other : Rejection) → IsFirstRejection text rejection → IsFirstRejection text other → rejection ≡ other
 
 abbrev pub NotBoth : Type 0
-NotBoth = (text plain : List ℕ) (rejection : Rejection) → StandsFor text plain → IsFirstRejection text rejection → ⊥
+NotBoth = (text plain : List ℕ) (rejection : Rejection) → ExpandsTo text plain → IsFirstRejection text rejection → ⊥
 
-abbrev pub StandsForItself : Type 0
-StandsForItself = (text : List ℕ) → (HasNames (lines text) → ⊥) → StandsFor text text
+abbrev pub ExpandsToItself : Type 0
+ExpandsToItself = (text : List ℕ) → (HasNames (lines text) → ⊥) → ExpandsTo text text
 
 abbrev pub AsManyLines : Type 0
-AsManyLines = (text plain : List ℕ) → StandsFor text plain → length (lines plain) ≡ length (lines text)
+AsManyLines = (text plain : List ℕ) → ExpandsTo text plain → length (lines plain) ≡ length (lines text)
 
 abbrev pub InUtf8 : Type 0
-InUtf8 = (text plain : List ℕ) → StandsFor text plain → IsUtf8 text → IsUtf8 plain
+InUtf8 = (text plain : List ℕ) → ExpandsTo text plain → IsUtf8 text → IsUtf8 plain
 
 -- ---- registers
 

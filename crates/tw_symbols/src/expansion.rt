@@ -2,12 +2,12 @@
 
 ghost use Rattle.std.specs.Prelude.{◌≡◌, ◌⊎◌, ◌++◌, [], List, Ok, Err, IfOk, IsUtf8, MatchOption, MatchResult, string_bytes};
 ghost use Rattle.std.specs.Str.Lines.{lines};
-ghost use Rattle.tw_symbols.specs.Answers.{IsAtLine, IsMemory, IsNamed, IsNamedAfter, SaidAt, SaysBehind, named_by, told};
+ghost use Rattle.tw_symbols.specs.Answers.{IsAtLine, IsMemory, IsNamed, IsNamedAfter, SaidAt, SaysAfter, named_by, seen_rejection};
 ghost use Rattle.tw_symbols.specs.Lines.{AreTaken, IsTaken, Line, line_words};
 ghost use Rattle.tw_symbols.specs.Meanings.{and_then, no_names};
 ghost use Rattle.tw_symbols.specs.LineExpansion.{line_says};
 ghost use Rattle.tw_symbols.specs.Seen.{seen_names, seen_procedures, texts};
-ghost use Rattle.tw_symbols.specs.Expansion.{HasNames, IsFirstRejection, StandsFor, ended, lines_say, taken_says};
+ghost use Rattle.tw_symbols.specs.Expansion.{HasNames, IsFirstRejection, ExpandsTo, ended, lines_say, taken_says};
 
 use crate::line::take_line;
 use crate::line_expansion::{is_names_line, put_line};
@@ -66,7 +66,7 @@ fn put_worded<'a>(
     words: &[&'a [u8]],
     rest: &'a [u8],
 ) -> Result<Names<'a>, Rejection<'a>>
-    ensures { SaysBehind result out.new.items (and_then (line_says (seen_procedures procedures.now) number (seen_names names.entry) out.old.items (texts words.now)) (λ said. Ok (said.0, said.1 ++ ended rest.now))) }
+    ensures { SaysAfter result out.new.items (and_then (line_says (seen_procedures procedures.now) number (seen_names names.entry) out.old.items (texts words.now)) (λ said. Ok (said.0, said.1 ++ ended rest.now))) }
 {
     match put_line(alloc, procedures, number, names, out, words) {
         Ok(names) => {
@@ -86,7 +86,7 @@ fn put_taken<'a>(
     out: &mut Vec<u8>,
     line: &'a str,
 ) -> Result<Names<'a>, Rejection<'a>>
-    ensures { (taken : Line) → IsTaken taken line.entry.now → SaysBehind result out.new.items (taken_says (seen_procedures procedures.now) number (seen_names names.entry) out.old.items taken) }
+    ensures { (taken : Line) → IsTaken taken line.entry.now → SaysAfter result out.new.items (taken_says (seen_procedures procedures.now) number (seen_names names.entry) out.old.items taken) }
 {
     let taken = take_line(alloc, line)?;
     put_worded(
@@ -138,7 +138,7 @@ fn expanded_lines<'a>(
 ) -> Result<Vec<u8>, NameError<'a>>
     ensures { (all : List Line) → AreTaken all (lines text.entry.now) → MatchResult result
         (λ out. lines_say (seen_procedures procedures.now) 1 no_names [] all ≡ Ok out.items)
-        (λ f. IsMemory f ⊎ (lines_say (seen_procedures procedures.now) 1 no_names [] all ≡ Err (told f))) }
+        (λ f. IsMemory f ⊎ (lines_say (seen_procedures procedures.now) 1 no_names [] all ≡ Err (seen_rejection f))) }
 {
     let mut out = Vec::new(alloc);
     let mut names = Names::new(alloc, procedures.hash);
@@ -152,8 +152,8 @@ fn expanded_lines<'a>(
 fn named_text<'a>(alloc: Global, text: &'a str) -> Result<Vec<u8>, NameError<'a>>
     requires { HasNames (lines text.now) }
     ensures { MatchResult result
-        (λ plain. StandsFor text.entry.now plain.items)
-        (λ f. IsMemory f ⊎ IsFirstRejection text.entry.now (told f)) }
+        (λ plain. ExpandsTo text.entry.now plain.items)
+        (λ f. IsMemory f ⊎ IsFirstRejection text.entry.now (seen_rejection f)) }
 {
     let procedures = procedures_of(alloc, text)?;
     expanded_lines(alloc, &procedures, text)
@@ -172,9 +172,9 @@ fn as_text(bytes: Vec<u8>) -> String
 
 /// Expands a symbolic assembly text, or returns its first error; `None` if the text has no names, and so expands to itself.
 pub fn expanded_text<'a>(alloc: Global, text: &'a str) -> Result<Option<String>, NameError<'a>>
-    ensures stands { MatchResult result
-        (λ read. MatchOption read (StandsFor text.entry.now text.entry.now) (λ plain. StandsFor text.entry.now (string_bytes plain)))
-        (λ f. IsMemory f ⊎ IsFirstRejection text.entry.now (told f)) }
+    ensures expands { MatchResult result
+        (λ read. MatchOption read (ExpandsTo text.entry.now text.entry.now) (λ plain. ExpandsTo text.entry.now (string_bytes plain)))
+        (λ f. IsMemory f ⊎ IsFirstRejection text.entry.now (seen_rejection f)) }
     ensures named { IfOk result (λ read. MatchOption read (HasNames (lines text.entry.now) → ⊥) (λ _. HasNames (lines text.entry.now))) }
 {
     if !is_named(alloc, text)? {

@@ -5,7 +5,7 @@ ghost use Rattle.std.specs.List.{flat_map};
 ghost use Rattle.std.specs.Result.{result_ok};
 ghost use Rattle.tw_lexer.specs.Digits.{digits_in};
 ghost use Rattle.tw_symbols.specs.Meanings.{known};
-ghost use Rattle.tw_symbols.specs.Answers.{Gives, SaysBehind};
+ghost use Rattle.tw_symbols.specs.Answers.{Gives, SaysAfter};
 ghost use Rattle.tw_code.specs.format.Table.{forms_of};
 ghost use Rattle.tw_symbols.specs.LineExpansion.{argument_of, asked_by, banks_at, banks_of, callee, instruction_says, made_one, made_say, made_word, makes, words_say};
 ghost use Rattle.tw_symbols.specs.Seen.{seen_names, seen_procedures, texts};
@@ -145,7 +145,7 @@ fn put_made<'a>(
     out: &mut Vec<u8>,
     word: &'a [u8],
 ) -> Result<Names<'a>, Rejection<'a>>
-    ensures { SaysBehind result out.new.items (made_word (seen_procedures procedures.now) (seen_names names.entry) out.old.items word.now) }
+    ensures { SaysAfter result out.new.items (made_word (seen_procedures procedures.now) (seen_names names.entry) out.old.items word.now) }
 {
     let names = made_one(procedures, names, word)?;
     put_word(alloc, procedures, &names, out, Expected::Right, word)?;
@@ -160,7 +160,7 @@ fn put_all_made<'a>(
     out: &mut Vec<u8>,
     words: &[&'a [u8]],
 ) -> Result<Names<'a>, Rejection<'a>>
-    ensures { SaysBehind result out.new.items (made_say (seen_procedures procedures.now) (seen_names names.entry) out.old.items (texts words.now)) }
+    ensures { SaysAfter result out.new.items (made_say (seen_procedures procedures.now) (seen_names names.entry) out.old.items (texts words.now)) }
 {
     for word in words {
         names = put_made(alloc, procedures, names, out, word)?;
@@ -202,7 +202,7 @@ pub fn put_instruction<'a>(
     opcode: Opcode,
     words: &[&'a [u8]],
 ) -> Result<Names<'a>, Rejection<'a>>
-    ensures { SaysBehind result out.new.items (instruction_says (seen_procedures procedures.now) (seen_names names.entry) opcode out.old.items (texts words.now)) }
+    ensures { SaysAfter result out.new.items (instruction_says (seen_procedures procedures.now) (seen_names names.entry) opcode out.old.items (texts words.now)) }
 {
     let names = put_all_made(
         alloc,

@@ -5,7 +5,7 @@ ghost use Rattle.tw_lexer.specs.Seen.{seen};
 ghost use Rattle.tw_lexer.specs.Words.{IsFirstWord};
 ghost use Rattle.tw_lexer.specs.reading.Next.{IsAfterGap};
 ghost use Rattle.tw_symbols.specs.Answers.{IsFirst, is_plainly_blank};
-ghost use Rattle.tw_symbols.specs.Lines.{IsTaken, Line, StandsFirst, line_rest, line_words};
+ghost use Rattle.tw_symbols.specs.Lines.{IsTaken, Line, StartsWith, line_rest, line_words};
 ghost use Rattle.tw_symbols.specs.Seen.{texts};
 
 use std::alloc::{AllocError, Global};
@@ -35,7 +35,7 @@ pub enum First<'a> {
 fn cut_word<'a>(bytes: &'a [u8], _word: &Word<'_>, rest: &[u8]) -> &'a [u8]
     requires utf8 { IsUtf8 bytes.now }
     requires first { IsFirstWord (seen _word.now) bytes.now rest.now }
-    ensures { StandsFirst result.now bytes.entry.now rest.now }
+    ensures { StartsWith result.now bytes.entry.now rest.now }
 {
     let here = without_gap(bytes);
     let count = here.len() - rest.len();

@@ -3,7 +3,7 @@
 ghost use Rattle.std.specs.Prelude.{◌≡◌, ◌++◌};
 ghost use Rattle.tw_code.specs.format.Table.{opcode_in};
 ghost use Rattle.tw_code.specs.declared.version.Version.TheVariants.{Two};
-ghost use Rattle.tw_symbols.specs.Answers.{SaysBehind};
+ghost use Rattle.tw_symbols.specs.Answers.{SaysAfter};
 ghost use Rattle.std.specs.List.{flat_map};
 ghost use Rattle.tw_symbols.specs.Lines.{pieces};
 ghost use Rattle.tw_symbols.specs.LineExpansion.{body_says, head_says, is_names_line, line_says, registers_say};
@@ -36,7 +36,7 @@ fn put_body<'a>(
     first: &'a [u8],
     words: &[&'a [u8]],
 ) -> Result<Names<'a>, Rejection<'a>>
-    ensures { SaysBehind result out.new.items (body_says (seen_procedures procedures.now) (seen_names names.entry) (opcode_in Two first.now) (out.old.items ++ first.now) (texts words.now)) }
+    ensures { SaysAfter result out.new.items (body_says (seen_procedures procedures.now) (seen_names names.entry) (opcode_in Two first.now) (out.old.items ++ first.now) (texts words.now)) }
 {
     out.extend_from_slice(first)?;
     match opcode_in(Version::Two, first) {
@@ -61,7 +61,7 @@ fn put_proc<'a>(
     first: &'a [u8],
     words: &[&'a [u8]],
 ) -> Result<Names<'a>, Rejection<'a>>
-    ensures { SaysBehind result out.new.items (head_says (seen_procedures procedures.now) number (seen_names names.entry) (out.old.items ++ first.now) (flat_map pieces (texts words.now))) }
+    ensures { SaysAfter result out.new.items (head_says (seen_procedures procedures.now) number (seen_names names.entry) (out.old.items ++ first.now) (flat_map pieces (texts words.now))) }
 {
     out.extend_from_slice(first)?;
     let pieces = pieces_of(alloc, words)?;
@@ -77,7 +77,7 @@ fn put_regs<'a>(
     first: &'a [u8],
     words: &[&'a [u8]],
 ) -> Result<Names<'a>, Rejection<'a>>
-    ensures { SaysBehind result out.new.items (registers_say (seen_procedures procedures.now) (seen_names names.entry) (out.old.items ++ first.now) (flat_map pieces (texts words.now))) }
+    ensures { SaysAfter result out.new.items (registers_say (seen_procedures procedures.now) (seen_names names.entry) (out.old.items ++ first.now) (flat_map pieces (texts words.now))) }
 {
     out.extend_from_slice(first)?;
     let pieces = pieces_of(alloc, words)?;
@@ -94,7 +94,7 @@ pub fn put_line<'a>(
     out: &mut Vec<u8>,
     words: &[&'a [u8]],
 ) -> Result<Names<'a>, Rejection<'a>>
-    ensures { SaysBehind result out.new.items (line_says (seen_procedures procedures.now) number (seen_names names.entry) out.old.items (texts words.now)) }
+    ensures { SaysAfter result out.new.items (line_says (seen_procedures procedures.now) number (seen_names names.entry) out.old.items (texts words.now)) }
 {
     let [first, others @ ..] = words else {
         return Ok(names);

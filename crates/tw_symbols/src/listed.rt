@@ -2,9 +2,9 @@
 
 ghost use Rattle.std.specs.Prelude.{◌≡◌, ◌≤◌, ◌^◌, IfOk, OnOk, filter, length};
 ghost use Rattle.std.specs.Option.{option_map};
-ghost use Rattle.tw_symbols.specs.Answers.{Gives, SaysBehind};
+ghost use Rattle.tw_symbols.specs.Answers.{Gives, SaysAfter};
 ghost use Rattle.tw_lexer.specs.Names.{before_colon};
-ghost use Rattle.tw_symbols.specs.LineExpansion.{at_head, begins, behind, begins_at, begins_first, has_colon, head_says, is_listed_word, is_unnamed, list_name, list_says, name_before, name_says, number_in, registers_say, unnamed_says};
+ghost use Rattle.tw_symbols.specs.LineExpansion.{at_head, begins, followed_by, begins_at, begins_first, has_colon, head_says, is_listed_word, is_unnamed, list_name, list_says, name_before, name_says, number_in, registers_say, unnamed_says};
 ghost use Rattle.tw_symbols.specs.Seen.{now, seen_names, seen_procedures, texts};
 
 use crate::heads::{bank_of_mode, parameters, procedure_name, value_types};
@@ -155,7 +155,7 @@ fn list<'a>(
 
 /// Adds all words except each name with `:`.
 fn put_unnamed(out: &mut Vec<u8>, words: &[&[u8]]) -> Result<(), AllocError>
-    ensures { OnOk result (out.new.items ≡ behind out.old.items (filter is_unnamed (texts words.now))) }
+    ensures { OnOk result (out.new.items ≡ followed_by out.old.items (filter is_unnamed (texts words.now))) }
 {
     for word in words {
         if before_colon(word).is_none() {
@@ -229,7 +229,7 @@ pub fn put_head<'a>(
     out: &mut Vec<u8>,
     words: &[&'a [u8]],
 ) -> Result<Names<'a>, Rejection<'a>>
-    ensures { SaysBehind result out.new.items (head_says (seen_procedures procedures.now) number (seen_names names.entry) out.old.items (texts words.now)) }
+    ensures { SaysAfter result out.new.items (head_says (seen_procedures procedures.now) number (seen_names names.entry) out.old.items (texts words.now)) }
 {
     check_name(procedures, number, procedure_name(words))?;
     let names = at_head(alloc, procedures, names, words)?;
@@ -247,7 +247,7 @@ pub fn put_registers<'a>(
     out: &mut Vec<u8>,
     words: &[&'a [u8]],
 ) -> Result<Names<'a>, Rejection<'a>>
-    ensures { SaysBehind result out.new.items (registers_say (seen_procedures procedures.now) (seen_names names.entry) out.old.items (texts words.now)) }
+    ensures { SaysAfter result out.new.items (registers_say (seen_procedures procedures.now) (seen_names names.entry) out.old.items (texts words.now)) }
 {
     let first = count(&names.types);
     let names = list(procedures, Listed::Registers, names, first, words)?;

@@ -3,8 +3,8 @@
 ghost use Rattle.std.specs.Prelude.{◌≡◌, ◌++◌, OnOk, drop, length, slice_get, take, unwrap_or};
 ghost use Rattle.tw_symbols.specs.declared.meaning.Expected.TheVariants.{Nothing};
 ghost use Rattle.std.specs.Option.{option_map};
-ghost use Rattle.tw_symbols.specs.Answers.{Gives, standing_text};
-ghost use Rattle.tw_symbols.specs.LineExpansion.{behind, named, stands, with_word, word_says, words_say};
+ghost use Rattle.tw_symbols.specs.Answers.{Gives, text_of_operand};
+ghost use Rattle.tw_symbols.specs.LineExpansion.{followed_by, named, expands, with_word, word_says, words_say};
 ghost use Rattle.tw_symbols.specs.Expansion.{ended};
 ghost use Rattle.tw_symbols.specs.Seen.{seen_names, seen_procedures, texts};
 
@@ -26,7 +26,7 @@ pub enum OperandText {
 
 /// Returns the replacement of a name with this meaning, if the meaning is of the required kind.
 fn operand_text_of(asked: Expected, binding: Binding) -> Option<OperandText>
-    ensures { option_map standing_text result ≡ stands asked binding }
+    ensures { option_map text_of_operand result ≡ expands asked binding }
 {
     match binding {
         Binding::Constant(number) => match asked {
@@ -53,11 +53,11 @@ fn operand_text_of(asked: Expected, binding: Binding) -> Option<OperandText>
 fn put_operand_text(
     alloc: Global,
     out: &mut Vec<u8>,
-    standing: OperandText,
+    operand: OperandText,
 ) -> Result<(), AllocError>
-    ensures { OnOk result (out.new.items ≡ out.old.items ++ standing_text standing) }
+    ensures { OnOk result (out.new.items ≡ out.old.items ++ text_of_operand operand) }
 {
-    match standing {
+    match operand {
         OperandText::Numbered(front, number) => put_numbered(alloc, out, front, number),
         OperandText::Number(number) => put_signed(alloc, out, number),
     }
@@ -124,7 +124,7 @@ pub fn put_ended(out: &mut Vec<u8>, line: &[u8]) -> Result<(), AllocError>
 
 /// Adds words as they are.
 pub fn put_all(out: &mut Vec<u8>, words: &[&[u8]]) -> Result<(), AllocError>
-    ensures { OnOk result (out.new.items ≡ behind out.old.items (texts words.now)) }
+    ensures { OnOk result (out.new.items ≡ followed_by out.old.items (texts words.now)) }
 {
     for word in words {
         put_plain(out, word)?;
@@ -145,11 +145,11 @@ fn put_named<'a>(
     let Some(binding) = binding else {
         return Err(Rejection::Flawed(NameNo::Unknown, word));
     };
-    let Some(standing) = operand_text_of(asked, binding) else {
+    let Some(operand) = operand_text_of(asked, binding) else {
         return Err(Rejection::Flawed(NameNo::Kind(binding, asked), word));
     };
     out.extend_from_slice(b" ")?;
-    put_operand_text(alloc, out, standing)?;
+    put_operand_text(alloc, out, operand)?;
     Ok(())
 }
 

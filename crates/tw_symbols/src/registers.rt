@@ -153,11 +153,11 @@ pub fn put_with_name(
     out: &mut Vec<u8>,
     text: &str,
     line: usize,
-    told: &[u8],
+    register_text: &[u8],
 ) -> Result<(), AllocError>
-    ensures { OnOk result ((more : List ℕ) × IsWithName text.now line told.now more × (out.new.items ≡ out.old.items ++ more)) }
+    ensures { OnOk result ((more : List ℕ) × IsWithName text.now line register_text.now more × (out.new.items ≡ out.old.items ++ more)) }
 {
-    let (word, rest) = cut(told);
+    let (word, rest) = cut(register_text);
     out.extend_from_slice(word)?;
     put_name(out, name_after_line(alloc, text, line, word)?)?;
     out.extend_from_slice(rest)

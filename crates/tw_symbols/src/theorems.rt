@@ -1,10 +1,10 @@
 //! Theorems about all texts.
 
-ghost use Rattle.tw_symbols.specs.Theorems.{AsManyLines, InUtf8, ListedByPlace, NamesDiffer, NamesStay, NotBoth, OneFirstRejection, RenamedAlike, StandsForItself, StandsForOne, UsesAreRegisters};
+ghost use Rattle.tw_symbols.specs.Theorems.{AsManyLines, InUtf8, ListedByPlace, NamesDiffer, NamesStay, NotBoth, OneFirstRejection, RenamedAlike, ExpandsToItself, ExpandsToOne, UsesAreRegisters};
 
 /// Proves that a text has at most one expansion.
 pub fn expands_to_one()
-    ensures { StandsForOne }
+    ensures { ExpandsToOne }
 {}
 
 /// Proves that a text has at most one first error.
@@ -19,7 +19,7 @@ pub fn not_both()
 
 /// Proves that a text without names expands to itself.
 pub fn expands_to_itself()
-    ensures { StandsForItself }
+    ensures { ExpandsToItself }
 {}
 
 /// Proves that a line keeps its number in the expansion.

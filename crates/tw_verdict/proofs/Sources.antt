@@ -15,7 +15,7 @@ use Rattle.tw_program_output.specs.declared.program.NoProgram.{NoProgram}
 use Rattle.tw_program_output.specs.declared.program.NoProgram.TheVariants.{NotHex, NotUtf8, Bytes, Text, Named, NoMemory}
 use Rattle.tw_program_output.specs.declared.program.ReadProgram.{ReadProgram}
 use Rattle.tw_program_output.specs.declared.source.SourceText.{SourceText}
-use Rattle.tw_symbols.specs.Expansion.{StandsFor}
+use Rattle.tw_symbols.specs.Expansion.{ExpandsTo}
 use Rattle.tw_code.specs.accepting.WellTyped.{IsFirstRejection}
 use Rattle.tw_verify.specs.Rejection.{verify_error_code}
 use Rattle.tw_verify.specs.Typed.{TypedProgram}
@@ -79,7 +79,7 @@ origin Hex input None program procedure place line is same at = at
 origin Hex input (Some text) program procedure place line is same at = cc
 origin Assembly input None program procedure place line is same at = cc
 origin Assembly input (Some text) program procedure place line is same at =
-    (plain_of text, (let e : text.text.now ≡ input = cc in subst (λ (x : List ℕ). StandsFor x (plain_of text)) e is.3), at)
+    (plain_of text, (let e : text.text.now ≡ input = cc in subst (λ (x : List ℕ). ExpandsTo x (plain_of text)) e is.3), at)
 
 encodes : (from : Source) (input : List ℕ) (program : Versioned) → Spells from input program → Encodes (format_of_source from) input program
 encodes Hex input program is = is

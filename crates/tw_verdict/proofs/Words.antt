@@ -5,14 +5,14 @@ use Rattle.std.specs.declared.alloc.AllocError.{AllocError}
 use Rattle.std.specs.declared.result.Result.{Result}
 use Rattle.tw_asm.specs.declared.fault.FaultNo.{FaultNo}
 use Rattle.tw_program_output.specs.Names.{is_same_line}
-use Rattle.tw_symbols.specs.Expansion.{StandsFor}
+use Rattle.tw_symbols.specs.Expansion.{ExpandsTo}
 use Rattle.tw_verdict.specs.Source.{IsTextWord, IsWordIn}
 
-pub kept_word : (text plain : List ℕ) (which : FaultNo) (line : ℕ) (found : Result (ℕ × ℕ) AllocError) → StandsFor text plain
+pub kept_word : (text plain : List ℕ) (which : FaultNo) (line : ℕ) (found : Result (ℕ × ℕ) AllocError) → ExpandsTo text plain
     → is_same_line (slice_get (lines text) (line - 1)) (slice_get (lines plain) (line - 1)) ≡ true → IfOk found (IsWordIn plain which line) → IfOk found (IsTextWord text which line)
 kept_word text plain which line (Ok at) stands same is = (plain, stands, inl (same, is))
 kept_word text plain which line (Err e) stands same is = tt
 
-pub other_word : (text plain : List ℕ) (which : FaultNo) (line : ℕ) → StandsFor text plain
+pub other_word : (text plain : List ℕ) (which : FaultNo) (line : ℕ) → ExpandsTo text plain
     → is_same_line (slice_get (lines text) (line - 1)) (slice_get (lines plain) (line - 1)) ≡ false → IsTextWord text which line (0, 0)
 other_word text plain which line stands other = (plain, stands, inr (other, refl))

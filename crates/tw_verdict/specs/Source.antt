@@ -19,7 +19,7 @@ use Rattle.tw_program_output.specs.declared.source.SourceText.{SourceText}
 use Rattle.tw_program_output.specs.declared.program.NoProgram.{NoProgram}
 use Rattle.tw_program_output.specs.declared.program.NoProgram.TheVariants.{NotHex, NotUtf8, Bytes, Text, Named, NoMemory}
 use Rattle.tw_symbols.specs.Answers.{name_number}
-use Rattle.tw_symbols.specs.Expansion.{StandsFor}
+use Rattle.tw_symbols.specs.Expansion.{ExpandsTo}
 use Rattle.tw_verify.specs.Rejection.{verify_error_code}
 use Rattle.tw_verify.specs.Typed.{TypedProgram}
 use Rattle.tw_verify.specs.declared.rejection.VerifyError.{VerifyError}
@@ -70,7 +70,7 @@ IsWordIn plain which line at = (found : Option (ℕ × ℕ)) × IsErrorWord plai
 -- holds if these are of the text's expansion, or zeros if the expanded line isn't the one that is written
 abbrev pub IsTextWord : List ℕ → FaultNo → ℕ → (ℕ × ℕ) → Type 0
 IsTextWord text which line at =
-    (plain : List ℕ) × StandsFor text plain
+    (plain : List ℕ) × ExpandsTo text plain
     × (((is_same_line (slice_get (lines text) (line - 1)) (slice_get (lines plain) (line - 1)) ≡ true) × IsWordIn plain which line at)
     ⊎ ((is_same_line (slice_get (lines text) (line - 1)) (slice_get (lines plain) (line - 1)) ≡ false) × (at ≡ (0, 0))))
 
@@ -108,7 +108,7 @@ abbrev pub IsOrigin : Format → List ℕ → List Procedure → ℕ → ℕ →
 IsOrigin format.Bytes source program procedure place line = line ≡ 0
 IsOrigin format.Hex source program procedure place line = line ≡ 0
 IsOrigin format.Assembly source program procedure place line =
-    (plain : List ℕ) × StandsFor source plain × IsLineOf plain program procedure place line
+    (plain : List ℕ) × ExpandsTo source plain × IsLineOf plain program procedure place line
 
 abbrev pub rejection_at : ℕ → ℕ → ℕ → ℕ → SourceVerdict
 rejection_at number procedure place line = record { verdict = rejection number procedure place; line = line; word = 0; column = 0 }

@@ -3,7 +3,7 @@
 ghost use Rattle.std.specs.Prelude.{◌≡◌, ◌-◌, IfOk, slice_get};
 ghost use Rattle.std.specs.Str.Lines.{lines};
 ghost use Rattle.tw_program_output.specs.Names.{is_same_line as is_same_line_is};
-ghost use Rattle.tw_symbols.specs.Expansion.{StandsFor};
+ghost use Rattle.tw_symbols.specs.Expansion.{ExpandsTo};
 ghost use Rattle.tw_verdict.specs.Source.{IsFaultWord, IsTextWord, IsWordIn};
 
 use std::alloc::{AllocError, Global};
@@ -41,7 +41,7 @@ fn written_word(
     plain: &str,
     fault: AsmFault,
 ) -> Result<(usize, usize), AllocError>
-    requires { StandsFor text.now plain.now }
+    requires { ExpandsTo text.now plain.now }
     ensures { IfOk result (IsTextWord text.now fault.no fault.line) }
 {
     if is_same_line(text, plain, fault.line) {

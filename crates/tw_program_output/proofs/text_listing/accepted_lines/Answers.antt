@@ -1,5 +1,5 @@
 use Rattle.std.proofs.Common.{◌∙◌, Global, List, Some, Vec, ap, subst, sym, ℕ}
-use Rattle.tw_program_output.proofs.ReplyNames.{IfOk-weaker, IsListing, LinesSay, StandsFor, Typing, at_start, lines, said_lines, typings_in, typings_of}
+use Rattle.tw_program_output.proofs.ReplyNames.{IfOk-weaker, IsListing, LinesSay, ExpandsTo, Typing, at_start, lines, said_lines, typings_in, typings_of}
 use Rattle.tw_symbols.proofs.LineByLine.{as_many}
 use Rattle.tw_program_output.proofs.LineListings.{right_in, some_said}
 use Rattle.tw_program_output.proofs.text_listing.accepted_lines.Goals as goal
@@ -10,12 +10,12 @@ returns c =
     let all = c.in_ok-all.all.items in
     let text = c.args.source.now.text.now in
     let plain = c.plain.result.now in
-    let stands : StandsFor text plain = subst (λ (t : List ℕ). StandsFor text t) (sym c.plain.ensures) c.requires.3 in
+    let expands : ExpandsTo text plain = subst (λ (t : List ℕ). ExpandsTo text t) (sym c.plain.ensures) c.requires.3 in
     let said = some_said c.args.source.now verified.program c.requires in
     let say : LinesSay 1 at_start (lines plain) said.0 = subst (λ (t : List ℕ). LinesSay 1 at_start (lines t) said.0) (sym c.plain.ensures) said.1 in
     IfOk-weaker c.said_text.result _ (λ (listing : Vec ℕ Global). IsListing (Some text) verified.program listing.items)
     (λ listing h. (
       typings_in all,
       right_in verified.program (typings_of verified) all c.program-program.ensures.right c.in_ok-all.ensures,
-      (plain, said.0, h.0, stands, say, h.1, h.2 said.0 say (as_many text plain stands) ∙ ap (λ (ts : List (List Typing)). said_lines h.0 (typings_in ts) 1 at_start (lines text) said.0) c.deref.ensures.value),
+      (plain, said.0, h.0, expands, say, h.1, h.2 said.0 say (as_many text plain expands) ∙ ap (λ (ts : List (List Typing)). said_lines h.0 (typings_in ts) 1 at_start (lines text) said.0) c.deref.ensures.value),
     )) c.said_text.ensures

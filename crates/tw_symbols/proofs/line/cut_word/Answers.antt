@@ -1,6 +1,6 @@
 use Rattle.std.proofs.Common.{ℕ, List, subst, sym, arith}
 use Rattle.tw_lexer.specs.Seen.{seen}
-use Rattle.tw_symbols.specs.Lines.{StandsFirst}
+use Rattle.tw_symbols.specs.Lines.{StartsWith}
 use Rattle.tw_symbols.proofs.Taking.{cut_word_at, rest_length}
 use Rattle.tw_symbols.proofs.line.cut_word.Goals as goal
 
@@ -12,5 +12,5 @@ overflow_sub-count c =
 pub returns : goal.returns
 returns c =
     let long = rest_length (seen c.args._word.now) c.args.bytes.now c.without_gap-here.result.now c.args.rest.now c.without_gap-here.ensures.after c.requires.first in
-    subst (λ (text : List ℕ). StandsFirst text c.args.bytes.now c.args.rest.now) (sym c.split_at.ensures.front)
+    subst (λ (text : List ℕ). StartsWith text c.args.bytes.now c.args.rest.now) (sym c.split_at.ensures.front)
     (cut_word_at (seen c.args._word.now) c.args.bytes.now c.without_gap-here.result.now c.args.rest.now _ c.without_gap-here.ensures.after c.requires.first (omega (arith, long.1)))

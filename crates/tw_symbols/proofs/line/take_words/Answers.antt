@@ -1,6 +1,6 @@
 use Rattle.std.proofs.Common.{◌≡◌, ◌<◌, ◌++◌, ◌∷◌, [], List, ℕ, length, IsUtf8, refl, ap, sym, subst, ◌∙◌}
 use Rattle.std.proofs.lemmas.Result.{IfOk-weaker}
-use Rattle.tw_symbols.proofs.TextNames.{Broken, IsTaken, Line, StandFirst, StandsFirst, Worded, line_rest, line_words, map-append, now, texts}
+use Rattle.tw_symbols.proofs.TextNames.{Broken, IsTaken, Line, StartWith, StartsWith, Worded, line_rest, line_words, map-append, now, texts}
 use Rattle.tw_lexer.specs.Words.{IsBlank, IsBroken}
 use Rattle.tw_symbols.proofs.Taking.{first_more}
 use Rattle.tw_symbols.proofs.line.take_words.Goals as goal
@@ -25,10 +25,10 @@ returns-in-Broken c =
 
 pub loop-words-preserved : goal.loop-words-preserved
 loop-words-preserved c =
-    let step : StandsFirst c.in-Text.word.now c.loop-words.rest.now c.in-Text.after.now × IsUtf8 c.in-Text.after.now × (length c.in-Text.after.now < length c.loop-words.rest.now) = rw c.in-Text.is at c.in_ok-first_text.ensures in
+    let step : StartsWith c.in-Text.word.now c.loop-words.rest.now c.in-Text.after.now × IsUtf8 c.in-Text.after.now × (length c.in-Text.after.now < length c.loop-words.rest.now) = rw c.in-Text.is at c.in_ok-first_text.ensures in
     let grown : texts c.push.new.self.items ≡ texts c.loop-words.words.items ++ (c.in-Text.word.now ∷ []) = ap texts c.in_ok-push-in-Text.ensures.items ∙ map-append now c.loop-words.words.items (c.in-Text.word ∷ []) in
     record {
-      first = subst (λ (words : List (List ℕ)). StandFirst words c.args.line.now c.in-Text.after.now) (sym grown)
+      first = subst (λ (words : List (List ℕ)). StartWith words c.args.line.now c.in-Text.after.now) (sym grown)
           (first_more (texts c.loop-words.words.items) c.in-Text.word.now c.args.line.now c.loop-words.rest.now c.in-Text.after.now c.loop-words.invariant.first step.0);
       utf8 = step.1;
     }

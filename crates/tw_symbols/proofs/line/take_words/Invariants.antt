@@ -1,10 +1,10 @@
 use Rattle.std.proofs.Common.{length, IsUtf8}
-use Rattle.tw_symbols.proofs.TextNames.{StandFirst, texts}
+use Rattle.tw_symbols.proofs.TextNames.{StartWith, texts}
 use Rattle.tw_symbols.proofs.line.take_words.Given as goal
 
 abbrev pub invariant-loop-words : goal.invariant-loop-words
 invariant-loop-words l = record {
-  first : StandFirst (texts l.words.items) l.line l.rest;
+  first : StartWith (texts l.words.items) l.line l.rest;
   utf8 : IsUtf8 l.rest;
 }
 

@@ -1,6 +1,6 @@
 use Rattle.std.proofs.Common.{◌≡◌, drop}
-use Rattle.tw_symbols.proofs.TextNames.{behind, texts}
+use Rattle.tw_symbols.proofs.TextNames.{followed_by, texts}
 use Rattle.tw_symbols.proofs.operand_text.put_all.Given as goal
 
 abbrev pub invariant-loop-word : goal.invariant-loop-word
-invariant-loop-word l = behind l.out.items (texts (drop l.word-index l.words)) ≡ behind l.fn.out.items (texts l.words)
+invariant-loop-word l = followed_by l.out.items (texts (drop l.word-index l.words)) ≡ followed_by l.fn.out.items (texts l.words)
