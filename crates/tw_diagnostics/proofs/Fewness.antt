@@ -1,6 +1,6 @@
 -- An instruction has at most four operands.
 use Rattle.std.proofs.Common.{ℕ, zero, suc, ◌<◌, ◌≤◌, List, [], ◌∷◌, length, Option, None, Some, arith}
-use Rattle.tw_diagnostics.proofs.ReasonNames.{IfSome, Version, form_behind, opcode_in, slice_get}
+use Rattle.tw_diagnostics.proofs.ReasonNames.{IfSome, Version, form_at_place, opcode_in, slice_get}
 use Rattle.std.specs.Option.{option_and_then}
 use Rattle.tw_code.specs.declared.form.Form.{Form}
 use Rattle.tw_code.specs.declared.opcode.Opcode.{Opcode}
@@ -25,5 +25,5 @@ by_opcode : (found : Option Opcode) (place : ℕ) → IfSome (option_and_then (�
 by_opcode None place = tt
 by_opcode (Some o) place = inside (forms_of o) place 4 (few o)
 
-pub operand_place : (version : Version) (name : List ℕ) (place : ℕ) → IfSome (form_behind version name place) (λ _. place < 4)
+pub operand_place : (version : Version) (name : List ℕ) (place : ℕ) → IfSome (form_at_place version name place) (λ _. place < 4)
 operand_place version name place = by_opcode (opcode_in version name) place

@@ -1,7 +1,7 @@
 -- A line continues word by word exactly if some statement continues so.
 use Rattle.std.proofs.Common.{◌≡◌, ◌+◌, ◌&&◌, ◌||◌, ◌==◌, ℕ, zero, suc, Bool, true, false, not, cond, List, [], ◌∷◌, codes, drop, length, Option, None, Some, Ok, Err, refl, sym, ap, ◌∙◌, add-one}
 use Rattle.std.specs.Cmp.{second_so}
-use Rattle.tw_diagnostics.proofs.ReasonNames.{Bare, Form, Limit, Operand, Quoted, Version, Word, after_operand, bytes_eq, each, ends_at, form_behind, go_on, goal, goes, has_form, is_any, is_goal, is_quoted, line_in, line_of, literal, nat_lt, natural, number, only_if, operand_in, right, slice_get, target, type_in, value}
+use Rattle.tw_diagnostics.proofs.ReasonNames.{Bare, Form, Limit, Operand, Quoted, Version, Word, after_operand, bytes_eq, each, ends_at, form_at_place, go_on, goal, goes, has_form, is_any, is_goal, is_quoted, line_in, line_of, literal, nat_lt, natural, number, only_if, operand_in, right, slice_get, target, type_in, value}
 use Rattle.std.specs.Borrow.{Bor}
 use Rattle.tw_types.specs.DataType.{scalar_type}
 use Rattle.tw_code.specs.declared.form.Form.{Form as OperandForm}
@@ -81,22 +81,22 @@ target_form (Quoted text) = refl
 -- ---- operands, one after the other
 
 -- returns whether an operand has to be last: a skip, a type and arguments do
-abbrev pub stands_last : OperandForm → Bool
-stands_last form.Value = false
-stands_last form.Right = false
-stands_last form.Number = false
-stands_last form.Iterations = false
-stands_last form.Literal = false
-stands_last form.TypeOf = true
-stands_last form.Skip = true
-stands_last form.Callee = false
-stands_last form.Target = false
-stands_last form.Args = true
+abbrev pub is_last_form : OperandForm → Bool
+is_last_form form.Value = false
+is_last_form form.Right = false
+is_last_form form.Number = false
+is_last_form form.Iterations = false
+is_last_form form.Literal = false
+is_last_form form.TypeOf = true
+is_last_form form.Skip = true
+is_last_form form.Callee = false
+is_last_form form.Target = false
+is_last_form form.Args = true
 
 abbrev pub lasts : List OperandForm → Bool
 lasts [] = true
 lasts (f ∷ []) = true
-lasts (f ∷ g ∷ fs) = not (stands_last f) && lasts (g ∷ fs)
+lasts (f ∷ g ∷ fs) = not (is_last_form f) && lasts (g ∷ fs)
 
 abbrev first_in : List OperandForm → Option OperandForm
 first_in [] = None
@@ -119,7 +119,7 @@ drop_more (g ∷ fs) (suc k) f gs e = drop_more fs k f gs e
 
 tail_lasts : (f : OperandForm) (fs : List OperandForm) → lasts (f ∷ fs) ≡ true → lasts fs ≡ true
 tail_lasts f [] l = refl
-tail_lasts f (g ∷ fs) l = second_so (not (stands_last f)) (lasts (g ∷ fs)) l
+tail_lasts f (g ∷ fs) l = second_so (not (is_last_form f)) (lasts (g ∷ fs)) l
 
 type_on : (s c : Bool) (a b : Read) (g : Read → Bool) → go_on (cond s (Some a) (only_if c b)) g ≡ cond s (g a) (c && g b)
 type_on true c a b g = refl
@@ -134,11 +134,11 @@ module _ (version : Version) (name : Bor (List ℕ)) where
   by_form k f [] = ends_at f
   by_form k f (w ∷ ws) = go_on (after_operand version name k w f) (λ next. goes version next ws)
 
-  goes_by : (k : ℕ) (ws : List Word) → goes version (at k) ws ≡ by_form k (form_behind version name.now k) ws
+  goes_by : (k : ℕ) (ws : List Word) → goes version (at k) ws ≡ by_form k (form_at_place version name.now k) ws
   goes_by k [] = refl
   goes_by k (w ∷ ws) = refl
 
-  module _ (forms : List OperandForm) (have : (k : ℕ) → form_behind version name.now k ≡ slice_get forms k) where
+  module _ (forms : List OperandForm) (have : (k : ℕ) → form_at_place version name.now k ≡ slice_get forms k) where
     goes_due : (k : ℕ) (fs : List OperandForm) → drop k forms ≡ fs → (ws : List Word) → goes version (at k) ws ≡ by_form k (first_in fs) ws
     goes_due k fs cut ws = goes_by k ws ∙ ap (λ (f : Option OperandForm). by_form k f ws) (have k ∙ (at_drop forms k ∙ ap first_in cut))
 

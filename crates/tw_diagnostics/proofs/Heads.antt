@@ -59,10 +59,10 @@ pub all_more : {A : Type 0} (P : A → Type 0) (xs : List A) (x : A) → AllByRe
 all_more P [] x all p = (p, tt)
 all_more P (y ∷ xs) x all p = (all.0, all_more P xs x all.1 p)
 
-pub none_on : (ls : List (List ℕ)) (line : List ℕ) (told : LineRole) → NoHeads ls → ((s : ParserState) (said : Option Statement) → LineSays s line said → told ≡ says_of said) → is_head told ≡ false → NoHeads (ls ++ (line ∷ []))
-none_on ls line told before tells nohead said say =
+pub none_on : (ls : List (List ℕ)) (line : List ℕ) (role : LineRole) → NoHeads ls → ((s : ParserState) (said : Option Statement) → LineSays s line said → role ≡ says_of said) → is_head role ≡ false → NoHeads (ls ++ (line ∷ []))
+none_on ls line role before prints nohead said say =
     let split = split_last 1 at_start ls line said say in
-    let here : is_head (says_of split.last) ≡ false = ap is_head (sym (tells (situation split.before) split.last split.says)) ∙ nohead in
+    let here : is_head (says_of split.last) ≡ false = ap is_head (sym (prints (situation split.before) split.last split.says)) ∙ nohead in
     subst HasNoHead (sym split.is) (all_more (λ (s : Option Statement). is_head (says_of s) ≡ false) split.before split.last (before split.before split.say) here)
 
 none_begun : (number : ℕ) (s : ParserState) (said : List (Option Statement)) → HasNoHead said → (situation_from number s said).procedures ≡ s.procedures
@@ -88,9 +88,9 @@ front_none (x ∷ xs) ys h = (h.0, front_none xs ys h.1)
 pub front_no_procedure : (before after : List (Option Statement)) → HasNoHead (before ++ after) → (situation before).procedures ≡ 0
 front_no_procedure before after h = no_procedure before (front_none before after h)
 
-pub first_head : (text : List ℕ) (ls : List (List ℕ)) (line : List ℕ) (others : List (List ℕ)) (told : LineRole) (index : ℕ) (said : List (Option Statement)) → lines text ≡ ls ++ (line ∷ others) → index ≡ length ls → NoHeads ls
-    → ((s : ParserState) (x : Option Statement) → LineSays s line x → told ≡ says_of x) → is_head told ≡ true → LinesSay 1 at_start (lines text) said → IsFirstHead text (index + 1)
-first_head text ls line others told index said parts index_is none tells headed say = by split.here (ap is_head (sym (tells (situation split.before) split.here split.says)) ∙ headed) split.is
+pub first_head : (text : List ℕ) (ls : List (List ℕ)) (line : List ℕ) (others : List (List ℕ)) (role : LineRole) (index : ℕ) (said : List (Option Statement)) → lines text ≡ ls ++ (line ∷ others) → index ≡ length ls → NoHeads ls
+    → ((s : ParserState) (x : Option Statement) → LineSays s line x → role ≡ says_of x) → is_head role ≡ true → LinesSay 1 at_start (lines text) said → IsFirstHead text (index + 1)
+first_head text ls line others role index said parts index_is none prints headed say = by split.here (ap is_head (sym (prints (situation split.before) split.here split.says)) ∙ headed) split.is
   where
     split : SplitAt 1 at_start ls line said
     split = split_at 1 at_start ls line others said (subst (λ (all : List (List ℕ)). LinesSay 1 at_start all said) parts say)

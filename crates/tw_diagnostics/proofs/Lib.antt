@@ -16,10 +16,10 @@ pub mod Judging
 pub mod ParamsGo
 pub mod Reasoning
 pub mod Saying
-pub mod Standing
+pub mod LastWords
 pub mod Starting
 pub mod Stopping
-pub mod Telling
+pub mod FirstUnmet
 pub mod Types
 pub mod Whys
 mod ReasonNames

@@ -12,7 +12,7 @@ use Rattle.tw_asm.proofs.Answered.{first_is, none_some, proc_is_none, regs_is_no
 use Rattle.tw_asm.proofs.Sayings.{code_first, no_label}
 use Rattle.tw_asm.proofs.Spelled.{bare_is}
 use Rattle.tw_asm.proofs.Table.{found_back, no_colon}
-use Rattle.tw_diagnostics.specs.LineRole.{behind, says_of, situation_of}
+use Rattle.tw_diagnostics.specs.LineRole.{advanced, says_of, situation_of}
 use Rattle.tw_diagnostics.specs.declared.parser_state.LineRole.{LineRole}
 use Rattle.tw_diagnostics.specs.declared.parser_state.LineRole.TheVariants as says
 use Rattle.tw_diagnostics.specs.declared.parser_state.ParserState as declared
@@ -57,16 +57,16 @@ apart a b isnt e = no (sym isnt ∙ (bytes_eq-Decides a b).1 e)
 pub is_word : (a b : List ℕ) → bytes_eq a b ≡ true → a ≡ b
 is_word a b e = (bytes_eq-Decides a b).0 e
 
-abbrev pub Tells : Version → List ℕ → List Word → LineRole → Type 0
-Tells version first ws said = (statement : Statement) → Say version statement (Bare first ∷ ws) → said ≡ says_of (Some statement)
+abbrev pub SaysRole : Version → List ℕ → List Word → LineRole → Type 0
+SaysRole version first ws said = (statement : Statement) → Say version statement (Bare first ∷ ws) → said ≡ says_of (Some statement)
 
 -- a word that is none of an instruction
 no_code : {Z : Type 0} (version : Version) (first other : List ℕ) (i : (word : List ℕ) × (o : Opcode) × (Bare first ≡ Bare word) × (opcode_in version word ≡ Some o)) → first ≡ other → opcode_in version other ≡ None → Z
 no_code version first other (word, o, is, found) e none = absurd (none_some o (sym none ∙ (ap (opcode_in version) (sym e ∙ bare_is first word is) ∙ found)))
 
 module _ (version : Version) (first : List ℕ) (ws : List Word) where
-  pub version_tells : (v : Version) → first ≡ codes "version" → ((number : ℕ) (text : List ℕ) → ws ≡ Bare text ∷ [] → SpellsDigits number text → IsWithin 1 2 number → v ≡ version_by number) → Tells version first ws (says.Version v)
-  version_tells v e is statement say = by statement (first_said version statement (Bare first) ws say)
+  pub version_role : (v : Version) → first ≡ codes "version" → ((number : ℕ) (text : List ℕ) → ws ≡ Bare text ∷ [] → SpellsDigits number text → IsWithin 1 2 number → v ≡ version_by number) → SaysRole version first ws (says.Version v)
+  version_role v e is statement say = by statement (first_said version statement (Bare first) ws say)
     where
       by : (s : Statement) → IsFirst version s (Bare first) ws → says.Version v ≡ says_of (Some s)
       by (OfVersion number) f = ap says.Version (is number f.1.0 f.1.2 f.1.1 f.2)
@@ -75,8 +75,8 @@ module _ (version : Version) (first : List ℕ) (ws : List Word) where
       by (Label name) f = absurd (no_label (codes "version") name refl (sym e ∙ bare_is first (name ++ codes ":") f))
       by (Code i) f = no_code version first (codes "version") f e (version_is_none version)
 
-  pub head_tells : first ≡ codes "proc" → Tells version first ws says.Head
-  head_tells e statement say = by statement (first_said version statement (Bare first) ws say)
+  pub head_role : first ≡ codes "proc" → SaysRole version first ws says.Head
+  head_role e statement say = by statement (first_said version statement (Bare first) ws say)
     where
       by : (s : Statement) → IsFirst version s (Bare first) ws → says.Head ≡ says_of (Some s)
       by (OfVersion number) f = absurd (apart (codes "proc") (codes "version") refl (sym e ∙ bare_is first (codes "version") f.0))
@@ -85,8 +85,8 @@ module _ (version : Version) (first : List ℕ) (ws : List Word) where
       by (Label name) f = absurd (no_label (codes "proc") name refl (sym e ∙ bare_is first (name ++ codes ":") f))
       by (Code i) f = no_code version first (codes "proc") f e (proc_is_none version)
 
-  pub registers_tell : first ≡ codes "regs" → Tells version first ws says.Registers
-  registers_tell e statement say = by statement (first_said version statement (Bare first) ws say)
+  pub registers_role : first ≡ codes "regs" → SaysRole version first ws says.Registers
+  registers_role e statement say = by statement (first_said version statement (Bare first) ws say)
     where
       by : (s : Statement) → IsFirst version s (Bare first) ws → says.Registers ≡ says_of (Some s)
       by (OfVersion number) f = absurd (apart (codes "regs") (codes "version") refl (sym e ∙ bare_is first (codes "version") f.0))
@@ -95,8 +95,8 @@ module _ (version : Version) (first : List ℕ) (ws : List Word) where
       by (Label name) f = absurd (no_label (codes "regs") name refl (sym e ∙ bare_is first (name ++ codes ":") f))
       by (Code i) f = no_code version first (codes "regs") f e (regs_is_none version)
 
-  pub label_tells : (front : List ℕ) → first ≡ front ++ codes ":" → Tells version first ws says.Label
-  label_tells front e statement say = by statement (first_said version statement (Bare first) ws say)
+  pub label_role : (front : List ℕ) → first ≡ front ++ codes ":" → SaysRole version first ws says.Label
+  label_role front e statement say = by statement (first_said version statement (Bare first) ws say)
     where
       by : (s : Statement) → IsFirst version s (Bare first) ws → says.Label ≡ says_of (Some s)
       by (OfVersion number) f = absurd (no_label (codes "version") front refl (sym (bare_is first (codes "version") f.0) ∙ e))
@@ -107,8 +107,8 @@ module _ (version : Version) (first : List ℕ) (ws : List Word) where
           let named = (found_back version word o found).0 in
           absurd (no_label first front (ap before_colon (bare_is first word is ∙ named) ∙ no_colon o) e)
 
-  pub code_tells : first ≢ codes "version" → first ≢ codes "proc" → first ≢ codes "regs" → ((front : List ℕ) → first ≢ front ++ codes ":") → Tells version first ws says.Code
-  code_tells no_version no_head no_registers no_colon' statement say = by statement (first_said version statement (Bare first) ws say)
+  pub code_role : first ≢ codes "version" → first ≢ codes "proc" → first ≢ codes "regs" → ((front : List ℕ) → first ≢ front ++ codes ":") → SaysRole version first ws says.Code
+  code_role no_version no_head no_registers no_colon' statement say = by statement (first_said version statement (Bare first) ws say)
     where
       by : (s : Statement) → IsFirst version s (Bare first) ws → says.Code ≡ says_of (Some s)
       by (OfVersion number) f = absurd (no_version (bare_is first (codes "version") f.0))
@@ -127,21 +127,21 @@ nothing_seen : (ws : List words.Word) → map seen ws ≡ [] → ws ≡ []
 nothing_seen [] e = refl
 nothing_seen (w ∷ ws) e = absurd cc
 
-pub line_told : (ws : List words.Word) (whole : Bool) (line : List ℕ) (told : LineRole) → IsRead (map seen ws) whole line → (ws ≡ [] → told ≡ says_of None)
-    → ((version : Version) (statement : Statement) → Say version statement (map seen ws) → told ≡ says_of (Some statement)) → (s : ParserState) (said : Option Statement) → LineSays s line said → told ≡ says_of said
-line_told ws whole line told read nothing says s None is = nothing (nothing_seen ws (words_are (map seen ws) [] whole line read is))
-line_told ws whole line told read nothing says s (Some statement) ((vs, is, say), may) =
+pub role_of_line : (ws : List words.Word) (whole : Bool) (line : List ℕ) (role : LineRole) → IsRead (map seen ws) whole line → (ws ≡ [] → role ≡ says_of None)
+    → ((version : Version) (statement : Statement) → Say version statement (map seen ws) → role ≡ says_of (Some statement)) → (s : ParserState) (said : Option Statement) → LineSays s line said → role ≡ says_of said
+role_of_line ws whole line role read nothing says s None is = nothing (nothing_seen ws (words_are (map seen ws) [] whole line read is))
+role_of_line ws whole line role read nothing says s (Some statement) ((vs, is, say), may) =
     says s.version statement (subst (λ (us : List Word). Say s.version statement us) (sym (words_are (map seen ws) vs whole line read is)) say)
 
 -- ---- the parser's state, line by line
 
-pub behind_is : (number : ℕ) (s : ParserState) (said : Option Statement) (line : List ℕ) → LineSays s line said → behind (situation_of s) (says_of said) ≡ situation_of (after_line number said s)
-behind_is number s None line says = refl
-behind_is number s (Some (OfVersion version)) line says = refl
-behind_is number s (Some (Head kind params)) line says = refl
-behind_is number s (Some (Registers registers)) line says = refl
-behind_is number s (Some (Label name)) line says = refl
-behind_is number s (Some (Code i)) line says = refl
+pub advanced_is : (number : ℕ) (s : ParserState) (said : Option Statement) (line : List ℕ) → LineSays s line said → advanced (situation_of s) (says_of said) ≡ situation_of (after_line number said s)
+advanced_is number s None line says = refl
+advanced_is number s (Some (OfVersion version)) line says = refl
+advanced_is number s (Some (Head kind params)) line says = refl
+advanced_is number s (Some (Registers registers)) line says = refl
+advanced_is number s (Some (Label name)) line says = refl
+advanced_is number s (Some (Code i)) line says = refl
 
 -- what the lines up to the last one say, and what it says there
 pub record SplitLast (number : ℕ) (s : ParserState) (ls : List (List ℕ)) (line : List ℕ) (said : List (Option Statement)) : Type 0 where
@@ -172,16 +172,16 @@ split_last number s (l ∷ ls) line (x ∷ said) h =
     }
 
 -- holds if this is the parser's state after these lines, whatever they say that can follow
-abbrev pub Stands : List (List ℕ) → declared.ParserState → Type 0
-Stands ls now = (said : List (Option Statement)) → LinesSay 1 at_start ls said → now ≡ situation_of (situation said)
+abbrev pub IsReached : List (List ℕ) → declared.ParserState → Type 0
+IsReached ls now = (said : List (Option Statement)) → LinesSay 1 at_start ls said → now ≡ situation_of (situation said)
 
-pub stands_on : (ls : List (List ℕ)) (line : List ℕ) (now next : declared.ParserState) (told : LineRole) → Stands ls now → ((s : ParserState) (said : Option Statement) → LineSays s line said → told ≡ says_of said) → next ≡ behind now told
-    → Stands (ls ++ (line ∷ [])) next
-stands_on ls line now next told before tells is said say =
+pub state_after_line : (ls : List (List ℕ)) (line : List ℕ) (now next : declared.ParserState) (role : LineRole) → IsReached ls now → ((s : ParserState) (said : Option Statement) → LineSays s line said → role ≡ says_of said) → next ≡ advanced now role
+    → IsReached (ls ++ (line ∷ [])) next
+state_after_line ls line now next role before prints is said say =
     let split = split_last 1 at_start ls line said say in
     let here = before split.before split.say in
     is
-    ∙ ap (λ (x : declared.ParserState). behind x told) here
-    ∙ ap (behind (situation_of (situation split.before))) (tells (situation split.before) split.last split.says)
-    ∙ behind_is (1 + length split.before) (situation split.before) split.last line split.says
+    ∙ ap (λ (x : declared.ParserState). advanced x role) here
+    ∙ ap (advanced (situation_of (situation split.before))) (prints (situation split.before) split.last split.says)
+    ∙ advanced_is (1 + length split.before) (situation split.before) split.last line split.says
     ∙ ap situation_of (sym split.leads)

@@ -1,7 +1,7 @@
 -- After its first word a line continues word by word exactly if some statement continues so; wherever it is, some words end it.
 use Rattle.std.proofs.Common.{◌≡◌, ◌&&◌, ℕ, zero, suc, Bool, true, false, not, cond, List, [], ◌∷◌, codes, drop, Option, None, Some, Result, refl, sym, ap, ◌∙◌, inl, inr}
 use Rattle.std.specs.Cmp.{second_so}
-use Rattle.tw_diagnostics.proofs.ReasonNames.{AllByRecursion, Bare, TokenError, IsExpected, IsLabelWord, Quoted, Version, Word, after_operand, bytes_eq, ends_at, first_read, form_behind, go_on, goes, has_form, slice_get}
+use Rattle.tw_diagnostics.proofs.ReasonNames.{AllByRecursion, Bare, TokenError, IsExpected, IsLabelWord, Quoted, Version, Word, after_operand, bytes_eq, ends_at, first_read, form_at_place, go_on, goes, has_form, slice_get}
 use Rattle.std.specs.Borrow.{Bor}
 use Rattle.std.specs.Option.{is_some, option_and_then}
 use Rattle.std.proofs.lemmas.Str.{IsUtf8-nil}
@@ -27,7 +27,7 @@ use Rattle.tw_asm.proofs.Table.{draft_is}
 use Rattle.tw_diagnostics.specs.declared.step.Read.{Read}
 use Rattle.tw_diagnostics.specs.declared.step.Read.TheVariants as read
 use Rattle.tw_diagnostics.proofs.Forms.{all_form, and_false, and_true, form_as_is, form_both, form_each, form_few}
-use Rattle.tw_diagnostics.proofs.GoingOn.{lasts, line_goes, name_form, on_if, stands_last, untrue}
+use Rattle.tw_diagnostics.proofs.GoingOn.{lasts, line_goes, name_form, on_if, is_last_form, untrue}
 use Rattle.tw_diagnostics.proofs.ParamsGo.{params_go}
 
 -- ---- heads, registers and versions
@@ -70,15 +70,15 @@ code_goes version word o ws e =
     ∙ ap (λ l. has_form (line_in l ws)) (line_by_row version (table.row_of o))
     ∙ line_goes version word (forms_of o) (λ k. ap (option_and_then (λ (p : Opcode). slice_get (forms_of p) k)) e) (forms_of o) 0 refl (forms_last o) ws
 
-none_behind : (version : Version) (name : List ℕ) (k : ℕ) → opcode_in version name ≡ None → form_behind version name k ≡ None
-none_behind version name k e = ap (option_and_then (λ (p : Opcode). slice_get (forms_of p) k)) e
+no_form_there : (version : Version) (name : List ℕ) (k : ℕ) → opcode_in version name ≡ None → form_at_place version name k ≡ None
+no_form_there version name k e = ap (option_and_then (λ (p : Opcode). slice_get (forms_of p) k)) e
 
 label_goes : (version : Version) (word : Bor (List ℕ)) (ws : List Word) → opcode_in version word.now ≡ None → IsLabelWord word.now → has_form (label_line word.now ws) ≡ goes version (read.Operands word 0) ws
 label_goes version word [] e (name, is, same) =
     ap (λ (r : Option (List ℕ)). has_form (named_in r)) (ap before_colon same ∙ before name)
     ∙ form_as_is label_read (name_in name) ∙ name_form name ∙ (name_decide name).1 is
-    ∙ sym (ap ends_at (none_behind version word.now 0 e))
-label_goes version word (w ∷ ws) e label = sym (ap (λ (f : Option OperandForm). go_on (after_operand version word 0 w f) (λ next. goes version next ws)) (none_behind version word.now 0 e))
+    ∙ sym (ap ends_at (no_form_there version word.now 0 e))
+label_goes version word (w ∷ ws) e label = sym (ap (λ (f : Option OperandForm). go_on (after_operand version word 0 w f) (λ next. goes version next ws)) (no_form_there version word.now 0 e))
 
 -- ---- after the first word
 
@@ -145,7 +145,7 @@ both_fit a b e f = form_both a b ∙ ap (λ (x : Bool). x && has_form b) e ∙ f
 
 after_first : (f : OperandForm) (fs : List OperandForm) → lasts (f ∷ fs) ≡ true → lasts fs ≡ true
 after_first f [] l = refl
-after_first f (g ∷ fs) l = second_so (not (stands_last f)) (lasts (g ∷ fs)) l
+after_first f (g ∷ fs) l = second_so (not (is_last_form f)) (lasts (g ∷ fs)) l
 
 line_ends : (version : Version) (fs : List OperandForm) → lasts fs ≡ true → Ends version fs
 line_ends version [] l = ([], refl, tt)
@@ -187,7 +187,7 @@ abbrev pub CanEnd : Version → Read → Type 0
 CanEnd version r = (ws : List Word) × (goes version r ws ≡ true) × AllByRecursion IsFine ws
 
 operands_end : (version : Version) (name : Bor (List ℕ)) (k : ℕ) (found : Option Opcode) → opcode_in version name.now ≡ found → CanEnd version (read.Operands name k)
-operands_end version name k None e = ([], ap ends_at (none_behind version name.now k e), tt)
+operands_end version name k None e = ([], ap ends_at (no_form_there version name.now k e), tt)
 operands_end version name k (Some o) e =
     let l = drop_lasts (forms_of o) k (forms_last o) in
     let (ws, fits, fine) = line_ends version (drop k (forms_of o)) l in

@@ -43,13 +43,13 @@ follows_first version first line rest now is e = record {
   goes_on = λ more. ap (λ (r : Read). goes version r more) (sym e);
 }
 
-pub follows_on : (version : Version) (first line rest behind : List ℕ) (count : ℕ) (now next : Read) (w : Word) → Follows version first line rest count now → IsFirstWord w rest behind → IsFine w
-    → after version now w ≡ Some next → Follows version first line behind (count + 1) next
-follows_on version first line rest behind count now next w f is fine e = record {
+pub follows_on : (version : Version) (first line rest advanced : List ℕ) (count : ℕ) (now next : Read) (w : Word) → Follows version first line rest count now → IsFirstWord w rest advanced → IsFine w
+    → after version now w ≡ Some next → Follows version first line advanced (count + 1) next
+follows_on version first line rest advanced count now next w f is fine e = record {
   word = f.word;
   word_is = f.word_is;
   others = f.others ++ w ∷ [];
-  are = first_words_more (Bare f.word.now ∷ f.others) w line rest behind f.are is;
+  are = first_words_more (Bare f.word.now ∷ f.others) w line rest advanced f.are is;
   many = ap (λ (n : ℕ). n + 1) f.many ∙ sym (length-append (Bare f.word.now ∷ f.others) (w ∷ []));
   fine = fine_both f.others (w ∷ []) f.fine (fine, tt);
   goes_on = λ more.
@@ -68,17 +68,17 @@ module _ (version : Version) (expected : First) (first line rest : List ℕ) (co
   pub begins : Begin version (Bare f.word.now ∷ f.others)
   begins = let (ws, e, fine) = can_end version now in (ws, formed version f.word.now (f.others ++ ws) (fine_both f.others ws f.fine fine) (form_is ws ∙ e))
 
-  pub vain_word : (text : Bor (List ℕ)) (here behind : List ℕ) (w : Word) → IsFirstWord w here behind → IsFine w → after version now w ≡ None → Ends version (Bare f.word.now ∷ f.others) here (found.Word text)
-  vain_word text here behind w first_is fine none word after_it others stands texts =
-      let same = (first_word_once word w here after_it behind stands first_is).0 in
+  pub vain_word : (text : Bor (List ℕ)) (here advanced : List ℕ) (w : Word) → IsFirstWord w here advanced → IsFine w → after version now w ≡ None → Ends version (Bare f.word.now ∷ f.others) here (found.Word text)
+  vain_word text here advanced w first_is fine none word after_it others reached texts =
+      let same = (first_word_once word w here after_it advanced reached first_is).0 in
       subst (λ (v : Word). HaveForm version (Bare f.word.now ∷ (f.others ++ v ∷ others)) → ⊥) (sym same)
       (unformed version f.word.now (f.others ++ w ∷ others) (fine_both f.others (w ∷ others) f.fine (fine, fine_text others texts)) (form_is (w ∷ others) ∙ ap (λ (o : Option Read). go_on o (λ r. goes version r others)) none))
 
   -- the token that is found at a word that can't come next
-  pub vain_found : (x : Token) (here behind : List ℕ) (w : Word) → IsFound x here → IsFirstWord w here behind → IsFine w → after version now w ≡ None → Ends version (Bare f.word.now ∷ f.others) here x
-  vain_found found.End here behind w blank first_is fine none = absurd (blank_no_word w here behind blank first_is)
-  vain_found (found.Word text) here behind w stands first_is fine none = vain_word text here behind w first_is fine none
-  vain_found (found.Broken broken) here behind w stands first_is fine none = tt
+  pub vain_found : (x : Token) (here advanced : List ℕ) (w : Word) → IsFound x here → IsFirstWord w here advanced → IsFine w → after version now w ≡ None → Ends version (Bare f.word.now ∷ f.others) here x
+  vain_found found.End here advanced w blank first_is fine none = absurd (blank_no_word w here advanced blank first_is)
+  vain_found (found.Word text) here advanced w reached first_is fine none = vain_word text here advanced w first_is fine none
+  vain_found (found.Broken broken) here advanced w reached first_is fine none = tt
 
   pub vain_end : (here : List ℕ) → may_end version now ≡ false → Ends version (Bare f.word.now ∷ f.others) here found.End
   vain_end here e form =

@@ -10,16 +10,16 @@ use Rattle.tw_diagnostics.specs.Labels.{IsLabelBefore, IsTwinBefore}
 use Rattle.tw_diagnostics.specs.LineRole.{situation_of, stage_text}
 use Rattle.tw_diagnostics.specs.declared.hints.Hint.{Hint}
 use Rattle.tw_diagnostics.specs.declared.parser_state.ParserState as declared
-use Rattle.tw_diagnostics.specs.Diagnostics.{AddsPast, AddsWhy, IsBefore, IsLineReason, IsPast, IsPastFirst, TellsFirst, due_said, expected_text, found_word, is_long_label, limit_text, line_text, said_text, stop_line, whole_limit}
+use Rattle.tw_diagnostics.specs.Diagnostics.{AddsPast, AddsWhy, IsBefore, IsLineReason, IsPast, IsPastFirst, PrintsFirst, due_said, expected_text, found_word, is_long_label, limit_text, line_text, said_text, stop_line, whole_limit}
 use Rattle.tw_diagnostics.specs.declared.error_position.ErrorPosition.{ErrorPosition}
 use Rattle.tw_diagnostics.specs.declared.diagnostic.Diagnostic.{Diagnostic}
 use Rattle.tw_diagnostics.specs.declared.diagnostic.Diagnostic.TheVariants.{Expected, Limit}
 
-abbrev pub StandsThere : List ℕ → ℕ → declared.ParserState → Type 0
-StandsThere text number now = (before others : List (List ℕ)) (said : List (Option Statement)) → lines text ≡ before ++ others → number ≡ length before + 1 → LinesSay 1 at_start before said → now ≡ situation_of (situation said)
+abbrev pub IsStateThere : List ℕ → ℕ → declared.ParserState → Type 0
+IsStateThere text number now = (before others : List (List ℕ)) (said : List (Option Statement)) → lines text ≡ before ++ others → number ≡ length before + 1 → LinesSay 1 at_start before said → now ≡ situation_of (situation said)
 
-situation_is : (text : List ℕ) (number : ℕ) (now : declared.ParserState) (s : ParserState) → StandsThere text number now → IsBefore text number s → now ≡ situation_of s
-situation_is text number now s stands (before, others, said, parts, count, saying, here) = stands before others said parts count saying ∙ ap situation_of (sym here)
+situation_is : (text : List ℕ) (number : ℕ) (now : declared.ParserState) (s : ParserState) → IsStateThere text number now → IsBefore text number s → now ≡ situation_of s
+situation_is text number now s reached (before, others, said, parts, count, saying, here) = reached before others said parts count saying ∙ ap situation_of (sym here)
 
 -- returns a text of the code
 abbrev pub literal : List ℕ → Bor (List ℕ)
@@ -33,17 +33,17 @@ first_said now stop = expected_text (stage_text now.stage) stop.found ++ first_h
 
 -- the first word, what may begin the line, and which instruction was meant
 pub first_why : (text : List ℕ) (number : ℕ) (line old new : List ℕ) (stop : ErrorPosition) (expected : Bor (List ℕ)) (hint : Hint) (now : declared.ParserState) → IsStop line stop → stop.word ≡ 1
-    → expected.now ≡ stage_text now.stage → hint_text hint ≡ first_hint now.stage now.version (found_word stop.found) → StandsThere text number now
+    → expected.now ≡ stage_text now.stage → hint_text hint ≡ first_hint now.stage now.version (found_word stop.found) → IsStateThere text number now
     → new ≡ old ++ stop_line stop (said_text (Expected expected None hint) stop.found) → AddsWhy text fault.Word number line old new
-first_why text number line old new stop expected hint now is one staged hinted stands e =
-    (stop_line stop (said_text (Expected expected None hint) stop.found), (inr (inl (stop, Expected expected None hint, is, refl)), λ s before wrong. tells s before), e)
+first_why text number line old new stop expected hint now is one staged hinted reached e =
+    (stop_line stop (said_text (Expected expected None hint) stop.found), (inr (inl (stop, Expected expected None hint, is, refl)), λ s before wrong. prints s before), e)
   where
     said : said_text (Expected expected None hint) stop.found ≡ first_said now stop
     said = ap (λ (t : List ℕ). expected_text t stop.found ++ hint_text hint) staged ∙ ap (λ (t : List ℕ). expected_text (stage_text now.stage) stop.found ++ t) hinted
 
-    tells : (s : ParserState) → IsBefore text number s → TellsFirst s line (stop_line stop (said_text (Expected expected None hint) stop.found))
-    tells s before =
-        (stop, is, one, ap (stop_line stop) (said ∙ ap (λ (x : declared.ParserState). first_said x stop) (situation_is text number now s stands before)))
+    prints : (s : ParserState) → IsBefore text number s → PrintsFirst s line (stop_line stop (said_text (Expected expected None hint) stop.found))
+    prints s before =
+        (stop, is, one, ap (stop_line stop) (said ∙ ap (λ (x : declared.ParserState). first_said x stop) (situation_is text number now s reached before)))
 
 -- ---- A02
 
@@ -60,21 +60,21 @@ operand_by number s line _ _ (instructions i ws a b c d) e = absurd cc
 abbrev pub Known : Version → List ℕ → (Version → Type 0) → Type 0
 Known version line Holds = (expected : First) (first rest : List ℕ) → IsFirstWord (Bare first) line rest → IsExpected version expected first → Holds version
 
-pub known_there : (text : List ℕ) (number : ℕ) (line : List ℕ) (now : declared.ParserState) (s : ParserState) (Holds : Version → Type 0) → StandsThere text number now → IsBefore text number s → LineFault number s line fault.Operand number
+pub known_there : (text : List ℕ) (number : ℕ) (line : List ℕ) (now : declared.ParserState) (s : ParserState) (Holds : Version → Type 0) → IsStateThere text number now → IsBefore text number s → LineFault number s line fault.Operand number
     → Known now.version line Holds → Holds s.version
-known_there text number line now s Holds stands before wrong known =
-    let v = ap (λ (x : declared.ParserState). x.version) (situation_is text number now s stands before) in
+known_there text number line now s Holds reached before wrong known =
+    let v = ap (λ (x : declared.ParserState). x.version) (situation_is text number now s reached before) in
     let (expected, (first, rest, is_first, is_expected, may), none) = operand_by number s line fault.Operand number wrong refl in
     subst Holds v (known expected first rest is_first (subst (λ (x : Version). IsExpected x expected first) (sym v) is_expected))
 
-pub operand_why : (text : List ℕ) (number : ℕ) (line old new : List ℕ) (stop : ErrorPosition) (say : Diagnostic) (now : declared.ParserState) → IsStop line stop → Known now.version line (λ v. IsFirstStop v line stop) → StandsThere text number now
+pub operand_why : (text : List ℕ) (number : ℕ) (line old new : List ℕ) (stop : ErrorPosition) (say : Diagnostic) (now : declared.ParserState) → IsStop line stop → Known now.version line (λ v. IsFirstStop v line stop) → IsStateThere text number now
     → said_text say stop.found ≡ due_said stop.due stop.found → new ≡ old ++ stop_line stop (said_text say stop.found) → AddsWhy text fault.Operand number line old new
-operand_why text number line old new stop say now is known stands said e =
-    (stop_line stop (said_text say stop.found), (inr (inl (stop, say, is, refl)), λ s before wrong. (stop, known_there text number line now s (λ v. IsFirstStop v line stop) stands before wrong known, ap (stop_line stop) said)), e)
+operand_why text number line old new stop say now is known reached said e =
+    (stop_line stop (said_text say stop.found), (inr (inl (stop, say, is, refl)), λ s before wrong. (stop, known_there text number line now s (λ v. IsFirstStop v line stop) reached before wrong known, ap (stop_line stop) said)), e)
 
-pub no_operand_why : (text : List ℕ) (number : ℕ) (line old : List ℕ) (now : declared.ParserState) → Known now.version line (λ v. HasWords v line) → StandsThere text number now → AddsWhy text fault.Operand number line old old
-no_operand_why text number line old now known stands =
-    ([], (inl refl, λ s before wrong. absurd ((operand_by number s line fault.Operand number wrong refl).2 (known_there text number line now s (λ v. HasWords v line) stands before wrong known))), sym (append-nil old))
+pub no_operand_why : (text : List ℕ) (number : ℕ) (line old : List ℕ) (now : declared.ParserState) → Known now.version line (λ v. HasWords v line) → IsStateThere text number now → AddsWhy text fault.Operand number line old old
+no_operand_why text number line old now known reached =
+    ([], (inl refl, λ s before wrong. absurd ((operand_by number s line fault.Operand number wrong refl).2 (known_there text number line now s (λ v. HasWords v line) reached before wrong known))), sym (append-nil old))
 
 -- ---- A03 and A05: the last word
 

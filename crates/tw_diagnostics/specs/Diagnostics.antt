@@ -16,7 +16,7 @@ use Rattle.tw_diagnostics.specs.Labels.{IsLabelBefore, IsTwinBefore}
 use Rattle.tw_diagnostics.specs.LineRole.{stage_of, stage_text}
 use Rattle.tw_diagnostics.specs.Stops.{IsFirstStop, IsStop}
 use Rattle.tw_diagnostics.specs.declared.breaks.Break.{Break}
-use Rattle.tw_diagnostics.specs.declared.breaks.Break.TheVariants.{Unclosed, Escape, Behind}
+use Rattle.tw_diagnostics.specs.declared.breaks.Break.TheVariants.{Unclosed, Escape, AfterQuote}
 use Rattle.tw_diagnostics.specs.declared.due.Due.{Due}
 use Rattle.tw_diagnostics.specs.declared.error_position.Token.{Token}
 use Rattle.tw_diagnostics.specs.declared.error_position.Token.TheVariants as found
@@ -58,7 +58,7 @@ found_word (found.Broken broken) = []
 abbrev pub break_text : Break → List ℕ
 break_text Unclosed = codes "an unclosed quote"
 break_text Escape = codes "no such escape"
-break_text Behind = codes "a word right after a quoted text"
+break_text AfterQuote = codes "a word right after a quoted text"
 
 -- ---- what is printed of it
 
@@ -96,7 +96,7 @@ said_text (said.Limit limit) found = limit_text limit.now found
 
 -- returns the line for a position, with this text about it
 abbrev pub stop_line : ErrorPosition → List ℕ → List ℕ
-stop_line stop told = where_text stop ++ (told ++ codes "\n")
+stop_line stop printed = where_text stop ++ (printed ++ codes "\n")
 
 -- holds if nothing is printed of the line, or a diagnostic of a position in it, or a sentence about the whole
 abbrev pub IsLineReason : List ℕ → List ℕ → Type 0
@@ -114,8 +114,8 @@ IsBefore text number s =
     × (lines text ≡ before ++ others) × (number ≡ length before + 1) × LinesSay 1 at_start before said × (s ≡ situation said)
 
 -- holds for A01: the first word, what may begin the line there, and which instruction was meant
-abbrev pub TellsFirst : ParserState → List ℕ → List ℕ → Type 0
-TellsFirst s line reason =
+abbrev pub PrintsFirst : ParserState → List ℕ → List ℕ → Type 0
+PrintsFirst s line reason =
     (stop : ErrorPosition) × IsStop line stop × (stop.word ≡ 1)
     × (reason ≡ stop_line stop (expected_text (stage_text (stage_of s.stage)) stop.found ++ first_hint (stage_of s.stage) s.version (found_word stop.found)))
 
@@ -125,31 +125,31 @@ due_said None found = too_many_text found
 due_said (Some due) found = expected_text (due_text due) found ++ word_hint (Some due) (found_word found)
 
 -- holds for A02: the first word with which the line doesn't continue as a statement, or its end if it has too few words
-abbrev pub TellsOperand : ParserState → List ℕ → List ℕ → Type 0
-TellsOperand s line reason = (stop : ErrorPosition) × IsFirstStop s.version line stop × (reason ≡ stop_line stop (due_said stop.due stop.found))
+abbrev pub PrintsOperand : ParserState → List ℕ → List ℕ → Type 0
+PrintsOperand s line reason = (stop : ErrorPosition) × IsFirstStop s.version line stop × (reason ≡ stop_line stop (due_said stop.due stop.found))
 
 -- ---- by the line's last word, which is the goal of a skip
 
 -- holds if this is printed of the line's last word, provided that the line has words
-abbrev pub TellsLast : List ℕ → (ErrorPosition → List ℕ → Type 0) → List ℕ → Type 0
-TellsLast line IsSaid reason =
+abbrev pub PrintsLast : List ℕ → (ErrorPosition → List ℕ → Type 0) → List ℕ → Type 0
+PrintsLast line IsSaid reason =
     (words : List Word) → IsLine words line → words ≢ []
     → (stop : ErrorPosition) × (text : List ℕ) × IsStop line stop × (stop.word ≡ length words) × IsSaid stop text × (reason ≡ stop_line stop text)
 
 -- holds for A03: there is no such label
-abbrev pub TellsUnknown : List ℕ → List ℕ → Type 0
-TellsUnknown line reason = TellsLast line (λ stop text. text ≡ expected_text (codes "a label of this procedure") stop.found) reason
+abbrev pub PrintsUnknown : List ℕ → List ℕ → Type 0
+PrintsUnknown line reason = PrintsLast line (λ stop text. text ≡ expected_text (codes "a label of this procedure") stop.found) reason
 
 -- holds for A05, with the line of the label that is named
-abbrev pub TellsBackward : List ℕ → ℕ → List ℕ → List ℕ → Type 0
-TellsBackward text number line reason = TellsLast line
+abbrev pub PrintsBackward : List ℕ → ℕ → List ℕ → List ℕ → Type 0
+PrintsBackward text number line reason = PrintsLast line
     (λ stop said. (at : Option ℕ) × IsLabelBefore text number (found_word stop.found) at × (said ≡ expected_text (codes "a label after this line") stop.found ++ line_text at)) reason
 
 -- ---- by the line's first word
 
 -- holds for A04, with the earlier line that has the same label
-abbrev pub TellsTwice : List ℕ → ℕ → List ℕ → List ℕ → Type 0
-TellsTwice text number line reason =
+abbrev pub PrintsTwice : List ℕ → ℕ → List ℕ → List ℕ → Type 0
+PrintsTwice text number line reason =
     (stop : ErrorPosition) × (at : Option ℕ) × IsStop line stop × (stop.word ≡ 1) × IsTwinBefore text number (before_colon (found_word stop.found)) at
     × (reason ≡ stop_line stop (expected_text (codes "a new label") stop.found ++ line_text at))
 
@@ -179,19 +179,19 @@ abbrev pub IsPastFirst : List ℕ → ErrorPosition → Bool → List ℕ → Ty
 IsPastFirst line first true reason = reason ≡ stop_line first (limit_text (codes "64 bytes") first.found)
 IsPastFirst line first false reason = IsPast line (found_word first.found) reason
 
-abbrev pub TellsPast : List ℕ → List ℕ → Type 0
-TellsPast line reason = (first : ErrorPosition) × IsStop line first × (first.word ≡ 1) × IsPastFirst line first (is_long_label (before_colon (found_word first.found))) reason
+abbrev pub PrintsPast : List ℕ → List ℕ → Type 0
+PrintsPast line reason = (first : ErrorPosition) × IsStop line first × (first.word ≡ 1) × IsPastFirst line first (is_long_label (before_colon (found_word first.found))) reason
 
 -- ---- each row is a fault
 
 -- holds for the line with this number
 abbrev pub IsReasonOf : FaultNo → List ℕ → ℕ → List ℕ → List ℕ → Type 0
-IsReasonOf fault.Word text number line reason = (s : ParserState) → IsBefore text number s → LineFault number s line fault.Word number → TellsFirst s line reason
-IsReasonOf fault.Operand text number line reason = (s : ParserState) → IsBefore text number s → LineFault number s line fault.Operand number → TellsOperand s line reason
-IsReasonOf fault.UnknownLabel text number line reason = TellsUnknown line reason
-IsReasonOf fault.LabelTwice text number line reason = TellsTwice text number line reason
-IsReasonOf fault.LabelNotForward text number line reason = TellsBackward text number line reason
-IsReasonOf fault.Limit text number line reason = TellsPast line reason
+IsReasonOf fault.Word text number line reason = (s : ParserState) → IsBefore text number s → LineFault number s line fault.Word number → PrintsFirst s line reason
+IsReasonOf fault.Operand text number line reason = (s : ParserState) → IsBefore text number s → LineFault number s line fault.Operand number → PrintsOperand s line reason
+IsReasonOf fault.UnknownLabel text number line reason = PrintsUnknown line reason
+IsReasonOf fault.LabelTwice text number line reason = PrintsTwice text number line reason
+IsReasonOf fault.LabelNotForward text number line reason = PrintsBackward text number line reason
+IsReasonOf fault.Limit text number line reason = PrintsPast line reason
 IsReasonOf fault.NoMemory text number line reason = reason ≡ []
 
 -- holds if this is why the line with this number is rejected with a fault

@@ -61,8 +61,8 @@ found (Err flaw) = None
 -- ---- one word more
 
 -- returns the form of the operand at a place after a name
-abbrev pub form_behind : Version → List ℕ → ℕ → Option Form
-form_behind version name place = option_and_then (λ o. slice_get (forms_of o) place) (opcode_in version name)
+abbrev pub form_at_place : Version → List ℕ → ℕ → Option Form
+form_at_place version name place = option_and_then (λ o. slice_get (forms_of o) place) (opcode_in version name)
 
 abbrev pub only_if : Bool → Read → Option Read
 only_if b next = if b then Some next else None
@@ -85,7 +85,7 @@ after_mode (Some Write) = Some read.RightMode
 
 -- returns what has been read with this word
 abbrev pub after : Version → Read → Word → Option Read
-after version (read.Operands name place) w = after_operand version name place w (form_behind version name.now place)
+after version (read.Operands name place) w = after_operand version name place w (form_at_place version name.now place)
 after version read.Version w = only_if (has_form (natural_in 1 2 w)) read.Whole
 after version read.Head w = only_if (has_form (kind_in w)) read.Params
 after version read.Params w = after_mode (found (mode_in w))
@@ -102,7 +102,7 @@ ends_at (Some form.Args) = true
 ends_at (Some f) = false
 
 abbrev pub may_end : Version → Read → Bool
-may_end version (read.Operands name place) = ends_at (form_behind version name.now place)
+may_end version (read.Operands name place) = ends_at (form_at_place version name.now place)
 may_end version read.Version = false
 may_end version read.Head = false
 may_end version read.Params = true

@@ -54,8 +54,8 @@ abbrev pub version_after : Version → LineRole → Version
 version_after now (says.Version version) = version
 version_after now s = now
 
-abbrev pub behind : declared.ParserState → LineRole → declared.ParserState
-behind now s = record { version = version_after now.version s; stage = stage_after now.stage s }
+abbrev pub advanced : declared.ParserState → LineRole → declared.ParserState
+advanced now s = record { version = version_after now.version s; stage = stage_after now.stage s }
 
 -- ---- the first head
 

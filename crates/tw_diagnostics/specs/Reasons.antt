@@ -28,14 +28,14 @@ use Rattle.tw_diagnostics.specs.declared.meeting.Meeting.{Meeting}
 
 -- ---- V01 to V04, V10, V15
 
-abbrev pub told_line : Option RegisterCheck → List ℕ
-told_line None = []
-told_line (Some a) = asked_line a
+abbrev pub check_line : Option RegisterCheck → List ℕ
+check_line None = []
+check_line (Some a) = asked_line a
 
 -- returns the line of the first unmet check with this code, if a typing is known
 abbrev pub vain_line : ℕ → List Procedure → Procedure → ℕ → Instr → Option Typing → List ℕ
 vain_line number program p place i None = []
-vain_line number program p place i (Some typing) = told_line (first_unmet number (checks_at program p place i typing))
+vain_line number program p place i (Some typing) = check_line (first_unmet number (checks_at program p place i typing))
 
 -- ---- V07
 
@@ -58,8 +58,8 @@ meeting_line lines procedure m =
     codes "d" ++ (decimal m.difference.register ++ (codes " is " ++ (side_text lines procedure m.first m.difference.first
     ++ (codes ", " ++ (side_text lines procedure m.second m.difference.second ++ codes "\n")))))
 
-abbrev pub TellsMeeting : List (List ℕ) → List Procedure → Procedure → ℕ → List Typing → ℕ → List ℕ → Type 0
-TellsMeeting lines program p procedure typings place text = (m : Meeting) × IsMeeting program p typings place m × (text ≡ meeting_line lines procedure m)
+abbrev pub PrintsMeeting : List (List ℕ) → List Procedure → Procedure → ℕ → List Typing → ℕ → List ℕ → Type 0
+PrintsMeeting lines program p procedure typings place text = (m : Meeting) × IsMeeting program p typings place m × (text ≡ meeting_line lines procedure m)
 
 -- holds if no two paths leave different rights here
 abbrev pub HasNoMeeting : List Procedure → Procedure → List Typing → ℕ → Type 0
@@ -71,8 +71,8 @@ HasNoMeeting program p typings place = (m : Meeting) → IsMeeting program p typ
 abbrev pub changed_line : Difference → List ℕ
 changed_line d = held_text d.register (held.Right d.first) ++ (codes ", required: " ++ (holding_text d.second ++ codes ", as where the loop begins\n"))
 
-abbrev pub TellsChange : Procedure → List Typing → ℕ → List ℕ → Type 0
-TellsChange p typings place text = (first : ℕ) × (d : Difference) × IsChange p.code typings first place d × (text ≡ changed_line d)
+abbrev pub PrintsChange : Procedure → List Typing → ℕ → List ℕ → Type 0
+PrintsChange p typings place text = (first : ℕ) × (d : Difference) × IsChange p.code typings first place d × (text ≡ changed_line d)
 
 -- holds if no loop that ends here changes a register
 abbrev pub HasNoChange : Procedure → List Typing → ℕ → Type 0
@@ -131,8 +131,8 @@ IsReason rejection.RightNotEmpty lines program p procedure place i typings text 
 IsReason rejection.WrongRight lines program p procedure place i typings text = text ≡ vain_line 4 program p place i (slice_get typings place)
 IsReason rejection.SkipLeavesBlock lines program p procedure place i typings text = text ≡ goal_line (place + 1 + skip_of (flow_of i)) (length p.code)
 IsReason rejection.Unmatched lines program p procedure place i typings text = text ≡ unmatched_line (flow_of i)
-IsReason rejection.TypingsDiffer lines program p procedure place i typings text = TellsMeeting lines program p procedure typings place text ⊎ ((text ≡ []) × HasNoMeeting program p typings place)
-IsReason rejection.TypingChanged lines program p procedure place i typings text = TellsChange p typings place text ⊎ ((text ≡ []) × HasNoChange p typings place)
+IsReason rejection.TypingsDiffer lines program p procedure place i typings text = PrintsMeeting lines program p procedure typings place text ⊎ ((text ≡ []) × HasNoMeeting program p typings place)
+IsReason rejection.TypingChanged lines program p procedure place i typings text = PrintsChange p typings place text ⊎ ((text ≡ []) × HasNoChange p typings place)
 IsReason rejection.Unreached lines program p procedure place i typings text = text ≡ codes "no path leads here\n"
 IsReason rejection.RightLeft lines program p procedure place i typings text = text ≡ vain_line 10 program p place i (slice_get typings place)
 IsReason rejection.MisplacedRet lines program p procedure place i typings text = text ≡ misplaced_line (flow_of i)
@@ -149,13 +149,13 @@ abbrev pub AddsReason : VerifyError → List (List ℕ) → List Procedure → P
 AddsReason which lines program p procedure place i typings old new = (text : List ℕ) × IsReason which lines program p procedure place i typings text × (new ≡ old ++ text)
 
 -- holds if this is printed for the rejected place, by the typings that are known of its procedure
-abbrev pub TellsReason : VerifyError → List (List ℕ) → List Procedure → ℕ → ℕ → List ℕ → Type 0
-TellsReason which lines program procedure place text = (p : Procedure) (i : Instr) → slice_get program procedure ≡ Some p → slice_get p.code place ≡ Some i
+abbrev pub PrintsReason : VerifyError → List (List ℕ) → List Procedure → ℕ → ℕ → List ℕ → Type 0
+PrintsReason which lines program procedure place text = (p : Procedure) (i : Instr) → slice_get program procedure ≡ Some p → slice_get p.code place ≡ Some i
     → (typings : List Typing) × AreFound program (verify_error_code which) procedure procedure typings × IsReason which lines program p procedure place i typings text
 
 -- holds if that is added to the output
 abbrev pub AddsDiagnostic : VerifyError → List (List ℕ) → List Procedure → ℕ → ℕ → List ℕ → List ℕ → Type 0
-AddsDiagnostic which lines program procedure place old new = (text : List ℕ) × TellsReason which lines program procedure place text × (new ≡ old ++ text)
+AddsDiagnostic which lines program procedure place old new = (text : List ℕ) × PrintsReason which lines program procedure place text × (new ≡ old ++ text)
 
 -- ---- V16
 

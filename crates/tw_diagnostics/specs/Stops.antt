@@ -19,7 +19,7 @@ column_after front = count_by begins_character front + 1
 -- ---- words
 
 -- the line's first words, then a gap or none, then the rest; `front` is all before the rest
-pub record Stands (line : List ℕ) (before : List Word) (front rest : List ℕ) : Type 0 where
+pub record IsReached (line : List ℕ) (before : List Word) (front rest : List ℕ) : Type 0 where
   pub parts : line ≡ front ++ rest
   pub after : List ℕ
   pub words : AreFirstWords before line after
@@ -38,7 +38,7 @@ pub record IsStop (line : List ℕ) (stop : ErrorPosition) : Type 0 where
   pub before : List Word
   pub front : List ℕ
   pub rest : List ℕ
-  pub stands : Stands line before front rest
+  pub reached : IsReached line before front rest
   pub word : stop.word ≡ length before + 1
   pub column : stop.column ≡ column_after front
   pub found : IsFound stop.found rest
@@ -62,6 +62,6 @@ Ends version before rest (found.Broken broken) = Unit {0}
 
 -- the first position at which the line doesn't continue as a statement
 pub record IsFirstStop (version : Version) (line : List ℕ) (stop : ErrorPosition) : Type 0 where
-  pub stands : IsStop line stop
-  pub begin : Begin version stands.before
-  pub ends : Ends version stands.before stands.rest stop.found
+  pub reached : IsStop line stop
+  pub begin : Begin version reached.before
+  pub ends : Ends version reached.before reached.rest stop.found

@@ -43,11 +43,11 @@ held_text register held.Twice = codes "d" ++ (decimal register ++ codes " is nam
 -- ---- what is required
 
 -- returns the mode of a right that a parameter accepts; a task that waits takes any read for a closed one
-abbrev pub stand_in_text : Bool → Mode → List ℕ
-stand_in_text waits Val = codes "val"
-stand_in_text waits Closed = if waits then codes "closed or ref" else codes "closed"
-stand_in_text waits Ref = codes "closed or ref"
-stand_in_text waits Write = codes "write"
+abbrev pub requirement_text : Bool → Mode → List ℕ
+requirement_text waits Val = codes "val"
+requirement_text waits Closed = if waits then codes "closed or ref" else codes "closed"
+requirement_text waits Ref = codes "closed or ref"
+requirement_text waits Write = codes "write"
 
 abbrev pub wanted_text : Requirement → List ℕ
 wanted_text wanted.AnyScalar = codes "int or text"
@@ -64,7 +64,7 @@ wanted_text wanted.AnyContainerWrite = codes "write of a container"
 wanted_text wanted.AnyRead = codes "closed or ref"
 wanted_text (wanted.ReadOf None) = codes "closed or ref"
 wanted_text (wanted.ReadOf (Some ty)) = codes "closed or ref " ++ type_text ty
-wanted_text (wanted.Param waits param) = stand_in_text waits param.mode ++ (codes " " ++ type_text param.ty)
+wanted_text (wanted.Param waits param) = requirement_text waits param.mode ++ (codes " " ++ type_text param.ty)
 
 -- returns the line of an unmet check
 abbrev pub asked_line : RegisterCheck → List ℕ

@@ -13,7 +13,7 @@ pub(crate) enum Break {
     /// A `\` precedes something that it can't escape.
     Escape,
     /// Something directly follows the second quote, so that no word ends there.
-    Behind,
+    AfterQuote,
 }
 
 fn is_hex(byte: u8) -> bool {
@@ -39,7 +39,7 @@ pub(crate) fn break_of(alloc: Global, here: &[u8]) -> Result<Break, AllocError>
     requires { IsUtf8 here.now }
 {
     if quoted_text(alloc, here)?.is_some() {
-        return Ok(Break::Behind);
+        return Ok(Break::AfterQuote);
     }
     let inside = match here {
         [_, inside @ ..] => inside,

@@ -55,7 +55,7 @@ fn break_text(broken: Break) -> &'static str
     match broken {
         Break::Unclosed => "an unclosed quote",
         Break::Escape => "no such escape",
-        Break::Behind => "a word right after a quoted text",
+        Break::AfterQuote => "a word right after a quoted text",
     }
 }
 

@@ -68,7 +68,7 @@ fn stop_with<'a>(
 ) -> ErrorPosition<'a>
     requires { before ≤ length line.now }
     ensures word { result.word ≡ before + 1 }
-    ensures stands { (words : List AWord) (after : List ℕ) → AreFirstWords words line.entry.now after → IsAfterGap after here.entry.now
+    ensures reached { (words : List AWord) (after : List ℕ) → AreFirstWords words line.entry.now after → IsAfterGap after here.entry.now
         → before ≡ length words → IsFound found.entry here.entry.now → IsStop line.entry.now result }
     ensures first { (version : AVersion) (words : List AWord) (after : List ℕ) → AreFirstWords words line.entry.now after → IsAfterGap after here.entry.now
         → before ≡ length words → IsFound found.entry here.entry.now → Begin version words → Ends version words here.entry.now found.entry
@@ -99,7 +99,7 @@ fn end_stop<'a>(
     ahead: LineProgress<'_>,
 ) -> Option<ErrorPosition<'a>>
     requires { before ≤ length line.now }
-    ensures stands { (words : List AWord) (after : List ℕ) → AreFirstWords words line.entry.now after → IsAfterGap after here.entry.now
+    ensures reached { (words : List AWord) (after : List ℕ) → AreFirstWords words line.entry.now after → IsAfterGap after here.entry.now
         → before ≡ length words → IsBlank here.entry.now → IfSome result (IsStop line.entry.now) }
     ensures first { (words : List AWord) (after : List ℕ) → AreFirstWords words line.entry.now after → IsAfterGap after here.entry.now
         → before ≡ length words → IsBlank here.entry.now → Begin version words → (may_end version ahead.entry.read ≡ false → Ends version words here.entry.now found.End)
@@ -123,7 +123,7 @@ fn position_after<'a>(
 ) -> Result<Option<ErrorPosition<'a>>, AllocError>
     requires utf8 { IsUtf8 after.now }
     requires first { IsFirstWord (Bare first.now) line.now after.now }
-    ensures stands { IfOk result (λ stop. IfSome stop (IsStop line.entry.now)) }
+    ensures reached { IfOk result (λ stop. IfSome stop (IsStop line.entry.now)) }
     ensures first { ask ≡ Ask.Form → (expected : First) → IsExpected version expected first.entry.now
         → IfOk result (λ stop. MatchOption stop (HasWords version line.entry.now) (IsFirstStop version line.entry.now)) }
 {
@@ -134,7 +134,7 @@ fn position_after<'a>(
         let here = without_gap(rest);
         let due = ahead.due(version);
         match next_word(alloc, here)? {
-            Next::Found(word, after) => match ahead.behind(ask, version, &word) {
+            Next::Found(word, after) => match ahead.advanced(ask, version, &word) {
                 Some(more) => {
                     ahead = more;
                     rest = after;
@@ -169,7 +169,7 @@ fn found_in<'a>(alloc: Global, here: &'a [u8]) -> Result<Token<'a>, AllocError>
 /// Returns the position of the first word in a line's bytes.
 fn first_word<'a>(alloc: Global, line: &'a [u8]) -> Result<ErrorPosition<'a>, AllocError>
     requires { IsUtf8 line.now }
-    ensures stands { IfOk result (λ stop. IsStop line.entry.now stop) }
+    ensures reached { IfOk result (λ stop. IsStop line.entry.now stop) }
     ensures word { IfOk result (λ stop. stop.word ≡ 1) }
 {
     let here = without_gap(line);
@@ -179,7 +179,7 @@ fn first_word<'a>(alloc: Global, line: &'a [u8]) -> Result<ErrorPosition<'a>, Al
 
 /// Returns the position of a line's first word. Call it if the line stops there.
 pub(crate) fn first_stop<'a>(alloc: Global, line: &'a str) -> Result<ErrorPosition<'a>, AllocError>
-    ensures stands { IfOk result (λ stop. IsStop line.entry.now stop) }
+    ensures reached { IfOk result (λ stop. IsStop line.entry.now stop) }
     ensures word { IfOk result (λ stop. stop.word ≡ 1) }
 {
     first_word(alloc, line.as_bytes())
@@ -196,7 +196,7 @@ fn word_stop<'a>(
 ) -> Result<Option<ErrorPosition<'a>>, AllocError>
     requires utf8 { IsUtf8 after.now }
     requires first { IsFirstWord (seen word.now) line.now after.now }
-    ensures stands { IfOk result (λ stop. IfSome stop (IsStop line.entry.now)) }
+    ensures reached { IfOk result (λ stop. IfSome stop (IsStop line.entry.now)) }
     ensures first { ask ≡ Ask.Form → (expected : First) (word rest : List ℕ) → IsFirstWord (Bare word) line.entry.now rest → IsExpected version expected word
         → IfOk result (λ stop. MatchOption stop (HasWords version line.entry.now) (IsFirstStop version line.entry.now)) }
 {
@@ -214,7 +214,7 @@ fn bytes_stop<'a>(
     line: &'a [u8],
 ) -> Result<Option<ErrorPosition<'a>>, AllocError>
     requires { IsUtf8 line.now }
-    ensures stands { IfOk result (λ stop. IfSome stop (IsStop line.entry.now)) }
+    ensures reached { IfOk result (λ stop. IfSome stop (IsStop line.entry.now)) }
     ensures first { ask ≡ Ask.Form → (expected : First) (word rest : List ℕ) → IsFirstWord (Bare word) line.entry.now rest → IsExpected version expected word
         → IfOk result (λ stop. MatchOption stop (HasWords version line.entry.now) (IsFirstStop version line.entry.now)) }
 {
@@ -232,7 +232,7 @@ pub(crate) fn line_stop<'a>(
     version: Version,
     line: &'a str,
 ) -> Result<Option<ErrorPosition<'a>>, AllocError>
-    ensures stands { IfOk result (λ stop. IfSome stop (IsStop line.entry.now)) }
+    ensures reached { IfOk result (λ stop. IfSome stop (IsStop line.entry.now)) }
     ensures first { ask ≡ Ask.Form → (expected : First) (word rest : List ℕ) → IsFirstWord (Bare word) line.entry.now rest → IsExpected version expected word
         → IfOk result (λ stop. MatchOption stop (HasWords version line.entry.now) (IsFirstStop version line.entry.now)) }
 {
@@ -242,7 +242,7 @@ pub(crate) fn line_stop<'a>(
 /// Returns the position of the last word in a line's bytes, if there is one.
 fn last_word<'a>(alloc: Global, line: &'a [u8]) -> Result<Option<ErrorPosition<'a>>, AllocError>
     requires { IsUtf8 line.now }
-    ensures stands { IfOk result (λ stop. IfSome stop (IsStop line.entry.now)) }
+    ensures reached { IfOk result (λ stop. IfSome stop (IsStop line.entry.now)) }
     ensures last { IfOk result (λ stop. (words : List AWord) → IsLine words line.entry.now → MatchOption stop (words ≡ []) (λ s. s.word ≡ length words)) }
 {
     let mut last = None;
@@ -267,7 +267,7 @@ pub(crate) fn last_stop<'a>(
     alloc: Global,
     line: &'a str,
 ) -> Result<Option<ErrorPosition<'a>>, AllocError>
-    ensures stands { IfOk result (λ stop. IfSome stop (IsStop line.entry.now)) }
+    ensures reached { IfOk result (λ stop. IfSome stop (IsStop line.entry.now)) }
     ensures last { IfOk result (λ stop. (words : List AWord) → IsLine words line.entry.now → MatchOption stop (words ≡ []) (λ s. s.word ≡ length words)) }
 {
     last_word(alloc, line.as_bytes())

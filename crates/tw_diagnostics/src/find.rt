@@ -152,7 +152,7 @@ fn is_left(typing: &Typing, register: u8) -> RegisterCheck
 }
 
 /// Returns the first unmet check of RET that `count` right registers from `register` on are empty.
-#[tactic(auto, using(crate::proofs::Telling::left_more))]
+#[tactic(auto, using(crate::proofs::FirstUnmet::left_more))]
 fn unmet_at_end(number: u8, count: u8, register: u8, typing: &Typing) -> Option<RegisterCheck>
     requires { register + count ≤ 16 }
     ensures { result ≡ first_unmet number (checks_left count register typing.now) }

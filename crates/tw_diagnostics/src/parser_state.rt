@@ -9,7 +9,7 @@ ghost use Rattle.tw_lexer.specs.Words.{Bare};
 ghost use Rattle.tw_asm.specs.Fault.{LineSays, LinesSay, ParserState as Standing, at_start, situation};
 ghost use Rattle.tw_asm.specs.Statement.{Say, Statement, version_by};
 ghost use Rattle.tw_code.specs.declared.version.Version.{Version as AVersion};
-ghost use Rattle.tw_diagnostics.specs.LineRole.{HasNoHead, IsFirstHead, behind, is_head, says_of, situation_of, stage_after, stage_text, version_after};
+ghost use Rattle.tw_diagnostics.specs.LineRole.{HasNoHead, IsFirstHead, advanced, is_head, says_of, situation_of, stage_after, stage_text, version_after};
 
 use std::alloc::{AllocError, Global};
 use tw_code::Version;
@@ -169,8 +169,8 @@ fn version_after_line(version: Version, says: LineRole) -> Version
 }
 
 /// Returns the parser's state after a line with this role.
-fn behind(situation: ParserState, says: LineRole) -> ParserState
-    ensures { result ≡ behind situation says }
+fn advanced(situation: ParserState, says: LineRole) -> ParserState
+    ensures { result ≡ advanced situation says }
 {
     ParserState {
         version: version_after_line(situation.version, says),
@@ -187,18 +187,18 @@ pub(crate) fn situation_before(
     ensures { IfOk result (λ s. (before others : List (List ℕ)) (said : List (Option Statement)) → lines text.now ≡ before ++ others → number ≡ length before + 1
         → LinesSay 1 at_start before said → s ≡ situation_of (situation said)) }
 {
-    let mut standing = ParserState {
+    let mut current = ParserState {
         version: Version::One,
         stage: Stage::Start,
     };
     for (index, line) in text.lines().enumerate() {
         if index + 1 >= number {
-            return Ok(standing);
+            return Ok(current);
         }
         let says = line_role(alloc, line)?;
-        standing = behind(standing, says);
+        current = advanced(current, says);
     }
-    Ok(standing)
+    Ok(current)
 }
 
 fn is_head(says: LineRole) -> bool

@@ -4,7 +4,7 @@ ghost use Rattle.std.specs.Prelude.{◌≡◌, ◌<◌, ◌+◌, ◌-◌, ◌++�
 ghost use Rattle.tw_code.specs.format.Program.{IsInstr, IsProcedure};
 ghost use Rattle.tw_code.specs.machine.Arguments.{params_of};
 ghost use Rattle.tw_verify.specs.declared.rejection.VerifyError.TheVariants as rejection;
-ghost use Rattle.tw_diagnostics.specs.Reasons.{AddsReason, AddsDiagnostic, arguments_text, count_line, goal_line, misplaced_line, named_by, outside_text, skip_of, told_line, unknown_line, unmatched_line, vain_line};
+ghost use Rattle.tw_diagnostics.specs.Reasons.{AddsReason, AddsDiagnostic, arguments_text, count_line, goal_line, misplaced_line, named_by, outside_text, skip_of, check_line, unknown_line, unmatched_line, vain_line};
 
 use crate::find::unmet_at;
 use crate::loops::changed_at;
@@ -24,7 +24,7 @@ fn put_unmet(
     out: &mut Vec<u8>,
     check: Option<RegisterCheck>,
 ) -> Result<(), AllocError>
-    ensures { OnOk result (out.new.items ≡ out.old.items ++ told_line check) }
+    ensures { OnOk result (out.new.items ≡ out.old.items ++ check_line check) }
 {
     match check {
         Some(check) => put_check(alloc, out, &check),

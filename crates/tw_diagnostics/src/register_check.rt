@@ -2,7 +2,7 @@
 
 ghost use Rattle.std.specs.Prelude.{◌≡◌, ◌<◌, ◌++◌, OnOk, codes, decimal, slice_get};
 ghost use Rattle.tw_diagnostics.specs.RegisterCheck.{are_two, has_type, holds, is_declared, is_empty, is_of, scalar_requirement};
-ghost use Rattle.tw_diagnostics.specs.Words.{asked_line, held_text, scalar_text, stand_in_text, type_text, wanted_text};
+ghost use Rattle.tw_diagnostics.specs.Words.{asked_line, held_text, scalar_text, requirement_text, type_text, wanted_text};
 
 use crate::rights::{container_word, put_right, put_type, scalar_word};
 use std::alloc::{AllocError, Global};
@@ -208,8 +208,8 @@ fn scalar_text(ty: Option<Scalar>) -> &'static str
     }
 }
 
-fn stand_in_text(waits: bool, mode: Mode) -> &'static str
-    ensures { result.now ≡ stand_in_text waits mode }
+fn requirement_text(waits: bool, mode: Mode) -> &'static str
+    ensures { result.now ≡ requirement_text waits mode }
 {
     match mode {
         Mode::Val => "val",
@@ -248,7 +248,7 @@ pub(crate) fn put_requirement(out: &mut Vec<u8>, wanted: Requirement) -> Result<
         Requirement::ReadOf(Some(ty)) => put_of_type(out, "closed or ref", ty),
         Requirement::Param(waits, param) => put_of_type(
             out,
-            stand_in_text(waits, param.mode),
+            requirement_text(waits, param.mode),
             param.ty,
         ),
     }

@@ -215,7 +215,7 @@ impl<'a> LineProgress<'a> {
 
     /// Returns the progress after one more word, if that may come here.
     #[rattlefmt::skip]
-    pub(crate) fn behind(self, ask: Ask, version: Version, word: &Word<'_>) -> Option<LineProgress<'a>>
+    pub(crate) fn advanced(self, ask: Ask, version: Version, word: &Word<'_>) -> Option<LineProgress<'a>>
         ensures { ask ≡ asked.Form → option_map (λ a. a.read) result ≡ after version self.entry.read (seen word.now) }
     {
         match self.read {

@@ -99,7 +99,7 @@ pub(crate) fn reads_member_of(container: Option<RightType>, member: Option<Right
 }
 
 /// Returns whether a parameter accepts a right; a `closed` one accepts any read, if the task waits for its data.
-fn stands_for(waits: bool, param: Param, right: RightType) -> bool
+fn fits_param(waits: bool, param: Param, right: RightType) -> bool
     ensures { result ≡ may_stand_for waits param right }
 {
     let suits = match param.mode {
@@ -116,7 +116,7 @@ pub(crate) fn may_stand_for(waits: bool, param: Param, right: Option<RightType>)
     ensures { result ≡ passes (may_stand_for waits param) right }
 {
     match right {
-        Some(right) => stands_for(waits, param, right),
+        Some(right) => fits_param(waits, param, right),
         None => false,
     }
 }

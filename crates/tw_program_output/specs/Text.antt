@@ -7,7 +7,7 @@ use Rattle.tw_code.specs.declared.procedure.Procedure.{Procedure}
 use Rattle.tw_symbols.specs.Registers.{IsWithName}
 use Rattle.tw_symbols.specs.Symbols.{AreNames, name_at}
 use Rattle.tw_symbols.specs.Expansion.{ExpandsTo}
-use Rattle.tw_diagnostics.specs.Reasons.{TellsReason, shape_line}
+use Rattle.tw_diagnostics.specs.Reasons.{PrintsReason, shape_line}
 use Rattle.tw_diagnostics.specs.LineRole.{IsFirstHead}
 use Rattle.tw_lexer.specs.Shown.{shortened}
 use Rattle.tw_verify.specs.declared.rejection.VerifyError.{VerifyError}
@@ -50,7 +50,7 @@ abbrev pub ArePlaceDetails : List ℕ → VerifyError → List Procedure → ℕ
 ArePlaceDetails text which program procedure place more =
     (plain : List ℕ) × (number : ℕ) × (line : List ℕ) × (numbers : List (List ℕ)) × (reason : List ℕ) × (told : List ℕ) × (names : List (List ℕ))
     × ExpandsTo text plain × ComesFrom plain procedure place number × IsLineOf text number line
-    × AreOrigins plain program numbers × TellsReason which numbers program procedure place reason × IsWithName text number reason told × AreNames text names
+    × AreOrigins plain program numbers × PrintsReason which numbers program procedure place reason × IsWithName text number reason told × AreNames text names
     × (more ≡ line_in_text (name_at names procedure) number line ++ told)
 
 -- holds for the line that begins main, and what is wrong with its shape

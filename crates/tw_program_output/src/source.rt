@@ -8,7 +8,7 @@ ghost use Rattle.tw_program_output.specs.Source.{IsSourceAt, MayBeSourceAt, plai
 ghost use Rattle.tw_symbols.specs.Registers.{IsWithName};
 ghost use Rattle.tw_symbols.specs.Expansion.{ExpandsTo};
 ghost use Rattle.tw_symbols.specs.Symbols.{AreSymbols};
-ghost use Rattle.tw_diagnostics.specs.Reasons.{TellsReason, shape_line};
+ghost use Rattle.tw_diagnostics.specs.Reasons.{PrintsReason, shape_line};
 ghost use Rattle.tw_diagnostics.specs.LineRole.{IsFirstHead};
 ghost use Rattle.tw_program_output.specs.Text.{IsBehind, IsLineOf, AreMainDetails, ArePlaceDetails, AreTextDetails, in_name, line_in_text, text_line};
 
@@ -145,7 +145,7 @@ fn put_diagnostic(
     number: usize,
     refused: &Refused,
 ) -> Result<(), AllocError>
-    ensures { OnOk result ((reason : List ℕ) × (told : List ℕ) × TellsReason refused.now.no source.now.lines.procedures refused.now.program.procedures refused.now.procedure refused.now.place reason
+    ensures { OnOk result ((reason : List ℕ) × (told : List ℕ) × PrintsReason refused.now.no source.now.lines.procedures refused.now.program.procedures refused.now.procedure refused.now.place reason
         × IsWithName source.now.text.now number reason told × (out.new.items ≡ out.old.items ++ told)) }
 {
     let mut reason = Vec::new(alloc);

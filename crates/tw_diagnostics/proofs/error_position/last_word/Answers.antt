@@ -2,7 +2,7 @@ use Rattle.tw_lexer.specs.declared.word.Next.TheVariants as next
 use Rattle.tw_diagnostics.proofs.ReasonNames.{IsFirstWord, seen}
 use Rattle.tw_lexer.proofs.FirstWords.{behind_gap}
 use Rattle.tw_lexer.proofs.Texts.{rest_utf8}
-use Rattle.tw_diagnostics.proofs.Standing.{broken_apart, last_of, one_passed, one_room}
+use Rattle.tw_diagnostics.proofs.LastWords.{broken_apart, last_of, one_passed, one_room}
 use Rattle.tw_diagnostics.proofs.error_position.last_word.Goals as goal
 
 pub words-preserved-in-Found : goal.words-preserved-in-Found
@@ -14,7 +14,7 @@ words-preserved-in-Found c =
       utf8 = rest_utf8 (seen c.in-Found.field-0) c.words.rest.now c.in-Found.after.now first c.words.invariant.utf8;
       passed = one_passed (seen c.in-Found.field-0) c.args.line.now c.words.rest.now c.in-Found.after.now c.words.before passed first;
       room = one_room (seen c.in-Found.field-0) c.args.line.now c.words.rest.now c.in-Found.after.now c.words.before c.words.invariant.room first;
-      last = c.stop_with.ensures.stands passed.0 c.words.rest.now passed.1 c.without_gap-here.ensures.after passed.2 (c.word_found.ensures (seen c.in-Found.field-0) here);
+      last = c.stop_with.ensures.reached passed.0 c.words.rest.now passed.1 c.without_gap-here.ensures.after passed.2 (c.word_found.ensures (seen c.in-Found.field-0) here);
       count = c.stop_with.ensures.word;
     }
 
@@ -27,7 +27,7 @@ words-preserved-in-Found-2 c =
       utf8 = rest_utf8 (seen c.in-Found.field-0) c.words.rest.now c.in-Found.after.now first c.words.invariant.utf8;
       passed = one_passed (seen c.in-Found.field-0) c.args.line.now c.words.rest.now c.in-Found.after.now c.words.before passed first;
       room = one_room (seen c.in-Found.field-0) c.args.line.now c.words.rest.now c.in-Found.after.now c.words.before c.words.invariant.room first;
-      last = c.stop_with.ensures.stands passed.0 c.words.rest.now passed.1 c.without_gap-here.ensures.after passed.2 (c.word_found.ensures (seen c.in-Found.field-0) here);
+      last = c.stop_with.ensures.reached passed.0 c.words.rest.now passed.1 c.without_gap-here.ensures.after passed.2 (c.word_found.ensures (seen c.in-Found.field-0) here);
       count = c.stop_with.ensures.word;
     }
 

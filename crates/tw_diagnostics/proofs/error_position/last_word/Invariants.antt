@@ -1,5 +1,5 @@
 use Rattle.std.proofs.Common.{◌≡◌, ◌+◌, ◌≤◌, length, IsUtf8, IfSome}
-use Rattle.tw_diagnostics.proofs.Standing.{Passed}
+use Rattle.tw_diagnostics.proofs.LastWords.{Passed}
 use Rattle.tw_diagnostics.proofs.ReasonNames.{MatchOption}
 use Rattle.tw_diagnostics.specs.Stops.{IsStop}
 use Rattle.tw_diagnostics.proofs.error_position.last_word.Given as goal

@@ -4,7 +4,7 @@ use Rattle.tw_diagnostics.proofs.ReasonNames.{Bare, IsBlank, IsBroken, IsFirstWo
 use Rattle.tw_lexer.proofs.FirstWords.{behind_gap}
 use Rattle.tw_lexer.proofs.Texts.{rest_utf8}
 use Rattle.tw_asm.proofs.Whole.{all_fine}
-use Rattle.tw_diagnostics.proofs.Standing.{first_passed, first_room, one_passed, one_room}
+use Rattle.tw_diagnostics.proofs.LastWords.{first_passed, first_room, one_passed, one_room}
 use Rattle.tw_diagnostics.proofs.Stopping.{begins, ended, follows_first, follows_on, vain_end, vain_found, whole}
 use Rattle.tw_diagnostics.proofs.error_position.position_after.Goals as goal
 

@@ -1,6 +1,6 @@
 use Rattle.std.proofs.Common.{◌≡◌, ◌+◌, ◌≤◌, length, IsUtf8}
 use Rattle.tw_diagnostics.specs.declared.words.Ask.TheVariants as ask
-use Rattle.tw_diagnostics.proofs.Standing.{Passed}
+use Rattle.tw_diagnostics.proofs.LastWords.{Passed}
 use Rattle.tw_diagnostics.proofs.Stopping.{Follows}
 use Rattle.tw_diagnostics.proofs.error_position.position_after.Given as goal
 

@@ -1,14 +1,14 @@
 use Rattle.std.proofs.Common.{◌+◌, ◌-◌, length, take, ap, ◌∙◌}
-use Rattle.tw_diagnostics.proofs.Standing.{stands}
+use Rattle.tw_diagnostics.proofs.LastWords.{reached}
 use Rattle.tw_diagnostics.specs.Stops.{column_after}
 use Rattle.tw_diagnostics.proofs.error_position.stop_with.Goals as goal
 
-pub returns-clause-stands : goal.returns-clause-stands
-returns-clause-stands c = λ words after are gap count found. record {
+pub returns-clause-reached : goal.returns-clause-reached
+returns-clause-reached c = λ words after are gap count found. record {
   before = words;
   front = take (length c.args.line.now - length c.args.here.now) c.args.line.now;
   rest = c.args.here.now;
-  stands = stands words c.args.line.now after c.args.here.now are gap;
+  reached = reached words c.args.line.now after c.args.here.now are gap;
   word = ap (λ n. n + 1) count;
   column = c.column_after.ensures ∙ ap (λ n. column_after (take n c.args.line.now)) c.saturating_sub.ensures;
   found = found;
@@ -16,11 +16,11 @@ returns-clause-stands c = λ words after are gap count found. record {
 
 pub returns-clause-first : goal.returns-clause-first
 returns-clause-first c = λ version words after are gap count found begin ends. record {
-  stands = record {
+  reached = record {
     before = words;
     front = take (length c.args.line.now - length c.args.here.now) c.args.line.now;
     rest = c.args.here.now;
-    stands = stands words c.args.line.now after c.args.here.now are gap;
+    reached = reached words c.args.line.now after c.args.here.now are gap;
     word = ap (λ n. n + 1) count;
     column = c.column_after.ensures ∙ ap (λ n. column_after (take n c.args.line.now)) c.saturating_sub.ensures;
     found = found;

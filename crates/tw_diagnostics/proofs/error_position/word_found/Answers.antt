@@ -1,5 +1,5 @@
 use Rattle.std.proofs.Common.{◌++◌, take, sym, ap, ◌∙◌}
-use Rattle.tw_diagnostics.proofs.Standing.{word_cut}
+use Rattle.tw_diagnostics.proofs.LastWords.{word_cut}
 use Rattle.tw_diagnostics.proofs.error_position.word_found.Goals as goal
 
 pub returns : goal.returns

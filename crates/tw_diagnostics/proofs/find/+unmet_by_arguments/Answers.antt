@@ -1,6 +1,6 @@
 use Rattle.std.proofs.Common.{◌-◌, ◌≤◌, [], ◌∷◌, get_or, length, take, drop, sym, ap, ◌∙◌, arith}
 use Rattle.tw_diagnostics.proofs.ReasonNames.{checks_args, first_unmet, without_args}
-use Rattle.tw_diagnostics.proofs.Telling.{args_more}
+use Rattle.tw_diagnostics.proofs.FirstUnmet.{args_more}
 use Rattle.tw_diagnostics.proofs.find.+unmet_by_arguments.Goals as goal
 
 pub returns-in-len1-up-args : goal.returns-in-len1-up-args

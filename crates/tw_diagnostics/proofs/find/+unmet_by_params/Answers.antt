@@ -1,6 +1,6 @@
 use Rattle.std.proofs.Common.{◌+◌, ◌-◌, ◌≤◌, length, take, drop, sym, ap, ◌∙◌}
 use Rattle.tw_diagnostics.proofs.ReasonNames.{checks_value, checks_values, first_unmet, value_types}
-use Rattle.tw_diagnostics.proofs.Telling.{params_more}
+use Rattle.tw_diagnostics.proofs.FirstUnmet.{params_more}
 use Rattle.tw_diagnostics.proofs.find.+unmet_by_params.Goals as goal
 
 pub returns-then-is_val : goal.returns-then-is_val

@@ -4,7 +4,7 @@ use Rattle.std.proofs.lemmas.Iterator.Consumers.{YieldsList-at, YieldsList-end, 
 use Rattle.std.proofs.lemmas.Iterator.Splits.{YieldsList-from_lines}
 use Rattle.tw_lexer.proofs.LineLoops.{all_lines, line_turn}
 use Rattle.tw_diagnostics.proofs.Heads.{front_is}
-use Rattle.tw_diagnostics.proofs.Saying.{Stands, stands_on}
+use Rattle.tw_diagnostics.proofs.Saying.{IsReached, state_after_line}
 use Rattle.tw_diagnostics.proofs.parser_state.situation_before.Goals as goal
 
 pub returns-then-index-number : goal.returns-then-index-number
@@ -16,7 +16,7 @@ returns-then-index-number c = λ before others said parts count say.
     let short = c.loop-index.invariant.short (omega (arith, count)) in
     let past = c.if-index-number.true in
     let same = front_is ls before (c.in-Some.line.now ∷ at.others) others (sym at.parts ∙ parts) (omega (arith, short, count, at.index_is, past)) in
-    c.loop-index.invariant.stands said (subst (λ (xs : List (List ℕ)). LinesSay 1 at_start xs said) (sym same) say)
+    c.loop-index.invariant.reached said (subst (λ (xs : List (List ℕ)). LinesSay 1 at_start xs said) (sym same) say)
 
 pub loop-index-preserved : goal.loop-index-preserved
 loop-index-preserved c =
@@ -31,7 +31,7 @@ loop-index-preserved c =
       next = search rules;
       finite = search rules;
       short = λ some. omega (arith, long, early, at.index_is);
-      stands = subst (λ (xs : List (List ℕ)). Stands xs c.behind-standing.result) (sym more) (stands_on ls c.in-Some.line.now c.loop-index.standing c.behind-standing.result c.in_ok-says.says c.loop-index.invariant.stands c.in_ok-says.ensures c.behind-standing.ensures);
+      reached = subst (λ (xs : List (List ℕ)). IsReached xs c.advanced-current.result) (sym more) (state_after_line ls c.in-Some.line.now c.loop-index.current c.advanced-current.result c.in_ok-says.says c.loop-index.invariant.reached c.in_ok-says.ensures c.advanced-current.ensures);
     }
 
 pub returns : goal.returns
@@ -43,4 +43,4 @@ returns c = λ before others said parts count say.
     let short = c.loop-index.invariant.short (omega (arith, count)) in
     let whole = ap length (all ∙ parts) ∙ length-append before others in
     let same = front_is ls before [] others (append-nil ls ∙ all ∙ parts) (omega (arith, short, count, whole)) in
-    c.loop-index.invariant.stands said (subst (λ (xs : List (List ℕ)). LinesSay 1 at_start xs said) (sym same) say)
+    c.loop-index.invariant.reached said (subst (λ (xs : List (List ℕ)). LinesSay 1 at_start xs said) (sym same) say)

@@ -1,29 +1,29 @@
 use Rattle.std.proofs.Common.{◌≡◌, true, false, map, codes, rules}
 use Rattle.tw_diagnostics.proofs.ReasonNames.{bytes_eq, seen}
-use Rattle.tw_diagnostics.proofs.Saying.{apart, code_tells, head_tells, is_word, label_tells, registers_tell, version_tells}
+use Rattle.tw_diagnostics.proofs.Saying.{apart, code_role, head_role, is_word, label_role, registers_role, version_role}
 use Rattle.tw_diagnostics.proofs.parser_state.words_role.Goals as goal
 
 pub returns-then-eq : goal.returns-then-eq
 returns-then-eq c = λ version statement say.
     let e : bytes_eq c.args.first.now (codes "version") ≡ true = search rules in
-    version_tells version c.args.first.now (map seen c.args.others.now) c.version_after.result (is_word c.args.first.now (codes "version") e) c.version_after.ensures statement say
+    version_role version c.args.first.now (map seen c.args.others.now) c.version_after.result (is_word c.args.first.now (codes "version") e) c.version_after.ensures statement say
 
 pub returns-then-eq-2 : goal.returns-then-eq-2
 returns-then-eq-2 c = λ version statement say.
     let e : bytes_eq c.args.first.now (codes "proc") ≡ true = search rules in
-    head_tells version c.args.first.now (map seen c.args.others.now) (is_word c.args.first.now (codes "proc") e) statement say
+    head_role version c.args.first.now (map seen c.args.others.now) (is_word c.args.first.now (codes "proc") e) statement say
 
 pub returns-then-eq-3 : goal.returns-then-eq-3
 returns-then-eq-3 c = λ version statement say.
     let e : bytes_eq c.args.first.now (codes "regs") ≡ true = search rules in
-    registers_tell version c.args.first.now (map seen c.args.others.now) (is_word c.args.first.now (codes "regs") e) statement say
+    registers_role version c.args.first.now (map seen c.args.others.now) (is_word c.args.first.now (codes "regs") e) statement say
 
 pub returns-in-Some : goal.returns-in-Some
-returns-in-Some c = λ version statement say. label_tells version c.args.first.now (map seen c.args.others.now) c.in-Some.field-0.now c.in-Some.ensures statement say
+returns-in-Some c = λ version statement say. label_role version c.args.first.now (map seen c.args.others.now) c.in-Some.field-0.now c.in-Some.ensures statement say
 
 pub returns-in-None : goal.returns-in-None
 returns-in-None c = λ version statement say.
     let v : bytes_eq c.args.first.now (codes "version") ≡ false = search rules in
     let h : bytes_eq c.args.first.now (codes "proc") ≡ false = search rules in
     let r : bytes_eq c.args.first.now (codes "regs") ≡ false = search rules in
-    code_tells version c.args.first.now (map seen c.args.others.now) (apart c.args.first.now (codes "version") v) (apart c.args.first.now (codes "proc") h) (apart c.args.first.now (codes "regs") r) c.in-None.ensures statement say
+    code_role version c.args.first.now (map seen c.args.others.now) (apart c.args.first.now (codes "version") v) (apart c.args.first.now (codes "proc") h) (apart c.args.first.now (codes "regs") r) c.in-None.ensures statement say

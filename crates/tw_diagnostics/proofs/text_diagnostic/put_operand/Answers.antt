@@ -9,7 +9,7 @@ returns-in_ok-hint-in-Some c =
     let stop = c.in-Some.stop in
     let hinted = c.in_ok-hint-in-Some.ensures ∙ ap (λ (w : List ℕ). word_hint stop.due w) c.found_word.ensures in
     on_ok _ _ c.put_stop.result c.put_stop.ensures
-    (λ e. operand_why c.args.text.now c.args.number c.args.line.now c.args.out.now.items c.put_stop.new.out.items stop c.said_of.result c.in_ok-situation.situation (rw c.in-Some.is at c.in_ok-stop.ensures.stands) (λ expected first rest is ex. rw c.in-Some.is at (c.in_ok-stop.ensures.first refl expected first rest is ex)) c.in_ok-situation.ensures (c.said_of.ensures stop.found hinted) e)
+    (λ e. operand_why c.args.text.now c.args.number c.args.line.now c.args.out.now.items c.put_stop.new.out.items stop c.said_of.result c.in_ok-situation.situation (rw c.in-Some.is at c.in_ok-stop.ensures.reached) (λ expected first rest is ex. rw c.in-Some.is at (c.in_ok-stop.ensures.first refl expected first rest is ex)) c.in_ok-situation.ensures (c.said_of.ensures stop.found hinted) e)
 
 pub returns-in-None : goal.returns-in-None
 returns-in-None c = no_operand_why c.args.text.now c.args.number c.args.line.now c.args.out.now.items c.in_ok-situation.situation (λ expected first rest is ex. rw c.in-None.is at (c.in_ok-stop.ensures.first refl expected first rest is ex)) c.in_ok-situation.ensures

@@ -10,4 +10,4 @@ pub returns : goal.returns
 returns c =
     let label = subst (λ (w : List ℕ). IsTwinBefore c.args.text.now c.args.number (before_colon w) c.in_ok-at.at) c.found_word.ensures c.in_ok-at.ensures in
     on_ok _ _ c.put_stop.result c.put_stop.ensures
-    (λ e. twice_why c.args.text.now c.args.number c.args.line.now c.args.out.now.items c.put_stop.new.out.items c.in_ok-stop.stop c.in_ok-at.at (literal (codes "a new label")) Nothing c.in_ok-stop.ensures.stands c.in_ok-stop.ensures.word label refl refl e)
+    (λ e. twice_why c.args.text.now c.args.number c.args.line.now c.args.out.now.items c.put_stop.new.out.items c.in_ok-stop.stop c.in_ok-at.at (literal (codes "a new label")) Nothing c.in_ok-stop.ensures.reached c.in_ok-stop.ensures.word label refl refl e)

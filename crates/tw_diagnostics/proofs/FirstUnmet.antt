@@ -9,17 +9,17 @@ use Rattle.tw_diagnostics.specs.declared.register_check.RegisterCheck.{RegisterC
 use Rattle.tw_diagnostics.proofs.GoingOn.{untrue}
 
 module _ (number : ℕ) where
-  pub told_first : (xs ys : List RegisterCheck) (a : RegisterCheck) → first_unmet number xs ≡ Some a → first_unmet number (xs ++ ys) ≡ Some a
-  told_first [] ys a e = absurd (none-some a e)
-  told_first (x ∷ xs) ys a e = by (is_unmet number x) (told_first xs ys a) e
+  pub first_kept : (xs ys : List RegisterCheck) (a : RegisterCheck) → first_unmet number xs ≡ Some a → first_unmet number (xs ++ ys) ≡ Some a
+  first_kept [] ys a e = absurd (none-some a e)
+  first_kept (x ∷ xs) ys a e = by (is_unmet number x) (first_kept xs ys a) e
     where
       by : (b : Bool) → (first_unmet number xs ≡ Some a → first_unmet number (xs ++ ys) ≡ Some a) → cond b (Some x) (first_unmet number xs) ≡ Some a → cond b (Some x) (first_unmet number (xs ++ ys)) ≡ Some a
       by true more f = f
       by false more f = more f
 
-  pub told_later : (xs ys : List RegisterCheck) → first_unmet number xs ≡ None → first_unmet number (xs ++ ys) ≡ first_unmet number ys
-  told_later [] ys e = refl
-  told_later (x ∷ xs) ys e = by (is_unmet number x) (told_later xs ys) e
+  pub later_kept : (xs ys : List RegisterCheck) → first_unmet number xs ≡ None → first_unmet number (xs ++ ys) ≡ first_unmet number ys
+  later_kept [] ys e = refl
+  later_kept (x ∷ xs) ys e = by (is_unmet number x) (later_kept xs ys) e
     where
       by : (b : Bool) → (first_unmet number xs ≡ None → first_unmet number (xs ++ ys) ≡ first_unmet number ys) → cond b (Some x) (first_unmet number xs) ≡ None → cond b (Some x) (first_unmet number (xs ++ ys)) ≡ first_unmet number ys
       by true more f = absurd (none-some x (sym f))

@@ -1,7 +1,7 @@
 -- Positions of words in a line.
 use Rattle.std.proofs.Common.{◌≡◌, ℕ, ◌+◌, ◌-◌, ◌<◌, ◌≤◌, List, [], ◌∷◌, ◌++◌, length, take, Option, None, Some, refl, sym, ap, ◌∙◌, append_assoc, arith}
 use Rattle.std.proofs.lemmas.List.{take_at}
-use Rattle.tw_diagnostics.proofs.ReasonNames.{AreFirstWords, IsBlank, IsBroken, IsFirstWord, IsLine, IsWord, MatchOption, Stands, Word, broken_no_line, first_words_more, length-append, line_once, word_here}
+use Rattle.tw_diagnostics.proofs.ReasonNames.{AreFirstWords, IsBlank, IsBroken, IsFirstWord, IsLine, IsWord, MatchOption, IsReached, Word, broken_no_line, first_words_more, length-append, line_once, word_here}
 use Rattle.tw_diagnostics.specs.declared.error_position.ErrorPosition.{ErrorPosition}
 use Rattle.tw_lexer.specs.reading.Next.{IsAfterGap}
 
@@ -23,9 +23,9 @@ words_front (word ∷ words) line after (mid, first, more) =
     moved gap text front = ap (λ (xs : List ℕ). gap ++ xs) (sym (append_assoc text front after)) ∙ sym (append_assoc gap (text ++ front) after)
 
 -- this many bytes of the line precede the rest
-pub stands : (words : List Word) (line after here : List ℕ) → AreFirstWords words line after → IsAfterGap after here
-    → Stands line words (take (length line - length here) line) here
-stands words line after here are gap =
+pub reached : (words : List Word) (line after here : List ℕ) → AreFirstWords words line after → IsAfterGap after here
+    → IsReached line words (take (length line - length here) line) here
+reached words line after here are gap =
     let front = words_front words line after are in
     record {
       parts = front_cut line (front.0 ++ gap.gap) here (front.1 ∙ ap (λ (xs : List ℕ). front.0 ++ xs) gap.parts ∙ sym (append_assoc front.0 gap.gap here));
