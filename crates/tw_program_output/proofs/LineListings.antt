@@ -49,7 +49,7 @@ text_same : (a b : ℕ → List ℕ) (typing : Option Typing) → ((k : ℕ) →
 text_same a b None same = refl
 text_same a b (Some typing) same = rights_same a b typing 16 same
 
-line_same : (a b : ℕ → List ℕ) (typings : Typings) (s : ParserState) (line : List ℕ) (told : LineRole) → ((k : ℕ) → k < 16 → a k ≡ b k) → said_line a typings s line told ≡ said_line b typings s line told
+line_same : (a b : ℕ → List ℕ) (typings : Typings) (s : ParserState) (line : List ℕ) (printed : LineRole) → ((k : ℕ) → k < 16 → a k ≡ b k) → said_line a typings s line printed ≡ said_line b typings s line printed
 line_same a b typings s line says.Head same = refl
 line_same a b typings s line says.Code same =
     ap (λ (t : List ℕ). place_column s.instructions ++ (beside line t ++ codes "\n")) (text_same a b (slice_get (typings (s.procedures - 1)) s.instructions) same)
@@ -68,23 +68,23 @@ pub none_listed_yet : (names : ℕ → ℕ → List ℕ) (typings : Typings) (co
 none_listed_yet names typings counts out is none [] h = (is, none)
 none_listed_yet names typings counts out is none (x ∷ said) h = absurd h
 
-pub line_listed : (names : ℕ → ℕ → List ℕ) (typings : Typings) (ls owns : List (List ℕ)) (line own : List ℕ) (known : ℕ → List ℕ) (counts next : Counts) (out new : List ℕ) (told : LineRole) → length owns ≡ length ls
+pub line_listed : (names : ℕ → ℕ → List ℕ) (typings : Typings) (ls owns : List (List ℕ)) (line own : List ℕ) (known : ℕ → List ℕ) (counts next : Counts) (out new : List ℕ) (printed : LineRole) → length owns ≡ length ls
     → AreLinesListed names typings ls owns counts out
     → ((k : ℕ) → k < 16 → known k ≡ names (length ls + 1) k)
-    → ((s : ParserState) (said : Option Statement) → LineSays s own said → told ≡ says_of said)
-    → ((s : ParserState) → counts ≡ counts_of s → new ≡ out ++ said_line known typings s line told)
-    → ((number : ℕ) (s : ParserState) (l : List ℕ) (said : Option Statement) → counts ≡ counts_of s → LineSays s l said → told ≡ says_of said → next ≡ counts_of (after_line number said s))
+    → ((s : ParserState) (said : Option Statement) → LineSays s own said → printed ≡ says_of said)
+    → ((s : ParserState) → counts ≡ counts_of s → new ≡ out ++ said_line known typings s line printed)
+    → ((number : ℕ) (s : ParserState) (l : List ℕ) (said : Option Statement) → counts ≡ counts_of s → LineSays s l said → printed ≡ says_of said → next ≡ counts_of (after_line number said s))
     → AreLinesListed names typings (ls ++ line ∷ []) (owns ++ own ∷ []) next new
-line_listed names typings ls owns line own known counts next out new told same before knows tells puts counts_on said say =
+line_listed names typings ls owns line own known counts next out new printed same before knows prints puts counts_on said say =
     let split = split_last 1 at_start owns own said say in
     let here = before split.before split.say in
     let s = situation split.before in
-    let what = tells s split.last split.says in
+    let what = prints s split.last split.says in
     let at : length ls + 1 ≡ 1 + length ls = omega arith in
-    let named = line_same known (names (1 + length ls)) typings s line told (λ k low. knows k low ∙ ap (λ (n : ℕ). names n k) at) in (
+    let named = line_same known (names (1 + length ls)) typings s line printed (λ k low. knows k low ∙ ap (λ (n : ℕ). names n k) at) in (
       counts_on (1 + length split.before) s own split.last here.0 split.says what ∙ ap counts_of (sym split.leads),
       puts s here.0
-          ∙ ap (λ (t : List ℕ). t ++ said_line known typings s line told) here.1
+          ∙ ap (λ (t : List ℕ). t ++ said_line known typings s line printed) here.1
           ∙ ap (λ (t : List ℕ). said_lines names typings 1 at_start ls split.before ++ t) named
           ∙ ap (λ (w : LineRole). said_lines names typings 1 at_start ls split.before ++ said_line (names (1 + length ls)) typings s line w) what
           ∙ sym (said_more names typings 1 at_start ls line split.before split.last (said_length 1 at_start owns split.before split.say ∙ same))

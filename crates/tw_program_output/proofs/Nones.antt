@@ -11,12 +11,12 @@ Adds input why old new = (source : Source) → SpellsNone source input why → (
 
 pub reason_added : (input old new : List ℕ) (f : AsmFault)
     → (IsUtf8 input → (plain : List ℕ) → ExpandsTo input plain → (more : List ℕ) × AreFaultDetails input f.no f.line more × (new ≡ old ++ more)) → Adds input (Text f) old new
-reason_added input old new f told Hex none = absurd none
-reason_added input old new f told Assembly none = told none.0 none.1.0 none.1.1
+reason_added input old new f printed Hex none = absurd none
+reason_added input old new f printed Assembly none = printed none.0 none.1.0 none.1.1
 
 pub rejection_added : (input old new : List ℕ) (f : NameError) → (IsUtf8 input → new ≡ old ++ name_details input f.no f.line f.word.now) → Adds input (Named f) old new
-rejection_added input old new f told Hex none = absurd none
-rejection_added input old new f told Assembly none = (name_details input f.no f.line f.word.now, refl, told none.0)
+rejection_added input old new f printed Hex none = absurd none
+rejection_added input old new f printed Assembly none = (name_details input f.no f.line f.word.now, refl, printed none.0)
 
 pub nothing_added : (input old : List ℕ) (why : NoProgram) → ((f : AsmFault) → why ≡ Text f → ⊥) → ((f : NameError) → why ≡ Named f → ⊥) → Adds input why old old
 nothing_added input old NotHex other unnamed source none = ([], refl, sym (append-nil old))
@@ -27,8 +27,8 @@ nothing_added input old (Named f) other unnamed source none = absurd (unnamed f 
 nothing_added input old NoMemory other unnamed source none = ([], refl, sym (append-nil old))
 
 -- holds if a reply has the reason why there is none
-abbrev pub Tells : List ℕ → NoProgram → Reply → Type 0
-Tells input why r = (why ≢ NoMemory) × ((source : Source) → SpellsNone source input why → (more : List ℕ) × AreParseErrorDetails input why more × (r ≡ reply (no_program_line why ++ more) Refused))
+abbrev pub PrintsWhy : List ℕ → NoProgram → Reply → Type 0
+PrintsWhy input why r = (why ≢ NoMemory) × ((source : Source) → SpellsNone source input why → (more : List ℕ) × AreParseErrorDetails input why more × (r ≡ reply (no_program_line why ++ more) Refused))
 
-pub none_told : (source : Source) (input : List ℕ) (why : NoProgram) (Answers : Versioned → Reply → Type 0) (r : Reply) → (why ≢ NoMemory → SpellsNone source input why) → Tells input why r → RepliesBySource source input Answers r
-none_told source input why Answers r none (other, told) = let n = none other in let t = told source n in inr (why, t.0, n, t.1, t.2)
+pub none_printed : (source : Source) (input : List ℕ) (why : NoProgram) (Answers : Versioned → Reply → Type 0) (r : Reply) → (why ≢ NoMemory → SpellsNone source input why) → PrintsWhy input why r → RepliesBySource source input Answers r
+none_printed source input why Answers r none (other, printed) = let n = none other in let t = printed source n in inr (why, t.0, n, t.1, t.2)

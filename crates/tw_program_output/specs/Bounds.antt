@@ -38,6 +38,6 @@ IsBoundsText program text =
     ⊎ ((circle : Circle) × IsCircle program circle × (text ≡ circle_line circle))
 
 -- holds for nothing, or for main's bounds if they are requested
-abbrev pub MayTellBounds : Bool → List Procedure → List ℕ → Type 0
-MayTellBounds false program lines = lines ≡ []
-MayTellBounds true program lines = IsBoundsText program lines
+abbrev pub MayPrintBounds : Bool → List Procedure → List ℕ → Type 0
+MayPrintBounds false program lines = lines ≡ []
+MayPrintBounds true program lines = IsBoundsText program lines

@@ -11,11 +11,11 @@ use Rattle.tw_cli.specs.declared.command.CheckOrder.{CheckOrder}
 use Rattle.tw_cli.specs.declared.command.Places.{Places}
 use Rattle.tw_cli.specs.declared.command.Places.TheVariants.{Hidden, Shown}
 use Rattle.tw_symbols.specs.Symbols.{AreSymbols, bracketed, name_at}
-use Rattle.tw_program_output.specs.Bounds.{MayTellBounds}
+use Rattle.tw_program_output.specs.Bounds.{MayPrintBounds}
 use Rattle.tw_program_output.specs.Lines.{verify_line}
 use Rattle.tw_program_output.specs.Listing.{IsListing, IsRefusedListing}
 use Rattle.tw_program_output.specs.Reply.{Reply, reply}
-use Rattle.tw_program_output.specs.Text.{IsBehind}
+use Rattle.tw_program_output.specs.Text.{AreDetailsOf}
 use Rattle.tw_program_output.specs.declared.close.Close.TheVariants.{Success, Refused}
 use Rattle.tw_verify.specs.Rejection.{verify_error_code}
 use Rattle.tw_verify.specs.declared.rejection.VerifyError.{VerifyError}
@@ -46,24 +46,24 @@ IsCheckText names program text = (lines : List ℕ) × AreProcedureLines names 0
 abbrev pub IsChecked : Places → Option (List ℕ) → List Procedure → List ℕ → Type 0
 IsChecked Hidden source program text = IsCheckText [] program text
 IsChecked Shown source program text =
-    (listing : List ℕ) × (told : List ℕ) × (names : List (List ℕ)) × IsListing source program listing × AreSymbols source names × IsCheckText names program told × (text ≡ listing ++ told)
+    (listing : List ℕ) × (printed : List ℕ) × (names : List (List ℕ)) × IsListing source program listing × AreSymbols source names × IsCheckText names program printed × (text ≡ listing ++ printed)
 
 -- holds for the check and what else is requested
-abbrev pub IsToldByCheck : CheckOrder → Option (List ℕ) → List Procedure → List ℕ → Type 0
-IsToldByCheck order source program text =
-    (check : List ℕ) × (lines : List ℕ) × IsChecked order.places source program check × MayTellBounds order.bounds program lines × (text ≡ check ++ lines)
+abbrev pub IsPrintedByCheck : CheckOrder → Option (List ℕ) → List Procedure → List ℕ → Type 0
+IsPrintedByCheck order source program text =
+    (check : List ℕ) × (lines : List ℕ) × IsChecked order.places source program check × MayPrintBounds order.bounds program lines × (text ≡ check ++ lines)
 
 abbrev pub RepliesByCheck : CheckOrder → Option (List ℕ) → List Procedure → Reply → Type 0
-RepliesByCheck order source program r = (text : List ℕ) × IsToldByCheck order source program text × (r ≡ reply text Success)
+RepliesByCheck order source program r = (text : List ℕ) × IsPrintedByCheck order source program text × (r ≡ reply text Success)
 
 -- holds for what precedes an error: the program's listing if that is requested
-abbrev pub StandsBefore : Places → Option (List ℕ) → List Procedure → ℕ → ℕ → List ℕ → Type 0
-StandsBefore Hidden text program number procedure before = before ≡ []
-StandsBefore Shown text program number procedure before = IsRefusedListing text program number procedure before
+abbrev pub IsListedBefore : Places → Option (List ℕ) → List Procedure → ℕ → ℕ → List ℕ → Type 0
+IsListedBefore Hidden text program number procedure before = before ≡ []
+IsListedBefore Shown text program number procedure before = IsRefusedListing text program number procedure before
 
 -- holds for the reply to the first error, with what precedes and follows its line
 abbrev pub IsRefused : Places → Option (List ℕ) → List Procedure → Reply → Type 0
 IsRefused places text program r =
     (which : VerifyError) × (procedure : ℕ) × (place : ℕ) × (before : List ℕ) × (more : List ℕ) × IsFirstRejection program (verify_error_code which) procedure place
-    × StandsBefore places text program (verify_error_code which) procedure before × IsBehind text which program procedure place more
+    × IsListedBefore places text program (verify_error_code which) procedure before × AreDetailsOf text which program procedure place more
     × (r ≡ reply (before ++ (verify_line (verify_error_code which) procedure place ++ more)) Refused)

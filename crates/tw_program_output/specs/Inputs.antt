@@ -30,13 +30,13 @@ words_in (line ∷ others) = if bytes_eq line (codes "end") then [] else if leng
 -- ---- replies
 
 -- holds for the line with the first input word that can't be parsed, and the one with the reason
-abbrev pub TellsInputWord : RefusedWord → Reply → Type 0
-TellsInputWord refused r = r ≡ reply (input_word_line refused.number ++ refused.reason) CommandLine
+abbrev pub PrintsInputWord : RefusedWord → Reply → Type 0
+PrintsInputWord refused r = r ≡ reply (input_word_line refused.number ++ refused.reason) CommandLine
 
 -- holds if each word encodes its input, and this is the reply to these; or if one encodes none
 abbrev pub RepliesByWords : List Text → (List Input → Reply → Type 0) → Reply → Type 0
 RepliesByWords words Answers r =
-    ((given : List Input) × AreSpelled given words × Answers given r) ⊎ ((refused : RefusedWord) × IsRefusedWord words refused × TellsInputWord refused r)
+    ((given : List Input) × AreSpelled given words × Answers given r) ⊎ ((refused : RefusedWord) × IsRefusedWord words refused × PrintsInputWord refused r)
 
 -- holds if what is read is UTF-8, and this is the reply to the program's lines and the inputs; or if it isn't UTF-8
 abbrev pub RepliesByInputs : List ℕ → (List ℕ → List Input → Reply → Type 0) → Reply → Type 0

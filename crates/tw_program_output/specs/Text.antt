@@ -48,10 +48,10 @@ IsLineOf text number trimmed = IsLineAt (lines text) number trimmed
 -- which the register has its name beside it
 abbrev pub ArePlaceDetails : List ℕ → VerifyError → List Procedure → ℕ → ℕ → List ℕ → Type 0
 ArePlaceDetails text which program procedure place more =
-    (plain : List ℕ) × (number : ℕ) × (line : List ℕ) × (numbers : List (List ℕ)) × (reason : List ℕ) × (told : List ℕ) × (names : List (List ℕ))
+    (plain : List ℕ) × (number : ℕ) × (line : List ℕ) × (numbers : List (List ℕ)) × (reason : List ℕ) × (printed : List ℕ) × (names : List (List ℕ))
     × ExpandsTo text plain × ComesFrom plain procedure place number × IsLineOf text number line
-    × AreOrigins plain program numbers × PrintsReason which numbers program procedure place reason × IsWithName text number reason told × AreNames text names
-    × (more ≡ line_in_text (name_at names procedure) number line ++ told)
+    × AreOrigins plain program numbers × PrintsReason which numbers program procedure place reason × IsWithName text number reason printed × AreNames text names
+    × (more ≡ line_in_text (name_at names procedure) number line ++ printed)
 
 -- holds for the line that begins main, and what is wrong with its shape
 abbrev pub AreMainDetails : List ℕ → List Procedure → List ℕ → Type 0
@@ -64,6 +64,6 @@ AreTextDetails text rejection.MainShape program procedure place more = AreMainDe
 AreTextDetails text which program procedure place more = ArePlaceDetails text which program procedure place more
 
 -- holds for the details of an error; without a text there are none
-abbrev pub IsBehind : Option (List ℕ) → VerifyError → List Procedure → ℕ → ℕ → List ℕ → Type 0
-IsBehind None which program procedure place more = more ≡ []
-IsBehind (Some text) which program procedure place more = AreTextDetails text which program procedure place more
+abbrev pub AreDetailsOf : Option (List ℕ) → VerifyError → List Procedure → ℕ → ℕ → List ℕ → Type 0
+AreDetailsOf None which program procedure place more = more ≡ []
+AreDetailsOf (Some text) which program procedure place more = AreTextDetails text which program procedure place more

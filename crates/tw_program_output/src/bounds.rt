@@ -1,7 +1,7 @@
 //! Output of `check --bounds` about a program's runs.
 
 ghost use Rattle.std.specs.Prelude.{◌≡◌, ◌++◌, IfOk, OnOk, List, codes, ℕ};
-ghost use Rattle.tw_program_output.specs.Bounds.{IsBoundsText, MayTellBounds, bound_line, bound_lines, bound_text, circle_line};
+ghost use Rattle.tw_program_output.specs.Bounds.{IsBoundsText, MayPrintBounds, bound_line, bound_lines, bound_text, circle_line};
 
 use std::alloc::{AllocError, Global};
 use tw_bounds::{Bound, Circle, RunBounds, circle_of_calls, run_bounds};
@@ -73,7 +73,7 @@ pub(crate) fn put_requested_bounds(
     asked: bool,
     verified: &Verified,
 ) -> Result<(), AllocError>
-    ensures { OnOk result ((lines : List ℕ) × MayTellBounds asked verified.now.program lines × (out.new.items ≡ out.old.items ++ lines)) }
+    ensures { OnOk result ((lines : List ℕ) × MayPrintBounds asked verified.now.program lines × (out.new.items ≡ out.old.items ++ lines)) }
 {
     if asked {
         put_bounds(alloc, out, verified)

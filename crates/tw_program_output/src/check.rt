@@ -2,7 +2,7 @@
 
 ghost use Rattle.std.specs.Prelude.{◌≡◌, ◌++◌, ℕ, List, IfOk, OnOk, decimal};
 ghost use Rattle.tw_code.specs.accepting.WellTyped.{IsFirstRejection};
-ghost use Rattle.tw_program_output.specs.Check.{AreProcedureLines, IsCheckText, IsChecked, IsRefused, IsToldByCheck, StandsBefore, kind_text, needs_line, procedure_line};
+ghost use Rattle.tw_program_output.specs.Check.{AreProcedureLines, IsCheckText, IsChecked, IsRefused, IsPrintedByCheck, IsListedBefore, kind_text, needs_line, procedure_line};
 ghost use Rattle.tw_cli.specs.declared.command.Places.TheVariants.{Shown};
 ghost use Rattle.tw_symbols.specs.Symbols.{name_at};
 ghost use Rattle.tw_program_output.specs.Listing.{IsListing, IsRefusedListing};
@@ -128,8 +128,8 @@ fn listed_text(
 {
     let mut text = accepted_listing(alloc, source, verified)?;
     let names = symbols_of(alloc, source)?;
-    let told = check_text(alloc, &names, verified)?;
-    text.extend_from_slice(&told)?;
+    let printed = check_text(alloc, &names, verified)?;
+    text.extend_from_slice(&printed)?;
     Ok(text)
 }
 
@@ -157,7 +157,7 @@ pub fn checked_text(
     verified: &Verified,
 ) -> Result<Vec<u8>, AllocError>
     requires { MayBeSource source.now verified.now.program }
-    ensures { IfOk result (λ text. IsToldByCheck order (text_of source.now) verified.now.program text.items) }
+    ensures { IfOk result (λ text. IsPrintedByCheck order (text_of source.now) verified.now.program text.items) }
 {
     let mut text = budgets_text(alloc, source, order.places, verified)?;
     put_requested_bounds(alloc, &mut text, order.bounds, verified)?;
@@ -172,7 +172,7 @@ fn text_before(
     refused: &Refused,
 ) -> Result<Vec<u8>, AllocError>
     requires { MayBeSource source.now refused.now.program.procedures }
-    ensures { IfOk result (λ text. StandsBefore places (text_of source.now) refused.now.program.procedures (verify_error_code refused.now.no) refused.now.procedure text.items) }
+    ensures { IfOk result (λ text. IsListedBefore places (text_of source.now) refused.now.program.procedures (verify_error_code refused.now.no) refused.now.procedure text.items) }
 {
     match places {
         Places::Hidden => Ok(Vec::new(alloc)),

@@ -5,7 +5,7 @@ ghost use Rattle.std.specs.Str.Lines.{lines};
 ghost use Rattle.clap.specs.Words.{Text};
 ghost use Rattle.tw_cli.specs.InputWords.{IsRefusedWord, RefusedWord, refused_word};
 ghost use Rattle.tw_cli.specs.Order.{IsInputReason};
-ghost use Rattle.tw_program_output.specs.Inputs.{TellsInputWord, before_inputs, after_inputs, words_in};
+ghost use Rattle.tw_program_output.specs.Inputs.{PrintsInputWord, before_inputs, after_inputs, words_in};
 ghost use Rattle.tw_program_output.specs.Parts.{after_in, after_line, seen};
 ghost use Rattle.tw_program_output.specs.Reply.{reply};
 ghost use Rattle.tw_program_output.specs.declared.inputs.Section.TheVariants as section;
@@ -102,7 +102,7 @@ pub fn input_parts<'a>(alloc: Global, text: &'a str) -> Result<InputParts<'a>, A
 
 /// Returns the reply with the number of the input word that can't be parsed, and the line with the reason.
 pub fn input_word_reply(alloc: Global, number: usize, reason: &[u8]) -> Result<Reply, AllocError>
-    ensures { IfOk result (λ r. TellsInputWord (refused_word number reason.now) (reply r.text.items r.close)) }
+    ensures { IfOk result (λ r. PrintsInputWord (refused_word number reason.now) (reply r.text.items r.close)) }
 {
     let mut text = Vec::new(alloc);
     put_input_word_line(alloc, &mut text, number)?;
@@ -116,7 +116,7 @@ pub fn input_word_reply(alloc: Global, number: usize, reason: &[u8]) -> Result<R
 /// Returns the reply to input words of which one can't be parsed. The only other reason is that an allocation failed.
 pub fn refused_words_reply(alloc: Global, why: NoOrder) -> Result<Reply, AllocError>
     ensures { IfOk result (λ r. (words : List Text) → IsInputReason words why
-        → (refused : RefusedWord) × IsRefusedWord words refused × TellsInputWord refused (reply r.text.items r.close)) }
+        → (refused : RefusedWord) × IsRefusedWord words refused × PrintsInputWord refused (reply r.text.items r.close)) }
 {
     match why {
         NoOrder::InputWord(number, reason) => input_word_reply(alloc, number, reason.as_slice()),

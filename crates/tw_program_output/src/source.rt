@@ -10,7 +10,7 @@ ghost use Rattle.tw_symbols.specs.Expansion.{ExpandsTo};
 ghost use Rattle.tw_symbols.specs.Symbols.{AreSymbols};
 ghost use Rattle.tw_diagnostics.specs.Reasons.{PrintsReason, shape_line};
 ghost use Rattle.tw_diagnostics.specs.LineRole.{IsFirstHead};
-ghost use Rattle.tw_program_output.specs.Text.{IsBehind, IsLineOf, AreMainDetails, ArePlaceDetails, AreTextDetails, in_name, line_in_text, text_line};
+ghost use Rattle.tw_program_output.specs.Text.{AreDetailsOf, IsLineOf, AreMainDetails, ArePlaceDetails, AreTextDetails, in_name, line_in_text, text_line};
 
 use crate::text_lines::TextLines;
 use std::alloc::{AllocError, Global};
@@ -145,8 +145,8 @@ fn put_diagnostic(
     number: usize,
     refused: &Refused,
 ) -> Result<(), AllocError>
-    ensures { OnOk result ((reason : List ℕ) × (told : List ℕ) × PrintsReason refused.now.no source.now.lines.procedures refused.now.program.procedures refused.now.procedure refused.now.place reason
-        × IsWithName source.now.text.now number reason told × (out.new.items ≡ out.old.items ++ told)) }
+    ensures { OnOk result ((reason : List ℕ) × (printed : List ℕ) × PrintsReason refused.now.no source.now.lines.procedures refused.now.program.procedures refused.now.procedure refused.now.place reason
+        × IsWithName source.now.text.now number reason printed × (out.new.items ≡ out.old.items ++ printed)) }
 {
     let mut reason = Vec::new(alloc);
     put_program_diagnostic(alloc, &mut reason, &source.lines, refused)?;
@@ -233,7 +233,7 @@ pub fn put_rejection_details(
     refused: &Refused,
 ) -> Result<(), AllocError>
     ensures { OnOk result (MayBeSourceAt source.now refused.now.program.procedures refused.now.procedure refused.now.place
-        → (more : List ℕ) × IsBehind (text_of source.now) refused.now.no refused.now.program.procedures refused.now.procedure refused.now.place more × (out.new.items ≡ out.old.items ++ more)) }
+        → (more : List ℕ) × AreDetailsOf (text_of source.now) refused.now.no refused.now.program.procedures refused.now.procedure refused.now.place more × (out.new.items ≡ out.old.items ++ more)) }
 {
     match source {
         Some(source) => put_text_details(alloc, out, source, refused),

@@ -31,7 +31,7 @@ struct Counts {
 
 impl Counts {
     /// Returns the counts after a line with this role. No text of a program has so many that they saturate.
-    fn behind(self, says: LineRole) -> Counts
+    fn advanced(self, says: LineRole) -> Counts
         ensures { (number : ℕ) (s : ParserState) (line : List ℕ) (said : Option Statement) → self ≡ counts_of s → LineSays s line said → says ≡ says_of said
             → result ≡ counts_of (after_line number said s) }
     {
@@ -137,7 +137,7 @@ fn said_text(
         names = names.after(alloc, index + 1, line)?;
         let says = line_role(alloc, own)?;
         put_role_line(alloc, &mut out, &names, all, counts, line, says)?;
-        counts = counts.behind(says);
+        counts = counts.advanced(says);
     }
     Ok(out)
 }

@@ -233,8 +233,8 @@ rule_told names text plain start events rule m number line old new expands (acti
   added ∙ ap (λ (n : ℕ). old ++ rule_line rule n (name_at names n) number line) (sym runs),
 )
 
-pub none_told : (names : List (List ℕ)) (text : List ℕ) (start : Start) (events : List Event) (rule : ℕ) (old : List ℕ) → IsUnmade start events rule → AddsDiagnostic (TellsRule names text start events rule) old old
-none_told names text start events rule old unmade = ([], inr (unmade, refl), sym (append-nil old))
+pub none_printed : (names : List (List ℕ)) (text : List ℕ) (start : Start) (events : List Event) (rule : ℕ) (old : List ℕ) → IsUnmade start events rule → AddsDiagnostic (TellsRule names text start events rule) old old
+none_printed names text start events rule old unmade = ([], inr (unmade, refl), sym (append-nil old))
 
 rules_more : (names : List (List ℕ)) (text : List ℕ) (start : Start) (events : List Event) (links : List Link) (l : Link) (more line : List ℕ) → TellRules names text start events links more → TellsRule names text start events l.rule line
     → TellRules names text start events (links ++ l ∷ []) (more ++ line)

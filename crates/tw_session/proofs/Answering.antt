@@ -5,7 +5,7 @@ use Rattle.clap.specs.Words.{Kinds, Text}
 use Rattle.tw_cli.specs.CommandLine.{Asked, Assembles, Checks, Disassembles, Explains, IsExplained, IsRefusedInput, Replays, Runs}
 use Rattle.tw_cli.proofs.InputTheorems.{never_refused, one_refused}
 use Rattle.tw_cli.specs.InputWords.{RefusedWord}
-use Rattle.tw_program_output.specs.Inputs.{TellsInputWord}
+use Rattle.tw_program_output.specs.Inputs.{PrintsInputWord}
 use Rattle.tw_program_output.specs.Reply.{Reply, reply}
 use Rattle.tw_session.specs.Session.{AnswersWords, MayAnswer, RefusesWords, TellsMeaning}
 use Rattle.tw_session.specs.Status.{ComesOfReply}
@@ -77,9 +77,9 @@ not_refused (Runs source answer layout most traced turns words) text number e r 
 not_refused (Replays source answer layout words) text number e r = e
 not_refused (Explains explained) text number e r = r
 
-pub word_told : (asked : Asked) (input : List ℕ) (number : RefusedWord) (r : Reply) → IsRefusedInput asked number → MayAnswer asked input r → TellsInputWord number r
+pub word_told : (asked : Asked) (input : List ℕ) (number : RefusedWord) (r : Reply) → IsRefusedInput asked number → MayAnswer asked input r → PrintsInputWord number r
 word_told asked input number r refused (inl (order, is_asked, h)) = absurd (never_refused asked order number is_asked refused)
-word_told asked input number r refused (inr (inl (other, is, h))) = subst (λ (n : RefusedWord). TellsInputWord n r) (one_refused asked other number is refused) h
+word_told asked input number r refused (inr (inl (other, is, h))) = subst (λ (n : RefusedWord). PrintsInputWord n r) (one_refused asked other number is refused) h
 word_told asked input number r refused (inr (inr h)) = absurd (not_refused asked r.text number h.0 refused)
 
 pub meaning_told : (number : Text) (input : List ℕ) (r : Reply) → MayAnswer (Explains number) input r → TellsMeaning (Explains number) r

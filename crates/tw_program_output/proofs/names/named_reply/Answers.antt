@@ -7,7 +7,7 @@ pub returns : goal.returns
 returns c = λ first.
     let rejection = c.args.rejection in
     let line = name_line rejection.no rejection.line in
-    let behind = name_details c.args.text.now rejection.no rejection.line rejection.word.now in
+    let details = name_details c.args.text.now rejection.no rejection.line rejection.word.now in
     let one : c.put_name_line.new.out.items ≡ line = c.in_ok-put_name_line.ensures ∙ ap (λ (t : List ℕ). t ++ line) c.new-out.ensures.items in
-    let all : c.put_name_details.new.out.items ≡ line ++ behind = c.in_ok-put_name_details.ensures ∙ ap (λ (t : List ℕ). t ++ behind) one in
+    let all : c.put_name_details.new.out.items ≡ line ++ details = c.in_ok-put_name_details.ensures ∙ ap (λ (t : List ℕ). t ++ details) one in
     inl (c.utf8.text, inr (seen_rejection rejection, first, c.refused_by.ensures ∙ ap (λ (t : List ℕ). reply t Refused) all))

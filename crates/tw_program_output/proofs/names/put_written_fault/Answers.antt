@@ -7,4 +7,4 @@ returns c =
     let old = c.args.out.now.items in
     let written = written_text (slice_get (lines c.args.text.now) (c.args.fault.line - 1)) (slice_get (lines c.args.plain.now) (c.args.fault.line - 1)) in
     on_ok_weaker c.put_text_diagnostic.result
-    (λ told. (told.0, told.1, told.2 ∙ ap (λ (t : List ℕ). t ++ told.0) c.in_ok-put_written.ensures ∙ append_assoc old written told.0)) c.put_text_diagnostic.ensures
+    (λ printed. (printed.0, printed.1, printed.2 ∙ ap (λ (t : List ℕ). t ++ printed.0) c.in_ok-put_written.ensures ∙ append_assoc old written printed.0)) c.put_text_diagnostic.ensures

@@ -8,6 +8,6 @@ returns c =
     let first : c.put_no_program.new.out.items ≡ line = c.in_ok-put_no_program.ensures.1 ∙ ap (λ (t : List ℕ). t ++ line) c.new-text.ensures.items in (
       c.in_ok-put_no_program.ensures.0,
       λ source none.
-          let told = c.in_ok-put_parse_error_details.ensures source none in
-          (told.0, told.1, c.refused_by.ensures ∙ ap (λ (t : List ℕ). reply t Refused) (told.2 ∙ ap (λ (t : List ℕ). t ++ told.0) first)),
+          let printed = c.in_ok-put_parse_error_details.ensures source none in
+          (printed.0, printed.1, c.refused_by.ensures ∙ ap (λ (t : List ℕ). reply t Refused) (printed.2 ∙ ap (λ (t : List ℕ). t ++ printed.0) first)),
     )

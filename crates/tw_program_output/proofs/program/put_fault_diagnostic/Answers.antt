@@ -6,8 +6,8 @@ pub returns-in-Ok : goal.returns-in-Ok
 returns-in-Ok c =
     let fault = c.args.fault in
     on_ok_weaker c.put_fault_details.result
-    (λ told utf8 plain expands.
-    let t = told plain (subst (λ (x : List ℕ). ExpandsTo x plain) (sym c.in-Ok.ensures.cases.0) expands) in
+    (λ printed utf8 plain expands.
+    let t = printed plain (subst (λ (x : List ℕ). ExpandsTo x plain) (sym c.in-Ok.ensures.cases.0) expands) in
     (t.0, subst (λ (x : List ℕ). AreFaultDetails x fault.no fault.line t.0) c.in-Ok.ensures.cases.0 t.1, t.2)) c.put_fault_details.ensures
 
 pub returns-in-Err : goal.returns-in-Err

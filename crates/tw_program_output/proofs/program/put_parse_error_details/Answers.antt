@@ -6,12 +6,12 @@ use Rattle.tw_program_output.proofs.program.put_parse_error_details.Goals as goa
 pub returns-in-Text : goal.returns-in-Text
 returns-in-Text c =
     on_ok_weaker c.put_fault_diagnostic.result
-    (λ told. subst (λ (w : NoProgram). Adds c.args.input.now w c.args.out.now.items c.put_fault_diagnostic.new.out.items) (sym c.in-Text.is) (reason_added c.args.input.now c.args.out.now.items c.put_fault_diagnostic.new.out.items c.in-Text.fault told)) c.put_fault_diagnostic.ensures
+    (λ printed. subst (λ (w : NoProgram). Adds c.args.input.now w c.args.out.now.items c.put_fault_diagnostic.new.out.items) (sym c.in-Text.is) (reason_added c.args.input.now c.args.out.now.items c.put_fault_diagnostic.new.out.items c.in-Text.fault printed)) c.put_fault_diagnostic.ensures
 
 pub returns-in-Named : goal.returns-in-Named
 returns-in-Named c =
     on_ok_weaker c.put_rejection_diagnostic.result
-    (λ told. subst (λ (w : NoProgram). Adds c.args.input.now w c.args.out.now.items c.put_rejection_diagnostic.new.out.items) (sym c.in-Named.is) (rejection_added c.args.input.now c.args.out.now.items c.put_rejection_diagnostic.new.out.items c.in-Named.rejection told)) c.put_rejection_diagnostic.ensures
+    (λ printed. subst (λ (w : NoProgram). Adds c.args.input.now w c.args.out.now.items c.put_rejection_diagnostic.new.out.items) (sym c.in-Named.is) (rejection_added c.args.input.now c.args.out.now.items c.put_rejection_diagnostic.new.out.items c.in-Named.rejection printed)) c.put_rejection_diagnostic.ensures
 
 pub returns-in_default : goal.returns-in_default
 returns-in_default c = nothing_added c.args.input.now c.args.out.now.items c.args.why c.in_default.not-Text c.in_default.not-Named

@@ -12,10 +12,10 @@ returns-in-Some c =
     let main = c.in-Some.main.now in
     let first = ap (λ (ps : List Procedure). slice_get ps 0) (sym c.procedures.ensures.is) ∙ sym c.in-Some.ensures.value in
     on_ok_weaker c.put_head_details.result
-    (λ told is.
+    (λ printed is.
     let plain = plain_of c.args.source.now in
     let origin = some_origin plain refused.program.procedures c.args.source.now.lines.procedures refused.procedure refused.place is.0 is.1 in
-    let head = told refused.procedure refused.place origin.0 origin.1 is.2 in
+    let head = printed refused.procedure refused.place origin.0 origin.1 is.2 in
     (text_line head.0 head.1 ++ shape_line main.kind main.params, (plain, head.0, head.1, main, is.2, head.2, head.3, first, refl), head.4)) c.put_head_details.ensures
 
 pub returns-in-None : goal.returns-in-None

@@ -1,5 +1,5 @@
 use Rattle.std.proofs.lemmas.Result.{on_ok_weaker}
-use Rattle.tw_program_output.proofs.Sources.{other_behind}
+use Rattle.tw_program_output.proofs.Sources.{other_details}
 use Rattle.tw_program_output.proofs.source.put_text_details.Goals as goal
 
 pub returns-in-MainShape : goal.returns-in-MainShape
@@ -9,6 +9,6 @@ pub returns-in_default : goal.returns-in_default
 returns-in_default c =
     let refused = c.args.refused.now in
     on_ok_weaker c.put_place_details.result
-    (λ told is.
-    let added = told is in
-    (added.0, other_behind c.args.source.now.text.now refused.no refused.program.procedures refused.procedure refused.place added.0 c.in_default.not-MainShape added.1, added.2)) c.put_place_details.ensures
+    (λ printed is.
+    let added = printed is in
+    (added.0, other_details c.args.source.now.text.now refused.no refused.program.procedures refused.procedure refused.place added.0 c.in_default.not-MainShape added.1, added.2)) c.put_place_details.ensures

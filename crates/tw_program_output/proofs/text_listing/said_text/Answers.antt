@@ -37,10 +37,10 @@ loop-index-preserved c =
         h.0,
         h.1,
         subst (λ (n : ℕ). HasRead h.0 xs n c.in_ok-names-2.names) count read.0,
-        subst (λ (ws : List (List ℕ)). AreLinesListed h.0 typings ws (own_in (pairs_in (items ++ item ∷ []))) c.behind-counts.result c.put_role_line.new.out.items) (sym ls)
-            (subst (λ (os : List (List ℕ)). AreLinesListed h.0 typings (written_in pairs ++ c.in-Some.line.now ∷ []) os c.behind-counts.result c.put_role_line.new.out.items) (sym owns)
-            (line_listed h.0 typings (written_in pairs) (own_in pairs) c.in-Some.line.now c.in-Some.own.now (known_names c.in_ok-names-2.names) c.loop-index.counts c.behind-counts.result c.loop-index.out.items c.put_role_line.new.out.items c.in_ok-says.says (pairs_length pairs)
-            h.3 (λ k low. read.1 k low ∙ ap (λ (n : ℕ). h.0 n k) number) c.in_ok-says.ensures c.in_ok-put_role_line.ensures c.behind-counts.ensures)),
+        subst (λ (ws : List (List ℕ)). AreLinesListed h.0 typings ws (own_in (pairs_in (items ++ item ∷ []))) c.advanced-counts.result c.put_role_line.new.out.items) (sym ls)
+            (subst (λ (os : List (List ℕ)). AreLinesListed h.0 typings (written_in pairs ++ c.in-Some.line.now ∷ []) os c.advanced-counts.result c.put_role_line.new.out.items) (sym owns)
+            (line_listed h.0 typings (written_in pairs) (own_in pairs) c.in-Some.line.now c.in-Some.own.now (known_names c.in_ok-names-2.names) c.loop-index.counts c.advanced-counts.result c.loop-index.out.items c.put_role_line.new.out.items c.in_ok-says.says (pairs_length pairs)
+            h.3 (λ k low. read.1 k low ∙ ap (λ (n : ℕ). h.0 n k) number) c.in_ok-says.ensures c.in_ok-put_role_line.ensures c.advanced-counts.ensures)),
       );
     }
 

@@ -1,7 +1,7 @@
 use Rattle.std.proofs.Common.{List, Option, inl, subst, ℕ}
 use Rattle.tw_replay_output.proofs.ReplayNames.{IfOk-weaker, RepliesByLines, RepliesBySource, Reply, reply, source_text}
 use Rattle.tw_report.specs.History.{lines_in}
-use Rattle.tw_program_output.proofs.Nones.{Tells, none_told}
+use Rattle.tw_program_output.proofs.Nones.{PrintsWhy, none_printed}
 use Rattle.tw_replay_output.proofs.replay.source_reply.Goals as goal
 
 pub returns-in-Ok : goal.returns-in-Ok
@@ -14,6 +14,6 @@ pub returns-in-Err : goal.returns-in-Err
 returns-in-Err c =
     let input = c.args.program.now in
     let told = lines_in c.args.history.now in
-    IfOk-weaker c.parse_error_reply.result (λ (r : Reply). Tells input c.in-Err.why (reply r.text.items r.close))
+    IfOk-weaker c.parse_error_reply.result (λ (r : Reply). PrintsWhy input c.in-Err.why (reply r.text.items r.close))
     (λ (r : Reply). RepliesBySource c.args.source input (RepliesByLines (source_text c.args.source input) c.args.order.now told) (reply r.text.items r.close))
-    (λ (r : Reply) h. none_told c.args.source input c.in-Err.why (RepliesByLines (source_text c.args.source input) c.args.order.now told) (reply r.text.items r.close) c.in-Err.ensures.none h) c.parse_error_reply.ensures
+    (λ (r : Reply) h. none_printed c.args.source input c.in-Err.why (RepliesByLines (source_text c.args.source input) c.args.order.now told) (reply r.text.items r.close) c.in-Err.ensures.none h) c.parse_error_reply.ensures

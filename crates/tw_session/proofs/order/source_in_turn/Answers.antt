@@ -2,7 +2,7 @@ use Rattle.std.proofs.Common.{◌≡◌, List, ℕ, Option, inl, subst}
 use Rattle.tw_session.proofs.SessionNames.{ProgramAction, IfOk-weaker, Leads, RepliesByProgram, RepliesBySource, Run, RunOrder, Verified, reply, text_of, source_text}
 use Rattle.tw_cli.specs.InTurn.{IsProgramInTurn}
 use Rattle.tw_program_output.specs.declared.reply.Reply.{Reply}
-use Rattle.tw_program_output.proofs.Nones.{Tells, none_told}
+use Rattle.tw_program_output.proofs.Nones.{PrintsWhy, none_printed}
 use Rattle.tw_session.proofs.order.source_in_turn.Goals as goal
 
 pub program_reply-requires : goal.program_reply-requires
@@ -28,6 +28,6 @@ returns-in-Ok c =
 pub returns : goal.returns
 returns c =
     let input = c.args.input.now in
-    IfOk-weaker c.parse_error_reply.result (λ (r : Reply). Tells input c.in-Err.why (reply r.text.items r.close))
+    IfOk-weaker c.parse_error_reply.result (λ (r : Reply). PrintsWhy input c.in-Err.why (reply r.text.items r.close))
     (λ (r : Reply). RepliesBySource c.args.source input (RepliesByProgram (source_text c.args.source input) c.args.order) (reply r.text.items r.close))
-    (λ (r : Reply) h. none_told c.args.source input c.in-Err.why (RepliesByProgram (source_text c.args.source input) c.args.order) (reply r.text.items r.close) c.in-Err.ensures.none h) c.parse_error_reply.ensures
+    (λ (r : Reply) h. none_printed c.args.source input c.in-Err.why (RepliesByProgram (source_text c.args.source input) c.args.order) (reply r.text.items r.close) c.in-Err.ensures.none h) c.parse_error_reply.ensures

@@ -1,7 +1,7 @@
 use Rattle.std.proofs.Common.{◌≡◌, List, ℕ, Option, inl, rules, subst}
 use Rattle.tw_session.proofs.SessionNames.{ProgramAction, IfOk-weaker, Leads, RepliesByProgram, RepliesBySource, Run, RunOrder, Verified, reply, text_of, source_text}
 use Rattle.tw_program_output.specs.declared.reply.Reply.{Reply}
-use Rattle.tw_program_output.proofs.Nones.{Tells, none_told}
+use Rattle.tw_program_output.proofs.Nones.{PrintsWhy, none_printed}
 use Rattle.tw_session.proofs.order.source_reply.Goals as goal
 
 pub program_reply-requires : goal.program_reply-requires
@@ -25,6 +25,6 @@ returns-in-Ok g c =
 pub returns : goal.returns
 returns g c =
     let input = c.args.input.now in
-    IfOk-weaker c.parse_error_reply.result (λ (r : Reply). Tells input c.in-Err.why (reply r.text.items r.close))
+    IfOk-weaker c.parse_error_reply.result (λ (r : Reply). PrintsWhy input c.in-Err.why (reply r.text.items r.close))
     (λ (r : Reply). RepliesBySource c.args.source input (RepliesByProgram (source_text c.args.source input) c.args.order) (reply r.text.items r.close))
-    (λ (r : Reply) h. none_told c.args.source input c.in-Err.why (RepliesByProgram (source_text c.args.source input) c.args.order) (reply r.text.items r.close) c.in-Err.ensures.none h) c.parse_error_reply.ensures
+    (λ (r : Reply) h. none_printed c.args.source input c.in-Err.why (RepliesByProgram (source_text c.args.source input) c.args.order) (reply r.text.items r.close) c.in-Err.ensures.none h) c.parse_error_reply.ensures

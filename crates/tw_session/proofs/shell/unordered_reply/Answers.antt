@@ -3,7 +3,7 @@ use Rattle.clap.specs.Words.{Kinds}
 use Rattle.tw_cli.specs.InputWords.{refused_word}
 use Rattle.tw_cli.specs.Order.{HasReason}
 use Rattle.tw_cli.specs.declared.command.NoOrder.{NoOrder}
-use Rattle.tw_program_output.specs.Inputs.{TellsInputWord}
+use Rattle.tw_program_output.specs.Inputs.{PrintsInputWord}
 use Rattle.tw_program_output.specs.declared.reply.Reply.{Reply as MadeReply}
 use Rattle.tw_session.proofs.SessionNames.{AnswersWords, IfOk-weaker, reply}
 use Rattle.tw_session.proofs.shell.unordered_reply.Goals as goal
@@ -14,5 +14,5 @@ returns-in-InputWord c = λ kinds asked input has.
     let here = subst (λ (why : NoOrder). HasReason kinds asked why) c.in-InputWord.is has in
     IfOk-weaker _ _ _
     (λ (r : MadeReply) told.
-    let word = subst (λ (line : List ℕ). TellsInputWord (refused_word c.in-InputWord.number line) (reply r.text.items r.close)) c.as_slice.ensures.value told in
+    let word = subst (λ (line : List ℕ). PrintsInputWord (refused_word c.in-InputWord.number line) (reply r.text.items r.close)) c.as_slice.ensures.value told in
     subst (λ (ks : Kinds). AnswersWords ks asked input (reply r.text.items r.close)) (sym here.0) (inr (inl (refused, here.1, word)))) c.input_word_reply.ensures
