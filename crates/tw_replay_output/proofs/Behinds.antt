@@ -1,6 +1,6 @@
 -- Details after replies about programs that were read from a text.
 use Rattle.std.proofs.Common.{◌≡◌, ◌≢◌, ◌≤◌, ◌++◌, ◌∙◌, ℕ, suc, List, [], ◌∷◌, length, Option, Some, None, refl, sym, ap, subst}
-use Rattle.tw_replay_output.proofs.ReplayNames.{◌>>=◌, AreShort, ClosesBy, Event, Input, AreEndingDetails, IsUndrawn, MayBeSource, MayTell, NotEnabled, Outcome, PlainView, Procedure, Spoken as Reply, Start, State, TellsCircle, Trap, Went, append-nil, open_error_code, opening_line, rejection_of, reply}
+use Rattle.tw_replay_output.proofs.ReplayNames.{◌>>=◌, AreShort, ClosesBy, Event, Input, AreEndingDetails, IsUndrawn, MayBeSource, MayPrintCircle, NotEnabled, Outcome, PlainView, Procedure, Spoken as Reply, Start, State, PrintsCircle, Trap, Went, append-nil, open_error_code, opening_line, rejection_of, reply}
 use Rattle.tw_types.specs.declared.ending.Ending.{Ending}
 use Rattle.tw_types.specs.declared.ending.Ending.TheVariants.{Quiet, Stuck}
 use Rattle.tw_types.specs.Layout.{ActorCounts}
@@ -36,8 +36,8 @@ pub inputs_refused : (text : Option (List ℕ)) (program : List Procedure) (inpu
     → ((more : List ℕ) × AreOpeningDetails text program inputs more × (r ≡ reply (opening_line number ++ more) close.Refused)) → (why ≢ opening.NoMemory) × IsUnopened text program inputs why r
 inputs_refused text program inputs opening.MainShape number r main memory at h = absurd (main refl)
 inputs_refused text program inputs opening.NoMemory number r main memory at h = absurd (memory refl)
-inputs_refused text program inputs opening.InputCount number r main memory at (more, told, is) = (memory, (more, told, is ∙ ap (λ (n : ℕ). reply (opening_line n ++ more) close.Refused) at))
-inputs_refused text program inputs opening.InputType number r main memory at (more, told, is) = (memory, (more, told, is ∙ ap (λ (n : ℕ). reply (opening_line n ++ more) close.Refused) at))
+inputs_refused text program inputs opening.InputCount number r main memory at (more, answered, is) = (memory, (more, answered, is ∙ ap (λ (n : ℕ). reply (opening_line n ++ more) close.Refused) at))
+inputs_refused text program inputs opening.InputType number r main memory at (more, answered, is) = (memory, (more, answered, is ∙ ap (λ (n : ℕ). reply (opening_line n ++ more) close.Refused) at))
 
 -- ---- how a replay closes
 
@@ -76,51 +76,51 @@ answer_closes names (Picture shown) first events r h other = absurd other
 -- ---- details of a replay
 
 abbrev pub Adds : (List ℕ → Type 0) → List ℕ → List ℕ → Type 0
-Adds Tells old new = (more : List ℕ) × Tells more × (new ≡ old ++ more)
+Adds Prints old new = (more : List ℕ) × Prints more × (new ≡ old ++ more)
 
-pub nothing_added : (Tells : List ℕ → Type 0) (old : List ℕ) → Tells [] → Adds Tells old old
-nothing_added Tells old h = ([], h, sym (append-nil old))
+pub nothing_added : (Prints : List ℕ → Type 0) (old : List ℕ) → Prints [] → Adds Prints old old
+nothing_added Prints old h = ([], h, sym (append-nil old))
 
 -- by the ending of the state
-ended_stuck : (text : List ℕ) (start : Start) (events : List Event) (s : State) (e : Option Ending) (old new : List ℕ) → close_of e ≡ close.Stuck → Adds (TellsCircle text start events (circle start.program s)) old new
+ended_stuck : (text : List ℕ) (start : Start) (events : List Event) (s : State) (e : Option Ending) (old new : List ℕ) → close_of e ≡ close.Stuck → Adds (PrintsCircle text start events (circle start.program s)) old new
     → Adds (AreEndingDetails text start events s e) old new
-ended_stuck text start events s None old new is told = absurd (success_unstuck is)
-ended_stuck text start events s (Some Quiet) old new is told = absurd (success_unstuck is)
-ended_stuck text start events s (Some (Stuck rules)) old new is told = told
+ended_stuck text start events s None old new is answered = absurd (success_unstuck is)
+ended_stuck text start events s (Some Quiet) old new is answered = absurd (success_unstuck is)
+ended_stuck text start events s (Some (Stuck rules)) old new is answered = answered
 
 ended_else : (text : List ℕ) (start : Start) (events : List Event) (s : State) (e : Option Ending) → (close_of e ≡ close.Stuck → ⊥) → AreEndingDetails text start events s e []
 ended_else text start events s None other = refl
 ended_else text start events s (Some Quiet) other = refl
 ended_else text start events s (Some (Stuck rules)) other = absurd (other refl)
 
-abbrev pub TellsEnding : List ℕ → Start → List Event → Outcome State → List ℕ → Type 0
-TellsEnding text start events o more = ByOutcome o (λ s. AreEndingDetails text start events s (ending s) more) (more ≡ [])
+abbrev pub PrintsEnding : List ℕ → Start → List Event → Outcome State → List ℕ → Type 0
+PrintsEnding text start events o more = ByOutcome o (λ s. AreEndingDetails text start events s (ending s) more) (more ≡ [])
 
-pub stuck_behind : (text : List ℕ) (start : Start) (events : List Event) (o : Outcome State) (c : Close) (old new : List ℕ) → c ≡ close.Stuck → ClosesBy o c
-    → ((s : State) → o ≡ Went s → Adds (TellsCircle text start events (circle start.program s)) old new) → Adds (TellsEnding text start events o) old new
-stuck_behind text start events (Went s) c old new is closes told = ended_stuck text start events s (ending s) old new (sym closes ∙ is) (told s refl)
-stuck_behind text start events NotEnabled c old new is closes told = absurd (closes is)
-stuck_behind text start events (Trap cause) c old new is closes told = absurd (closes is)
+pub stuck_details : (text : List ℕ) (start : Start) (events : List Event) (o : Outcome State) (c : Close) (old new : List ℕ) → c ≡ close.Stuck → ClosesBy o c
+    → ((s : State) → o ≡ Went s → Adds (PrintsCircle text start events (circle start.program s)) old new) → Adds (PrintsEnding text start events o) old new
+stuck_details text start events (Went s) c old new is closes answered = ended_stuck text start events s (ending s) old new (sym closes ∙ is) (answered s refl)
+stuck_details text start events NotEnabled c old new is closes answered = absurd (closes is)
+stuck_details text start events (Trap cause) c old new is closes answered = absurd (closes is)
 
-pub else_behind : (text : List ℕ) (start : Start) (events : List Event) (o : Outcome State) (c : Close) (old : List ℕ) → (c ≡ close.Stuck → ⊥) → ClosesBy o c → Adds (TellsEnding text start events o) old old
-else_behind text start events (Went s) c old other closes = nothing_added (TellsEnding text start events (Went s)) old (ended_else text start events s (ending s) (λ e. other (closes ∙ e)))
-else_behind text start events NotEnabled c old other closes = nothing_added (TellsEnding text start events NotEnabled) old refl
-else_behind text start events (Trap cause) c old other closes = nothing_added (TellsEnding text start events (Trap cause)) old refl
+pub else_details : (text : List ℕ) (start : Start) (events : List Event) (o : Outcome State) (c : Close) (old : List ℕ) → (c ≡ close.Stuck → ⊥) → ClosesBy o c → Adds (PrintsEnding text start events o) old old
+else_details text start events (Went s) c old other closes = nothing_added (PrintsEnding text start events (Went s)) old (ended_else text start events s (ending s) (λ e. other (closes ∙ e)))
+else_details text start events NotEnabled c old other closes = nothing_added (PrintsEnding text start events NotEnabled) old refl
+else_details text start events (Trap cause) c old other closes = nothing_added (PrintsEnding text start events (Trap cause)) old refl
 
 pub undrawn : (answer : Answer) → ((shown : EventRange) → answer ≡ Picture shown → ⊥) → IsUndrawn answer
 undrawn Report other = tt
 undrawn Numbers other = tt
 undrawn (Picture shown) other = other shown refl
 
-pub picture_behind : (answer : Answer) (shown : EventRange) (text : List ℕ) (start : Start) (events : List Event) (o : Outcome State) (old : List ℕ) → answer ≡ Picture shown → Adds (AreReportDetails answer text start events o) old old
-picture_behind answer shown text start events o old is = nothing_added (AreReportDetails answer text start events o) old (subst (λ (a : Answer). AreReportDetails a text start events o []) (sym is) refl)
+pub picture_details : (answer : Answer) (shown : EventRange) (text : List ℕ) (start : Start) (events : List Event) (o : Outcome State) (old : List ℕ) → answer ≡ Picture shown → Adds (AreReportDetails answer text start events o) old old
+picture_details answer shown text start events o old is = nothing_added (AreReportDetails answer text start events o) old (subst (λ (a : Answer). AreReportDetails a text start events o []) (sym is) refl)
 
-pub report_behind : (answer : Answer) (text : List ℕ) (start : Start) (events : List Event) (o : Outcome State) (old new : List ℕ) → IsUndrawn answer → Adds (TellsEnding text start events o) old new
+pub report_details : (answer : Answer) (text : List ℕ) (start : Start) (events : List Event) (o : Outcome State) (old new : List ℕ) → IsUndrawn answer → Adds (PrintsEnding text start events o) old new
     → Adds (AreReportDetails answer text start events o) old new
-report_behind Report text start events o old new other h = h
-report_behind Numbers text start events o old new other h = h
-report_behind (Picture shown) text start events o old new other h = absurd other
+report_details Report text start events o old new other h = h
+report_details Numbers text start events o old new other h = h
+report_details (Picture shown) text start events o old new other h = absurd other
 
-pub may_tell : (source : Option SourceText) (start : Start) (events : List Event) → MayBeSource source start.program → rejection_of start.program start.inputs ≡ None → length events ≤ 16777217 → AreShort events → MayTell source start events
-may_tell None start events is opens few short = tt
-may_tell (Some source) start events is opens few short = record { source_is = is; opens = opens; few = few; short = short }
+pub may_print_circle : (source : Option SourceText) (start : Start) (events : List Event) → MayBeSource source start.program → rejection_of start.program start.inputs ≡ None → length events ≤ 16777217 → AreShort events → MayPrintCircle source start events
+may_print_circle None start events is opens few short = tt
+may_print_circle (Some source) start events is opens few short = record { source_is = is; opens = opens; few = few; short = short }

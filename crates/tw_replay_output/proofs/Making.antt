@@ -1,7 +1,7 @@
 -- Events that made rules, and the numbers of these.
 use Rattle.std.proofs.Common.{◌≡◌, ◌↔◌, ◌+◌, ◌<◌, ◌≤◌, ◌⊎◌, inl, inr, Bool, true, false, ℕ, zero, suc, List, [], ◌∷◌, ◌++◌, length, get_or, take, Option, Some, None, refl, sym, ap, subst, ◌∙◌, append_assoc, arith}
 use Rattle.std.proofs.lemmas.Option.{same_Some}
-use Rattle.tw_replay_output.proofs.ReplayNames.{AreMade, ComesFrom, DoesRule, Event, Frame, Input, IsLineOf, IsMade, IsMadeSo, IsOpened, IsSpelled, IsStartOf, IsTrue, IsUnmade, Outcome, PlainView, Procedure, ExpandsTo, Start, State, TellRules, TellsRule, Versioned, Went, append-nil, instr_at, length-append, option_map, option_to_list, reached_from, rejection_of, rule_by, rule_done, rule_in, rule_line, rules_in, slice_get, take_more}
+use Rattle.tw_replay_output.proofs.ReplayNames.{AreMade, ComesFrom, DoesRule, Event, Frame, Input, IsLineOf, IsMade, IsMadeSo, IsOpened, IsSpelled, IsStartOf, IsTrue, IsUnmade, Outcome, PlainView, Procedure, ExpandsTo, Start, State, PrintRules, PrintsRule, Versioned, Went, append-nil, instr_at, length-append, option_map, option_to_list, reached_from, rejection_of, rule_by, rule_done, rule_in, rule_line, rules_in, slice_get, take_more}
 use Rattle.std.specs.FinMap.{get}
 use Rattle.tw_types.specs.declared.actor.Actor.{Actor}
 use Rattle.tw_types.specs.declared.event.Event.TheVariants.{Take, Local, Call, End, Ask, Deliver, Release}
@@ -222,32 +222,32 @@ there start events rule m (action, made, runs) none =
 
 -- holds if lines about rules are added
 abbrev pub AddsDiagnostic : (List ℕ → Type 0) → List ℕ → List ℕ → Type 0
-AddsDiagnostic Tells old new = (more : List ℕ) × Tells more × (new ≡ old ++ more)
+AddsDiagnostic Prints old new = (more : List ℕ) × Prints more × (new ≡ old ++ more)
 
-pub rule_told : (names : List (List ℕ)) (text plain : List ℕ) (start : Start) (events : List Event) (rule : ℕ) (m : Made) (number : ℕ) (line old new : List ℕ) → ExpandsTo text plain → IsMadeSo start events rule m
+pub rule_printed : (names : List (List ℕ)) (text plain : List ℕ) (start : Start) (events : List Event) (rule : ℕ) (m : Made) (number : ℕ) (line old new : List ℕ) → ExpandsTo text plain → IsMadeSo start events rule m
     → ComesFrom plain m.procedure m.place number → IsLineOf text number line
-    → new ≡ old ++ rule_line rule m.runs (name_at names m.runs) number line → AddsDiagnostic (TellsRule names text start events rule) old new
-rule_told names text plain start events rule m number line old new expands (action, made, runs) comes is added = (
+    → new ≡ old ++ rule_line rule m.runs (name_at names m.runs) number line → AddsDiagnostic (PrintsRule names text start events rule) old new
+rule_printed names text plain start events rule m number line old new expands (action, made, runs) comes is added = (
   rule_line rule action.procedure (name_at names action.procedure) number line,
   inl (plain, m.procedure, m.place, number, action, line, made, expands, comes, is, refl),
   added ∙ ap (λ (n : ℕ). old ++ rule_line rule n (name_at names n) number line) (sym runs),
 )
 
-pub none_printed : (names : List (List ℕ)) (text : List ℕ) (start : Start) (events : List Event) (rule : ℕ) (old : List ℕ) → IsUnmade start events rule → AddsDiagnostic (TellsRule names text start events rule) old old
+pub none_printed : (names : List (List ℕ)) (text : List ℕ) (start : Start) (events : List Event) (rule : ℕ) (old : List ℕ) → IsUnmade start events rule → AddsDiagnostic (PrintsRule names text start events rule) old old
 none_printed names text start events rule old unmade = ([], inr (unmade, refl), sym (append-nil old))
 
-rules_more : (names : List (List ℕ)) (text : List ℕ) (start : Start) (events : List Event) (links : List Link) (l : Link) (more line : List ℕ) → TellRules names text start events links more → TellsRule names text start events l.rule line
-    → TellRules names text start events (links ++ l ∷ []) (more ++ line)
+rules_more : (names : List (List ℕ)) (text : List ℕ) (start : Start) (events : List Event) (links : List Link) (l : Link) (more line : List ℕ) → PrintRules names text start events links more → PrintsRule names text start events l.rule line
+    → PrintRules names text start events (links ++ l ∷ []) (more ++ line)
 rules_more names text start events [] l more line none own = (line, [], own, refl, ap (λ (t : List ℕ). t ++ line) none ∙ sym (append-nil line))
 rules_more names text start events (k ∷ links) l more line (first, others, is, rest, whole) own =
     (first, others ++ line, is, rules_more names text start events links l others line rest own, ap (λ (t : List ℕ). t ++ line) whole ∙ append_assoc first others line)
 
 -- the lines of this many rules of a circle, and of one more
-pub rule_more : (names : List (List ℕ)) (text : List ℕ) (start : Start) (events : List Event) (links next : List Link) (l : Link) (old now new : List ℕ) → next ≡ links ++ l ∷ [] → AddsDiagnostic (TellRules names text start events links) old now
-    → AddsDiagnostic (TellsRule names text start events l.rule) now new → AddsDiagnostic (TellRules names text start events next) old new
-rule_more names text start events links next l old now new is (more, told, before) (line, own, added) = (
+pub rule_more : (names : List (List ℕ)) (text : List ℕ) (start : Start) (events : List Event) (links next : List Link) (l : Link) (old now new : List ℕ) → next ≡ links ++ l ∷ [] → AddsDiagnostic (PrintRules names text start events links) old now
+    → AddsDiagnostic (PrintsRule names text start events l.rule) now new → AddsDiagnostic (PrintRules names text start events next) old new
+rule_more names text start events links next l old now new is (more, answered, before) (line, own, added) = (
   more ++ line,
-  subst (λ (ls : List Link). TellRules names text start events ls (more ++ line)) (sym is) (rules_more names text start events links l more line told own),
+  subst (λ (ls : List Link). PrintRules names text start events ls (more ++ line)) (sym is) (rules_more names text start events links l more line answered own),
   added ∙ ap (λ (t : List ℕ). t ++ line) before ∙ append_assoc old more line,
 )
 

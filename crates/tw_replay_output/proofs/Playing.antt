@@ -111,17 +111,17 @@ by_went o s goes stops is h = subst (λ (p : Outcome State). ByOutcome p goes st
 -- the reply to it is that to all
 pub stopped_so : (program : List Procedure) (layout : ActorCounts) (events : List Event) (i : ℕ) (event : Event) (s : State) (o : Outcome State) (r whole : Reply) → i < length events → event ≡ get_or events i event → step program layout event s ≡ o
     → ByOutcome o (λ t. ⊥) (r ≡ after_event (i + 1) o (state_reply program)) → played program layout (i + 1) (drop i events) s ≡ whole → r ≡ whole
-stopped_so program layout events i event s (Went t) r whole inside is comes told before = absurd told
-stopped_so program layout events i event s NotEnabled r whole inside is comes told before = told ∙ not_enabled program layout events i event s whole inside is comes before
-stopped_so program layout events i event s (Trap cause) r whole inside is comes told before = told ∙ trapped program layout events i event s cause whole inside is comes before
+stopped_so program layout events i event s (Went t) r whole inside is comes answered before = absurd answered
+stopped_so program layout events i event s NotEnabled r whole inside is comes answered before = answered ∙ not_enabled program layout events i event s whole inside is comes before
+stopped_so program layout events i event s (Trap cause) r whole inside is comes answered before = answered ∙ trapped program layout events i event s cause whole inside is comes before
 
 -- all of them lead to no state
 pub run_stopped : {stops : Type 0} (T : Type 0) (program : List Procedure) (layout : ActorCounts) (events : List Event) (i : ℕ) (event : Event) (s : State) (o whole : Outcome State) (goes : State → Type 0) → i < length events → event ≡ get_or events i event
     → step program layout event s ≡ o → ByOutcome o (λ t. ⊥) T → run program layout (drop i events) s ≡ whole → stops → ByOutcome whole goes stops
-run_stopped T program layout events i event s (Went t) whole goes inside is comes told before h = absurd told
-run_stopped {stops} T program layout events i event s NotEnabled whole goes inside is comes told before h =
+run_stopped T program layout events i event s (Went t) whole goes inside is comes answered before h = absurd answered
+run_stopped {stops} T program layout events i event s NotEnabled whole goes inside is comes answered before h =
     subst (λ (p : Outcome State). ByOutcome p goes stops) (sym (run_by program layout events i event s NotEnabled inside is comes) ∙ before) h
-run_stopped {stops} T program layout events i event s (Trap cause) whole goes inside is comes told before h =
+run_stopped {stops} T program layout events i event s (Trap cause) whole goes inside is comes answered before h =
     subst (λ (p : Outcome State). ByOutcome p goes stops) (sym (run_by program layout events i event s (Trap cause) inside is comes) ∙ before) h
 
 pub stepped : (first at : PlainView) (event : Event) (o : Outcome State) → at ≡ record first { state = at.state } → step at.program at.layout event at.state ≡ o → step first.program first.layout event at.state ≡ o
@@ -132,10 +132,10 @@ pub not_made : (first at : PlainView) (events : List Event) (i : ℕ) (event : E
     → IsStopped (step at.program at.layout event at.state) why → ((o : Outcome State) (next : State → Reply) → IsStopped o why → ByOutcome o (λ s. ⊥) (r ≡ after_event (i + 1) o next))
     → played first.program first.layout (i + 1) (drop i events) at.state ≡ played_from first events → run first.program first.layout (drop i events) at.state ≡ run first.program first.layout events first.state
     → ByOutcome (run first.program first.layout events first.state) goes (r ≡ played_from first events)
-not_made first at events i event why r goes stays inside is stopped told same runs =
+not_made first at events i event why r goes stays inside is stopped answered same runs =
     let o = step at.program at.layout event at.state in
     let comes : step first.program first.layout event at.state ≡ o = stepped first at event o stays refl in
-    let here = told o (state_reply first.program) stopped in
+    let here = answered o (state_reply first.program) stopped in
     run_stopped (r ≡ after_event (i + 1) o (state_reply first.program)) first.program first.layout events i event at.state o (run first.program first.layout events first.state) goes inside is comes here runs
     (stopped_so first.program first.layout events i event at.state o r (played_from first events) inside is comes here same)
 
@@ -174,5 +174,5 @@ opened_answer text order program events r none h = subst (λ (o : Option OpenErr
 
 pub refused_answer : (text : Option (List ℕ)) (program : List Procedure) (inputs : List Input) (o : Option OpenError) (why : OpenError) (Answers : Type 0) (r : Reply) → IsTold o why → (why ≡ NoMemory → ⊥)
     → IsUnopened text program inputs why r → OpensOr text program inputs o Answers r
-refused_answer text program inputs (Some given) why Answers r told other h = subst (λ (w : OpenError). IsUnopened text program inputs w r) told h
-refused_answer text program inputs None why Answers r told other h = absurd (other told)
+refused_answer text program inputs (Some given) why Answers r answered other h = subst (λ (w : OpenError). IsUnopened text program inputs w r) answered h
+refused_answer text program inputs None why Answers r answered other h = absurd (other answered)

@@ -19,14 +19,14 @@ pub use Rattle.tw_asm.specs.Origins.{ComesFrom, instr_at}
 pub use Rattle.tw_machine.specs.Opening.{IsTold, open_error_code, rejection_of}
 pub use Rattle.tw_machine.specs.PlainView.{PlainView}
 pub use Rattle.tw_symbols.specs.Expansion.{ExpandsTo}
-pub use Rattle.tw_replay_output.specs.Circle.{DoesRule, AreEndingDetails, IsMade, Start, TellRules, TellsCircle, TellsRule, reached_from, rule_line, rule_text}
+pub use Rattle.tw_replay_output.specs.Circle.{DoesRule, AreEndingDetails, IsMade, Start, PrintRules, PrintsCircle, PrintsRule, reached_from, rule_line, rule_text}
 pub use Rattle.tw_replay_output.specs.Counted.{AreShort, IsCounting, IsShort}
 pub use Rattle.tw_program_output.specs.Lines.{opening_line}
 pub use Rattle.tw_program_output.specs.Program.{RepliesBySource, source_text}
 pub use Rattle.tw_replay_output.specs.Replay.{AreBudgets, AreKnownBudgets, IsAnswer, AreAnswerDetails, IsAnswered, IsCounted, IsNumbered, RepliesByHistory, RepliesByLines, close_of, opened, played, played_from, start_of, state_reply}
 pub use Rattle.tw_program_output.specs.Reply.{Reply as Spoken, reply}
 pub use Rattle.tw_program_output.specs.Source.{IsSource, IsSpelled, MayBeSource, plain_of, text_of}
-pub use Rattle.tw_replay_output.specs.Stuck.{AreMade, ClosesBy, IsMadeSo, IsOpened, IsStartOf, IsUndrawn, IsUnmade, MayTell, rule_by, rule_done, rule_in}
+pub use Rattle.tw_replay_output.specs.Stuck.{AreMade, ClosesBy, IsMadeSo, IsOpened, IsStartOf, IsUndrawn, IsUnmade, MayPrintCircle, rule_by, rule_done, rule_in}
 pub use Rattle.tw_program_output.specs.Text.{IsLineOf, text_line}
 pub use Rattle.tw_report.specs.Lines.{not_enabled_line, trap_line}
 pub use Rattle.tw_stats.specs.Kept.{IsComing, IsFirst, IsSmall, IsTally, rules_in}

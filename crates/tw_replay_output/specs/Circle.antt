@@ -66,22 +66,22 @@ abbrev pub rule_line : ℕ → ℕ → List ℕ → ℕ → List ℕ → List �
 rule_line rule procedure name number line = rule_text rule procedure name ++ text_line number line
 
 -- holds for the line of a rule that was made by the events, if procedures have these names; another rule has none
-abbrev pub TellsRule : List (List ℕ) → List ℕ → Start → List Event → ℕ → List ℕ → Type 0
-TellsRule names text start events rule more =
+abbrev pub PrintsRule : List (List ℕ) → List ℕ → Start → List Event → ℕ → List ℕ → Type 0
+PrintsRule names text start events rule more =
     ((plain : List ℕ) × (procedure place number : ℕ) × (action : Action) × (line : List ℕ) × IsMade start events rule procedure place action
     × ExpandsTo text plain × ComesFrom plain procedure place number × IsLineOf text number line × (more ≡ rule_line rule action.procedure (name_at names action.procedure) number line))
     ⊎ (((procedure place : ℕ) (action : Action) → IsMade start events rule procedure place action → ⊥) × (more ≡ []))
 
 -- holds for the lines of the rules of a circle
-abbrev pub TellRules : List (List ℕ) → List ℕ → Start → List Event → List Link → List ℕ → Type 0
-TellRules names text start events [] more = more ≡ []
-TellRules names text start events (l ∷ links) more =
-    (line : List ℕ) × (others : List ℕ) × TellsRule names text start events l.rule line × TellRules names text start events links others × (more ≡ line ++ others)
+abbrev pub PrintRules : List (List ℕ) → List ℕ → Start → List Event → List Link → List ℕ → Type 0
+PrintRules names text start events [] more = more ≡ []
+PrintRules names text start events (l ∷ links) more =
+    (line : List ℕ) × (others : List ℕ) × PrintsRule names text start events l.rule line × PrintRules names text start events links others × (more ≡ line ++ others)
 
 -- holds for the lines of the circle, if there is one, with the names of the text
-abbrev pub TellsCircle : List ℕ → Start → List Event → Option (List Link) → List ℕ → Type 0
-TellsCircle text start events None more = more ≡ []
-TellsCircle text start events (Some links) more = (names : List (List ℕ)) × AreNames text names × TellRules names text start events links more
+abbrev pub PrintsCircle : List ℕ → Start → List Event → Option (List Link) → List ℕ → Type 0
+PrintsCircle text start events None more = more ≡ []
+PrintsCircle text start events (Some links) more = (names : List (List ℕ)) × AreNames text names × PrintRules names text start events links more
 
 -- ---- details of a report
 
@@ -89,4 +89,4 @@ TellsCircle text start events (Some links) more = (names : List (List ℕ)) × A
 abbrev pub AreEndingDetails : List ℕ → Start → List Event → State → Option Ending → List ℕ → Type 0
 AreEndingDetails text start events s None more = more ≡ []
 AreEndingDetails text start events s (Some Quiet) more = more ≡ []
-AreEndingDetails text start events s (Some (Stuck rules)) more = TellsCircle text start events (circle start.program s) more
+AreEndingDetails text start events s (Some (Stuck rules)) more = PrintsCircle text start events (circle start.program s) more

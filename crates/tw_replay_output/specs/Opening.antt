@@ -47,21 +47,21 @@ pub record IsFirstUnfit (program : List Procedure) (inputs : List Input) (index 
   pub input_is : slice_get inputs index ≡ Some input
   pub unfit : is_input_of param.ty input ≡ false
 
-abbrev pub TellsUnfit : List Procedure → List Input → List ℕ → Type 0
-TellsUnfit program inputs text =
+abbrev pub PrintsUnfit : List Procedure → List Input → List ℕ → Type 0
+PrintsUnfit program inputs text =
     (index : ℕ) × (param : Param) × (input : Input) × IsFirstUnfit program inputs index param input
     × (text ≡ codes "input " ++ (decimal (index + 1) ++ unfit_text param.ty (given_by input)))
 
 -- ---- details of the error
 
 -- holds for nothing if the inputs are those that main takes, else for the reason
-abbrev pub TellsInputs : List Procedure → List Input → List ℕ → Type 0
-TellsInputs program inputs text =
+abbrev pub PrintsInputs : List Procedure → List Input → List ℕ → Type 0
+PrintsInputs program inputs text =
     MatchBool (has_input_count program inputs)
-    (MatchBool (has_fitting_inputs program inputs) (text ≡ []) (TellsUnfit program inputs text))
+    (MatchBool (has_fitting_inputs program inputs) (text ≡ []) (PrintsUnfit program inputs text))
     (text ≡ count_line program inputs)
 
 -- holds for the details of a failed opening; without a text there are none
 abbrev pub AreOpeningDetails : Option (List ℕ) → List Procedure → List Input → List ℕ → Type 0
 AreOpeningDetails None program inputs more = more ≡ []
-AreOpeningDetails (Some text) program inputs more = TellsInputs program inputs more
+AreOpeningDetails (Some text) program inputs more = PrintsInputs program inputs more

@@ -151,8 +151,8 @@ opened order program = record { version = program.version; program = program.pro
 -- holds for the answer, with the names of the text, followed by its details
 abbrev pub IsAnswered : Option (List ℕ) → ReplayOrder → Versioned → List Event → Reply → Type 0
 IsAnswered text order program events r =
-    (names : List (List ℕ)) × (told : Reply) × (more : List ℕ) × AreSymbols text names × IsAnswer names order.answer (opened order program) events told × AreAnswerDetails text order.answer (start_of order program) events more
-    × (r ≡ reply (told.text ++ more) told.close)
+    (names : List (List ℕ)) × (answered : Reply) × (more : List ℕ) × AreSymbols text names × IsAnswer names order.answer (opened order program) events answered × AreAnswerDetails text order.answer (start_of order program) events more
+    × (r ≡ reply (answered.text ++ more) answered.close)
 
 abbrev pub IsReplayed : Option (List ℕ) → ReplayOrder → Versioned → List Event → Reply → Type 0
 IsReplayed text order program events r =

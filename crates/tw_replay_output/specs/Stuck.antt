@@ -84,14 +84,14 @@ pub record IsOpened (start : Start) (first : PlainView) : Type 0 where
   pub state : first.state ≡ opening start.program start.inputs
 
 -- the text of a program that is opened with these inputs, and events that aren't too many or too long
-pub record CanTell (source : SourceText) (start : Start) (events : List Event) : Type 0 where
+pub record CanPrintCircle (source : SourceText) (start : Start) (events : List Event) : Type 0 where
   pub source_is : IsSource source start.program
   pub opens : rejection_of start.program start.inputs ≡ None
   pub few : length events ≤ 16777217
   pub short : AreShort events
 
-abbrev pub MayTell : Option SourceText → Start → List Event → Type 0
-MayTell source start events = IfSome source (λ text. CanTell text start events)
+abbrev pub MayPrintCircle : Option SourceText → Start → List Event → Type 0
+MayPrintCircle source start events = IfSome source (λ text. CanPrintCircle text start events)
 
 -- ---- how a replay ends
 

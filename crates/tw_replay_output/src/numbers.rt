@@ -11,7 +11,7 @@ ghost use Rattle.tw_stats.specs.Kept.{IsFirst, IsTally};
 ghost use Rattle.tw_replay_output.specs.Counted.{AreShort, IsCounting};
 ghost use Rattle.tw_replay_output.specs.Replay.{AreBudgets, AreKnownBudgets, ByOutcome, IsCounted, IsNumbered, after_event};
 ghost use Rattle.tw_program_output.specs.Reply.{Reply as AReply, reply};
-ghost use Rattle.tw_program_output.specs.declared.reply.Reply.{Reply as Told};
+ghost use Rattle.tw_program_output.specs.declared.reply.Reply.{Reply as StoppedReply};
 
 use crate::replay::{close_of, stopped_reply};
 use std::alloc::{AllocError, Global};
@@ -106,7 +106,7 @@ fn numbers_reply(
 
 /// Returns the result if the event with this number failed in this way.
 fn stopped_counting(alloc: Global, stopped: Stopped, event: usize) -> Result<Counting, AllocError>
-    ensures { IfOk result (λ c. (r : Told) × (c ≡ Counting.Stopped r)
+    ensures { IfOk result (λ c. (r : StoppedReply) × (c ≡ Counting.Stopped r)
         × ((o : Outcome State) (next : State → AReply) → IsStopped o stopped → ByOutcome o (λ s. ⊥) (reply r.text.items r.close ≡ after_event event o next))) }
 {
     let reply = stopped_reply(alloc, stopped, event)?;

@@ -5,7 +5,7 @@ ghost use Rattle.tw_types.specs.Given.{given_by, members_by};
 ghost use Rattle.tw_code.specs.machine.Inputs.{has_fitting_inputs, input_params, rises};
 ghost use Rattle.tw_code.specs.machine.Opening.{main_params};
 ghost use Rattle.tw_diagnostics.specs.Words.{type_text};
-ghost use Rattle.tw_replay_output.specs.Opening.{AreOpeningDetails, TellsInputs, TellsUnfit, count_line, excess_text, members_text, type_given, unfit_text};
+ghost use Rattle.tw_replay_output.specs.Opening.{AreOpeningDetails, PrintsInputs, PrintsUnfit, count_line, excess_text, members_text, type_given, unfit_text};
 ghost use Rattle.tw_program_output.specs.Lines.{opening_line};
 ghost use Rattle.tw_program_output.specs.Reply.{reply};
 ghost use Rattle.tw_program_output.specs.Source.{text_of};
@@ -150,7 +150,7 @@ fn put_unfit(
     inputs: &[Input],
 ) -> Result<(), AllocError>
     ensures { OnOk result (has_fitting_inputs program.now inputs.now ≡ false
-        → (text : List ℕ) × TellsUnfit program.now inputs.now text × (out.new.items ≡ out.old.items ++ text)) }
+        → (text : List ℕ) × PrintsUnfit program.now inputs.now text × (out.new.items ≡ out.old.items ++ text)) }
 {
     let Some(index) = first_unfit(program, inputs) else {
         return Ok(());
@@ -172,7 +172,7 @@ fn put_inputs_diagnostic(
     program: &[Procedure],
     inputs: &[Input],
 ) -> Result<(), AllocError>
-    ensures { OnOk result ((text : List ℕ) × TellsInputs program.now inputs.now text × (out.new.items ≡ out.old.items ++ text)) }
+    ensures { OnOk result ((text : List ℕ) × PrintsInputs program.now inputs.now text × (out.new.items ≡ out.old.items ++ text)) }
 {
     if !has_input_count(program, inputs) {
         put_count_line(alloc, out, program, inputs)

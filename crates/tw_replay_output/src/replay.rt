@@ -161,8 +161,8 @@ fn opened_reply(
     let names = symbols_of(alloc, source)?;
     match Plain::open(alloc, program, order.inputs.as_slice(), order.layout) {
         Ok(plain) => {
-            let told = answer_of(alloc, order.answer, names, plain, events, budgets)?;
-            details_reply(alloc, source, order, events, told)
+            let answered = answer_of(alloc, order.answer, names, plain, events, budgets)?;
+            details_reply(alloc, source, order, events, answered)
         }
         Err(refused) => unopened_reply(alloc, source, order, &refused),
     }
@@ -303,8 +303,8 @@ pub fn replay_inputs_reply(
     input: &[u8],
 ) -> Result<Reply, AllocError>
     requires { length input.now ≤ 16777216 }
-    ensures { IfOk result (λ r. RepliesByHistory input.now (λ before told. RepliesByInputs before
-        (λ program given. RepliesBySource source program (RepliesByLines (source_text source program) (replay_with options given) told))) (reply r.text.items r.close)) }
+    ensures { IfOk result (λ r. RepliesByHistory input.now (λ before answered. RepliesByInputs before
+        (λ program given. RepliesBySource source program (RepliesByLines (source_text source program) (replay_with options given) answered))) (reply r.text.items r.close)) }
 {
     let (before, history) = cut_history(input);
     match str::from_utf8(history) {

@@ -11,7 +11,7 @@ ghost use Rattle.tw_replay_output.specs.Circle.{AreEndingDetails, Start, reached
 ghost use Rattle.tw_replay_output.specs.Replay.{ByOutcome, IsAnswer, AreAnswerDetails, IsAnswered, AreRejectionDetails, AreReportDetails, opened, start_of};
 ghost use Rattle.tw_program_output.specs.Reply.{reply};
 ghost use Rattle.tw_program_output.specs.Source.{MayBeSource, text_of};
-ghost use Rattle.tw_replay_output.specs.Stuck.{CanTell, ClosesBy, IsStartOf, IsUndrawn, MayTell};
+ghost use Rattle.tw_replay_output.specs.Stuck.{CanPrintCircle, ClosesBy, IsStartOf, IsUndrawn, MayPrintCircle};
 ghost use Rattle.tw_symbols.specs.Symbols.{AreSymbols};
 ghost use Rattle.tw_replay_output.specs.Counted.{AreShort};
 
@@ -56,7 +56,7 @@ fn put_ending_details(
     events: &[Event],
     close: Close,
 ) -> Result<(), AllocError>
-    ensures { OnOk result ((start : Start) (o : Outcome State) → IsStartOf start order.now.inputs order.now.layout → CanTell source.now start events.now
+    ensures { OnOk result ((start : Start) (o : Outcome State) → IsStartOf start order.now.inputs order.now.layout → CanPrintCircle source.now start events.now
         → reached_from start events.now ≡ o → ClosesBy o close
         → (more : List ℕ) × ByOutcome o (λ s. AreEndingDetails source.now.text.now start events.now s (ending s) more) (more ≡ []) × (out.new.items ≡ out.old.items ++ more)) }
 {
@@ -82,7 +82,7 @@ fn put_report_details(
     events: &[Event],
     close: Close,
 ) -> Result<(), AllocError>
-    ensures { OnOk result ((start : Start) (o : Outcome State) → IsStartOf start order.now.inputs order.now.layout → CanTell source.now start events.now
+    ensures { OnOk result ((start : Start) (o : Outcome State) → IsStartOf start order.now.inputs order.now.layout → CanPrintCircle source.now start events.now
         → reached_from start events.now ≡ o → (IsUndrawn order.now.answer → ClosesBy o close)
         → (more : List ℕ) × AreReportDetails order.now.answer source.now.text.now start events.now o more × (out.new.items ≡ out.old.items ++ more)) }
 {
@@ -101,7 +101,7 @@ fn put_answer_details(
     events: &[Event],
     close: Close,
 ) -> Result<(), AllocError>
-    ensures { OnOk result ((start : Start) → IsStartOf start order.now.inputs order.now.layout → MayTell source.now start events.now
+    ensures { OnOk result ((start : Start) → IsStartOf start order.now.inputs order.now.layout → MayPrintCircle source.now start events.now
         → (IsUndrawn order.now.answer → ClosesBy (reached_from start events.now) close)
         → (more : List ℕ) × AreAnswerDetails (text_of source.now) order.now.answer start events.now more × (out.new.items ≡ out.old.items ++ more)) }
 {
@@ -117,14 +117,14 @@ pub fn details_reply(
     source: &Option<SourceText<'_>>,
     order: &ReplayOrder,
     events: &[Event],
-    told: Reply,
+    answered: Reply,
 ) -> Result<Reply, AllocError>
     ensures { IfOk result (λ r. (program : Versioned) → MayBeSource source.now program.procedures → rejection_of program.procedures order.now.inputs ≡ None
         → length events.now ≤ 16777217 → AreShort events.now
-        → (names : List (List ℕ)) → AreSymbols (text_of source.now) names → IsAnswer names order.now.answer (opened order.now program) events.now (reply told.text.items told.close)
+        → (names : List (List ℕ)) → AreSymbols (text_of source.now) names → IsAnswer names order.now.answer (opened order.now program) events.now (reply answered.text.items answered.close)
         → IsAnswered (text_of source.now) order.now program events.now (reply r.text.items r.close)) }
 {
-    let Reply { mut text, close } = told;
+    let Reply { mut text, close } = answered;
     put_answer_details(alloc, &mut text, source, order, events, close)?;
     Ok(Reply { text, close })
 }

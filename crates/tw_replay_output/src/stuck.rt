@@ -8,11 +8,11 @@ ghost use Rattle.tw_code.specs.machine.Bounds.{AreBelow, opening_bound, size_of}
 ghost use Rattle.tw_code.specs.machine.Pending.{circle};
 ghost use Rattle.tw_code.specs.machine.State.{State};
 ghost use Rattle.tw_instr.specs.Attempts.{IsStopped};
-ghost use Rattle.tw_replay_output.specs.Circle.{Start, TellRules, TellsCircle, TellsRule, reached_from, rule_line, rule_text};
+ghost use Rattle.tw_replay_output.specs.Circle.{Start, PrintRules, PrintsCircle, PrintsRule, reached_from, rule_line, rule_text};
 ghost use Rattle.tw_replay_output.specs.Replay.{ByOutcome};
 ghost use Rattle.tw_symbols.specs.Symbols.{name_at};
 ghost use Rattle.tw_program_output.specs.Source.{IsSource};
-ghost use Rattle.tw_replay_output.specs.Stuck.{AreMade, CanTell, IsLookup, IsMadeSo, IsOpened, IsStartOf, IsUnmade, rule_by, rule_done, rule_in};
+ghost use Rattle.tw_replay_output.specs.Stuck.{AreMade, CanPrintCircle, IsLookup, IsMadeSo, IsOpened, IsStartOf, IsUnmade, rule_by, rule_done, rule_in};
 
 use std::alloc::{AllocError, Global};
 use tw_asm::{FaultNo, assemble};
@@ -173,7 +173,7 @@ fn put_rule(
     rule: RuleNo,
 ) -> Result<(), AllocError>
     ensures { OnOk result ((start : Start) (events : List AnEvent) → IsLookup lookup.now source.now.text.now → IsSource source.now start.program → AreMade start events made.now
-        → (more : List ℕ) × TellsRule lookup.now.names source.now.text.now start events rule more × (out.new.items ≡ out.old.items ++ more)) }
+        → (more : List ℕ) × PrintsRule lookup.now.names source.now.text.now start events rule more × (out.new.items ≡ out.old.items ++ more)) }
 {
     let Some(own) = made_of(made, rule) else {
         return Ok(());
@@ -194,7 +194,7 @@ fn put_rules(
     links: &[Link],
 ) -> Result<(), AllocError>
     ensures { OnOk result ((start : Start) (events : List AnEvent) → IsLookup lookup.now source.now.text.now → IsSource source.now start.program → AreMade start events made.now
-        → (more : List ℕ) × TellRules lookup.now.names source.now.text.now start events links.now more × (out.new.items ≡ out.old.items ++ more)) }
+        → (more : List ℕ) × PrintRules lookup.now.names source.now.text.now start events links.now more × (out.new.items ≡ out.old.items ++ more)) }
 {
     for link in links {
         put_rule(alloc, out, source, lookup, made, link.rule)?;
@@ -211,7 +211,7 @@ fn put_links(
     links: &[Link],
 ) -> Result<(), AllocError>
     ensures { OnOk result ((start : Start) (events : List AnEvent) → IsSource source.now start.program → AreMade start events made.now
-        → (more : List ℕ) × TellsCircle source.now.text.now start events (Some links.now) more × (out.new.items ≡ out.old.items ++ more)) }
+        → (more : List ℕ) × PrintsCircle source.now.text.now start events (Some links.now) more × (out.new.items ≡ out.old.items ++ more)) }
 {
     let lookup = Lookup::of(alloc, source.text)?;
     put_rules(alloc, out, source, &lookup, made, links)
@@ -226,7 +226,7 @@ fn put_circle(
     plain: &Plain,
 ) -> Result<(), AllocError>
     ensures { OnOk result ((start : Start) (events : List AnEvent) → IsSource source.now start.program → AreMade start events made.now
-        → (more : List ℕ) × TellsCircle source.now.text.now start events (circle plain.now.program plain.now.state) more × (out.new.items ≡ out.old.items ++ more)) }
+        → (more : List ℕ) × PrintsCircle source.now.text.now start events (circle plain.now.program plain.now.state) more × (out.new.items ≡ out.old.items ++ more)) }
 {
     match circle_state(alloc, plain)? {
         Some(links) => put_links(alloc, out, source, made, &links),
@@ -254,8 +254,8 @@ fn put_played(
     events: &[Event],
 ) -> Result<(), AllocError>
     requires { AreBelow opening_bound first.state }
-    ensures { OnOk result ((start : Start) (s : State) → IsOpened start first → CanTell source.now start events.now → reached_from start events.now ≡ Went s
-        → (more : List ℕ) × TellsCircle source.now.text.now start events.now (circle start.program s) more × (out.new.items ≡ out.old.items ++ more)) }
+    ensures { OnOk result ((start : Start) (s : State) → IsOpened start first → CanPrintCircle source.now start events.now → reached_from start events.now ≡ Went s
+        → (more : List ℕ) × PrintsCircle source.now.text.now start events.now (circle start.program s) more × (out.new.items ≡ out.old.items ++ more)) }
 {
     let mut plain = first;
     let mut made = Vec::new(alloc);
@@ -282,9 +282,9 @@ fn put_opened(
     layout: Layout,
     events: &[Event],
 ) -> Result<(), AllocError>
-    ensures { OnOk result ((start : Start) (s : State) → IsStartOf start inputs.now layout → start.program ≡ program.procedures → CanTell source.now start events.now
+    ensures { OnOk result ((start : Start) (s : State) → IsStartOf start inputs.now layout → start.program ≡ program.procedures → CanPrintCircle source.now start events.now
         → reached_from start events.now ≡ Went s
-        → (more : List ℕ) × TellsCircle source.now.text.now start events.now (circle start.program s) more × (out.new.items ≡ out.old.items ++ more)) }
+        → (more : List ℕ) × PrintsCircle source.now.text.now start events.now (circle start.program s) more × (out.new.items ≡ out.old.items ++ more)) }
 {
     match Plain::open(alloc, program, inputs, layout) {
         Ok(first) => put_played(alloc, out, source, first, events),
@@ -304,8 +304,8 @@ pub fn put_stuck(
     layout: Layout,
     events: &[Event],
 ) -> Result<(), AllocError>
-    ensures { OnOk result ((start : Start) (s : State) → IsStartOf start inputs.now layout → CanTell source.now start events.now → reached_from start events.now ≡ Went s
-        → (more : List ℕ) × TellsCircle source.now.text.now start events.now (circle start.program s) more × (out.new.items ≡ out.old.items ++ more)) }
+    ensures { OnOk result ((start : Start) (s : State) → IsStartOf start inputs.now layout → CanPrintCircle source.now start events.now → reached_from start events.now ≡ Went s
+        → (more : List ℕ) × PrintsCircle source.now.text.now start events.now (circle start.program s) more × (out.new.items ≡ out.old.items ++ more)) }
 {
     match assemble(alloc, source.plain()) {
         Ok(program) => put_opened(alloc, out, source, program, inputs, layout, events),

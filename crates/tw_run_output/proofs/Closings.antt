@@ -7,13 +7,13 @@ use Rattle.tw_cli.specs.declared.command.RunOrder.{RunOrder}
 use Rattle.tw_cli.specs.declared.shown.EventRange.{EventRange}
 use Rattle.tw_pool.specs.declared.answer.Closing.{Closing}
 use Rattle.tw_pool.specs.declared.answer.Closing.TheVariants as closing
-use Rattle.tw_replay_output.specs.Circle.{TellsCircle}
+use Rattle.tw_replay_output.specs.Circle.{PrintsCircle}
 use Rattle.tw_replay_output.proofs.Behinds.{Adds, nothing_added}
 use Rattle.tw_run_output.specs.Run.{AreClosingDetails, AreRunDetails}
 use Rattle.tw_run_output.specs.Run as run
 
 pub closing_stuck : (text : List ℕ) (program : List Procedure) (order : RunOrder) (events : List Event) (s : State) (c : Closing) (rules : ℕ) (old new : List ℕ) → c ≡ closing.Stuck rules
-    → Adds (TellsCircle text (run.start_of program order) events (circle program s)) old new → Adds (AreClosingDetails text program order events s c) old new
+    → Adds (PrintsCircle text (run.start_of program order) events (circle program s)) old new → Adds (AreClosingDetails text program order events s c) old new
 closing_stuck text program order events s c rules old new is h = subst (λ (x : Closing). Adds (AreClosingDetails text program order events s x) old new) (sym is) h
 
 pub closing_else : (text : List ℕ) (program : List Procedure) (order : RunOrder) (events : List Event) (s : State) (c : Closing) (old : List ℕ) → ((rules : ℕ) → c ≡ closing.Stuck rules → ⊥)

@@ -27,7 +27,7 @@ use Rattle.tw_run_output.specs.Ends.{end_report}
 use Rattle.tw_run_output.specs.Json.{run_line}
 use Rattle.tw_program_output.specs.declared.close.Close.{Close}
 use Rattle.tw_program_output.specs.declared.close.Close.TheVariants as close
-use Rattle.tw_replay_output.specs.Circle.{Start, TellsCircle}
+use Rattle.tw_replay_output.specs.Circle.{Start, PrintsCircle}
 use Rattle.tw_replay_output.specs.Replay.{AreBudgets}
 
 -- returns the lines of the run's events, if they are requested
@@ -82,7 +82,7 @@ start_of program order = record { program = program; inputs = order.inputs; layo
 
 -- holds if these are the lines at the end, for a program that was read from this text
 abbrev pub AreClosingDetails : List ℕ → List Procedure → RunOrder → List Event → State → Closing → List ℕ → Type 0
-AreClosingDetails text program order events s (Stuck rules) more = TellsCircle text (start_of program order) events (circle program s) more
+AreClosingDetails text program order events s (Stuck rules) more = PrintsCircle text (start_of program order) events (circle program s) more
 AreClosingDetails text program order events s Quiet more = more ≡ []
 AreClosingDetails text program order events s Limit more = more ≡ []
 AreClosingDetails text program order events s Stopped more = more ≡ []

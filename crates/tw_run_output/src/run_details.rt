@@ -5,10 +5,10 @@ ghost use Rattle.tw_types.specs.Outcome.{Went};
 ghost use Rattle.tw_code.specs.declared.procedure.Procedure.{Procedure as Section};
 ghost use Rattle.tw_code.specs.machine.Pending.{circle};
 ghost use Rattle.tw_code.specs.machine.State.{State};
-ghost use Rattle.tw_replay_output.specs.Circle.{TellsCircle, reached_from};
+ghost use Rattle.tw_replay_output.specs.Circle.{PrintsCircle, reached_from};
 ghost use Rattle.tw_run_output.specs.Run.{AreClosingDetails, AreRunDetails, start_of};
 ghost use Rattle.tw_program_output.specs.Source.{text_of};
-ghost use Rattle.tw_replay_output.specs.Stuck.{CanTell, MayTell};
+ghost use Rattle.tw_replay_output.specs.Stuck.{CanPrintCircle, MayPrintCircle};
 
 use crate::ended::events_of;
 use std::alloc::{AllocError, Global};
@@ -25,9 +25,9 @@ fn put_circle_details(
     order: &RunOrder,
     history: &History,
 ) -> Result<(), AllocError>
-    ensures { OnOk result ((program : List Section) (s : State) → CanTell source.now (start_of program order.now) history.now.events
+    ensures { OnOk result ((program : List Section) (s : State) → CanPrintCircle source.now (start_of program order.now) history.now.events
         → reached_from (start_of program order.now) history.now.events ≡ Went s
-        → (more : List ℕ) × TellsCircle source.now.text.now (start_of program order.now) history.now.events (circle program s) more × (out.new.items ≡ out.old.items ++ more)) }
+        → (more : List ℕ) × PrintsCircle source.now.text.now (start_of program order.now) history.now.events (circle program s) more × (out.new.items ≡ out.old.items ++ more)) }
 {
     let events = events_of(alloc, history)?;
     put_stuck(
@@ -49,7 +49,7 @@ fn put_closing_details(
     history: &History,
     closing: Closing,
 ) -> Result<(), AllocError>
-    ensures { OnOk result ((program : List Section) (s : State) → CanTell source.now (start_of program order.now) history.now.events
+    ensures { OnOk result ((program : List Section) (s : State) → CanPrintCircle source.now (start_of program order.now) history.now.events
         → reached_from (start_of program order.now) history.now.events ≡ Went s
         → (more : List ℕ) × AreClosingDetails source.now.text.now program order.now history.now.events s closing more × (out.new.items ≡ out.old.items ++ more)) }
 {
@@ -68,7 +68,7 @@ pub fn put_run_details(
     history: &History,
     closing: Closing,
 ) -> Result<(), AllocError>
-    ensures { OnOk result ((program : List Section) (s : State) → MayTell source.now (start_of program order.now) history.now.events
+    ensures { OnOk result ((program : List Section) (s : State) → MayPrintCircle source.now (start_of program order.now) history.now.events
         → reached_from (start_of program order.now) history.now.events ≡ Went s
         → (more : List ℕ) × AreRunDetails order.now.answer (text_of source.now) program order.now history.now.events s closing more × (out.new.items ≡ out.old.items ++ more)) }
 {

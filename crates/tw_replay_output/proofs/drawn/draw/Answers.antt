@@ -25,9 +25,9 @@ returns-in-Err c =
     let events = c.args.events.now in
     let kept = c.loop-index.invariant in
     IfOk-weaker c.stopped_reply.result _ (λ (r : Reply). IsDrawn c.args.names c.args.shown first events (reply r.text.items r.close))
-    (λ (r : Reply) told.
+    (λ (r : Reply) answered.
     not_made first c.loop-index.plain events c.loop-index.index c.index-events-index.result c.in-Err.stopped (reply r.text.items r.close) (λ s. IsPicture c.args.names c.args.shown first events s (reply r.text.items r.close)) kept.stays c.loop-index-test.true c.index-events-index.is
-    c.in-Err.ensures.steps.0 told kept.same kept.runs) c.stopped_reply.ensures
+    c.in-Err.ensures.steps.0 answered kept.same kept.runs) c.stopped_reply.ensures
 
 pub loop-index-init : goal.loop-index-init
 loop-index-init c = record { stays = refl; same = refl; runs = refl; below = c.requires.below; timeline_builder = c.new-timeline_builder.ensures c.args.first c.requires.opening }

@@ -14,9 +14,9 @@ returns-in-Err c =
     let events = c.args.events.now in
     let kept = c.loop-index.invariant in
     IfOk-weaker c.stopped_counting.result _ (IsCounting first events)
-    (λ counting (r, is, told).
+    (λ counting (r, is, answered).
     subst (IsCounting first events) (sym is)
-    (not_made first c.loop-index.plain events c.loop-index.index c.index-events-index.result c.in-Err.stopped (reply r.text.items r.close) (λ s. ⊥) kept.stays c.loop-index-test.true c.index-events-index.is c.in-Err.ensures.steps.0 told kept.same kept.runs))
+    (not_made first c.loop-index.plain events c.loop-index.index c.index-events-index.result c.in-Err.stopped (reply r.text.items r.close) (λ s. ⊥) kept.stays c.loop-index-test.true c.index-events-index.is c.in-Err.ensures.steps.0 answered kept.same kept.runs))
     c.stopped_counting.ensures
 
 pub loop-index-init : goal.loop-index-init

@@ -13,14 +13,14 @@ pub returns-in-Ok : goal.returns-in-Ok
 returns-in-Ok c =
     let source = c.args.source in
     let ls = lines c.args.text.now in
-    let told = lines_in c.args.history.now in
+    let answered = lines_in c.args.history.now in
     let words : map (λ (w : Bor (List ℕ)). w.now) c.deref.result.now ≡ words_in (after_inputs ls) = ap (map (λ (w : Bor (List ℕ)). w.now)) c.deref.ensures.value ∙ c.in_ok-parts.ensures.words in
     let program : c.deref-in-Ok.result.now ≡ before_inputs ls = c.deref-in-Ok.ensures.value ∙ c.in_ok-parts.ensures.program in
     let spelled = subst (λ (ws : List Text). AreSpelled c.in-Ok.inputs ws) words c.in-Ok.ensures.spelled in
     IfOk-weaker _ _ _
     (λ (r : Reply) h.
-    let ordered = subst (λ (order : ReplayOrder). RepliesBySource source c.deref-in-Ok.result.now (RepliesByLines (source_text source c.deref-in-Ok.result.now) order told) (reply r.text.items r.close)) c.with_inputs-order.ensures h in
-    let whole = subst (λ (p : List ℕ). RepliesBySource source p (RepliesByLines (source_text source p) (replay_with c.args.options c.in-Ok.inputs) told) (reply r.text.items r.close)) program ordered in
+    let ordered = subst (λ (order : ReplayOrder). RepliesBySource source c.deref-in-Ok.result.now (RepliesByLines (source_text source c.deref-in-Ok.result.now) order answered) (reply r.text.items r.close)) c.with_inputs-order.ensures h in
+    let whole = subst (λ (p : List ℕ). RepliesBySource source p (RepliesByLines (source_text source p) (replay_with c.args.options c.in-Ok.inputs) answered) (reply r.text.items r.close)) program ordered in
     inl (c.in-Ok.inputs, spelled, whole)) c.source_reply.ensures
 
 pub returns : goal.returns

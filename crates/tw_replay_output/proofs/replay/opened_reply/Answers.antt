@@ -16,16 +16,16 @@ answer_of-requires-clause-numbers c = subst IsFirst (sym (ap (λ (v : PlainView)
 pub answer_of-requires-clause-known : goal.answer_of-requires-clause-known
 answer_of-requires-clause-known c = λ is. subst (λ (v : PlainView). AreKnownBudgets v.program c.args.budgets.now) (sym c.in-Ok.ensures.opened) (c.requires.known is)
 
-pub returns-in_ok-told-in-Ok : goal.returns-in_ok-told-in-Ok
-returns-in_ok-told-in-Ok c =
+pub returns-in_ok-answered-in-Ok : goal.returns-in_ok-answered-in-Ok
+returns-in_ok-answered-in-Ok c =
     let order = c.args.order.now in
     let program = c.args.program in
     let events = c.args.events.now in
     let text = text_of c.args.source.now in
-    let told = reply c.in_ok-told-in-Ok.told.text.items c.in_ok-told-in-Ok.told.close in
+    let answered = reply c.in_ok-answered-in-Ok.answered.text.items c.in_ok-answered-in-Ok.answered.close in
     let none : rejection_of program.procedures order.inputs ≡ None = subst (λ (given : List Input). rejection_of program.procedures given ≡ None) c.as_slice.ensures c.in-Ok.ensures.asked in
     let here = opened_is order program c.as_slice.result.now c.in-Ok.plain c.as_slice.ensures c.in-Ok.ensures.opened in
-    let is = subst (λ (v : PlainView). IsAnswer c.in_ok-names.names order.answer v events told) here c.in_ok-told-in-Ok.ensures in
+    let is = subst (λ (v : PlainView). IsAnswer c.in_ok-names.names order.answer v events answered) here c.in_ok-answered-in-Ok.ensures in
     IfOk-weaker _ _ _ (λ (r : Reply) h. opened_answer text order program events (reply r.text.items r.close) none (h program c.requires.source none c.requires.few c.requires.sizes c.in_ok-names.names c.in_ok-names.ensures is)) c.details_reply.ensures
 
 pub returns-in-Err : goal.returns-in-Err

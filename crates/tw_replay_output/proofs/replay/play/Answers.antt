@@ -11,8 +11,8 @@ returns-in-Err c =
     let o = step at.program at.layout event at.state in
     let whole = played c.args.first.program c.args.first.layout 1 c.args.events.now c.args.first.state in
     IfOk-weaker c.stopped_reply.result _ (λ (r : Reply). reply r.text.items r.close ≡ whole)
-    (λ (r : Reply) told.
-    stopped_so at.program at.layout c.args.events.now c.loop-index.index event at.state o (reply r.text.items r.close) whole c.loop-index-test.true c.index-events-index.is refl (told o (state_reply at.program) c.in-Err.ensures.steps.0) c.loop-index.invariant.same)
+    (λ (r : Reply) answered.
+    stopped_so at.program at.layout c.args.events.now c.loop-index.index event at.state o (reply r.text.items r.close) whole c.loop-index-test.true c.index-events-index.is refl (answered o (state_reply at.program) c.in-Err.ensures.steps.0) c.loop-index.invariant.same)
     c.stopped_reply.ensures
 
 pub loop-index-preserved : goal.loop-index-preserved

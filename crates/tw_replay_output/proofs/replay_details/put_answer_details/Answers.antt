@@ -1,5 +1,5 @@
 use Rattle.std.proofs.Common.{Option, refl, subst, sym}
-use Rattle.tw_replay_output.proofs.ReplayNames.{AreAnswerDetails, MayTell, on_ok_weaker, reached_from, text_of}
+use Rattle.tw_replay_output.proofs.ReplayNames.{AreAnswerDetails, MayPrintCircle, on_ok_weaker, reached_from, text_of}
 use Rattle.tw_program_output.specs.declared.source.SourceText.{SourceText}
 use Rattle.tw_replay_output.proofs.Behinds.{Adds}
 use Rattle.tw_replay_output.proofs.replay_details.put_answer_details.Goals as goal
@@ -9,7 +9,7 @@ returns-in-Some c =
     let answer = c.args.order.now.answer in
     let events = c.args.events.now in
     on_ok_weaker c.put_report_details.result
-    (λ told start starts may closes.
-    let can = subst (λ (o : Option SourceText). MayTell o start events) c.in-Some.is may in
-    subst (λ (o : Option SourceText). Adds (AreAnswerDetails (text_of o) answer start events) c.args.out.now.items c.put_report_details.new.out.items) (sym c.in-Some.is) (told start (reached_from start events) starts can refl closes))
+    (λ answered start starts may closes.
+    let can = subst (λ (o : Option SourceText). MayPrintCircle o start events) c.in-Some.is may in
+    subst (λ (o : Option SourceText). Adds (AreAnswerDetails (text_of o) answer start events) c.args.out.now.items c.put_report_details.new.out.items) (sym c.in-Some.is) (answered start (reached_from start events) starts can refl closes))
     c.put_report_details.ensures

@@ -7,7 +7,7 @@ use Rattle.tw_replay_output.proofs.stuck.put_opened.Goals as goal
 pub returns-in-Ok : goal.returns-in-Ok
 returns-in-Ok c =
     on_ok_weaker c.put_played.result
-    (λ told start s starts same can leads. told start s (opened_so start c.args.program c.args.inputs.now c.args.layout c.in-Ok.first starts same c.in-Ok.ensures.opened) can leads) c.put_played.ensures
+    (λ answered start s starts same can leads. answered start s (opened_so start c.args.program c.args.inputs.now c.args.layout c.in-Ok.first starts same c.in-Ok.ensures.opened) can leads) c.put_played.ensures
 
 pub returns : goal.returns
 returns c = λ start s starts same can leads.

@@ -1,5 +1,5 @@
 use Rattle.std.proofs.Common.{◌≡◌, ◌+◌, ◌*◌, ◌≤◌, ◌++◌, ◌∙◌, List, Option, take, arith, refl, sym, ap, subst}
-use Rattle.tw_replay_output.proofs.ReplayNames.{AreMade, Event, IsOpened, Outcome, PlainView, Procedure, Start, State, TellsCircle, Went, on_ok_weaker, opening_bound, option_to_list, rule_done, run, size_of, step, take_all}
+use Rattle.tw_replay_output.proofs.ReplayNames.{AreMade, Event, IsOpened, Outcome, PlainView, Procedure, Start, State, PrintsCircle, Went, on_ok_weaker, opening_bound, option_to_list, rule_done, run, size_of, step, take_all}
 use Rattle.tw_code.specs.machine.Pending.{circle}
 use Rattle.tw_code.proofs.Growth.{below_more}
 use Rattle.tw_code.proofs.Runs.{run_more}
@@ -68,9 +68,9 @@ returns-in-Err c =
     let whole = run first.program first.layout events first.state in
     let o = step at.program at.layout event at.state in
     on_ok_weaker c.unmade.result
-    (λ told start s opened can leads.
+    (λ answered start s opened can leads.
     absurd (subst (λ (p : Outcome State). ByOutcome p (λ t. ⊥) (Unit {0})) (from_there start first events opened ∙ leads)
-    (run_stopped (Unit {0}) first.program first.layout events c.loop-index.index event at.state o whole (λ t. ⊥) c.loop-index-test.true c.index-events-index.is (stepped first at event o kept.stays refl) (told o c.in-Err.ensures.steps.0) kept.runs tt))) c.unmade.ensures
+    (run_stopped (Unit {0}) first.program first.layout events c.loop-index.index event at.state o whole (λ t. ⊥) c.loop-index-test.true c.index-events-index.is (stepped first at event o kept.stays refl) (answered o c.in-Err.ensures.steps.0) kept.runs tt))) c.unmade.ensures
 
 pub returns : goal.returns
 returns c =
@@ -85,10 +85,10 @@ returns c =
     let whole = run first.program first.layout events first.state in
     let comes : whole ≡ Went at.state = all_run first.program first.layout events i at.state whole c.loop-index-test.false kept.runs in
     on_ok_weaker c.put_circle.result
-    (λ told start s opened can leads.
+    (λ answered start s opened can leads.
     let all = subst (λ (es : List Event). AreMade start es c.loop-index.made.items) (take_all i events c.loop-index-test.false) (kept.made start opened) in
-    let here = told start events can.source_is (subst (AreMade start events) (sym c.deref.ensures.value) all) in
+    let here = answered start events can.source_is (subst (AreMade start events) (sym c.deref.ensures.value) all) in
     let program : at.program ≡ start.program = ap (λ (v : PlainView). v.program) kept.stays ∙ opened.program in
     let state = same_state whole at.state s comes (from_there start first events opened ∙ leads) in
-    subst (λ (t : State). AddsDiagnostic (TellsCircle text start events (circle start.program t)) old new) state
-    (subst (λ (ps : List Procedure). AddsDiagnostic (TellsCircle text start events (circle ps at.state)) old new) program here)) c.put_circle.ensures
+    subst (λ (t : State). AddsDiagnostic (PrintsCircle text start events (circle start.program t)) old new) state
+    (subst (λ (ps : List Procedure). AddsDiagnostic (PrintsCircle text start events (circle ps at.state)) old new) program here)) c.put_circle.ensures

@@ -1,5 +1,5 @@
 use Rattle.std.proofs.Common.{◌+◌, List, subst, take}
-use Rattle.tw_replay_output.proofs.ReplayNames.{TellRules, take_all}
+use Rattle.tw_replay_output.proofs.ReplayNames.{PrintRules, take_all}
 use Rattle.tw_types.specs.declared.pending.Link.{Link}
 use Rattle.tw_replay_output.proofs.Making.{AddsDiagnostic, one_taken, rule_more}
 use Rattle.tw_replay_output.proofs.stuck.put_rules.Goals as goal
@@ -14,5 +14,5 @@ loop-link-preserved c = λ start events look is are.
 
 pub returns : goal.returns
 returns c = λ start events look is are.
-    subst (λ (ls : List Link). AddsDiagnostic (TellRules c.args.lookup.now.names c.args.source.now.text.now start events ls) c.args.out.now.items c.loop-link.out.items) (take_all c.loop-link.link-index c.args.links.now c.loop-link-test.false)
+    subst (λ (ls : List Link). AddsDiagnostic (PrintRules c.args.lookup.now.names c.args.source.now.text.now start events ls) c.args.out.now.items c.loop-link.out.items) (take_all c.loop-link.link-index c.args.links.now c.loop-link-test.false)
     (c.loop-link.invariant start events look is are)

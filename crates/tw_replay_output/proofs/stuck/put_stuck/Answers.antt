@@ -7,9 +7,9 @@ use Rattle.tw_replay_output.proofs.stuck.put_stuck.Goals as goal
 pub returns-in-Ok : goal.returns-in-Ok
 returns-in-Ok c =
     on_ok_weaker c.put_opened.result
-    (λ told start s starts can leads.
+    (λ answered start s starts can leads.
     let spelled = subst (λ (t : List ℕ). IsSpelled t start.program) (sym c.plain.ensures) can.source_is.2 in
-    told start s starts (same_program c.plain.result.now c.in-Ok.program start.program c.in-Ok.ensures spelled) can leads) c.put_opened.ensures
+    answered start s starts (same_program c.plain.result.now c.in-Ok.program start.program c.in-Ok.ensures spelled) can leads) c.put_opened.ensures
 
 pub returns-in_default : goal.returns-in_default
 returns-in_default c = λ start s starts can leads.

@@ -3,7 +3,7 @@ use Rattle.tw_run_output.proofs.RunNames.{IsProgram, start_of, typings_of}
 use Rattle.tw_program_output.specs.Reply.{reply}
 use Rattle.tw_run_output.specs.Run.{trace_text}
 use Rattle.tw_program_output.specs.declared.close.Close.{Close}
-use Rattle.tw_replay_output.proofs.Behinds.{may_tell}
+use Rattle.tw_replay_output.proofs.Behinds.{may_print_circle}
 use Rattle.tw_run_output.proofs.RunEvents.{opens, run_short}
 use Rattle.tw_run_output.proofs.ended.ended_reply.Goals as goal
 
@@ -14,7 +14,7 @@ returns c = λ over.
     let events = c.args.history.now.events in
     let short = run_short program (typings_of c.args.verified) (subst IsProgram c.program.ensures.is c.procedures-procedures.ensures.within) c.program.ensures.right order.inputs order.layout events over.state c.requires.inputs over.reaches in
     let few : length events ≤ 16777217 = omega (arith, over.few, c.events-most.ensures.most, c.events-most.ensures.value) in
-    let can = may_tell c.args.source.now (start_of program order) events c.requires.source (opens program order.inputs c.program.ensures.accepted c.requires.inputs) few short in
+    let can = may_print_circle c.args.source.now (start_of program order) events c.requires.source (opens program order.inputs c.program.ensures.accepted c.requires.inputs) few short in
     let told = c.in_ok-put_told.ensures over in
     let more = c.in_ok-put_run_details.ensures program over.state can over.reaches in
     let trace = trace_text order.trace events in

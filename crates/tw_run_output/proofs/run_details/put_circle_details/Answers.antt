@@ -1,7 +1,7 @@
 use Rattle.std.proofs.Common.{◌≡◌, ◌++◌, ◌∙◌, List, refl, subst, sym, ℕ}
 use Rattle.tw_run_output.proofs.RunNames.{Event, Went, circle, on_ok_weaker, start_of}
-use Rattle.tw_replay_output.specs.Circle.{TellsCircle, reached_from}
-use Rattle.tw_replay_output.specs.Stuck.{CanTell}
+use Rattle.tw_replay_output.specs.Circle.{PrintsCircle, reached_from}
+use Rattle.tw_replay_output.specs.Stuck.{CanPrintCircle}
 use Rattle.tw_run_output.proofs.run_details.put_circle_details.Goals as goal
 
 pub returns : goal.returns
@@ -13,5 +13,5 @@ returns c =
     on_ok_weaker c.put_stuck.result
     (λ told program s can goes.
     let start = start_of program order in
-    let told_there = told start s (sym c.as_slice.ensures, refl) (subst (λ (es : List Event). CanTell source start es) (sym all) can) (subst (λ (es : List Event). reached_from start es ≡ Went s) (sym all) goes) in
-    subst (λ (es : List Event). (more : List ℕ) × TellsCircle source.text.now start es (circle program s) more × (c.put_stuck.new.out.items ≡ c.args.out.now.items ++ more)) all told_there) c.put_stuck.ensures
+    let told_there = told start s (sym c.as_slice.ensures, refl) (subst (λ (es : List Event). CanPrintCircle source start es) (sym all) can) (subst (λ (es : List Event). reached_from start es ≡ Went s) (sym all) goes) in
+    subst (λ (es : List Event). (more : List ℕ) × PrintsCircle source.text.now start es (circle program s) more × (c.put_stuck.new.out.items ≡ c.args.out.now.items ++ more)) all told_there) c.put_stuck.ensures
