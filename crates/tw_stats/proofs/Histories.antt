@@ -21,7 +21,7 @@ use Rattle.tw_stats.specs.declared.pre_state.PreState.{PreState}
 use Rattle.tw_stats.specs.declared.executor.Executor.{Executor}
 use Rattle.tw_stats.specs.declared.stats_builder.StatsBuilder.{StatsBuilder}
 use Rattle.tw_stats.specs.declared.dependency.Dependency.{Dependency}
-use Rattle.tw_stats.specs.Kept.{AreBehind, AreChains, AreCounts, AreOfProcedures, HasSpentFew, IsComing, IsFirst, IsLater, IsNext, IsSmall, IsTally, rules_in, tasks_in}
+use Rattle.tw_stats.specs.Kept.{AreNextAfter, AreChains, AreCounts, AreOfProcedures, HasSpentFew, IsComing, IsFirst, IsLater, IsNext, IsSmall, IsTally, rules_in, tasks_in}
 use Rattle.tw_stats.specs.Waits.{provides, brings_by, doer_at, doer_in, doer_of, needs, needs_by}
 use Rattle.tw_stats.proofs.Nexts.{step_more}
 
@@ -85,7 +85,7 @@ module _ (first : PlainView) (events : List Event) (event : Event) (s t : State)
       → ((moments : List Moment) (m : Moment) → m.event ≡ event → IsSmall (moments ++ m ∷ []) → AreCounts moments old.counts → AreCounts (moments ++ m ∷ []) new.counts)
       → ((moments : List Moment) (m : Moment) → m.event ≡ event → doer_at m.event m.before m.behind ≡ executor → IsSmall (moments ++ m ∷ []) → HasSpentFew executor → AreOfProcedures moments old.procedures → AreOfProcedures (moments ++ m ∷ []) new.procedures)
       → ((program : List Procedure) (moments : List Moment) (m : Moment) → m.event ≡ event → needs m ≡ needed → provides program m ≡ brought → IsLater moments m → IsSmall (moments ++ m ∷ []) → AreChains program moments old.chains → AreChains program (moments ++ m ∷ []) new.chains)
-      → AreBehind old.next c.made new.next → IsTally first (events ++ event ∷ []) t new
+      → AreNextAfter old.next c.made new.next → IsTally first (events ++ event ∷ []) t new
   tally_more h pre_state went before behind small by needs_is brings_is counts procedures chains next =
       let program = first.program in
       let past : List Moment = history first events in

@@ -126,7 +126,7 @@ rules_in (Some (Answer number)) = 0
 rules_in (Some (Datum number)) = 0
 
 -- the numbers after an event that makes this, if they fit
-pub record AreBehind (old : Next) (made : Option Dependency) (new : Next) : Type 0 where
+pub record AreNextAfter (old : Next) (made : Option Dependency) (new : Next) : Type 0 where
   pub task : old.task < 2 ^ 63 → new.task ≡ old.task + tasks_in made
   pub rule : old.rule < 2 ^ 63 → new.rule ≡ old.rule + rules_in made
 

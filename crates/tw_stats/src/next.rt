@@ -1,7 +1,7 @@
 //! The numbers that the next task and the next rule get.
 
 ghost use Rattle.std.specs.Prelude.{◌≡◌};
-ghost use Rattle.tw_stats.specs.Kept.{AreBehind, IsFirst, IsNext};
+ghost use Rattle.tw_stats.specs.Kept.{AreNextAfter, IsFirst, IsNext};
 ghost use Rattle.tw_code.specs.machine.State.{State};
 
 use crate::dependency::Dependency;
@@ -36,7 +36,7 @@ impl Next {
 
     /// Advances past an event that makes this.
     pub fn advance_past(&mut self, made: &Option<Dependency>)
-        ensures { AreBehind self.old made.now self.new }
+        ensures { AreNextAfter self.old made.now self.new }
     {
         match made {
             Some(Dependency::Task(_)) => self.task = self.task.saturating_add(1),

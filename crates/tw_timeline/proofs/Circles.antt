@@ -28,13 +28,13 @@ leads_on (l ∷ links) s at to h from next =
     ∙ ap (λ (ns : List ℕ). ns ++ s.next ∷ []) (h ∙ ap (λ (n : ℕ). rules_of links ++ n ∷ []) (sym from) ∙ sym (map-append (λ (m : Link). m.rule) links (s ∷ [])))
     ∙ ap (λ (n : ℕ). rules_of (links ++ s ∷ []) ++ n ∷ []) next
 
-leads_behind : (l : Link) (links : List Link) (at : ℕ) → Leads (l ∷ links) at → Leads links at
-leads_behind l [] at h = tt
-leads_behind l (m ∷ links) at h = cc
+leads_after : (l : Link) (links : List Link) (at : ℕ) → Leads (l ∷ links) at → Leads links at
+leads_after l [] at h = tt
+leads_after l (m ∷ links) at h = cc
 
 round_since : (rule : ℕ) (timeline_builder : List Link) → Leads timeline_builder rule → IsRound (since rule timeline_builder)
 round_since rule [] h = tt
-round_since rule (l ∷ timeline_builder) h = by (l.rule == rule) refl (round_since rule timeline_builder (leads_behind l timeline_builder rule h))
+round_since rule (l ∷ timeline_builder) h = by (l.rule == rule) refl (round_since rule timeline_builder (leads_after l timeline_builder rule h))
   where
     by : (b : Bool) → (l.rule == rule) ≡ b → IsRound (since rule timeline_builder) → IsRound (if b then l ∷ timeline_builder else since rule timeline_builder)
     by true here later = h ∙ ap (λ (n : ℕ). rules_of timeline_builder ++ n ∷ []) (sym (eqb-true l.rule rule here))
@@ -96,10 +96,10 @@ get_first [] ys i h = absurd (omega (arith, h))
 get_first (x ∷ xs) ys zero h = refl
 get_first (x ∷ xs) ys (suc i) h = get_first xs ys i (omega (arith, h))
 
-get_behind : {X : Type 0} (xs : List X) (x : X) (i : ℕ) → i ≡ length xs → slice_get (xs ++ x ∷ []) i ≡ Some x
-get_behind [] x i h = rw h refl
-get_behind (y ∷ xs) x zero h = absurd (omega (arith, h))
-get_behind (y ∷ xs) x (suc i) h = get_behind xs x i (omega (arith, h))
+get_after : {X : Type 0} (xs : List X) (x : X) (i : ℕ) → i ≡ length xs → slice_get (xs ++ x ∷ []) i ≡ Some x
+get_after [] x i h = rw h refl
+get_after (y ∷ xs) x zero h = absurd (omega (arith, h))
+get_after (y ∷ xs) x (suc i) h = get_after xs x i (omega (arith, h))
 
 get_map : {X Y : Type 0} (f : X → Y) (xs : List X) (i : ℕ) (x : X) → slice_get xs i ≡ Some x → slice_get (map f xs) i ≡ Some (f x)
 get_map f [] i x h = cc
@@ -117,7 +117,7 @@ back_in : (links : List Link) (i : ℕ) (l : Link) → IsRound links → slice_g
 back_in [] i l round at back = cc
 back_in (first ∷ links) i l round at back =
     let last : i ≡ length (rules_of links) = omega (arith, back, length-map links (λ (m : Link). m.rule)) in
-    sym (get_behind (rules_of links) first.rule i last) ∙ ap (λ (ns : List ℕ). slice_get ns i) (sym round) ∙ get_map (λ (m : Link). m.next) (first ∷ links) i l at
+    sym (get_after (rules_of links) first.rule i last) ∙ ap (λ (ns : List ℕ). slice_get ns i) (sym round) ∙ get_map (λ (m : Link). m.next) (first ∷ links) i l at
 
 -- the rule after one in the circle is the one for which it waits
 pub next_in : (links : List Link) (i : ℕ) (l : Link) → IsRound links → slice_get links i ≡ Some l → i < length links → slice_get (rules_of links) (place_after i (length links)) ≡ Some l.next

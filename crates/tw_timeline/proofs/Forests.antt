@@ -12,16 +12,16 @@ unfolding xml_text
 nothing_text = refl
 
 -- returns the text of one forest after the other
-pub joined_text : (first behind : Forest) → xml_text (joined first behind) ≡ xml_text first ++ xml_text behind
+pub joined_text : (first following : Forest) → xml_text (joined first following) ≡ xml_text first ++ xml_text following
 unfolding xml_text joined
-joined_text Nothing behind = refl
-joined_text (Words words rest) behind =
-    ap (λ (t : List ℕ). flat_map escaped words ++ t) (joined_text rest behind) ∙ sym (append_assoc (flat_map escaped words) (xml_text rest) (xml_text behind))
-joined_text (Element name attributes inside rest) behind =
-    ap (λ (t : List ℕ). open_text name attributes ++ (xml_text inside ++ (close_text name ++ t))) (joined_text rest behind)
-    ∙ ap (λ (t : List ℕ). open_text name attributes ++ (xml_text inside ++ t)) (sym (append_assoc (close_text name) (xml_text rest) (xml_text behind)))
-    ∙ ap (λ (t : List ℕ). open_text name attributes ++ t) (sym (append_assoc (xml_text inside) (close_text name ++ xml_text rest) (xml_text behind)))
-    ∙ sym (append_assoc (open_text name attributes) (xml_text inside ++ (close_text name ++ xml_text rest)) (xml_text behind))
+joined_text Nothing following = refl
+joined_text (Words words rest) following =
+    ap (λ (t : List ℕ). flat_map escaped words ++ t) (joined_text rest following) ∙ sym (append_assoc (flat_map escaped words) (xml_text rest) (xml_text following))
+joined_text (Element name attributes inside rest) following =
+    ap (λ (t : List ℕ). open_text name attributes ++ (xml_text inside ++ (close_text name ++ t))) (joined_text rest following)
+    ∙ ap (λ (t : List ℕ). open_text name attributes ++ (xml_text inside ++ t)) (sym (append_assoc (close_text name) (xml_text rest) (xml_text following)))
+    ∙ ap (λ (t : List ℕ). open_text name attributes ++ t) (sym (append_assoc (xml_text inside) (close_text name ++ xml_text rest) (xml_text following)))
+    ∙ sym (append_assoc (open_text name attributes) (xml_text inside ++ (close_text name ++ xml_text rest)) (xml_text following))
 
 -- returns the text of an element alone
 pub element_text : (name : Name) (attributes : List Attribute) (inside : Forest) → xml_text (Element name attributes inside Nothing) ≡ open_text name attributes ++ (xml_text inside ++ close_text name)
@@ -76,8 +76,8 @@ both_added old mid new first rest before after =
 
 module _ {T E : Type 0} (r : Result T E) where
   -- adds both, each perhaps written in another way
-  pub behind : (old mid new : List ℕ) (one first two rest : Forest) → one ≡ first → mid ≡ old ++ xml_text one → two ≡ rest → OnOk r (new ≡ mid ++ xml_text two) → OnOk r (new ≡ old ++ xml_text (joined first rest))
-  behind old mid new one first two rest same before other after = go r after
+  pub following : (old mid new : List ℕ) (one first two rest : Forest) → one ≡ first → mid ≡ old ++ xml_text one → two ≡ rest → OnOk r (new ≡ mid ++ xml_text two) → OnOk r (new ≡ old ++ xml_text (joined first rest))
+  following old mid new one first two rest same before other after = go r after
     where
       go : (q : Result T E) → OnOk q (new ≡ mid ++ xml_text two) → OnOk q (new ≡ old ++ xml_text (joined first rest))
       go (Ok x) h = both_added old mid new first rest (before ∙ ap (λ (f : Forest). old ++ xml_text f) same) (h ∙ ap (λ (f : Forest). mid ++ xml_text f) other)

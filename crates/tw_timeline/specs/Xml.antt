@@ -133,14 +133,14 @@ close_text name = codes "</" ++ (name_text name ++ codes ">\n")
 
 unfoldable pub xml_text : Forest → List ℕ
 xml_text Nothing = []
-xml_text (Words words behind) = flat_map escaped words ++ xml_text behind
-xml_text (Element name attributes inside behind) = open_text name attributes ++ (xml_text inside ++ (close_text name ++ xml_text behind))
+xml_text (Words words following) = flat_map escaped words ++ xml_text following
+xml_text (Element name attributes inside following) = open_text name attributes ++ (xml_text inside ++ (close_text name ++ xml_text following))
 
 -- returns one forest after the other
 unfoldable pub joined : Forest → Forest → Forest
-joined Nothing behind = behind
-joined (Words words rest) behind = Words words (joined rest behind)
-joined (Element name attributes inside rest) behind = Element name attributes inside (joined rest behind)
+joined Nothing following = following
+joined (Words words rest) following = Words words (joined rest following)
+joined (Element name attributes inside rest) following = Element name attributes inside (joined rest following)
 
 -- ---- single elements
 

@@ -45,12 +45,12 @@ fn put_within(
     out: &mut Vec<u8>,
     before: &str,
     number: usize,
-    behind: &str,
+    following: &str,
 ) -> Result<(), AllocError>
-    ensures { OnOk result (out.new.items ≡ out.old.items ++ (before.now ++ (decimal number ++ behind.now))) }
+    ensures { OnOk result (out.new.items ≡ out.old.items ++ (before.now ++ (decimal number ++ following.now))) }
 {
     put_numbered(alloc, out, before, number)?;
-    put(out, behind)
+    put(out, following)
 }
 
 /// Adds the events of a bar; an open one has no last event.

@@ -19,8 +19,8 @@ use tw_types::Layout;
 fn marks_in(marks: &[Mark], from: usize, to: usize) -> &[Mark]
     ensures { result.now ≡ marks_in marks.now from to }
 {
-    let behind = &marks[from.saturating_sub(1).min(marks.len())..];
-    &behind[..to.saturating_sub(from).min(behind.len())]
+    let following = &marks[from.saturating_sub(1).min(marks.len())..];
+    &following[..to.saturating_sub(from).min(following.len())]
 }
 
 /// Returns how many markers are in a row.

@@ -1,6 +1,6 @@
-use Rattle.tw_timeline.proofs.Forests.{behind}
+use Rattle.tw_timeline.proofs.Forests.{following}
 use Rattle.tw_timeline.proofs.bars.put_parts.Goals as goal
 
 pub returns : goal.returns
 returns c =
-    behind c.put_bar_label.result _ _ _ _ _ _ _ (cc) c.in_ok-put_bar_box.ensures (cc) c.put_bar_label.ensures
+    following c.put_bar_label.result _ _ _ _ _ _ _ (cc) c.in_ok-put_bar_box.ensures (cc) c.put_bar_label.ensures

@@ -1,6 +1,6 @@
-use Rattle.tw_timeline.proofs.Forests.{behind}
+use Rattle.tw_timeline.proofs.Forests.{following}
 use Rattle.tw_timeline.proofs.heading.put_kind.Goals as goal
 
 pub returns : goal.returns
 returns c =
-    behind c.put_words.result _ _ _ _ _ _ _ (cc) c.in_ok-put_plain.ensures (cc) c.put_words.ensures
+    following c.put_words.result _ _ _ _ _ _ _ (cc) c.in_ok-put_plain.ensures (cc) c.put_words.ensures

@@ -1,6 +1,6 @@
-use Rattle.tw_timeline.proofs.Forests.{behind}
+use Rattle.tw_timeline.proofs.Forests.{following}
 use Rattle.tw_timeline.proofs.links.put_wait.Goals as goal
 
 pub returns : goal.returns
 returns c =
-    behind c.put_wait_arrow.result _ _ _ _ _ _ _ (cc) c.in_ok-put_wait_box.ensures (cc) c.put_wait_arrow.ensures
+    following c.put_wait_arrow.result _ _ _ _ _ _ _ (cc) c.in_ok-put_wait_box.ensures (cc) c.put_wait_arrow.ensures

@@ -3,7 +3,7 @@ use Rattle.tw_timeline.specs.declared.attributes.Value.{Value}
 use Rattle.tw_timeline.specs.declared.attributes.Word.TheVariants as word
 use Rattle.tw_timeline.specs.Places.{bottom}
 use Rattle.tw_timeline.specs.Shapes.{arrow, arrow_height, box_left, labelled, way_row}
-use Rattle.tw_timeline.proofs.Forests.{behind, plain_same, words_same}
+use Rattle.tw_timeline.proofs.Forests.{following, plain_same, words_same}
 use Rattle.tw_timeline.proofs.links.put_wait_arrow.Goals as goal
 
 pub returns : goal.returns
@@ -15,7 +15,7 @@ returns c =
     let to = box_left c.args.wait.now.to in
     let way = c.arrow.ensures ∙ ap (λ (x : ℕ). arrow x c.box_left-next.result (c.bottom-top.result + 30)) left ∙ ap (λ (x : ℕ). arrow from x (c.bottom-top.result + 30)) next ∙ ap (λ (y : ℕ). arrow from to y) top in
     let height = c.arrow_height.ensures ∙ ap (λ (x : ℕ). arrow_height x c.box_left-next.result (c.bottom-top.result + 30)) left ∙ ap (λ (x : ℕ). arrow_height from x (c.bottom-top.result + 30)) next ∙ ap (λ (y : ℕ). arrow_height from to y) top in
-    behind c.put_words.result _ _ _ _ _ _ _
+    following c.put_words.result _ _ _ _ _ _ _
     (plain_same _ _ _ (c.way_row-row.ensures ∙ ap (λ (v : Value). way_row word.Wait v) way))
     c.in_ok-put_plain.ensures
     (words_same _ _ _ _ _ (c.labelled-place.ensures ∙ ap (λ (x : ℕ). labelled word.Number (x + 120) c.arrow_height.result) left ∙ ap (λ (y : ℕ). labelled word.Number (from + 120) y) height)
