@@ -36,12 +36,12 @@ reported Numbers json drawn = tt
 reported Json json drawn = json refl
 reported (Picture shown) json drawn = drawn shown refl
 
-pub run_told : (answer : RunAnswer) (text : List ℕ) (program : List Procedure) (order : RunOrder) (events : List Event) (s : State) (c : Closing) (old new : List ℕ) → IsReported answer
+pub run_printed : (answer : RunAnswer) (text : List ℕ) (program : List Procedure) (order : RunOrder) (events : List Event) (s : State) (c : Closing) (old new : List ℕ) → IsReported answer
     → Adds (AreClosingDetails text program order events s c) old new → Adds (AreRunDetails answer (Some text) program order events s c) old new
-run_told Report text program order events s c old new other h = h
-run_told Numbers text program order events s c old new other h = h
-run_told Json text program order events s c old new other h = absurd other
-run_told (Picture shown) text program order events s c old new other h = absurd other
+run_printed Report text program order events s c old new other h = h
+run_printed Numbers text program order events s c old new other h = h
+run_printed Json text program order events s c old new other h = absurd other
+run_printed (Picture shown) text program order events s c old new other h = absurd other
 
 pub run_drawn : (answer : RunAnswer) (shown : EventRange) (text : List ℕ) (program : List Procedure) (order : RunOrder) (events : List Event) (s : State) (c : Closing) (old : List ℕ) → answer ≡ Picture shown
     → Adds (AreRunDetails answer (Some text) program order events s c) old old

@@ -69,9 +69,9 @@ begun program sections order first same is = is ∙ ap (λ (ps : List Procedure)
 -- the statistics of the events that were read are those of the run's events
 pub numbers_there : (names : List (List ℕ)) (first begin : PlainView) (read events : List Event) (plain : PlainView) (t : StatsBuilder) (budgets text : List ℕ) → first ≡ begin → read ≡ events → plain ≡ record first { state = plain.state } → IsTally first read plain.state t
     → ((v : PlainView) (es : List Event) → plain ≡ record v { state = plain.state } → IsTally v es plain.state t → AreNumbers names v.program v.layout budgets (history v es) text) → AreNumbers names begin.program begin.layout budgets (history begin events) text
-numbers_there names first begin read events plain t budgets text same all stays stats_builder tells =
+numbers_there names first begin read events plain t budgets text same all stays stats_builder prints =
     subst (λ (v : PlainView). AreNumbers names v.program v.layout budgets (history v events) text) same
-    (subst (λ (es : List Event). AreNumbers names first.program first.layout budgets (history first es) text) all (tells first read stays stats_builder))
+    (subst (λ (es : List Event). AreNumbers names first.program first.layout budgets (history first es) text) all (prints first read stays stats_builder))
 
 -- a drawing doesn't depend on the version of the format
 pub other_version : (names : List (List ℕ)) (v w : Version) (program : List Procedure) (order : RunOrder) (events : List Event) (s : State) (d : Drawing) → IsDrawing names (begins v program order) events s d

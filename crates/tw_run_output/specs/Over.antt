@@ -20,6 +20,6 @@ pub record IsRunOver (program : List Procedure) (order : RunOrder) (final : Fina
   pub state : State
   pub few : length events ≤ order.limit
   pub reaches : reached program order.inputs order.layout events ≡ Went state
-  pub reports : (told : List ℕ) → IsEndReport final told → told ≡ end_report program state (Some closing)
+  pub reports : (printed : List ℕ) → IsEndReport final printed → printed ≡ end_report program state (Some closing)
   pub closes : final.closing ≡ Some closing
   pub shows : (line : List ℕ) → IsEndLine final events closing line → line ≡ run_line program events state closing

@@ -69,12 +69,12 @@ IsRunPicture names shown program order events s text =
 
 -- holds if this is the requested output, with the names of the text: the report, or the report and statistics, or a JSON line, or a timeline
 abbrev pub IsRunText : RunAnswer → Option (List ℕ) → List Procedure → RunOrder → List Event → State → Closing → List ℕ → Type 0
-IsRunText Report text program order events s closing told = told ≡ run_report text program order s closing
-IsRunText Json text program order events s closing told = told ≡ run_line program events s closing
-IsRunText Numbers text program order events s closing told =
-    (names : List (List ℕ)) × (numbers : List ℕ) × AreSymbols text names × AreRunNumbers names program order events numbers × (told ≡ run_report text program order s closing ++ numbers)
-IsRunText (Picture shown) text program order events s closing told =
-    (names : List (List ℕ)) × AreSymbols text names × IsRunPicture names shown program order events s told
+IsRunText Report text program order events s closing printed = printed ≡ run_report text program order s closing
+IsRunText Json text program order events s closing printed = printed ≡ run_line program events s closing
+IsRunText Numbers text program order events s closing printed =
+    (names : List (List ℕ)) × (numbers : List ℕ) × AreSymbols text names × AreRunNumbers names program order events numbers × (printed ≡ run_report text program order s closing ++ numbers)
+IsRunText (Picture shown) text program order events s closing printed =
+    (names : List (List ℕ)) × AreSymbols text names × IsRunPicture names shown program order events s printed
 
 -- returns the start of the run
 abbrev pub start_of : List Procedure → RunOrder → Start

@@ -174,11 +174,11 @@ fn put_run_report(
     outcome: &Final,
     closing: Closing,
 ) -> Result<(), AllocError>
-    ensures { OnOk result ((told : List ℕ) × IsEndReport outcome.now told
-        × (out.new.items ≡ out.old.items ++ (told ++ limit_details (text_of source.now) order.now closing))) }
+    ensures { OnOk result ((printed : List ℕ) × IsEndReport outcome.now printed
+        × (out.new.items ≡ out.old.items ++ (printed ++ limit_details (text_of source.now) order.now closing))) }
 {
-    let told = report(alloc, outcome)?;
-    put_bytes(out, &told)?;
+    let printed = report(alloc, outcome)?;
+    put_bytes(out, &printed)?;
     put_limit(alloc, out, source, order, closing)
 }
 
@@ -198,7 +198,7 @@ fn put_json(
 }
 
 /// Adds the requested output.
-fn put_told(
+fn put_outcome(
     alloc: Global,
     out: &mut Vec<u8>,
     source: &Option<SourceText<'_>>,
@@ -211,7 +211,7 @@ fn put_told(
     requires inputs { AreInputsOf verified.program order.now.inputs }
     requires over { IsRunOver verified.program order.now outcome.now history.now.events closing }
     ensures { OnOk result ((over : IsRunOver verified.program order.now outcome.now history.now.events closing)
-        → (told : List ℕ) × IsRunText order.now.answer (text_of source.now) verified.program order.now history.now.events over.state closing told × (out.new.items ≡ out.old.items ++ told)) }
+        → (printed : List ℕ) × IsRunText order.now.answer (text_of source.now) verified.program order.now history.now.events over.state closing printed × (out.new.items ≡ out.old.items ++ printed)) }
 {
     match order.answer {
         RunAnswer::Report => put_run_report(alloc, out, source, order, outcome, closing),
@@ -239,17 +239,17 @@ pub fn ended_reply(
     requires inputs { AreInputsOf verified.program order.now.inputs }
     requires over { IsRunOver verified.program order.now outcome.now history.now.events closing }
     requires source { MayBeSource source.now verified.program }
-    ensures { IfOk result (λ r. (over : IsRunOver verified.program order.now outcome.now history.now.events closing) → (told : List ℕ) × (more : List ℕ)
-        × IsRunText order.now.answer (text_of source.now) verified.program order.now history.now.events over.state closing told
+    ensures { IfOk result (λ r. (over : IsRunOver verified.program order.now outcome.now history.now.events closing) → (printed : List ℕ) × (more : List ℕ)
+        × IsRunText order.now.answer (text_of source.now) verified.program order.now history.now.events over.state closing printed
         × AreRunDetails order.now.answer (text_of source.now) verified.program order.now history.now.events over.state closing more
-        × (reply r.text.items r.close ≡ reply (trace_text order.now.trace history.now.events ++ (told ++ more)) (close_of closing))) }
+        × (reply r.text.items r.close ≡ reply (trace_text order.now.trace history.now.events ++ (printed ++ more)) (close_of closing))) }
 {
     // For their clauses alone: they hold for an accepted program's procedures, and bound the events of a run.
     let _procedures = verified.program().procedures();
     let _most = order.limit.events();
     let mut text = Vec::new(alloc);
     put_trace(alloc, &mut text, order.trace, history)?;
-    put_told(
+    put_outcome(
         alloc, &mut text, source, order, verified, outcome, history, closing,
     )?;
     put_run_details(alloc, &mut text, source, order, history, closing)?;

@@ -15,9 +15,9 @@ returns c = λ over.
     let short = run_short program (typings_of c.args.verified) (subst IsProgram c.program.ensures.is c.procedures-procedures.ensures.within) c.program.ensures.right order.inputs order.layout events over.state c.requires.inputs over.reaches in
     let few : length events ≤ 16777217 = omega (arith, over.few, c.events-most.ensures.most, c.events-most.ensures.value) in
     let can = may_print_circle c.args.source.now (start_of program order) events c.requires.source (opens program order.inputs c.program.ensures.accepted c.requires.inputs) few short in
-    let told = c.in_ok-put_told.ensures over in
+    let printed = c.in_ok-put_outcome.ensures over in
     let more = c.in_ok-put_run_details.ensures program over.state can over.reaches in
     let trace = trace_text order.trace events in
     let traced = c.in_ok-put_trace.ensures ∙ ap (λ (t : List ℕ). t ++ trace) c.new-text.ensures.items in
-    let whole = more.2 ∙ ap (λ (t : List ℕ). t ++ more.0) (told.2 ∙ ap (λ (t : List ℕ). t ++ told.0) traced) ∙ append_assoc trace told.0 more.0 in
-    (told.0, more.0, told.1, more.1, ap (λ (t : List ℕ). reply t c.close_of.result) whole ∙ ap (λ (k : Close). reply (trace ++ (told.0 ++ more.0)) k) c.close_of.ensures)
+    let whole = more.2 ∙ ap (λ (t : List ℕ). t ++ more.0) (printed.2 ∙ ap (λ (t : List ℕ). t ++ printed.0) traced) ∙ append_assoc trace printed.0 more.0 in
+    (printed.0, more.0, printed.1, more.1, ap (λ (t : List ℕ). reply t c.close_of.result) whole ∙ ap (λ (k : Close). reply (trace ++ (printed.0 ++ more.0)) k) c.close_of.ensures)

@@ -41,10 +41,10 @@ returns c =
     let same = begun c.into_program.result program order first c.into_program.ensures.is c.in_ok-first.ensures.first in
     let all : read ≡ events = c.deref.ensures.value ∙ c.in_ok-events.ensures in
     let text = c.in_ok-numbers-in-Made.numbers.items in
-    let told = numbers_there names first (begins version program order) read events c.in-Made.counted.plain c.in-Made.counted.stats_builder budgets text same all made.0 made.1
+    let printed = numbers_there names first (begins version program order) read events c.in-Made.counted.plain c.in-Made.counted.stats_builder budgets text same all made.0 made.1
     (subst (λ (bs : List ℕ). (v : PlainView) (es : List Event) → c.in-Made.counted.plain ≡ record v { state = c.in-Made.counted.plain.state } → IsTally v es c.in-Made.counted.plain.state c.in-Made.counted.stats_builder → AreNumbers names v.program v.layout bs (history v es) text) c.deref-in-Made.ensures.value c.in_ok-numbers-in-Made.ensures) in
     on_ok_weaker c.put_bytes.result
-    (λ added. (names, text, c.in_ok-names.ensures, (λ v. (budgets, c.in_ok-budgets.ensures, told)), added ∙ ap (λ (t : List ℕ). c.args.out.now.items ++ t) c.deref-in-Made-2.ensures.value)) c.put_bytes.ensures
+    (λ added. (names, text, c.in_ok-names.ensures, (λ v. (budgets, c.in_ok-budgets.ensures, printed)), added ∙ ap (λ (t : List ℕ). c.args.out.now.items ++ t) c.deref-in-Made-2.ensures.value)) c.put_bytes.ensures
 
 pub unreachable-requires : goal.unreachable-requires
 unreachable-requires c =

@@ -6,7 +6,7 @@ use Rattle.tw_run_output.proofs.ended.put_run_report.Goals as goal
 pub returns : goal.returns
 returns c =
     let old = c.args.out.now.items in
-    let told = c.in_ok-told.told.items in
+    let printed = c.in_ok-printed.printed.items in
     let more = limit_details (text_of c.args.source.now) c.args.order.now c.args.closing in
     let put = c.in_ok-put_bytes.ensures ∙ ap (λ (t : List ℕ). old ++ t) c.deref.ensures.value in
-    on_ok_weaker c.put_limit.result (λ added. (told, c.in_ok-told.ensures, added ∙ ap (λ (t : List ℕ). t ++ more) put ∙ append_assoc old told more)) c.put_limit.ensures
+    on_ok_weaker c.put_limit.result (λ added. (printed, c.in_ok-printed.ensures, added ∙ ap (λ (t : List ℕ). t ++ more) put ∙ append_assoc old printed more)) c.put_limit.ensures

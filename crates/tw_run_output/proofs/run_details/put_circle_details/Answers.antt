@@ -11,7 +11,7 @@ returns c =
     let events = c.args.history.now.events in
     let all = c.deref.ensures.value ∙ c.in_ok-events.ensures in
     on_ok_weaker c.put_stuck.result
-    (λ told program s can goes.
+    (λ printed program s can goes.
     let start = start_of program order in
-    let told_there = told start s (sym c.as_slice.ensures, refl) (subst (λ (es : List Event). CanPrintCircle source start es) (sym all) can) (subst (λ (es : List Event). reached_from start es ≡ Went s) (sym all) goes) in
-    subst (λ (es : List Event). (more : List ℕ) × PrintsCircle source.text.now start es (circle program s) more × (c.put_stuck.new.out.items ≡ c.args.out.now.items ++ more)) all told_there) c.put_stuck.ensures
+    let printed_there = printed start s (sym c.as_slice.ensures, refl) (subst (λ (es : List Event). CanPrintCircle source start es) (sym all) can) (subst (λ (es : List Event). reached_from start es ≡ Went s) (sym all) goes) in
+    subst (λ (es : List Event). (more : List ℕ) × PrintsCircle source.text.now start es (circle program s) more × (c.put_stuck.new.out.items ≡ c.args.out.now.items ++ more)) all printed_there) c.put_stuck.ensures

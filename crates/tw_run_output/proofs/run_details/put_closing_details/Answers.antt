@@ -5,8 +5,8 @@ use Rattle.tw_run_output.proofs.run_details.put_closing_details.Goals as goal
 pub returns-in-Stuck : goal.returns-in-Stuck
 returns-in-Stuck c =
     on_ok_weaker c.put_circle_details.result
-    (λ told program s can goes.
-    closing_stuck c.args.source.now.text.now program c.args.order.now c.args.history.now.events s c.args.closing c.in-Stuck.field-0 c.args.out.now.items c.put_circle_details.new.out.items c.in-Stuck.is (told program s can goes))
+    (λ printed program s can goes.
+    closing_stuck c.args.source.now.text.now program c.args.order.now c.args.history.now.events s c.args.closing c.in-Stuck.field-0 c.args.out.now.items c.put_circle_details.new.out.items c.in-Stuck.is (printed program s can goes))
     c.put_circle_details.ensures
 
 pub returns-in_default : goal.returns-in_default

@@ -2,7 +2,7 @@ use Rattle.std.proofs.Common.{◌++◌, ◌∙◌, ℕ, List, ap, append_assoc, 
 use Rattle.tw_run_output.proofs.RunNames.{on_ok_weaker, text_of}
 use Rattle.tw_cli.specs.declared.command.RunAnswer.{RunAnswer}
 use Rattle.tw_run_output.specs.Run.{IsRunText, limit_details}
-use Rattle.tw_run_output.proofs.ended.put_told.Goals as goal
+use Rattle.tw_run_output.proofs.ended.put_outcome.Goals as goal
 
 pub put_run_numbers-requires : goal.put_run_numbers-requires
 put_run_numbers-requires c = record { inputs = c.requires.inputs; goes = (c.requires.over.few, (c.requires.over.state, c.requires.over.reaches)) }
@@ -40,7 +40,7 @@ returns-in-Picture c =
     let order = c.args.order.now in
     let events = c.args.history.now.events in
     on_ok_weaker c.put_run_picture.result
-    (λ p over. let told = p over.state over.reaches in (told.1, subst (λ (a : RunAnswer). IsRunText a source c.args.verified.program order events over.state c.args.closing told.1) (sym c.in-Picture.is) (told.0, told.2, told.3), told.4)) c.put_run_picture.ensures
+    (λ p over. let printed = p over.state over.reaches in (printed.1, subst (λ (a : RunAnswer). IsRunText a source c.args.verified.program order events over.state c.args.closing printed.1) (sym c.in-Picture.is) (printed.0, printed.2, printed.3), printed.4)) c.put_run_picture.ensures
 
 pub put_json-requires : goal.put_json-requires
 put_json-requires c = c.requires.over.closes
