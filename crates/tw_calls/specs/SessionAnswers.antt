@@ -31,7 +31,7 @@ abbrev pub filled : List ℕ → List ℕ → List ℕ
 filled text room = if nat_lt (length room) (length text) then room else text ++ drop (length text) room
 
 -- the status's code, the text's length, and the buffer
-pub record IsTold (words input old new : List ℕ) (code count : ℕ) : Type 0 where
+pub record IsAnswered (words input old new : List ℕ) (code count : ℕ) : Type 0 where
   pub status : Status
   pub text : List ℕ
   pub answers : Answers words input status text

@@ -6,7 +6,7 @@ ghost use Rattle.tw_cli.specs.InTurn.{turned};
 ghost use Rattle.tw_program_output.specs.Reply.{reply};
 ghost use Rattle.tw_session.specs.Session.{AnswersWords};
 ghost use Rattle.tw_session.specs.Status.{code_of};
-ghost use Rattle.tw_calls.specs.SessionAnswers.{IsTold, arguments_in, filled};
+ghost use Rattle.tw_calls.specs.SessionAnswers.{IsAnswered, arguments_in, filled};
 
 use crate::arguments::arguments_of;
 use std::alloc::{AllocError, Global};
@@ -46,7 +46,7 @@ fn write_answer(room: &mut [u8], status: &mut u8, ended: Status, text: &[u8]) ->
 /// read. Its output is written to the start of `room`, if it fits, and its exit status to `status`. Returns the length of the output in bytes. If it
 /// doesn't fit, call again with a buffer of this length. A program is run in one thread, so the second call has the same output.
 pub fn session(alloc: Global, words: &[u8], input: &[u8], room: &mut [u8], status: &mut u8) -> usize
-    ensures { IsTold words.now input.now room.old room.new status.new result }
+    ensures { IsAnswered words.now input.now room.old room.new status.new result }
 {
     let Ok(words) = str::from_utf8(words) else {
         let ended = Status::Ended(Close::CommandLine);

@@ -8,7 +8,7 @@
 #![tactic(auto)]
 
 ghost use Rattle.std.specs.Prelude.{◌≡◌};
-ghost use Rattle.tw_calls.specs.SessionAnswers.{IsTold};
+ghost use Rattle.tw_calls.specs.SessionAnswers.{IsAnswered};
 ghost use Rattle.tw_verdict.specs.Verdict.{IsVerdict};
 
 mod handles;
@@ -47,7 +47,7 @@ pub extern "C" fn yuglemit_session(
     room: &mut [u8],
     status: &mut u8,
 ) -> usize
-    ensures { IsTold words.now input.now room.old room.new status.new result }
+    ensures { IsAnswered words.now input.now room.old room.new status.new result }
 {
     tw_calls::session(alloc, words, input, room, status)
 }

@@ -26,7 +26,7 @@ struct Look {
     /// The next pause, in microseconds.
     pause: u64,
     /// The last second for which progress was printed, or at first `SILENT`.
-    told: u64,
+    printed: u64,
 }
 
 impl Look {
@@ -35,7 +35,7 @@ impl Look {
         Ok(Look {
             begun: Instant::now(clock)?,
             pause: SHORTEST,
-            told: SILENT,
+            printed: SILENT,
         })
     }
 
@@ -50,10 +50,10 @@ impl Look {
     /// Returns whether progress is to be printed, at most once for each second.
     fn is_due(&mut self, clock: &impl Clock) -> io::Result<bool> {
         let second = self.begun.elapsed(clock)?.as_secs();
-        if second <= self.told {
+        if second <= self.printed {
             return Ok(false);
         }
-        self.told = second;
+        self.printed = second;
         Ok(true)
     }
 }
@@ -108,14 +108,14 @@ impl Gate for ProgressPrinter {
     /// Prints progress until the run is over. If the clock or the terminal fails, it stops.
     fn monitor<R: Wait + Clock, P: Progress>(&self, rt: &R, run: &P) {
         if !self.is_quiet && self.stderr.is_terminal() {
-            let _told = print_progress(rt, &self.stderr, run);
+            let _printed = print_progress(rt, &self.stderr, run);
         }
     }
 
     fn late_wakes(&self, late: u64) {
         if late != 0 && !self.is_quiet {
             let stderr = &self.stderr;
-            let _told = eprintln!(stderr; "tw: {late} late wakes of idle threads");
+            let _printed = eprintln!(stderr; "tw: {late} late wakes of idle threads");
         }
     }
 }

@@ -7,7 +7,7 @@ use Rattle.tw_cli.proofs.InputTheorems.{never_refused, one_refused}
 use Rattle.tw_cli.specs.InputWords.{RefusedWord}
 use Rattle.tw_program_output.specs.Inputs.{PrintsInputWord}
 use Rattle.tw_program_output.specs.Reply.{Reply, reply}
-use Rattle.tw_session.specs.Session.{AnswersWords, MayAnswer, RefusesWords, TellsMeaning}
+use Rattle.tw_session.specs.Session.{AnswersWords, MayAnswer, RefusesWords, PrintsMeaning}
 use Rattle.tw_session.specs.Status.{ComesOfReply}
 use Rattle.tw_program_output.specs.declared.reply.Reply.{Reply as MadeReply}
 use Rattle.tw_program_output.specs.declared.close.Close.{Close}
@@ -72,17 +72,17 @@ not_taken (kind ∷ others) asked input r e h = h
 not_refused : (asked : Asked) (text : List ℕ) (number : RefusedWord) → IsExplained asked text → IsRefusedInput asked number → ⊥
 not_refused (Assembles what) text number e r = e
 not_refused (Disassembles source listed) text number e r = e
-not_refused (Checks source told) text number e r = e
+not_refused (Checks source printed) text number e r = e
 not_refused (Runs source answer layout most traced turns words) text number e r = e
 not_refused (Replays source answer layout words) text number e r = e
 not_refused (Explains explained) text number e r = r
 
-pub word_told : (asked : Asked) (input : List ℕ) (number : RefusedWord) (r : Reply) → IsRefusedInput asked number → MayAnswer asked input r → PrintsInputWord number r
-word_told asked input number r refused (inl (order, is_asked, h)) = absurd (never_refused asked order number is_asked refused)
-word_told asked input number r refused (inr (inl (other, is, h))) = subst (λ (n : RefusedWord). PrintsInputWord n r) (one_refused asked other number is refused) h
-word_told asked input number r refused (inr (inr h)) = absurd (not_refused asked r.text number h.0 refused)
+pub word_printed : (asked : Asked) (input : List ℕ) (number : RefusedWord) (r : Reply) → IsRefusedInput asked number → MayAnswer asked input r → PrintsInputWord number r
+word_printed asked input number r refused (inl (order, is_asked, h)) = absurd (never_refused asked order number is_asked refused)
+word_printed asked input number r refused (inr (inl (other, is, h))) = subst (λ (n : RefusedWord). PrintsInputWord n r) (one_refused asked other number is refused) h
+word_printed asked input number r refused (inr (inr h)) = absurd (not_refused asked r.text number h.0 refused)
 
-pub meaning_told : (number : Text) (input : List ℕ) (r : Reply) → MayAnswer (Explains number) input r → TellsMeaning (Explains number) r
-meaning_told number input r (inl (order, is_asked, h)) = absurd is_asked
-meaning_told number input r (inr (inl (other, is, h))) = absurd is
-meaning_told number input r (inr (inr h)) = h
+pub meaning_printed : (number : Text) (input : List ℕ) (r : Reply) → MayAnswer (Explains number) input r → PrintsMeaning (Explains number) r
+meaning_printed number input r (inl (order, is_asked, h)) = absurd is_asked
+meaning_printed number input r (inr (inl (other, is, h))) = absurd is
+meaning_printed number input r (inr (inr h)) = h

@@ -39,11 +39,11 @@ same e = cc
 
 pub ends_so : (order : RunOrder) (history : List Event) (s : State) (e : Option Ending) (stopped full : Bool) (closing : Closing)
     → ending s ≡ e → (full ≡ true → length history ≡ order.limit) → closing_by e stopped full ≡ Some closing → closing ≢ Stopped → EndsSo order history s closing
-ends_so order history s (Some ending.Quiet) stopped full closing is at told other = subst (EndsSo order history s) (same told) is
-ends_so order history s (Some (ending.Stuck rules)) stopped full closing is at told other = subst (EndsSo order history s) (same told) is
-ends_so order history s None true full closing is at told other = absurd (other (sym (same told)))
-ends_so order history s None false true closing is at told other = subst (EndsSo order history s) (same told) (at refl, is)
-ends_so order history s None false false closing is at told other = absurd (none told)
+ends_so order history s (Some ending.Quiet) stopped full closing is at printed other = subst (EndsSo order history s) (same printed) is
+ends_so order history s (Some (ending.Stuck rules)) stopped full closing is at printed other = subst (EndsSo order history s) (same printed) is
+ends_so order history s None true full closing is at printed other = absurd (other (sym (same printed)))
+ends_so order history s None false true closing is at printed other = subst (EndsSo order history s) (same printed) (at refl, is)
+ends_so order history s None false false closing is at printed other = absurd (none printed)
   where
     none : None ≡ Some closing → ⊥
     none e = cc
@@ -60,7 +60,7 @@ over verified order p final history closing of_run few shut turns ended other =
     subst (λ (r : Run). reached r.program.program r.inputs r.layout p.history ≡ Went s) of_run shut.has_state in
     let short = subst (λ (es : List Event). length es ≤ order.limit) (sym shut.events) few in
     let there : reached verified.program order.inputs order.layout history.events ≡ Went s = subst (λ (es : List Event). reached verified.program order.inputs order.layout es ≡ Went s) (sym shut.events) leads in
-    let reports : (told : List ℕ) → IsEndReport final told → told ≡ end_report verified.program s (Some closing) = λ told is_report. is_report p history shut ∙ ap (λ (r : Run). end_report r.program.program s final.closing) of_run ∙ ap (λ (o : Option Closing). end_report verified.program s o) ended in
+    let reports : (printed : List ℕ) → IsEndReport final printed → printed ≡ end_report verified.program s (Some closing) = λ printed is_report. is_report p history shut ∙ ap (λ (r : Run). end_report r.program.program s final.closing) of_run ∙ ap (λ (o : Option Closing). end_report verified.program s o) ended in
     let shows : (line : List ℕ) → IsEndLine final history.events closing line → line ≡ run_line verified.program history.events s closing = λ line is_line. is_line p history shut ∙ ap (λ (r : Run). run_line r.program.program history.events s closing) of_run in (
       record { state = s; few = short; reaches = there; reports = reports; closes = ended; shows = shows },
       record { few = short; reaches = there; ends = here; turns = subst (λ (es : List Event). IsOrdered order.in_turn verified.program order es) (sym shut.events) turns },
@@ -69,8 +69,8 @@ over verified order p final history closing of_run few shut turns ended other =
 -- the output of a run is a reply of it
 pub replied : {E : Type 0} (made : Result MadeReply E) (text : Option (List ℕ)) (program : List Procedure) (order : RunOrder) (final : FinalView) (events : List Event) (closing : Closing)
     → ((o : IsRunOver program order final events closing) × IsRun program order events o.state closing)
-    → IfOk made (λ r. (o : IsRunOver program order final events closing) → (told : List ℕ) × (more : List ℕ) × IsRunText order.answer text program order events o.state closing told
-    × AreRunDetails order.answer text program order events o.state closing more × (reply r.text.items r.close ≡ reply (trace_text order.trace events ++ (told ++ more)) (close_of closing)))
+    → IfOk made (λ r. (o : IsRunOver program order final events closing) → (printed : List ℕ) × (more : List ℕ) × IsRunText order.answer text program order events o.state closing printed
+    × AreRunDetails order.answer text program order events o.state closing more × (reply r.text.items r.close ≡ reply (trace_text order.trace events ++ (printed ++ more)) (close_of closing)))
     → IfOk made (λ r. RepliesByRun text program order (reply r.text.items r.close))
 replied (Ok r) text program order final events closing (o, is) h = let t = h o in inl (events, o.state, closing, t.0, t.1, is, t.2, t.3, t.4)
 replied (Err e) text program order final events closing over h = tt

@@ -24,7 +24,7 @@ is_json written.Json = true
 is_json (written.Picture shown) = false
 
 abbrev pub verified_json : VerifiedOrder → Bool
-verified_json (Check told) = false
+verified_json (Check printed) = false
 verified_json (Run order) = is_json order.answer
 
 abbrev pub program_json : ProgramOrder → Bool

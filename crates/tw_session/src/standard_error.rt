@@ -35,6 +35,6 @@ pub fn complain<W: OutStream>(alloc: Global, status: Status, words: &[String], e
         return;
     }
     if let Ok(Some(line)) = complaint(alloc, words) {
-        let _told = errors.take_text(line.as_bytes());
+        let _written = errors.take_text(line.as_bytes());
     }
 }

@@ -23,11 +23,11 @@ returns-in-Ok-answer c =
     let r = c.in-Ok-answer.reply in
     let words = c.in-Ok.ensures.cases in
     let input = c.args.input.now in
-    let told = subst (λ (ws : List ℕ). AnswersWords (word_faults (arguments_in ws)) (turned (asked_by_words (arguments_in ws))) input (reply r.text.items r.close)) words.0 c.in-Ok-answer.ensures in
+    let answered = subst (λ (ws : List ℕ). AnswersWords (word_faults (arguments_in ws)) (turned (asked_by_words (arguments_in ws))) input (reply r.text.items r.close)) words.0 c.in-Ok-answer.ensures in
     record {
       status = Ended r.close;
       text = c.as_slice.result.now;
-      answers = subst (λ (t : List ℕ). Answers c.args.words.now input (Ended r.close) t) (sym c.as_slice.ensures.value) (inl (words.1, told));
+      answers = subst (λ (t : List ℕ). Answers c.args.words.now input (Ended r.close) t) (sym c.as_slice.ensures.value) (inl (words.1, answered));
       code_is = c.write_answer-in-Ok-answer.ensures.code;
       count_is = c.write_answer-in-Ok-answer.ensures.count;
       room = c.write_answer-in-Ok-answer.ensures.room;

@@ -22,7 +22,7 @@ returns-in-Inputs-default-ToRun c =
     let bytes = c.deref-in-Inputs-default-ToRun.result.now in
     IfOk-weaker _ _ _
     (λ s h. comes_on (options.in_turn ≡ true) (IsInTurn c.args.order) (RepliesWithInputs source (ToRun options) bytes) (RepliesByInput c.args.order input) (λ turns. subst IsInTurn is turns)
-    (λ r told. subst (λ (o : Order). RepliesByInput o input r) (sym is) (subst (λ (i : List ℕ). RepliesWithInputs source (ToRun options) i r) c.deref-in-Inputs-default-ToRun.ensures.value told)) s h) c.run_inputs_step.ensures
+    (λ r printed. subst (λ (o : Order). RepliesByInput o input r) (sym is) (subst (λ (i : List ℕ). RepliesWithInputs source (ToRun options) i r) c.deref-in-Inputs-default-ToRun.ensures.value printed)) s h) c.run_inputs_step.ensures
 
 pub returns-in-Replay : goal.returns-in-Replay
 returns-in-Replay c =

@@ -17,4 +17,4 @@ returns-in-Ok c =
     (λ given. RepliesBySource source (before_inputs (lines t)) (RepliesByProgram (source_text source (before_inputs (lines t))) (Verified (Run (run_with c.args.options given))))) in
     IfOk-weaker _ _ _
     (λ s h. comes_on turns turns (by c.in-Ok.text.now) (RepliesWithInputs source (ToRun c.args.options) c.args.input.now) (λ b. b)
-    (λ r told. inl (text.1, subst (λ (t : List ℕ). by t r) text.0 told)) s h) c.inputs_step.ensures
+    (λ r printed. inl (text.1, subst (λ (t : List ℕ). by t r) text.0 printed)) s h) c.inputs_step.ensures

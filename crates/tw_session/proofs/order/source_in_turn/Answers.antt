@@ -16,8 +16,8 @@ reply_single_threaded-requires c =
 pub returns-in-Finished : goal.returns-in-Finished
 returns-in-Finished c =
     let r = c.in-Finished.reply in
-    let told = subst (λ (a : ProgramAction). Leads (λ (run : RunOrder). c.args.order ≡ Verified (Run run)) c.in-Ok.read.source (RepliesByProgram (text_of c.in-Ok.read.source) c.args.order c.in-Ok.read.program) a) c.in-Finished.is c.in_ok-reply-in-Ok.ensures in
-    inl (c.in-Ok.read.program, c.in-Ok.ensures.spells, subst (λ (t : Option (List ℕ)). RepliesByProgram t c.args.order c.in-Ok.read.program (reply r.text.items r.close)) c.in-Ok.ensures.text told)
+    let printed = subst (λ (a : ProgramAction). Leads (λ (run : RunOrder). c.args.order ≡ Verified (Run run)) c.in-Ok.read.source (RepliesByProgram (text_of c.in-Ok.read.source) c.args.order c.in-Ok.read.program) a) c.in-Finished.is c.in_ok-reply-in-Ok.ensures in
+    inl (c.in-Ok.read.program, c.in-Ok.ensures.spells, subst (λ (t : Option (List ℕ)). RepliesByProgram t c.args.order c.in-Ok.read.program (reply r.text.items r.close)) c.in-Ok.ensures.text printed)
 
 pub returns-in-Ok : goal.returns-in-Ok
 returns-in-Ok c =

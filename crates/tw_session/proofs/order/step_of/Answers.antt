@@ -10,4 +10,4 @@ returns-else-len-gt-MOST_BYTES c =
     let input = c.args.input.items in
     let order = c.args.order in
     let short : length input ≤ most_bytes = search rules in
-    IfOk-weaker _ _ _ (λ s h. comes_on (IsInTurn order) (IsInTurn order) (RepliesByInput order input) (MayReplyText order input) (λ turns. turns) (λ r told. within order input input r short refl told) s h) c.ordered_step.ensures
+    IfOk-weaker _ _ _ (λ s h. comes_on (IsInTurn order) (IsInTurn order) (RepliesByInput order input) (MayReplyText order input) (λ turns. turns) (λ r printed. within order input input r short refl printed) s h) c.ordered_step.ensures

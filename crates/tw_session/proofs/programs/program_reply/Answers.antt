@@ -13,4 +13,4 @@ returns-in-Verified c =
     let outside : RunOrder → Type 0 = λ run. c.args.order ≡ Verified (Run run) in
     IfOk-weaker _ _ _
     (λ a h. leads_on inside outside c.args.source.now (RepliesByVerified text order c.args.program.procedures) (RepliesByProgram text c.args.order c.args.program) (λ run e. c.in-Verified.is ∙ ap Verified e)
-    (λ r told. subst (λ (o : ProgramOrder). RepliesByProgram text o c.args.program r) (sym c.in-Verified.is) told) a h) c.verified_reply.ensures
+    (λ r printed. subst (λ (o : ProgramOrder). RepliesByProgram text o c.args.program r) (sym c.in-Verified.is) printed) a h) c.verified_reply.ensures

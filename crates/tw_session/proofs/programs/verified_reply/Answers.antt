@@ -17,7 +17,7 @@ returns-in-Ok c =
     let is : RunOrder → Type 0 = λ run. c.args.order ≡ Run run in
     IfOk-weaker _ _ _
     (λ a h. leads_on is is c.args.source.now (RepliesByAccepted text c.args.order c.in-Ok.verified.program) (RepliesByVerified text c.args.order c.args.program.procedures) (λ run e. e)
-    (λ r told. inl (c.in-Ok.ensures.sound, subst (λ (p : List Procedure). RepliesByAccepted text c.args.order p r) c.in-Ok.ensures.kept told)) a h) c.accepted_reply.ensures
+    (λ r printed. inl (c.in-Ok.ensures.sound, subst (λ (p : List Procedure). RepliesByAccepted text c.args.order p r) c.in-Ok.ensures.kept printed)) a h) c.accepted_reply.ensures
 
 pub accepted_reply-requires : goal.accepted_reply-requires
 accepted_reply-requires c = record {
@@ -38,5 +38,5 @@ pub returns : goal.returns
 returns c =
     let text = text_of c.args.source.now in
     let r = c.in_ok-reply-in_default.reply in
-    let told = subst (λ (p : Versioned). IsRefused c.places_of-places.result text p.procedures (reply r.text.items r.close)) c.in-Err.ensures.back c.in_ok-reply-in_default.ensures in
-    inr (subst (λ (places : Places). IsRefused places text c.args.program.procedures (reply r.text.items r.close)) c.places_of-places.ensures told)
+    let printed = subst (λ (p : Versioned). IsRefused c.places_of-places.result text p.procedures (reply r.text.items r.close)) c.in-Err.ensures.back c.in_ok-reply-in_default.ensures in
+    inr (subst (λ (places : Places). IsRefused places text c.args.program.procedures (reply r.text.items r.close)) c.places_of-places.ensures printed)

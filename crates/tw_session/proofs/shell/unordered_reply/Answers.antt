@@ -13,6 +13,6 @@ returns-in-InputWord c = λ kinds asked input has.
     let refused = refused_word c.in-InputWord.number c.in-InputWord.reason.items in
     let here = subst (λ (why : NoOrder). HasReason kinds asked why) c.in-InputWord.is has in
     IfOk-weaker _ _ _
-    (λ (r : MadeReply) told.
-    let word = subst (λ (line : List ℕ). PrintsInputWord (refused_word c.in-InputWord.number line) (reply r.text.items r.close)) c.as_slice.ensures.value told in
+    (λ (r : MadeReply) printed.
+    let word = subst (λ (line : List ℕ). PrintsInputWord (refused_word c.in-InputWord.number line) (reply r.text.items r.close)) c.as_slice.ensures.value printed in
     subst (λ (ks : Kinds). AnswersWords ks asked input (reply r.text.items r.close)) (sym here.0) (inr (inl (refused, here.1, word)))) c.input_word_reply.ensures
