@@ -98,32 +98,32 @@ module _ {S A : Type 0} (SpellsSubscript : S → List ℕ → Type 0) (Spells : 
   no_subscript bytes none y other after (subscript, value, h, k, e) stop parts =
       none y.0 subscript (61 ∷ (value ++ after)) h refl (member_parts bytes subscript value other after e parts)
 
-  pub no_equals : (bytes rest : List ℕ) (s : S) → IsFirst 61 SpellsSubscript bytes s rest → ((behind : List ℕ) → rest ≢ 61 ∷ behind) → HasNoFirst 44 (SpellsMember SpellsSubscript Spells) bytes
+  pub no_equals : (bytes rest : List ℕ) (s : S) → IsFirst 61 SpellsSubscript bytes s rest → ((following : List ℕ) → rest ≢ 61 ∷ following) → HasNoFirst 44 (SpellsMember SpellsSubscript Spells) bytes
   no_equals bytes rest s found none y other after (subscript, value, h, k, e) stop parts =
       none (value ++ after) (found.alone y.0 subscript (61 ∷ (value ++ after)) h refl (member_parts bytes subscript value other after e parts)).1
 
-  pub no_value : (bytes rest behind : List ℕ) (s : S) → IsFirst 61 SpellsSubscript bytes s rest → rest ≡ 61 ∷ behind → HasNoFirst 44 Spells behind → HasNoFirst 44 (SpellsMember SpellsSubscript Spells) bytes
-  no_value bytes rest behind s found equals none y other after (subscript, value, h, k, e) stop parts =
+  pub no_value : (bytes rest following : List ℕ) (s : S) → IsFirst 61 SpellsSubscript bytes s rest → rest ≡ 61 ∷ following → HasNoFirst 44 Spells following → HasNoFirst 44 (SpellsMember SpellsSubscript Spells) bytes
+  no_value bytes rest following s found equals none y other after (subscript, value, h, k, e) stop parts =
       let same = found.alone y.0 subscript (61 ∷ (value ++ after)) h refl (member_parts bytes subscript value other after e parts) in
-      none y.1 value after k stop (after_equals behind (value ++ after) (sym equals ∙ same.1))
+      none y.1 value after k stop (after_equals following (value ++ after) (sym equals ∙ same.1))
 
-  pub member_found : (bytes rest behind last : List ℕ) (s : S) (x : A) → IsFirst 61 SpellsSubscript bytes s rest → rest ≡ 61 ∷ behind → IsFirst 44 Spells behind x last
+  pub member_found : (bytes rest following last : List ℕ) (s : S) (x : A) → IsFirst 61 SpellsSubscript bytes s rest → rest ≡ 61 ∷ following → IsFirst 44 Spells following x last
       → IsFirst 44 (SpellsMember SpellsSubscript Spells) bytes (s, x) last
-  member_found bytes rest behind last s x found equals value = record {
+  member_found bytes rest following last s x found equals value = record {
     first = found.first ++ 61 ∷ value.first;
     spells = (found.first, value.first, found.spells, value.spells, refl);
     parts = found.parts ∙ ap (λ (t : List ℕ). found.first ++ t) (equals ∙ ap (λ (t : List ℕ). 61 ∷ t) value.parts) ∙ sym (append_assoc found.first (61 ∷ value.first) last);
     alone = λ y other after (subscript, word, h, k, e) stop parts.
         let same = found.alone y.0 subscript (61 ∷ (word ++ after)) h refl (member_parts bytes subscript word other after e parts) in
-        let also = value.alone y.1 word after k stop (after_equals behind (word ++ after) (sym equals ∙ same.1)) in
+        let also = value.alone y.1 word after k stop (after_equals following (word ++ after) (sym equals ∙ same.1)) in
         (pair_is s y.0 x y.1 same.0 also.0, also.1);
   }
 
 -- ---- UTF-8
 
 -- the rest after the marker
-pub mark_utf8 : {A : Type 0} (mark : ℕ) (Spells : A → List ℕ → Type 0) (bytes rest behind : List ℕ) (x : A) → IsMark mark → IsUtf8 bytes → IsFirst mark Spells bytes x rest → rest ≡ mark ∷ behind → IsUtf8 behind
-mark_utf8 mark Spells bytes rest behind x is u found e = cut_rest found.first mark behind (low is) (subst IsUtf8 (found.parts ∙ ap (λ (t : List ℕ). found.first ++ t) e) u)
+pub mark_utf8 : {A : Type 0} (mark : ℕ) (Spells : A → List ℕ → Type 0) (bytes rest following : List ℕ) (x : A) → IsMark mark → IsUtf8 bytes → IsFirst mark Spells bytes x rest → rest ≡ mark ∷ following → IsUtf8 following
+mark_utf8 mark Spells bytes rest following x is u found e = cut_rest found.first mark following (low is) (subst IsUtf8 (found.parts ∙ ap (λ (t : List ℕ). found.first ++ t) e) u)
   where
     low : IsMark mark → mark < 128
     low (inl m) = omega (arith, m)

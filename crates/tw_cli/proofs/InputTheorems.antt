@@ -5,7 +5,7 @@ use Rattle.std.proofs.lemmas.Bool.{eqb-false}
 use Rattle.tw_types.specs.declared.input.Input.{Input}
 use Rattle.tw_types.specs.declared.input.Input.TheVariants as input
 use Rattle.tw_lexer.specs.Quoted.{SpellsQuoted}
-use Rattle.tw_cli.specs.InputWords.{AreBehind, AreJoined, AreSpelled, IsRefusedWord, OneInput, OneRefusedWord, RefusedWord, refused_word, SpellsInput, SpellsInt, SpellsMember, SpellsMembers, SpellsRest, head_of}
+use Rattle.tw_cli.specs.InputWords.{AreSeparated, AreJoined, AreSpelled, IsRefusedWord, OneInput, OneRefusedWord, RefusedWord, refused_word, SpellsInput, SpellsInt, SpellsMember, SpellsMembers, SpellsRest, head_of}
 use Rattle.tw_cli.specs.InputReasons.{diagnostic_line}
 use Rattle.tw_cli.specs.Order.{IsInputReason, IsRejection}
 use Rattle.tw_cli.specs.declared.command.NoOrder.{NoOrder}
@@ -24,13 +24,13 @@ module _ {A : Type 0} (Spells : A → List ℕ → Type 0) (one : IsOne 44 Spell
   never_comma : {Z : Type 0} (xs : List ℕ) → [] ≡ 44 ∷ xs → Z
   never_comma xs e = absurd cc
 
-  one_behind : (xs ys : List A) (text : List ℕ) → AreBehind Spells xs text → AreBehind Spells ys text → xs ≡ ys
-  one_behind [] [] text h k = refl
-  one_behind [] (y ∷ ys) text h k = never_comma (k.0 ++ k.1) (sym h ∙ k.4)
-  one_behind (x ∷ xs) [] text h k = never_comma (h.0 ++ h.1) (sym k ∙ h.4)
-  one_behind (x ∷ xs) (y ∷ ys) text h k =
+  one_separated : (xs ys : List A) (text : List ℕ) → AreSeparated Spells xs text → AreSeparated Spells ys text → xs ≡ ys
+  one_separated [] [] text h k = refl
+  one_separated [] (y ∷ ys) text h k = never_comma (k.0 ++ k.1) (sym h ∙ k.4)
+  one_separated (x ∷ xs) [] text h k = never_comma (h.0 ++ h.1) (sym k ∙ h.4)
+  one_separated (x ∷ xs) (y ∷ ys) text h k =
       let same = one x y h.0 k.0 h.1 k.1 h.2 k.2 (stops Spells xs h.1 h.3) (stops Spells ys k.1 k.3) (comma_is _ _ (sym h.4 ∙ k.4)) in
-      ap (λ (z : A). z ∷ xs) same.0 ∙ ap (λ (zs : List A). y ∷ zs) (one_behind xs ys k.1 (subst (AreBehind Spells xs) same.1 h.3) k.3)
+      ap (λ (z : A). z ∷ xs) same.0 ∙ ap (λ (zs : List A). y ∷ zs) (one_separated xs ys k.1 (subst (AreSeparated Spells xs) same.1 h.3) k.3)
 
   pub one_list : (nonempty : (x : A) (text : List ℕ) → Spells x text → text ≡ [] → ⊥) (xs ys : List A) (text : List ℕ) → AreJoined Spells xs text → AreJoined Spells ys text → xs ≡ ys
   one_list some [] [] text h k = refl
@@ -46,7 +46,7 @@ module _ {A : Type 0} (Spells : A → List ℕ → Type 0) (one : IsOne 44 Spell
       front_none (x ∷ xs) ys e = absurd cc
   one_list some (x ∷ xs) (y ∷ ys) text h k =
       let same = one x y h.0 k.0 h.1 k.1 h.2 k.2 (stops Spells xs h.1 h.3) (stops Spells ys k.1 k.3) (sym h.4 ∙ k.4) in
-      ap (λ (z : A). z ∷ xs) same.0 ∙ ap (λ (zs : List A). y ∷ zs) (one_behind xs ys k.1 (subst (AreBehind Spells xs) same.1 h.3) k.3)
+      ap (λ (z : A). z ∷ xs) same.0 ∙ ap (λ (zs : List A). y ∷ zs) (one_separated xs ys k.1 (subst (AreSeparated Spells xs) same.1 h.3) k.3)
 
 -- a member has its `=`
 some_member : {S A : Type 0} (SpellsSubscript : S → List ℕ → Type 0) (Spells : A → List ℕ → Type 0) (x : S × A) (text : List ℕ) → SpellsMember SpellsSubscript Spells x text → text ≡ [] → ⊥
@@ -205,7 +205,7 @@ refused_at inputs words i d lt h none why rejection =
 pub never_refused : (asked : Asked) (order : Order) (number : RefusedWord) → IsAsked asked order → IsRefusedInput asked number → ⊥
 never_refused (Assembles what) order number is_asked h = h
 never_refused (Disassembles source listed) order number is_asked h = h
-never_refused (Checks source told) order number is_asked h = h
+never_refused (Checks source requested) order number is_asked h = h
 never_refused (Runs source answer layout most traced turns (Some words)) order number (run, is, answer_is, layout_is, limit_is, trace_is, turns_is, spelled) h = none_refused words run.inputs number spelled h
 never_refused (Runs source answer layout most traced turns None) order number is_asked h = h
 never_refused (Replays source answer layout (Some words)) order number (replay, is, answer_is, layout_is, spelled) h = none_refused words replay.inputs number spelled h
@@ -215,7 +215,7 @@ never_refused (Explains explained) order number is_asked h = h
 pub one_refused : (asked : Asked) (number other : RefusedWord) → IsRefusedInput asked number → IsRefusedInput asked other → number ≡ other
 one_refused (Assembles what) number other h k = absurd h
 one_refused (Disassembles source listed) number other h k = absurd h
-one_refused (Checks source told) number other h k = absurd h
+one_refused (Checks source requested) number other h k = absurd h
 one_refused (Runs source answer layout most traced turns (Some words)) number other h k = one_refused_word words number other h k
 one_refused (Runs source answer layout most traced turns None) number other h k = absurd h
 one_refused (Replays source answer layout (Some words)) number other h k = one_refused_word words number other h k

@@ -2,7 +2,7 @@
 use Rattle.std.proofs.Common.{◌≡◌, ◌≢◌, ◌==◌, true, false, ℕ, List, [], ◌∷◌, ◌++◌, refl, sym, ap, subst, ◌∙◌, append_assoc}
 use Rattle.std.specs.Prelude.{length}
 use Rattle.std.specs.List.{AllByRecursion}
-use Rattle.tw_cli.specs.InputWords.{AreBehind, AreJoined}
+use Rattle.tw_cli.specs.InputWords.{AreSeparated, AreJoined}
 use Rattle.tw_cli.specs.reading.Members.{HasNoFirst, IsFirst, IsStop}
 
 -- ---- cuts
@@ -67,16 +67,16 @@ module _ {A : Type 0} (Spells : A → List ℕ → Type 0) where
       to (y ∷ ys) h = (y ∷ ys, refl, h)
 
   -- a comma or the end is before the rest
-  pub stops : (xs : List A) (rest : List ℕ) → AreBehind Spells xs rest → IsStop 44 rest
+  pub stops : (xs : List A) (rest : List ℕ) → AreSeparated Spells xs rest → IsStop 44 rest
   stops [] rest h = subst (IsStop 44) (sym h) tt
   stops (x ∷ xs) rest h = subst (IsStop 44) (sym h.4) refl
 
   -- the rest, after a member that was found
-  behind : (rest after : List ℕ) (x : A) (xs : List A) → IsFirst 44 Spells rest x after → AreSome xs rest → (ys : List A) × (xs ≡ x ∷ ys) × AreBehind Spells ys after
-  behind rest after x [] found h = absurd h
-  behind rest after x (y ∷ ys) found h =
+  following : (rest after : List ℕ) (x : A) (xs : List A) → IsFirst 44 Spells rest x after → AreSome xs rest → (ys : List A) × (xs ≡ x ∷ ys) × AreSeparated Spells ys after
+  following rest after x [] found h = absurd h
+  following rest after x (y ∷ ys) found h =
       let same = found.alone y h.0 h.1 h.2 (stops ys h.1 h.3) h.4 in
-      (ys, ap (λ (z : A). z ∷ ys) (sym same.0), subst (AreBehind Spells ys) (sym same.1) h.3)
+      (ys, ap (λ (z : A). z ∷ ys) (sym same.0), subst (AreSeparated Spells ys) (sym same.1) h.3)
 
   comma_is : (others text : List ℕ) → 44 ∷ others ≡ 44 ∷ text → others ≡ text
   comma_is others text e = cc
@@ -90,19 +90,19 @@ module _ {A : Type 0} (Spells : A → List ℕ → Type 0) where
     sound = λ xs more. subst (λ (ys : List A). AreJoined Spells ys list) (sym (append_assoc members (x ∷ []) xs)) (h.sound (x ∷ xs) (longer xs more));
     complete = λ ys joined.
         let left = h.complete ys joined in
-        let next = behind rest after x left.0 found left.2 in
-        let last = rest_of next.0 (subst (AreBehind Spells next.0) comma next.2) in
+        let next = following rest after x left.0 found left.2 in
+        let last = rest_of next.0 (subst (AreSeparated Spells next.0) comma next.2) in
         (next.0, left.1 ∙ ap (λ (xs : List A). members ++ xs) next.1 ∙ sym (append_assoc members (x ∷ []) next.0), last);
   }
     where
-      follows : (xs : List A) → AreSome xs others → AreBehind Spells xs (44 ∷ others)
+      follows : (xs : List A) → AreSome xs others → AreSeparated Spells xs (44 ∷ others)
       follows [] more = absurd more
       follows (y ∷ ys) more = (more.0, more.1, more.2, more.3, ap (λ (text : List ℕ). 44 ∷ text) more.4)
 
       longer : (xs : List A) → AreSome xs others → AreSome (x ∷ xs) rest
-      longer xs more = (found.first, after, found.spells, subst (AreBehind Spells xs) (sym comma) (follows xs more), found.parts)
+      longer xs more = (found.first, after, found.spells, subst (AreSeparated Spells xs) (sym comma) (follows xs more), found.parts)
 
-      rest_of : (xs : List A) → AreBehind Spells xs (44 ∷ others) → AreSome xs others
+      rest_of : (xs : List A) → AreSeparated Spells xs (44 ∷ others) → AreSome xs others
       rest_of [] b = never_comma others b
       rest_of (y ∷ ys) b = (b.0, b.1, b.2, b.3, comma_is others (b.0 ++ b.1) b.4)
 
@@ -119,9 +119,9 @@ module _ {A : Type 0} (Spells : A → List ℕ → Type 0) where
       → (ys : List A) → AreJoined Spells ys list → ⊥
   broken_off list rest after members x h found some comma ys joined =
       let left = h.complete ys joined in
-      let next = behind rest after x left.0 found left.2 in
+      let next = following rest after x left.0 found left.2 in
       by next.0 next.2
     where
-      by : (xs : List A) → AreBehind Spells xs after → ⊥
+      by : (xs : List A) → AreSeparated Spells xs after → ⊥
       by [] b = some b
       by (y ∷ xs) b = comma (b.0 ++ b.1) b.4

@@ -3,7 +3,7 @@ use Rattle.std.proofs.Common.{◌≡◌, ◌==◌, ℕ, Bool, true, false, List,
 use Rattle.std.specs.Prelude.{is_some, MatchOption, Option, Some, None}
 use Rattle.clap.specs.Words.{Text}
 use Rattle.clap.specs.declared.error.ErrorKind.TheVariants.{ValueValidation}
-use Rattle.tw_cli.specs.Explanations.{IsExplanation, IsTold, IsToldBy, is_number, meant, number_faults}
+use Rattle.tw_cli.specs.Explanations.{IsExplanation, IsMeaningOf, IsExplainedBy, is_number, meant, number_faults}
 use Rattle.std.specs.Option.{option_map}
 use Rattle.std.specs.List.{find, list_any}
 
@@ -37,9 +37,9 @@ both_had name rows (Some x) n r a b =
 
 -- ---- the explanation of an argument after `explain`
 
-pub told_word : {V E : Type 0} (items : V → List ℕ) (word : Text) (r : Result (Option V) E) → (length word == 0) ≡ false
-    → IfOk r (λ told. MatchOption told (is_number (meant word) ≡ false) (λ text. (is_number (meant word) ≡ true) × IsExplanation (meant word) (items text)))
-    → IfOk r (λ told. MatchOption told (number_faults word ≡ ValueValidation ∷ []) (λ text. (number_faults word ≡ []) × IsTold word (items text)))
-told_word items word (Ok None) some h = rw (some, h) refl
-told_word items word (Ok (Some text)) some h = (rw (some, h.0) refl, subst (λ (b : Bool). IsToldBy b word (items text)) (sym some) h.1)
-told_word items word (Err e) some h = tt
+pub explained_word : {V E : Type 0} (items : V → List ℕ) (word : Text) (r : Result (Option V) E) → (length word == 0) ≡ false
+    → IfOk r (λ requested. MatchOption requested (is_number (meant word) ≡ false) (λ text. (is_number (meant word) ≡ true) × IsExplanation (meant word) (items text)))
+    → IfOk r (λ requested. MatchOption requested (number_faults word ≡ ValueValidation ∷ []) (λ text. (number_faults word ≡ []) × IsMeaningOf word (items text)))
+explained_word items word (Ok None) some h = rw (some, h) refl
+explained_word items word (Ok (Some text)) some h = (rw (some, h.0) refl, subst (λ (b : Bool). IsExplainedBy b word (items text)) (sym some) h.1)
+explained_word items word (Err e) some h = tt

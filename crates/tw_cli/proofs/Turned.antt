@@ -18,7 +18,7 @@ use Rattle.tw_cli.specs.declared.command.VerifiedOrder.TheVariants.{Check, Run}
 pub asked_in_turn : (asked : Asked) (order : Order) → IsAsked asked order → IsAsked (turned asked) (order_in_turn order)
 asked_in_turn (Assembles what) order is = ap order_in_turn is
 asked_in_turn (Disassembles source listed) order is = ap order_in_turn is
-asked_in_turn (Checks source told) order is = ap order_in_turn is
+asked_in_turn (Checks source requested) order is = ap order_in_turn is
 asked_in_turn (Runs source answer layout most traced turns (Some words)) order (run, is, answer_is, layout_is, limit_is, trace_is, turns_is, spelled) =
     (record run { in_turn = true }, ap order_in_turn is, answer_is, layout_is, limit_is, trace_is, refl, spelled)
 asked_in_turn (Runs source answer layout most traced turns None) order (run, is, answer_is, layout_is, limit_is, trace_is, turns_is) =
@@ -34,14 +34,14 @@ reason_in_turn kinds asked (Help text) h = h
 reason_in_turn kinds asked Refused h = h
 reason_in_turn kinds (Assembles what) (InputWord number reason) h = h
 reason_in_turn kinds (Disassembles source listed) (InputWord number reason) h = h
-reason_in_turn kinds (Checks source told) (InputWord number reason) h = h
+reason_in_turn kinds (Checks source requested) (InputWord number reason) h = h
 reason_in_turn kinds (Runs source answer layout most traced turns (Some words)) (InputWord number reason) h = h
 reason_in_turn kinds (Runs source answer layout most traced turns None) (InputWord number reason) h = h
 reason_in_turn kinds (Replays source answer layout words) (InputWord number reason) h = h
 reason_in_turn kinds (Explains other) (InputWord number reason) h = h
 reason_in_turn kinds (Assembles what) (Explanation text) h = h
 reason_in_turn kinds (Disassembles source listed) (Explanation text) h = h
-reason_in_turn kinds (Checks source told) (Explanation text) h = h
+reason_in_turn kinds (Checks source requested) (Explanation text) h = h
 reason_in_turn kinds (Runs source answer layout most traced turns words) (Explanation text) h = h
 reason_in_turn kinds (Replays source answer layout words) (Explanation text) h = h
 reason_in_turn kinds (Explains other) (Explanation text) h = h
@@ -49,7 +49,7 @@ reason_in_turn kinds (Explains other) (Explanation text) h = h
 -- ---- an order with its run single-threaded
 
 verified_is : (order : VerifiedOrder) → IsVerifiedInTurn (verified_in_turn order)
-verified_is (Check told) = tt
+verified_is (Check requested) = tt
 verified_is (Run run) = refl
 
 program_is : (order : ProgramOrder) → IsProgramInTurn (program_in_turn order)

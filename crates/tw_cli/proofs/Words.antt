@@ -8,7 +8,7 @@ use Rattle.clap.proofs.OnLiterals.{clap_on_literals}
 use Rattle.tw_cli.specs.declared.command.NoOrder.{NoOrder}
 use Rattle.tw_cli.specs.declared.command.NoOrder.TheVariants.{Help, Refused, InputWord, Explanation, NoMemory}
 use Rattle.tw_cli.specs.Order.{HasReason, IsReason}
-use Rattle.tw_cli.specs.CommandLine.{Asked, asked_by_words, asked_of, command_line, faults_behind, word_faults}
+use Rattle.tw_cli.specs.CommandLine.{Asked, asked_by_words, asked_of, command_line, faults_after, word_faults}
 
 simple : is_simple command_line ≡ true
 unfolding clap_on_literals command_line
@@ -30,10 +30,10 @@ matched a words m line kinds matches =
 -- the remaining faults are those of the options
 pub faults_are : (a : App) (words : List Text) (m : ArgMatches) → a ≡ command_line
     → (is_simple_and_free a ≡ true → fault_of a words ≡ []) → HasMatchesOf a words m
-    → word_faults words ≡ faults_behind (subcommand_rows_of m)
+    → word_faults words ≡ faults_after (subcommand_rows_of m)
 faults_are a words m line kinds matches =
     let both = matched a words m line kinds matches in
-    ap (λ (k : Kinds). or_else k (faults_behind (subcommand_of command_line words))) both.0 ∙ ap faults_behind (sym both.1)
+    ap (λ (k : Kinds). or_else k (faults_after (subcommand_of command_line words))) both.0 ∙ ap faults_after (sym both.1)
 
 pub asked_are : (a : App) (words : List Text) (m : ArgMatches) → a ≡ command_line
     → (is_simple_and_free a ≡ true → fault_of a words ≡ []) → HasMatchesOf a words m
@@ -47,12 +47,12 @@ pub refused : (a : App) (words : List Text) (e : Error) (n : NoOrder) (asked : A
 refused a words e n asked line kinds reason =
     go n reason (kinds (ap is_simple_and_free line ∙ simple_and_free))
   where
-    first : (kinds behind : Kinds) → IsAmong (kind_of e) kinds → IsAmong (kind_of e) (or_else kinds behind)
-    first [] behind h = absurd h
-    first (k ∷ kinds) behind h = h
+    first : (kinds following : Kinds) → IsAmong (kind_of e) kinds → IsAmong (kind_of e) (or_else kinds following)
+    first [] following h = absurd h
+    first (k ∷ kinds) following h = h
 
     among : IsAmong (kind_of e) (fault_of a words) → IsAmong (kind_of e) (word_faults words)
-    among h = first (fault_of command_line words) (faults_behind (subcommand_of command_line words)) (subst (λ (b : App). IsAmong (kind_of e) (fault_of b words)) line h)
+    among h = first (fault_of command_line words) (faults_after (subcommand_of command_line words)) (subst (λ (b : App). IsAmong (kind_of e) (fault_of b words)) line h)
 
     go : (n : NoOrder) → IsReason (kind_of e) n → HasKind (fault_of a words) e → HasReason (word_faults words) asked n
     go NoMemory r h = tt

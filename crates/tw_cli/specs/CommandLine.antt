@@ -8,8 +8,8 @@ use Rattle.clap.specs.declared.error.ErrorKind.TheVariants.{ArgumentConflict}
 use Rattle.tw_types.specs.declared.input.Input.{Input}
 use Rattle.tw_types.specs.Layout.{ActorCounts}
 use Rattle.tw_cli.specs.InputWords.{AreSpelled, IsRefusedWord, RefusedWord}
-use Rattle.tw_cli.specs.Options.{NumberOption, actor_options, given_actors, given_assembling, first_shown, flag_rule, in_turn, inputs, bounds, given_check, checking, is_given, json, last_shown, limit, names, number_options, option_faults, option_rule, picture, picture_options, places, given_places, plain, quiet, given_source, stats, stretch_options, given_range, text, told, trace}
-use Rattle.tw_cli.specs.Explanations.{IsTold, number_faults, number_rule, number_word}
+use Rattle.tw_cli.specs.Options.{NumberOption, actor_options, given_actors, given_assembling, first_shown, flag_rule, in_turn, inputs, bounds, given_check, checking, is_given, json, last_shown, limit, names, number_options, option_faults, option_rule, picture, picture_options, places, given_places, plain, quiet, given_source, stats, stretch_options, given_range, text, requested, trace}
+use Rattle.tw_cli.specs.Explanations.{IsMeaningOf, number_faults, number_rule, number_word}
 use Rattle.tw_cli.specs.declared.command.Answer.{Answer}
 use Rattle.tw_cli.specs.declared.command.Answer.TheVariants.{Numbers, Picture, Report}
 use Rattle.tw_cli.specs.declared.command.RunAnswer.{RunAnswer}
@@ -102,8 +102,8 @@ abbrev pub given_words : List Row → List Text
 given_words rows = unwrap_or (all_of (codes "input") rows) []
 
 -- returns these arguments, or none if the inputs are part of what is read
-abbrev pub words_told : List Row → Option (List Text)
-words_told rows = if is_given inputs rows then None else Some (given_words rows)
+abbrev pub listed_words : List Row → Option (List Text)
+listed_words rows = if is_given inputs rows then None else Some (given_words rows)
 
 -- what a command requests. Each that reads a program has its format; `disasm` and `check` have which listings and bounds they print. `run` has its
 -- output, its actors, its maximum number of events, whether its trace is written, whether it is single-threaded, and its input arguments. `replay`
@@ -130,11 +130,11 @@ run_answer rows = if is_given picture rows then written.Picture (given_range row
 -- returns the request of `run`, from what clap found after it
 abbrev pub run_asked : List Row → Asked
 run_asked rows =
-    Runs (given_source rows) (run_answer rows) (given_actors rows) (told limit rows) (is_given trace rows) (is_given in_turn rows) (words_told rows)
+    Runs (given_source rows) (run_answer rows) (given_actors rows) (requested limit rows) (is_given trace rows) (is_given in_turn rows) (listed_words rows)
 
 -- returns the request of `replay` or `picture`, from what clap found after it
 abbrev pub replay_asked : Answer → List Row → Asked
-replay_asked answer rows = Replays (given_source rows) answer (given_actors rows) (words_told rows)
+replay_asked answer rows = Replays (given_source rows) answer (given_actors rows) (listed_words rows)
 
 abbrev pub asked_of : Option (Text × List Row) → Asked
 asked_of None = Checks Hex (checking Hidden false)
@@ -162,7 +162,7 @@ replay_with options given = record { answer = options.answer; layout = options.l
 abbrev pub IsAsked : Asked → Order → Type 0
 IsAsked (Assembles what) order = order ≡ Assemble what
 IsAsked (Disassembles source listed) order = order ≡ Program source (Disassemble listed)
-IsAsked (Checks source told) order = order ≡ Program source (Verified (Check told))
+IsAsked (Checks source requested) order = order ≡ Program source (Verified (Check requested))
 IsAsked (Runs source answer layout most traced turns (Some words)) order =
     (run : RunOrder) × (order ≡ Program source (Verified (Run run)))
     × (run.answer ≡ answer) × (run.layout ≡ layout) × (run.limit ≡ most) × (run.trace ≡ traced) × (run.in_turn ≡ turns) × AreSpelled run.inputs words
@@ -178,7 +178,7 @@ IsAsked (Explains number) order = ⊥
 abbrev pub IsRefusedInput : Asked → RefusedWord → Type 0
 IsRefusedInput (Assembles what) refused = ⊥
 IsRefusedInput (Disassembles source listed) refused = ⊥
-IsRefusedInput (Checks source told) refused = ⊥
+IsRefusedInput (Checks source requested) refused = ⊥
 IsRefusedInput (Runs source answer layout most traced turns (Some words)) refused = IsRefusedWord words refused
 IsRefusedInput (Runs source answer layout most traced turns None) refused = ⊥
 IsRefusedInput (Replays source answer layout (Some words)) refused = IsRefusedWord words refused
@@ -189,10 +189,10 @@ IsRefusedInput (Explains other) refused = ⊥
 abbrev pub IsExplained : Asked → List ℕ → Type 0
 IsExplained (Assembles what) explanation = ⊥
 IsExplained (Disassembles source listed) explanation = ⊥
-IsExplained (Checks source told) explanation = ⊥
+IsExplained (Checks source requested) explanation = ⊥
 IsExplained (Runs source answer layout most traced turns words) explanation = ⊥
 IsExplained (Replays source answer layout words) explanation = ⊥
-IsExplained (Explains number) explanation = IsTold number explanation
+IsExplained (Explains number) explanation = IsMeaningOf number explanation
 
 -- ---- why the arguments are rejected
 
@@ -202,7 +202,7 @@ input_faults rows = if is_given inputs rows && not (is_empty (given_words rows))
 
 -- returns the fault of a range whose last event is before its first
 abbrev pub stretch_faults : List Row → Kinds
-stretch_faults rows = if nat_lt (told last_shown rows) (told first_shown rows) then ArgumentConflict ∷ [] else []
+stretch_faults rows = if nat_lt (requested last_shown rows) (requested first_shown rows) then ArgumentConflict ∷ [] else []
 
 -- returns whether `--from` or `--to` is given
 abbrev pub is_cut : List Row → Bool
@@ -235,9 +235,9 @@ abbrev pub drawing_faults : List Row → Kinds
 drawing_faults rows = or_else (option_faults stretch_options rows) (or_else (stretch_faults rows) (replay_faults rows))
 
 -- returns the faults of the options, or of the code after `explain`
-abbrev pub faults_behind : Option (Text × List Row) → Kinds
-faults_behind None = []
-faults_behind (Some named) =
+abbrev pub faults_after : Option (Text × List Row) → Kinds
+faults_after None = []
+faults_after (Some named) =
     if bytes_eq named.0 (codes "run") then run_faults named.1 else
     if bytes_eq named.0 (codes "replay") then replay_faults named.1 else
     if bytes_eq named.0 (codes "picture") then drawing_faults named.1 else
@@ -246,4 +246,4 @@ faults_behind (Some named) =
 
 -- returns no faults if the arguments are accepted; clap's own faults come before the others
 abbrev pub word_faults : List Text → Kinds
-word_faults words = or_else (fault_of command_line words) (faults_behind (subcommand_of command_line words))
+word_faults words = or_else (fault_of command_line words) (faults_after (subcommand_of command_line words))

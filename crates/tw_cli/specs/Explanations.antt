@@ -67,12 +67,12 @@ IsExplanation number text = (more : List ℕ) × (text ≡ number ++ (codes ": "
 
 -- holds if the text is what an argument requests: any text for an empty argument, which requests the list of all codes, and else the explanation of
 -- its code
-abbrev pub IsToldBy : Bool → Text → List ℕ → Type 0
-IsToldBy true word text = ⊤
-IsToldBy false word text = IsExplanation (meant word) text
+abbrev pub IsExplainedBy : Bool → Text → List ℕ → Type 0
+IsExplainedBy true word text = ⊤
+IsExplainedBy false word text = IsExplanation (meant word) text
 
-abbrev pub IsTold : Text → List ℕ → Type 0
-IsTold word text = IsToldBy (length word == 0) word text
+abbrev pub IsMeaningOf : Text → List ℕ → Type 0
+IsMeaningOf word text = IsExplainedBy (length word == 0) word text
 
 -- the argument after `explain`, which may be missing
 abbrev pub number_rule : Rule

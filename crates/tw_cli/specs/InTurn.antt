@@ -21,7 +21,7 @@ turned (Explains number) = Explains number
 
 -- hold if the order's run, if there is one, is single-threaded
 abbrev pub IsVerifiedInTurn : VerifiedOrder → Type 0
-IsVerifiedInTurn (Check told) = Unit {0}
+IsVerifiedInTurn (Check requested) = Unit {0}
 IsVerifiedInTurn (Run run) = run.in_turn ≡ true
 
 abbrev pub IsProgramInTurn : ProgramOrder → Type 0
@@ -40,7 +40,7 @@ IsInTurn (Inputs source order) = IsInputsInTurn order
 
 -- return the order with its run single-threaded
 abbrev pub verified_in_turn : VerifiedOrder → VerifiedOrder
-verified_in_turn (Check told) = Check told
+verified_in_turn (Check requested) = Check requested
 verified_in_turn (Run run) = Run (record run { in_turn = true })
 
 abbrev pub program_in_turn : ProgramOrder → ProgramOrder

@@ -9,14 +9,14 @@ use Rattle.tw_cli.specs.InputReasons.{diagnostic_line}
 -- ---- lists
 
 -- holds if the text encodes the members after the first one, each with a comma before it
-abbrev pub AreBehind : {A : Type 0} → (A → List ℕ → Type 0) → List A → List ℕ → Type 0
-AreBehind Spells [] text = text ≡ []
-AreBehind Spells (x ∷ xs) text = (first : List ℕ) × (rest : List ℕ) × Spells x first × AreBehind Spells xs rest × (text ≡ 44 ∷ (first ++ rest))
+abbrev pub AreSeparated : {A : Type 0} → (A → List ℕ → Type 0) → List A → List ℕ → Type 0
+AreSeparated Spells [] text = text ≡ []
+AreSeparated Spells (x ∷ xs) text = (first : List ℕ) × (rest : List ℕ) × Spells x first × AreSeparated Spells xs rest × (text ≡ 44 ∷ (first ++ rest))
 
 -- holds if the text encodes these members, with a comma between two of them; there may be none
 abbrev pub AreJoined : {A : Type 0} → (A → List ℕ → Type 0) → List A → List ℕ → Type 0
 AreJoined Spells [] text = text ≡ []
-AreJoined Spells (x ∷ xs) text = (first : List ℕ) × (rest : List ℕ) × Spells x first × AreBehind Spells xs rest × (text ≡ first ++ rest)
+AreJoined Spells (x ∷ xs) text = (first : List ℕ) × (rest : List ℕ) × Spells x first × AreSeparated Spells xs rest × (text ≡ first ++ rest)
 
 -- ---- one input
 

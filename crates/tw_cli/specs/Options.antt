@@ -153,8 +153,8 @@ abbrev pub option_faults : List NumberOption → List Row → Kinds
 option_faults options rows = if list_all (λ o. is_some (number_of o rows)) options then [] else ValueValidation ∷ []
 
 -- returns the number of an option, or the default if it has none
-abbrev pub told : NumberOption → List Row → ℕ
-told o rows = unwrap_or (number_of o rows) o.default
+abbrev pub requested : NumberOption → List Row → ℕ
+requested o rows = unwrap_or (number_of o rows) o.default
 
 -- holds if each kind of actor has a number, and these are the numbers
 abbrev pub HasActors : List Row → ActorCounts → Type 0
@@ -165,7 +165,7 @@ abbrev pub actors : ℕ → ℕ → ℕ → ActorCounts
 actors engines servers workers = record { engines = engines; servers = servers; workers = workers }
 
 abbrev pub given_actors : List Row → ActorCounts
-given_actors rows = actors (told engines rows) (told servers rows) (told workers rows)
+given_actors rows = actors (requested engines rows) (requested servers rows) (requested workers rows)
 
 -- holds if the options for the range of events have numbers, and these are the numbers
 abbrev pub HasStretch : List Row → EventRange → Type 0
@@ -175,4 +175,4 @@ abbrev pub stretch : ℕ → ℕ → EventRange
 stretch from to = record { from = from; to = to }
 
 abbrev pub given_range : List Row → EventRange
-given_range rows = stretch (told first_shown rows) (told last_shown rows)
+given_range rows = stretch (requested first_shown rows) (requested last_shown rows)

@@ -4,7 +4,7 @@ ghost use Rattle.std.specs.Prelude.{◌≡◌, ◌++◌, ◌∷◌, [], true, fa
 ghost use Rattle.std.specs.List.{find, list_any};
 ghost use Rattle.std.specs.Str.{bytes_eq};
 ghost use Rattle.clap.specs.declared.error.ErrorKind.TheVariants.{ValueValidation};
-ghost use Rattle.tw_cli.specs.Explanations.{IsExplanation, IsTold, assembly_numbers, byte_numbers, full_number, is_among, is_number, meant, name_numbers, number_faults, session_numbers, trap_numbers, verifier_numbers};
+ghost use Rattle.tw_cli.specs.Explanations.{IsExplanation, IsMeaningOf, assembly_numbers, byte_numbers, full_number, is_among, is_number, meant, name_numbers, number_faults, session_numbers, trap_numbers, verifier_numbers};
 
 use crate::explained_names::NAMES;
 use crate::explained_programs::{TRAPS, VERIFIER};
@@ -307,7 +307,7 @@ fn text_of(alloc: Global, row: &Explanation) -> Result<Vec<u8>, AllocError>
 
 /// Returns the explanation of a code, if it is one.
 fn row_meaning(alloc: Global, number: &[u8]) -> Result<Option<Vec<u8>>, AllocError>
-    ensures { IfOk result (λ told. MatchOption told (is_number number.now ≡ false) (λ text. (is_number number.now ≡ true) × IsExplanation number.now text.items)) }
+    ensures { IfOk result (λ requested. MatchOption requested (is_number number.now ≡ false) (λ text. (is_number number.now ≡ true) × IsExplanation number.now text.items)) }
 {
     match row_of(number) {
         Some(row) => Ok(Some(text_of(alloc, &row)?)),
@@ -317,7 +317,7 @@ fn row_meaning(alloc: Global, number: &[u8]) -> Result<Option<Vec<u8>>, AllocErr
 
 /// Returns the explanation of the code that an argument names, if it names one. Accepts either case, and codes without their 0.
 fn word_meaning(alloc: Global, word: &[u8]) -> Result<Option<Vec<u8>>, AllocError>
-    ensures { IfOk result (λ told. MatchOption told (is_number (meant word.now) ≡ false) (λ text. (is_number (meant word.now) ≡ true) × IsExplanation (meant word.now) text.items)) }
+    ensures { IfOk result (λ requested. MatchOption requested (is_number (meant word.now) ≡ false) (λ text. (is_number (meant word.now) ≡ true) × IsExplanation (meant word.now) text.items)) }
 {
     let capitals = word.to_ascii_uppercase(alloc)?;
     let number = full_number(alloc, &capitals)?;
@@ -327,7 +327,7 @@ fn word_meaning(alloc: Global, word: &[u8]) -> Result<Option<Vec<u8>>, AllocErro
 /// Returns the explanation that the argument of `explain` requests. An empty argument requests the list of all codes. Returns none if it names no
 /// code.
 pub fn explained(alloc: Global, word: &str) -> Result<Option<Vec<u8>>, AllocError>
-    ensures { IfOk result (λ told. MatchOption told (number_faults word.now ≡ ValueValidation ∷ []) (λ text. (number_faults word.now ≡ []) × IsTold word.now text.items)) }
+    ensures { IfOk result (λ requested. MatchOption requested (number_faults word.now ≡ ValueValidation ∷ []) (λ text. (number_faults word.now ≡ []) × IsMeaningOf word.now text.items)) }
 {
     if word.is_empty() {
         Ok(Some(listing(alloc)?))

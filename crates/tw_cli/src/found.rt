@@ -4,7 +4,7 @@ ghost use Rattle.std.specs.Prelude.{◌≡◌, false, not, [], ◌∷◌, map, I
 ghost use Rattle.clap.specs.Walk.{is_empty};
 ghost use Rattle.clap.specs.Words.{found_of, rows_of};
 ghost use Rattle.clap.specs.declared.error.ErrorKind.TheVariants.{ValueValidation};
-ghost use Rattle.tw_cli.specs.CommandLine.{given_answer, given_words, input_faults, replay_asked, run_asked, words_told};
+ghost use Rattle.tw_cli.specs.CommandLine.{given_answer, given_words, input_faults, replay_asked, run_asked, listed_words};
 ghost use Rattle.tw_cli.specs.declared.command.Answer.{Answer as Answers};
 ghost use Rattle.tw_cli.specs.InputWords.{AreSpelled};
 ghost use Rattle.tw_cli.specs.reading.Inputs.{HasInputs};
@@ -174,7 +174,7 @@ pub(crate) fn inputs_given(
     matches: &ArgMatches<'_>,
 ) -> Result<Option<Items<Input>>, NoOrder>
     ensures taken { IfOk result (λ given. (input_faults (rows_of (found_of matches.now)) ≡ [])
-        × HasInputs (words_told (rows_of (found_of matches.now))) given) }
+        × HasInputs (listed_words (rows_of (found_of matches.now))) given) }
     ensures run { IfErr result (HasReason (input_faults (rows_of (found_of matches.now))) (run_asked (rows_of (found_of matches.now)))) }
     ensures replay { (answer : Answers) → IfErr result
         (HasReason (input_faults (rows_of (found_of matches.now))) (replay_asked answer (rows_of (found_of matches.now)))) }

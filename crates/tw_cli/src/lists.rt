@@ -84,10 +84,10 @@ fn first_member<S: Part, V: Part>(
     let Some((subscript, rest)) = S::first(alloc, b'=', bytes)? else {
         return Ok(None);
     };
-    let Some(behind) = after(b"=", rest) else {
+    let Some(following) = after(b"=", rest) else {
         return Ok(None);
     };
-    let Some((value, rest)) = V::first(alloc, b',', behind)? else {
+    let Some((value, rest)) = V::first(alloc, b',', following)? else {
         return Ok(None);
     };
     Ok(Some(((subscript, value), rest)))
@@ -109,14 +109,14 @@ pub fn members<S: Part, V: Part>(
     }
     let mut rest = list;
     loop {
-        let Some((member, behind)) = first_member(alloc, rest)? else {
+        let Some((member, following)) = first_member(alloc, rest)? else {
             return Ok(None);
         };
         members.push(member)?;
-        if behind.is_empty() {
+        if following.is_empty() {
             return Ok(Some(members));
         }
-        match after(b",", behind) {
+        match after(b",", following) {
             Some(others) => rest = others,
             None => return Ok(None),
         }

@@ -2,7 +2,7 @@
 
 ghost use Rattle.std.specs.Prelude.{◌≡◌, [], map, IfOk, IfErr, MatchOption, string_bytes};
 ghost use Rattle.clap.specs.Words.{found_of, kind_of, rows_of, subcommand_rows_of};
-ghost use Rattle.tw_cli.specs.CommandLine.{Explains, IsAsked, asked_by_words, asked_of, drawing_faults, faults_behind, replay_asked, replay_faults, run_asked, run_faults, word_faults};
+ghost use Rattle.tw_cli.specs.CommandLine.{Explains, IsAsked, asked_by_words, asked_of, drawing_faults, faults_after, replay_asked, replay_faults, run_asked, run_faults, word_faults};
 ghost use Rattle.tw_cli.specs.declared.command.Answer.{Answer as Answers};
 ghost use Rattle.tw_cli.specs.declared.command.Order.TheVariants.{Program};
 ghost use Rattle.tw_cli.specs.declared.command.ProgramOrder.TheVariants.{Verified};
@@ -150,10 +150,10 @@ fn verified_order(source: Source, order: VerifiedOrder) -> Order
 }
 
 pub(crate) fn order_of(alloc: Global, matches: &ArgMatches<'_>) -> Result<Order, NoOrder>
-    ensures taken { IfOk result (λ order. (faults_behind (subcommand_rows_of matches.now) ≡ [])
+    ensures taken { IfOk result (λ order. (faults_after (subcommand_rows_of matches.now) ≡ [])
         × IsAsked (asked_of (subcommand_rows_of matches.now)) order) }
     ensures refused { IfErr result
-        (HasReason (faults_behind (subcommand_rows_of matches.now)) (asked_of (subcommand_rows_of matches.now))) }
+        (HasReason (faults_after (subcommand_rows_of matches.now)) (asked_of (subcommand_rows_of matches.now))) }
 {
     match matches.subcommand() {
         Some(("run", given)) => run_order(alloc, given),

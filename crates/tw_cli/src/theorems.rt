@@ -35,7 +35,7 @@ pub fn commands_are_taken()
     ensures between { (word_faults (codes "run" ∷ codes "int:7" ∷ codes "--servers=3" ∷ codes "int:8" ∷ []) ≡ [])
         × (asked_by_words (codes "run" ∷ codes "int:7" ∷ codes "--servers=3" ∷ codes "int:8" ∷ [])
         ≡ Runs Hex written.Report (actors 1 3 1) 10000 false false (Some (codes "int:7" ∷ codes "int:8" ∷ []))) }
-    ensures behind { (word_faults (codes "run" ∷ codes "int:7" ∷ codes "--limit" ∷ codes "9" ∷ codes "--engines=2" ∷ [])
+    ensures following { (word_faults (codes "run" ∷ codes "int:7" ∷ codes "--limit" ∷ codes "9" ∷ codes "--engines=2" ∷ [])
         ≡ [])
         × (asked_by_words (codes "run" ∷ codes "int:7" ∷ codes "--limit" ∷ codes "9" ∷ codes "--engines=2" ∷ [])
         ≡ Runs Hex written.Report (actors 2 1 1) 9 false false (Some (codes "int:7" ∷ []))) }

@@ -2,7 +2,7 @@
 use Rattle.std.specs.Prelude.{◌≡◌, List, []}
 use Rattle.clap.specs.Words.{Row}
 use Rattle.tw_cli.specs.CommandLine.{picture_faults, run_answer}
-use Rattle.tw_cli.specs.Options.{given_actors, in_turn, is_given, limit, number_options, option_faults, told, trace}
+use Rattle.tw_cli.specs.Options.{given_actors, in_turn, is_given, limit, number_options, option_faults, requested, trace}
 use Rattle.tw_cli.specs.declared.command.RunOptions.{RunOptions}
 
 -- the options of a run: each has its number, and none excludes another
@@ -11,6 +11,6 @@ pub record IsRunBy (rows : List Row) (o : RunOptions) : Type 0 where
   pub picture : picture_faults rows ≡ []
   pub answer : o.answer ≡ run_answer rows
   pub layout : o.layout ≡ given_actors rows
-  pub limit : o.limit ≡ told limit rows
+  pub limit : o.limit ≡ requested limit rows
   pub trace : o.trace ≡ is_given trace rows
   pub turns : o.in_turn ≡ is_given in_turn rows

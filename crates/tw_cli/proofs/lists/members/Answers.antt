@@ -18,14 +18,14 @@ pub loop-members-preserved : goal.loop-members-preserved
 loop-members-preserved g c = record {
   read =
       rw c.in_ok-push.ensures.items
-      (one_read (SpellsMember g.S.Part.Spells g.V.Part.Spells) c.args.list.now c.loop-members.rest.now c.in-Some.behind.now c.in-Some-after.others.now c.loop-members.members.items c.in-Some.member
+      (one_read (SpellsMember g.S.Part.Spells g.V.Part.Spells) c.args.list.now c.loop-members.rest.now c.in-Some.following.now c.in-Some-after.others.now c.loop-members.members.items c.in-Some.member
       c.loop-members.invariant.read (rw c.in-Some.is at c.in_ok-member.ensures) c.in-Some-after.ensures);
   utf8 =
-      mark_utf8 44 (SpellsMember g.S.Part.Spells g.V.Part.Spells) c.loop-members.rest.now c.in-Some.behind.now c.in-Some-after.others.now c.in-Some.member (inr refl) c.loop-members.invariant.utf8
+      mark_utf8 44 (SpellsMember g.S.Part.Spells g.V.Part.Spells) c.loop-members.rest.now c.in-Some.following.now c.in-Some-after.others.now c.in-Some.member (inr refl) c.loop-members.invariant.utf8
       (rw c.in-Some.is at c.in_ok-member.ensures) c.in-Some-after.ensures;
 }
 
 pub returns-in-None : goal.returns-in-None
 returns-in-None g c =
-    broken_off (SpellsMember g.S.Part.Spells g.V.Part.Spells) c.args.list.now c.loop-members.rest.now c.in-Some.behind.now c.loop-members.members.items c.in-Some.member c.loop-members.invariant.read
-    (rw c.in-Some.is at c.in_ok-member.ensures) (some_bytes c.in-Some.behind.now c.if-is_empty-2.ensures) c.in-None.ensures
+    broken_off (SpellsMember g.S.Part.Spells g.V.Part.Spells) c.args.list.now c.loop-members.rest.now c.in-Some.following.now c.loop-members.members.items c.in-Some.member c.loop-members.invariant.read
+    (rw c.in-Some.is at c.in_ok-member.ensures) (some_bytes c.in-Some.following.now c.if-is_empty-2.ensures) c.in-None.ensures

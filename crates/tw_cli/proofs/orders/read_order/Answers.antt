@@ -1,7 +1,7 @@
 use Rattle.std.proofs.Common.{◌≡◌, [], map, string_bytes, subst, sym, ◌∙◌}
 use Rattle.std.proofs.lemmas.Result.{IfErr-weaker, IfOk-weaker}
 use Rattle.clap.specs.Words.{Kinds, subcommand_rows_of}
-use Rattle.tw_cli.specs.CommandLine.{Asked, IsAsked, asked_by_words, faults_behind, word_faults}
+use Rattle.tw_cli.specs.CommandLine.{Asked, IsAsked, asked_by_words, faults_after, word_faults}
 use Rattle.tw_cli.specs.Order.{HasReason}
 use Rattle.tw_cli.proofs.Words.{asked_are, faults_are, refused}
 use Rattle.tw_cli.proofs.orders.read_order.Goals as goal
@@ -25,5 +25,5 @@ returns-clause-refused c =
     let asked = asked_are _ words c.in-Ok.matches c.in_ok-command.ensures c.in-Ok.ensures.kinds c.in-Ok.ensures.matches in
     IfErr-weaker _ _ (HasReason (word_faults words) (asked_by_words words))
     (λ reason h. subst (λ (k : Kinds). HasReason k (asked_by_words words) reason) (sym faults)
-    (subst (λ (a : Asked). HasReason (faults_behind (subcommand_rows_of c.in-Ok.matches)) a reason) (sym asked) h))
+    (subst (λ (a : Asked). HasReason (faults_after (subcommand_rows_of c.in-Ok.matches)) a reason) (sym asked) h))
     c.order_of.ensures.refused

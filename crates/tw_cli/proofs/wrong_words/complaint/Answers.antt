@@ -1,6 +1,6 @@
 use Rattle.std.proofs.Common.{◌∙◌, inl, map, string_bytes, subst, sym}
 use Rattle.clap.specs.Words.{Kinds, subcommand_rows_of}
-use Rattle.tw_cli.specs.CommandLine.{Asked, asked_by_words, faults_behind, word_faults}
+use Rattle.tw_cli.specs.CommandLine.{Asked, asked_by_words, faults_after, word_faults}
 use Rattle.tw_cli.specs.Order.{HasReason}
 use Rattle.tw_cli.proofs.Words.{asked_are, faults_are, refused}
 use Rattle.tw_cli.proofs.wrong_words.complaint.Goals as goal
@@ -17,7 +17,7 @@ returns-in-Ok c =
     let asked = asked_are _ words c.in-Ok.matches c.in_ok-command.ensures c.in-Ok.ensures.kinds c.in-Ok.ensures.matches in
     c.complaint_of.ensures (word_faults words) (asked_by_words words)
     (subst (λ (k : Kinds). HasReason k (asked_by_words words) c.in-Err-order_of.no_order) (sym faults)
-    (subst (λ (a : Asked). HasReason (faults_behind (subcommand_rows_of c.in-Ok.matches)) a c.in-Err-order_of.no_order) (sym asked) c.in-Err-order_of.ensures.refused))
+    (subst (λ (a : Asked). HasReason (faults_after (subcommand_rows_of c.in-Ok.matches)) a c.in-Err-order_of.no_order) (sym asked) c.in-Err-order_of.ensures.refused))
 
 pub returns : goal.returns
 returns c =
