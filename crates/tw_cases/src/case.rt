@@ -56,9 +56,9 @@ fn case_line<H: AllocGlobal + Files + Threads + Wait + Clock + Sync>(
     if !book.note(rt.alloc(), name)? {
         return Ok(Some(format!(in rt.alloc(); "{name}: the case has no name of its own")?));
     }
-    let told = difference(rt.alloc(), wanted, outcome(rt, book, inputs))?;
-    match told {
-        Some(told) => Ok(Some(format!(in rt.alloc(); "{name}: {told}")?)),
+    let printed = difference(rt.alloc(), wanted, outcome(rt, book, inputs))?;
+    match printed {
+        Some(printed) => Ok(Some(format!(in rt.alloc(); "{name}: {printed}")?)),
         None => {
             book.count();
             Ok(None)

@@ -28,7 +28,7 @@ pub struct Talk {
     /// How many steps are left before the run is stopped.
     pub left: u64,
     /// The first result after the stop.
-    pub behind: Option<(Said, u64)>,
+    pub last_said: Option<(Said, u64)>,
     /// Whether all results after the stop are the same.
     pub is_one: bool,
     /// Why the steps weren't made to their end.
@@ -37,9 +37,9 @@ pub struct Talk {
 
 impl Talk {
     fn hear(&mut self, said: Said, number: u64) {
-        match self.behind {
+        match self.last_said {
             Some(before) => self.is_one &= before == (said, number),
-            None if self.left == 0 => self.behind = Some((said, number)),
+            None if self.left == 0 => self.last_said = Some((said, number)),
             None => {}
         }
         self.text.put(said.words());
@@ -206,7 +206,7 @@ pub fn turned<K: Drop, A: Table<K>, B: Table<K>, R: Wait>(
     let mut talk = Talk {
         text: Text::new(alloc),
         left: u64::MAX,
-        behind: None,
+        last_said: None,
         is_one: true,
         complaint: None,
     };

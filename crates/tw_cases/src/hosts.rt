@@ -155,8 +155,8 @@ fn put_closed(text: &mut Text, closed: &Closed) {
             by_seat,
         } => {
             put_left(text, outcome, history);
-            for told in by_seat {
-                put_told(text, told);
+            for events in by_seat {
+                put_reported(text, events);
             }
         }
         Closed::Differs { .. } => text.put("a seat has other events"),
@@ -176,10 +176,10 @@ fn put_left(text: &mut Text, left: &Final, history: &History) {
 }
 
 /// Adds the events that were reported to a seat.
-fn put_told(text: &mut Text, told: &Events) {
+fn put_reported(text: &mut Text, events: &Events) {
     text.put("a seat\n");
-    for index in 0..told.len() {
-        text.event(&told.event(index));
+    for index in 0..events.len() {
+        text.event(&events.event(index));
     }
 }
 

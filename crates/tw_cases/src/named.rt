@@ -46,12 +46,12 @@ pub fn alike_text<R: AllocGlobal + Files>(rt: &R, files: &str) -> Result<String,
     };
     let bytes = bytes_of(rt.alloc(), text.as_str())?;
     let wanted = bytes_of(rt.alloc(), plain.as_str())?;
-    let told = if bytes.as_slice() == wanted.as_slice() {
+    let printed = if bytes.as_slice() == wanted.as_slice() {
         "alike"
     } else {
         "other bytes"
     };
-    Ok(told.to_string(rt.alloc())?)
+    Ok(printed.to_string(rt.alloc())?)
 }
 
 fn bytes_of(alloc: Global, text: &str) -> Result<Vec<u8>, Complaint> {

@@ -37,13 +37,13 @@ fn put_types(text: &mut Text) {
     let is_same = DataType::text() == DataType::int();
     let are_same = DataType::int().cont() == DataType::int().tcont();
     text.number("depth ", u64::from(depth));
-    text.told(" int ", is_int);
-    text.told(" fourth ", has_fourth);
-    text.told(" kinds ", are_so);
-    text.told(" fourth ", has_fourth_by_text);
-    text.told(" element ", has_element);
-    text.told(" same ", is_same);
-    text.told(" ", are_same);
+    text.put_flag(" int ", is_int);
+    text.put_flag(" fourth ", has_fourth);
+    text.put_flag(" kinds ", are_so);
+    text.put_flag(" fourth ", has_fourth_by_text);
+    text.put_flag(" element ", has_element);
+    text.put_flag(" same ", is_same);
+    text.put_flag(" ", are_same);
 }
 
 fn put_order(text: &mut Text) {
@@ -83,9 +83,9 @@ fn put_file(text: &mut Text) {
     file.place(15, Held::Write(WriteRight::of(DatumId::new(9), 0)));
     let peeked = file.peek(15).map_or(0, |held| held.id().number());
     text.number("peeked ", peeked);
-    text.told(" empty ", file.is_empty(0));
-    text.told(" ", file.is_empty(1));
-    text.told(" ", file.is_empty(16));
+    text.put_flag(" empty ", file.is_empty(0));
+    text.put_flag(" ", file.is_empty(1));
+    text.put_flag(" ", file.is_empty(16));
     text.number(" taken ", spent(file.take(0)));
     text.number(" ", spent(file.take(0)));
     text.number(" ", spent(file.take(200)));
@@ -112,7 +112,7 @@ fn put_eight(text: &mut Text, alloc: Global) {
     if let Some(Arg::Read(right)) = bundle.get(2) {
         text.number(" third ", right.id().number());
     }
-    text.told(" ninth ", bundle.get(8).is_some());
+    text.put_flag(" ninth ", bundle.get(8).is_some());
     bundle.shut();
 }
 

@@ -55,11 +55,11 @@ pub fn fronts_text(alloc: Global, bytes: &[u8]) -> Result<String, Complaint> {
     for length in 0..bytes.len() {
         let mut lacking = Text::new(alloc);
         lacking.number("F03 at byte ", length as u64);
-        let told = decode_text(alloc, &bytes[..length])?;
-        if told.as_str() != lacking.into_line()?.as_str() {
+        let printed = decode_text(alloc, &bytes[..length])?;
+        if printed.as_str() != lacking.into_line()?.as_str() {
             text.number("of bytes ", length as u64);
             text.put(": ");
-            text.put(told.as_str());
+            text.put(printed.as_str());
             return text.into_line();
         }
     }

@@ -5,7 +5,7 @@ use crate::given::Given;
 use crate::hoard::Hoard;
 use crate::hosts::steps_history;
 use crate::sessions::code_of;
-use crate::streams::{Room, put_told};
+use crate::streams::{Room, put_reply};
 use crate::text::Text;
 use std::alloc::Global;
 use std::sync::Wait;
@@ -81,7 +81,7 @@ pub fn scarce_text<H: AllocGlobal + Threads + Wait + Clock + Sync>(
     let refused = refused_before(rt, &mut hoard, words, input, (code, room.written()));
     drop(hoard);
     let mut text = Text::new(alloc);
-    put_told(&mut text, code, room.written());
+    put_reply(&mut text, code, room.written());
     text.put(match refused {
         Some(0) => "memory is never refused",
         Some(_) => "or 5 memory",

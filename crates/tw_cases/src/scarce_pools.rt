@@ -162,7 +162,7 @@ fn agree<R: Wait>(
         let agrees = match came {
             Came::Unopened => true,
             Came::Over => text.is(whole),
-            Came::Refused => text.stands_between("out 0 ", "\nrunning\n"),
+            Came::Refused => text.has_between("out 0 ", "\nrunning\n"),
             Came::Idle | Came::Astray => false,
         };
         if !agrees || !lack.is_met {

@@ -81,9 +81,9 @@ pub fn ended<H: AllocGlobal + Threads + Wait + Clock + Sync>(
     let mut reader = input;
     let mut writer = Vec::new(rt.alloc());
     let code = code_of(rt, words, &mut reader, &mut writer);
-    let told = (code, writer.as_slice());
+    let printed = (code, writer.as_slice());
     let just_enough = writer.len()..writer.len().saturating_add(1);
-    if is_answered(rt.alloc(), words, input, told, just_enough) {
+    if is_answered(rt.alloc(), words, input, printed, just_enough) {
         (code, reader.len(), writer)
     } else {
         (OTHERWISE, reader.len(), Vec::new(rt.alloc()))
@@ -98,9 +98,9 @@ pub fn called_text<H: AllocGlobal + Threads + Wait + Clock + Sync>(
     input: &[u8],
 ) -> Result<String, Complaint> {
     let (code, _, written) = ended(rt, words, input);
-    let told = (code, written.as_slice());
+    let printed = (code, written.as_slice());
     let sizes = 0..written.len().saturating_add(2);
-    if is_answered(rt.alloc(), words, input, told, sizes) {
+    if is_answered(rt.alloc(), words, input, printed, sizes) {
         session_text(rt.alloc(), code, written, false)
     } else {
         session_text(rt.alloc(), OTHERWISE, written, false)
@@ -113,8 +113,8 @@ pub fn ends_text<H: AllocGlobal + Threads + Wait + Clock + Sync>(
     words: &[String],
     input: &[u8],
 ) -> Result<String, Complaint> {
-    let told = tw_text(rt, words, input)?;
-    let (code, text) = told.as_str().split_once(' ').unwrap_or(("", ""));
+    let printed = tw_text(rt, words, input)?;
+    let (code, text) = printed.as_str().split_once(' ').unwrap_or(("", ""));
     let last = match text.rsplit_once(" / ") {
         Some((_, last)) => last,
         None => text,
@@ -201,12 +201,12 @@ pub fn cuts_text<H: AllocGlobal + Threads + Wait + Clock + Sync>(
 ) -> Result<String, Complaint> {
     for count in 0..input.len() {
         let (code, _, written) = ended(rt, words, &input[..count]);
-        let told = session_text(rt.alloc(), code, written, false)?;
-        if !is_known(told.as_str()) {
+        let printed = session_text(rt.alloc(), code, written, false)?;
+        if !is_known(printed.as_str()) {
             let mut text = Text::new(rt.alloc());
             text.number("the first ", count as u64);
             text.put(" come to ");
-            text.put(told.as_str());
+            text.put(printed.as_str());
             return text.into_line();
         }
     }
@@ -217,11 +217,11 @@ pub fn cuts_text<H: AllocGlobal + Threads + Wait + Clock + Sync>(
 }
 
 /// Returns whether the text has the digits of bytes, or the fault of an assembly text and its line.
-fn is_known(told: &str) -> bool {
-    if let Some(digits) = told.strip_prefix("0 ") {
+fn is_known(printed: &str) -> bool {
+    if let Some(digits) = printed.strip_prefix("0 ") {
         return digits.bytes().all(|byte| byte.is_ascii_hexdigit());
     }
-    let Some(fault) = told.strip_prefix("1 refused A0") else {
+    let Some(fault) = printed.strip_prefix("1 refused A0") else {
         return false;
     };
     match fault.split_once(" at line ") {

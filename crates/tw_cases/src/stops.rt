@@ -29,8 +29,9 @@ fn is_stopped_well(ran: &Ran, whole: &History) -> bool {
     } else {
         Said::Stopped
     };
-    let is_told = ran.talk.is_one && (ran.talk.behind.is_none() || ran.talk.behind == closing);
-    is_told && closing == Some((wanted, 0)) && is_beginning(&ran.history, whole)
+    let is_consistent = ran.talk.is_one
+        && (ran.talk.last_said.is_none() || ran.talk.last_said == closing);
+    is_consistent && closing == Some((wanted, 0)) && is_beginning(&ran.history, whole)
 }
 
 /// Stops a run after this many steps. Returns how many events it has, and whether it was stopped before its end.
@@ -45,7 +46,7 @@ fn stopped_after<R: Wait>(
 ) -> Result<(usize, bool), Complaint> {
     let ran = run_both(rt, alloc, bytes, verified, given, Course::Rounds(turns))?;
     if is_stopped_well(&ran, whole) {
-        Ok((ran.history.len(), ran.talk.behind.is_some()))
+        Ok((ran.history.len(), ran.talk.last_said.is_some()))
     } else {
         Err(Complaint::StopDiffers)
     }

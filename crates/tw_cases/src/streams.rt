@@ -151,7 +151,7 @@ impl OutStream for Room {
 }
 
 /// Adds a status, and then what was written.
-pub fn put_told(text: &mut Text, code: u8, written: &[u8]) {
+pub fn put_reply(text: &mut Text, code: u8, written: &[u8]) {
     text.number("", u64::from(code));
     text.put(if written.is_empty() { "\n" } else { " " });
     text.put_bytes(written);
@@ -166,7 +166,7 @@ fn over_source<H: AllocGlobal + Threads + Wait + Clock + Sync>(
     let mut writer = Vec::new(rt.alloc());
     let code = code_of(rt, words, &mut source, &mut writer);
     let mut text = Text::new(rt.alloc());
-    put_told(&mut text, code, writer.as_slice());
+    put_reply(&mut text, code, writer.as_slice());
     text
 }
 
@@ -201,7 +201,7 @@ fn without_end<H: AllocGlobal + Threads + Wait + Clock + Sync>(rt: &H, words: &[
     let mut writer = Vec::new(rt.alloc());
     let code = code_of(rt, words, &mut reader, &mut writer);
     let mut text = Text::new(rt.alloc());
-    put_told(&mut text, code, writer.as_slice());
+    put_reply(&mut text, code, writer.as_slice());
     text.number("read ", reader.given as u64);
     text
 }
@@ -257,7 +257,7 @@ fn handed<H: AllocGlobal + Threads + Wait + Clock + Sync>(
 ) -> Text {
     let (code, _, taken) = into_sink(rt, words, input, usize::MAX, is_flushed);
     let mut text = Text::new(rt.alloc());
-    put_told(&mut text, code, taken.as_slice());
+    put_reply(&mut text, code, taken.as_slice());
     text
 }
 
@@ -271,7 +271,7 @@ fn steady<H: AllocGlobal + Threads + Wait + Clock + Sync>(
     let mut writer = Room::new();
     let code = code_of(rt, words, &mut reader, &mut writer);
     let mut text = Text::new(rt.alloc());
-    put_told(&mut text, code, writer.written());
+    put_reply(&mut text, code, writer.written());
     text.number("left ", reader.rest.len() as u64);
     text.put(if writer.is_handed_on {
         " handed on"
@@ -285,7 +285,7 @@ fn unworded(alloc: Global, kind: ErrorKind) -> Text {
     let mut writer = Vec::new(alloc);
     let code = without_words(kind, &mut writer).code();
     let mut text = Text::new(alloc);
-    put_told(&mut text, code, writer.as_slice());
+    put_reply(&mut text, code, writer.as_slice());
     text
 }
 

@@ -53,7 +53,7 @@ impl Text {
     }
 
     /// Adds words, followed by `true` or `false`.
-    pub fn told(&mut self, words: &str, is_so: bool) {
+    pub fn put_flag(&mut self, words: &str, is_so: bool) {
         self.put(words);
         self.put(if is_so { "true" } else { "false" });
     }
@@ -99,7 +99,7 @@ impl Text {
     }
 
     /// Returns whether it begins and ends with these texts.
-    pub fn stands_between(&self, first: &str, last: &str) -> bool {
+    pub fn has_between(&self, first: &str, last: &str) -> bool {
         let bytes = self.bytes.as_slice();
         self.is_whole && bytes.starts_with(first.as_bytes()) && bytes.ends_with(last.as_bytes())
     }
