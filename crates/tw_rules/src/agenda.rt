@@ -9,7 +9,7 @@ ghost use Rattle.tw_rules.specs.Agendas.{IsSameAgenda, HasAsked, HasReleased, Ha
 use crate::asks::Asks;
 use crate::entries::{has_unasked, is_pending};
 use crate::pending::Pending;
-use crate::releases::Releases;
+use crate::release_heap::Releases;
 use std::alloc::{AllocError, Global};
 use std::collections::HashMap;
 

@@ -8,7 +8,7 @@ mod entries;
 mod erased;
 mod pending;
 mod planned;
-mod releases;
+mod release_heap;
 mod table;
 
 pub use array_vec8::ArrayVec8;

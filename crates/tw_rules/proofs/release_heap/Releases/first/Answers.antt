@@ -2,7 +2,7 @@ use Rattle.std.proofs.Common.{sym, subst, ◌∙◌}
 use Rattle.std.specs.BinaryHeap.{heap_items}
 use Rattle.tw_rules.specs.Numbers.{IsLeast}
 use Rattle.tw_rules.proofs.Heaps.{peeked}
-use Rattle.tw_rules.proofs.releases.Releases.first.Goals as goal
+use Rattle.tw_rules.proofs.release_heap.Releases.first.Goals as goal
 
 pub returns : goal.returns
 returns c = subst (λ l. IsLeast l.numbers c.in_ok-least.field-0.0) c.self.view_is

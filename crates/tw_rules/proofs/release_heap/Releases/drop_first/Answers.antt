@@ -3,7 +3,7 @@ use Rattle.std.specs.BinaryHeap.{heap_items, heap_len}
 use Rattle.std.specs.List.Sorted.{IsPermutation}
 use Rattle.tw_rules.specs.Numbers.{IsLeast, numbers_in}
 use Rattle.tw_rules.proofs.Heaps.{emptied, popped}
-use Rattle.tw_rules.proofs.releases.Releases.drop_first.Goals as goal
+use Rattle.tw_rules.proofs.release_heap.Releases.drop_first.Goals as goal
 
 pub returns-clause-rest : goal.returns-clause-rest
 returns-clause-rest c = λ least is.
