@@ -3,7 +3,7 @@
 use crate::book::Book;
 use crate::bytes::read_bytes;
 use crate::complaint::Complaint;
-use crate::kinds::outcome;
+use crate::kinds::case_text;
 use std::alloc::{AllocError, Global};
 use std::rt::Files;
 use std::sync::Wait;
@@ -56,7 +56,7 @@ fn case_line<H: AllocGlobal + Files + Threads + Wait + Clock + Sync>(
     if !book.note(rt.alloc(), name)? {
         return Ok(Some(format!(in rt.alloc(); "{name}: the case has no name of its own")?));
     }
-    let printed = difference(rt.alloc(), wanted, outcome(rt, book, inputs))?;
+    let printed = difference(rt.alloc(), wanted, case_text(rt, book, inputs))?;
     match printed {
         Some(printed) => Ok(Some(format!(in rt.alloc(); "{name}: {printed}")?)),
         None => {
@@ -70,9 +70,9 @@ fn case_line<H: AllocGlobal + Files + Threads + Wait + Clock + Sync>(
 fn difference(
     alloc: Global,
     wanted: &str,
-    outcome: Result<String, Complaint>,
+    case_text: Result<String, Complaint>,
 ) -> Result<Option<String>, AllocError> {
-    match outcome {
+    match case_text {
         Ok(got) if got.as_str() == wanted => Ok(None),
         Ok(got) => Ok(Some(format!(in alloc; "wanted {wanted}, got {got}")?)),
         Err(complaint) => Ok(Some(complaint.text().to_string(alloc)?)),

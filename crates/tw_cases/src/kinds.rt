@@ -11,7 +11,7 @@ use crate::layouts::layout_text;
 use crate::machine::{machine_text, open_text, state_text, steps_text};
 use crate::named::{alike_text, names_text};
 use crate::parts::part_text;
-use crate::programs::{decode_text, fronts_text, verify_text};
+use crate::programs::{decode_text, prefixes_text, verify_text};
 use crate::scarce::{scarce_text, unthreaded_text};
 use crate::scarce_pools::scarce_pool_text;
 use crate::sessions::{
@@ -31,12 +31,12 @@ use std::time::Clock;
 use tw_verify::Verified;
 
 /// Runs a case, and returns its output. The fields are KIND WORDS, then what the kind reads: input, bytes, events.
-pub fn outcome<H: AllocGlobal + Files + Threads + Wait + Clock + Sync>(
+pub fn case_text<H: AllocGlobal + Files + Threads + Wait + Clock + Sync>(
     rt: &H,
     book: &Book,
-    inputs: &str,
+    fields: &str,
 ) -> Result<String, Complaint> {
-    let (kind, given) = first_field(inputs);
+    let (kind, given) = first_field(fields);
     let (kind, words) = kind.split_once(' ').unwrap_or((kind, ""));
     match kind {
         "tw" | "called" | "ends" | "scarce" | "cuts" => session_kind(rt, book, kind, words, given),
@@ -103,7 +103,7 @@ fn program_kind<H: AllocGlobal + Threads + Wait + Clock + Sync>(
         "machine" => machine_text(rt.alloc(), words, bytes, rest),
         "state" => state_text(rt.alloc(), words, bytes, rest),
         "steps" => steps_text(rt.alloc(), words, bytes, rest),
-        _ => still_kind(rt.alloc(), kind, words, bytes, rest),
+        _ => static_kind(rt.alloc(), kind, words, bytes, rest),
     }
 }
 
@@ -145,7 +145,7 @@ fn run_text<H: AllocGlobal + Threads + Wait + Clock + Sync>(
 }
 
 /// Runs a case that doesn't execute its program.
-fn still_kind(
+fn static_kind(
     alloc: Global,
     kind: &str,
     words: &str,
@@ -157,7 +157,7 @@ fn still_kind(
     }
     match kind {
         "decode" => decode_text(alloc, bytes),
-        "fronts" => fronts_text(alloc, bytes),
+        "fronts" => prefixes_text(alloc, bytes),
         "verify" => verify_text(alloc, bytes),
         "open" => open_text(alloc, words, bytes),
         "part" => part_text(alloc, words, bytes),

@@ -147,7 +147,7 @@ fn put_pops(text: &mut Text, alloc: Global) {
 }
 
 /// Calls the theorems, which compute nothing. Adds how many procedures the program has.
-fn put_laws(text: &mut Text, verified: Verified) {
+fn put_theorems(text: &mut Text, verified: Verified) {
     no_trap(&verified);
     counts_kept();
     frame_theorems();
@@ -173,7 +173,7 @@ pub fn part_text(alloc: Global, name: &str, bytes: &[u8]) -> Result<String, Comp
         "bundle" => put_eight(&mut text, alloc),
         "pops" => put_pops(&mut text, alloc),
         "errors" => put_errors(&mut text),
-        "laws" => put_laws(&mut text, read_verified(alloc, bytes)?),
+        "laws" => put_theorems(&mut text, read_verified(alloc, bytes)?),
         _ => return Err(Complaint::UnknownPart),
     }
     text.into_line()

@@ -50,7 +50,7 @@ pub fn decode_text(alloc: Global, bytes: &[u8]) -> Result<String, Complaint> {
 }
 
 /// Returns how many prefixes of the bytes lack bytes at their end; or the first prefix with another result.
-pub fn fronts_text(alloc: Global, bytes: &[u8]) -> Result<String, Complaint> {
+pub fn prefixes_text(alloc: Global, bytes: &[u8]) -> Result<String, Complaint> {
     let mut text = Text::new(alloc);
     for length in 0..bytes.len() {
         let mut lacking = Text::new(alloc);

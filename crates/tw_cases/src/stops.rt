@@ -62,18 +62,18 @@ fn beginnings_text<R: Wait>(
     given: &Given,
     whole: &History,
 ) -> Result<String, Complaint> {
-    let (mut last, mut beginnings) = (0, 1_u64);
+    let (mut last, mut prefixes) = (0, 1_u64);
     for turns in 0..1_000 {
         let (events, is_stopped) = stopped_after(rt, alloc, bytes, verified, given, whole, turns)?;
         if events < last {
             return Err(Complaint::StopDiffers);
         }
-        beginnings = beginnings.wrapping_add(u64::from(events != last));
+        prefixes = prefixes.wrapping_add(u64::from(events != last));
         last = events;
         if !is_stopped {
             let mut text = Text::new(alloc);
             text.number("", last as u64);
-            text.number(" events, ", beginnings);
+            text.number(" events, ", prefixes);
             text.put(" beginnings");
             return text.into_line();
         }

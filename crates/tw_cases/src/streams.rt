@@ -236,15 +236,15 @@ fn full<H: AllocGlobal + Threads + Wait + Clock + Sync>(
     input: &[u8],
 ) -> Text {
     let (_, _, whole) = into_sink(rt, words, input, usize::MAX, true);
-    let mut fronts = 0_u64;
+    let mut prefixes = 0_u64;
     for room in 0..whole.len() {
         let (code, calls_after, taken) = into_sink(rt, words, input, room, true);
         let is_front = Some(taken.as_slice()) == whole.as_slice().get(..room);
         let is_so = code == 7 && calls_after == 1 && is_front;
-        fronts = fronts.wrapping_add(u64::from(is_so));
+        prefixes = prefixes.wrapping_add(u64::from(is_so));
     }
     let mut text = Text::new(rt.alloc());
-    text.number("7 fronts ", fronts);
+    text.number("7 fronts ", prefixes);
     text
 }
 
