@@ -10,7 +10,7 @@ use Rattle.tw_code.specs.declared.instr.LocalInstr.TheVariants as local
 use Rattle.tw_code.specs.declared.instr.Priority.{Priority}
 use Rattle.tw_code.specs.declared.instr.Priority.TheVariants.{Constant, Computed}
 use Rattle.tw_code.specs.accepting.Question.{Question, passes}
-use Rattle.tw_diagnostics.specs.Same.{AsksTheSame}
+use Rattle.tw_diagnostics.specs.Same.{RegisterChecksAgree}
 
 same_local : (registers : List Scalar) (i : LocalInstr) → map question_of (checks_local registers i) ≡ asks_local registers i
 same_local registers (local.Int to n) = refl
@@ -56,7 +56,7 @@ module _ (waits : Bool) (registers : List Scalar) (typing : Typing) where
       by true more = ap (λ (qs : List Question). asks_value registers arg p.ty.scalar ++ qs) (more left)
       by false more = ap (λ (qs : List Question). (4, passes (may_stand_for waits p) (right_at left arg)) ∷ qs) (more (slice_set left arg None))
 
-pub asks_the_same_lem : AsksTheSame
+pub asks_the_same_lem : RegisterChecksAgree
 asks_the_same_lem = record {
   local = same_local;
   on_data = same_data;

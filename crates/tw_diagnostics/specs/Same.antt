@@ -9,7 +9,7 @@ use Rattle.tw_code.specs.accepting.Typing.{asks_args, asks_data, asks_local, ask
 use Rattle.tw_code.specs.machine.Rights.{Typing}
 use Rattle.tw_diagnostics.specs.RegisterCheck.{checks_args, checks_data, checks_local, checks_priority, question_of}
 
-pub record AsksTheSame : Type 0 where
+pub record RegisterChecksAgree : Type 0 where
   pub local : (registers : List Scalar) (i : LocalInstr) → map question_of (checks_local registers i) ≡ asks_local registers i
   pub on_data : (registers : List Scalar) (i : DataInstr) (typing : Typing) → map question_of (checks_data registers i typing) ≡ asks_data registers i typing
   pub priority : (registers : List Scalar) (priority : Priority) → map question_of (checks_priority registers priority) ≡ asks_priority registers priority

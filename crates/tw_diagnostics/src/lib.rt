@@ -34,4 +34,4 @@ pub use parser_state::{LineRole, head_line, line_role};
 pub use program_diagnostic::put_program_diagnostic;
 pub use rights::put_type;
 pub use text_diagnostic::put_text_diagnostic;
-pub use theorems::asks_the_same;
+pub use theorems::register_checks_agree;

@@ -1,10 +1,10 @@
 //! Theorem: the diagnostics check the same things of registers as the verifier.
 
-ghost use Rattle.tw_diagnostics.specs.Same.{AsksTheSame};
+ghost use Rattle.tw_diagnostics.specs.Same.{RegisterChecksAgree};
 
 /// Proves that each register check here is one of the verifier's (`asks_*` in tw_code), in its order, with the register added. This
 /// holds for local instructions, instructions on data, priorities and arguments. Nothing is computed here: the contract is the
 /// theorem.
-pub fn asks_the_same()
-    ensures { AsksTheSame }
+pub fn register_checks_agree()
+    ensures { RegisterChecksAgree }
 {}

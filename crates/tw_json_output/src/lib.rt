@@ -2,7 +2,7 @@
 #![tactic(auto)]
 
 mod error_object;
-mod kinds;
+mod output_kinds;
 mod outputs;
 mod run_object;
 mod values;

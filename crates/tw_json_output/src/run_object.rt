@@ -6,7 +6,7 @@ ghost use Rattle.serde_json.specs.View.{members_view, view};
 ghost use Rattle.serde_json.specs.Written.{has_float};
 ghost use Rattle.tw_json_output.specs.Run.{circle_json, json_line, link_json, run_json, run_members, size_json, with_circle, with_pending};
 
-use crate::kinds::output_kinds;
+use crate::output_kinds::output_kinds;
 use crate::outputs::output_values;
 use serde_json::{Map, Number, Value as Json, json};
 use std::alloc::{AllocError, Global};

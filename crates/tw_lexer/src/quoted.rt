@@ -42,11 +42,11 @@ pub fn quoted_text(alloc: Global, bytes: &[u8]) -> Result<Option<(String, &[u8])
         (λ found. BeginsQuoted (string_bytes found.0) bytes.now found.1.now)) }
     ensures utf8 { IfOk result (λ read. MatchOption read (Unit {0}) (λ found. IsUtf8 found.1.now)) }
 {
-    let Some(opened) = after(b"\"", bytes) else {
+    let Some(after_quote) = after(b"\"", bytes) else {
         return Ok(None);
     };
     let mut text = Vec::new(alloc);
-    match inside(&mut text, opened)? {
+    match inside(&mut text, after_quote)? {
         None => Ok(None),
         Some(rest) => match String::from_utf8(text) {
             Ok(text) => Ok(Some((text, rest))),
