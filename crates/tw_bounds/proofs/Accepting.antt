@@ -12,7 +12,7 @@ use Rattle.tw_code.specs.machine.Holders.{Typings, typing_at}
 use Rattle.tw_soundness.specs.NoTrap.{AreRight}
 use Rattle.tw_soundness.proofs.Called.{callee_met}
 use Rattle.tw_soundness.proofs.Running.{asked_at}
-use Rattle.tw_soundness.proofs.Values.{AllYes, yes_behind}
+use Rattle.tw_soundness.proofs.Values.{AllYes, yes_after}
 use Rattle.tw_bounds.specs.Bounds.{Calls}
 use Rattle.tw_bounds.specs.Cost.{cost_of, IsGreatestCost}
 use Rattle.tw_bounds.specs.Solving.{IsBoundable}
@@ -22,7 +22,7 @@ is_boundable program typings is are = record { structured = λ k p here. (are.ac
   where
     called_inside : (waits : Bool) (k : ℕ) (p : Procedure) (action : Action) (place : ℕ) → AllYes (asks_action waits program p action (typing_at typings k place)) → action.procedure < length program
     called_inside waits k p action place met =
-        let callee = callee_met waits p.registers (slice_get program action.procedure) action.args (typing_at typings k place) (yes_behind (asks_priority p.registers action.priority) _ met.1) in
+        let callee = callee_met waits p.registers (slice_get program action.procedure) action.args (typing_at typings k place) (yes_after (asks_priority p.registers action.priority) _ met.1) in
         slice_get_within program action.procedure callee.procedure callee.is
 
     inside : (k q : ℕ) → Calls program k q → q < length program

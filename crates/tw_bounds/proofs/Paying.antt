@@ -42,10 +42,10 @@ use Rattle.tw_code.specs.format.Program.{IsProgram}
 use Rattle.tw_code.specs.machine.Arguments.{called, params_in, params_of, put_called}
 use Rattle.tw_code.specs.machine.Data.{data_instr}
 use Rattle.tw_code.specs.machine.Holders.{Typings}
-use Rattle.tw_code.specs.machine.Machine.{Standing, ask_event, call_by, deliver_event, release_event, call_event, end_event, is_ret, local_event, local_step, local_steps, standing_of, step, take_event}
+use Rattle.tw_code.specs.machine.Machine.{RunningInstr, ask_event, call_by, deliver_event, release_event, call_event, end_event, is_ret, local_event, local_step, local_steps, running_instr_of, step, take_event}
 use Rattle.tw_code.specs.machine.Position.{Loop, Position}
-use Rattle.tw_code.specs.machine.State.{Frame, State, context_of, filled, frame_of, gone_behind, new_rule, values_in, with_stage}
-use Rattle.tw_code.proofs.Leaving.{Stood, stood, ask_leaves, deliver_leaves, release_leaves}
+use Rattle.tw_code.specs.machine.State.{Frame, State, context_of, filled, frame_of, gone_after, new_rule, values_in, with_stage}
+use Rattle.tw_code.proofs.Leaving.{IsRunningAt, is_running_at, ask_leaves, deliver_leaves, release_leaves}
 use Rattle.tw_code.proofs.Placed.{IsCalled, called_is, put_called_is}
 use Rattle.tw_budget.specs.Frames.{LoopsFit}
 use Rattle.tw_budget.specs.Sound.{IsSound}
@@ -288,9 +288,9 @@ module _ (program : List Procedure) (typings : Typings) (is : IsProgram program)
 
     -- Call
     call_paid : (a : Actor) → IfWent (call_event program a s) (Paid (Call a))
-    call_paid a = if_both (standing_of program a s) (λ at stands. by at (stood program a s at stands) at.instr refl)
+    call_paid a = if_both (running_instr_of program a s) (λ at stands. by at (is_running_at program a s at stands) at.instr refl)
       where
-        by : (at : Standing) → Stood program a s at → (i : Instr) → at.instr ≡ i → IfWent (call_by program s a at i) (Paid (Call a))
+        by : (at : RunningInstr) → IsRunningAt program a s at → (i : Instr) → at.instr ≡ i → IfWent (call_by program s a at i) (Paid (Call a))
         by at here (instr.Local i) e = record { is = tt }
         by at here (instr.Data i) e =
             if_ok (data_instr i (context_of s at.frame)) (λ c went.
@@ -306,7 +306,7 @@ module _ (program : List Procedure) (typings : Typings) (is : IsProgram program)
         by at here (instr.Rule action) e =
             if_ok (called program at.procedure.kind (context_of s at.frame) action) (λ call went.
             let m = ok_of (called program at.procedure.kind (context_of s at.frame) action) (IsCalled program at.procedure.kind action) call (called_is program at.procedure.kind (context_of s at.frame) action) went in
-            let g : Frame = gone_behind at.frame call.rights in
+            let g : Frame = gone_after at.frame call.rights in
             let h = one_paid program at.procedure (sound_at at.frame.procedure at.procedure here.procedure) weights bounds at.frame.position g.position (instr.Rule action) (fits_there a at.frame at.procedure here.frame here.procedure) (here.instr ∙ ap Some e) (record { way = Completed; goes = refl }) in
             let r = replaced a at.frame g here.frame in
             let x = owes_is at.frame at.procedure here.procedure in
@@ -324,7 +324,7 @@ module _ (program : List Procedure) (typings : Typings) (is : IsProgram program)
         by at here (instr.Put action) e =
             if_ok (put_called program at.procedure.kind (context_of s at.frame) action) (λ call went.
             let m = ok_of (put_called program at.procedure.kind (context_of s at.frame) action) (IsCalled program at.procedure.kind action) call (put_called_is program at.procedure.kind (context_of s at.frame) action) went in
-            let g : Frame = gone_behind at.frame call.rights in
+            let g : Frame = gone_after at.frame call.rights in
             let h = one_paid program at.procedure (sound_at at.frame.procedure at.procedure here.procedure) weights bounds at.frame.position g.position (instr.Put action) (fits_there a at.frame at.procedure here.frame here.procedure) (here.instr ∙ ap Some e) (record { way = Completed; goes = refl }) in
             let r = replaced a at.frame g here.frame in
             let x = owes_is at.frame at.procedure here.procedure in
@@ -339,10 +339,10 @@ module _ (program : List Procedure) (typings : Typings) (is : IsProgram program)
     -- End
     end_paid : (a : Actor) → IfWent (end_event program a s) (Paid (End a))
     end_paid a =
-        if_both (standing_of program a s) (λ at stands.
+        if_both (running_instr_of program a s) (λ at stands.
         if_only (is_ret at.instr) (λ ret.
         if_then (outcome_of (must (list_all is_none at.frame.rights) RightLeft)) (λ _.
-        let here = stood program a s at stands in
+        let here = is_running_at program a s at stands in
         let fit = fits_there a at.frame at.procedure here.frame here.procedure in
         let frames = sum_apart actor_cmp actor_cmp_total actor_cmp-IsAntisymmetric (frame_owes program weights bounds) s.frames a at.frame here.frame in
         let x = owes_is at.frame at.procedure here.procedure in

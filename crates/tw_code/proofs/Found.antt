@@ -58,8 +58,8 @@ pub record IsOwn (engine : ℕ) (P : Rule → Type 0) (number : ℕ) (es : List 
   pub own : (rule.engine == engine) ≡ true
   pub has : P rule
 
-behind : {engine : ℕ} {P : Rule → Type 0} {number : ℕ} {es : List (ℕ × Rule)} (e : ℕ × Rule) → IsOwn engine P number es → IsOwn engine P number (e ∷ es)
-behind e a = record { rule = a.rule; there = inr a.there; own = a.own; has = a.has }
+one_more : {engine : ℕ} {P : Rule → Type 0} {number : ℕ} {es : List (ℕ × Rule)} (e : ℕ × Rule) → IsOwn engine P number es → IsOwn engine P number (e ∷ es)
+one_more e a = record { rule = a.rule; there = inr a.there; own = a.own; has = a.has }
 
 pub own_rule_there : (engine : ℕ) (P : Rule → Type 0) (number : ℕ) (rules : Rules) (a : IsOwn engine P number (entries rules)) → get rules number ≡ Some a.rule
 own_rule_there engine P number rules a = get_entry nat_cmp nat_cmp_total rules (number, a.rule) a.there
@@ -72,7 +72,7 @@ MayBeReleased rule = is_releasable rule ≡ true
 
 ask_is : (engine number parameter : ℕ) (es : List (ℕ × Rule)) → next_ask_of engine es ≡ Some (number, parameter) → IsOwn engine (IsUnaskedAt parameter) number es
 ask_is engine number parameter [] h = cc
-ask_is engine number parameter (e ∷ es) h = by (e.1.engine == engine) refl (λ later. behind e (ask_is engine number parameter es later)) h
+ask_is engine number parameter (e ∷ es) h = by (e.1.engine == engine) refl (λ later. one_more e (ask_is engine number parameter es later)) h
   where
     asked : (e.1.engine == engine) ≡ true → (next_ask_of engine es ≡ Some (number, parameter) → IsOwn engine (IsUnaskedAt parameter) number (e ∷ es)) → (o : Option ℕ) → first_unasked 0 e.1.stages ≡ o → ask_or e.0 o (next_ask_of engine es) ≡ Some (number, parameter) → IsOwn engine (IsUnaskedAt parameter) number (e ∷ es)
     asked own others None at h = others h
@@ -98,7 +98,7 @@ release_is engine number (e ∷ es) h = by ((e.1.engine == engine) && is_releasa
   where
     by : (b : Bool) → ((e.1.engine == engine) && is_releasable e.1) ≡ b → (next_release_of engine es ≡ Some number → IsOwn engine MayBeReleased number es) → (if b then Some e.0 else next_release_of engine es) ≡ Some number → IsOwn engine MayBeReleased number (e ∷ es)
     by true own others h = let both = and_parts (e.1.engine == engine) (is_releasable e.1) own in record { rule = e.1; there = inl (ap (λ (n : ℕ). (n, e.1)) (sym (same_Some e.0 number h))); own = both.0; has = both.1 }
-    by false own others h = behind e (others h)
+    by false own others h = one_more e (others h)
 
 -- the rule that an engine releases is its own, and can be released
 pub release_found : (engine number : ℕ) (rules : Rules) → next_release engine rules ≡ Some number → IsOwn engine MayBeReleased number (entries rules)

@@ -46,11 +46,11 @@ use Rattle.tw_code.specs.machine.Bounds.{AreBelow, AreNumbersBelow, OpeningIsSma
 use Rattle.tw_code.specs.machine.Data.{Context, after_insert, after_look, data_instr, datum_at, datum_of, suits}
 use Rattle.tw_code.proofs.Givens.{none_fit}
 use Rattle.tw_code.specs.machine.Inputs.{are_inputs_of, are_members, input_params, is_given_for, is_input_of}
-use Rattle.tw_code.specs.machine.Machine.{Standing, step}
+use Rattle.tw_code.specs.machine.Machine.{RunningInstr, step}
 use Rattle.tw_code.specs.machine.Opening.{Opened, closed_scalar, main_params, nothing_opened, numbered, opened, opening, with_container, with_given, added_given, with_output}
 use Rattle.tw_code.specs.machine.Position.{int_at, must_have_type, of_type_at, value_at}
 use Rattle.tw_code.specs.machine.Rights.{Rights, held, must_be_empty}
-use Rattle.tw_code.specs.machine.State.{Frame, Frames, State, context_of, filled, frame_of, values_in, gone_behind, with_frame, with_rule, with_task, new_rule}
+use Rattle.tw_code.specs.machine.State.{Frame, Frames, State, context_of, filled, frame_of, values_in, gone_after, with_frame, with_rule, with_task, new_rule}
 use Rattle.tw_code.proofs.Leaving.{take_leaves, local_leaves, call_leaves, end_leaves, ask_leaves, deliver_leaves, release_leaves}
 
 -- ---- the store
@@ -244,13 +244,13 @@ module _ (actor : Actor) (s : State) where
   framed bound size frame few all = each_insert actor_cmp_total (HasSpent (bound + size)) s.frames (more_spent bound size s all) actor frame few
 
   -- the frame is after a RULE or PUT
-  behind : (at : Standing) → get s.frames actor ≡ Some at.frame → (rights : Rights) (t : State) → Grown 1 s t → t.frames ≡ s.frames → Grown 1 s (with_frame t actor (gone_behind at.frame rights))
-  behind at here rights t grown same = record {
+  one_more : (at : RunningInstr) → get s.frames actor ≡ Some at.frame → (rights : Rights) (t : State) → Grown 1 s t → t.frames ≡ s.frames → Grown 1 s (with_frame t actor (gone_after at.frame rights))
+  one_more at here rights t grown same = record {
     some = omega arith;
     store = grown.store;
     task = grown.task;
     rule = grown.rule;
-    spent = λ bound all. subst (λ (m : Frames). Each (HasSpent (bound + 1)) (insert m actor (gone_behind at.frame rights))) (sym same) (framed bound 1 (gone_behind at.frame rights) (let few = all actor at.frame here in omega arith) all);
+    spent = λ bound all. subst (λ (m : Frames). Each (HasSpent (bound + 1)) (insert m actor (gone_after at.frame rights))) (sym same) (framed bound 1 (gone_after at.frame rights) (let few = all actor at.frame here in omega arith) all);
   }
 
 one_subscriber_more : (s : Store) (id : ℕ) (subscriber : Subscriber) → StoreGrown s (subscribed s id subscriber)
@@ -280,8 +280,8 @@ event_grown program layout (Call actor) s = call_leaves program actor s
       rule = omega arith;
       spent = λ bound all. framed actor s bound 1 _ (let few = all actor at.frame here.frame in omega arith) all;
     })
-    (λ at action call here _. behind actor s at here.frame call.rights (with_rule s (new_rule (number_in_kind actor) call.params call.task)) (same_frames s _ (same_store s.store) (omega arith) (omega arith) refl) refl)
-    (λ at action call here _. behind actor s at here.frame call.rights (with_task s call.task) (same_frames s _ (same_store s.store) (omega arith) (omega arith) refl) refl)
+    (λ at action call here _. one_more actor s at here.frame call.rights (with_rule s (new_rule (number_in_kind actor) call.params call.task)) (same_frames s _ (same_store s.store) (omega arith) (omega arith) refl) refl)
+    (λ at action call here _. one_more actor s at here.frame call.rights (with_task s call.task) (same_frames s _ (same_store s.store) (omega arith) (omega arith) refl) refl)
 event_grown program layout (End actor) s = end_leaves program actor s (record {
   some = omega arith;
   store = same_store s.store;

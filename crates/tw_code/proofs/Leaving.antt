@@ -26,20 +26,20 @@ use Rattle.tw_code.specs.declared.instr.Instr.TheVariants as instr
 use Rattle.tw_code.specs.declared.procedure.Procedure.{Procedure}
 use Rattle.tw_code.specs.machine.Arguments.{Called, called, procedure_of, put_called}
 use Rattle.tw_code.specs.machine.Data.{Context, data_instr}
-use Rattle.tw_code.specs.machine.Machine.{Standing, ask_event, call_by, call_event, deliver_event, end_event, id_in, is_ret, local_event, local_steps, own_rule, ready_at, release_event, standing_of, take_event}
+use Rattle.tw_code.specs.machine.Machine.{RunningInstr, ask_event, call_by, call_event, deliver_event, end_event, id_in, is_ret, local_event, local_steps, own_rule, ready_at, release_event, running_instr_of, take_event}
 use Rattle.tw_code.specs.machine.Position.{Position}
-use Rattle.tw_code.specs.machine.State.{Frame, State, after_context, context_of, frame_of, gone_behind, new_rule, with_frame, with_rule, with_stage, with_task}
+use Rattle.tw_code.specs.machine.State.{Frame, State, after_context, context_of, frame_of, gone_after, new_rule, with_frame, with_rule, with_stage, with_task}
 
 -- ---- before the event
 
 -- an actor's frame, its procedure, and the instruction at its place
-pub record Stood (program : List Procedure) (actor : Actor) (s : State) (at : Standing) : Type 0 where
+pub record IsRunningAt (program : List Procedure) (actor : Actor) (s : State) (at : RunningInstr) : Type 0 where
   pub frame : get s.frames actor ≡ Some at.frame
   pub procedure : slice_get program at.frame.procedure ≡ Some at.procedure
   pub instr : slice_get at.procedure.code at.frame.position.place ≡ Some at.instr
 
-pub stood : (program : List Procedure) (actor : Actor) (s : State) (at : Standing) → standing_of program actor s ≡ Went at → Stood program actor s at
-stood program actor s at = went_of (standing_of program actor s) (Stood program actor s) at
+pub is_running_at : (program : List Procedure) (actor : Actor) (s : State) (at : RunningInstr) → running_instr_of program actor s ≡ Went at → IsRunningAt program actor s at
+is_running_at program actor s at = went_of (running_instr_of program actor s) (IsRunningAt program actor s) at
     (if_enabled (get s.frames actor) (λ f a. if_there (slice_get program f.procedure) WrongCall (λ p b. if_there (slice_get p.code f.position.place) OutsideCode (λ i c. record { is = record { frame = a; procedure = b; instr = c } }))))
 
 -- a rule with an unasked parameter, and the datum that is its argument
@@ -77,15 +77,15 @@ module _ (program : List Procedure) (actor : Actor) (s : State) {P : State → T
       → IfWent (local_event program actor n s) P
   local_leaves n h = if_only (not (n == 0)) (λ some. if_enabled (get s.frames actor) (λ frame here. if_ok (procedure_of program frame.procedure) (λ p _. if_both (local_steps n p.code frame.position) (λ at _. record { is = h frame at some here }))))
 
-  pub call_leaves : ((at : Standing) (i : DataInstr) (c : Context) → Stood program actor s at → data_instr i (context_of s at.frame) ≡ Ok c → P (after_context s actor at.frame c))
-      → ((at : Standing) (action : Action) (call : Called) → Stood program actor s at → called program at.procedure.kind (context_of s at.frame) action ≡ Ok call
-      → P (with_frame (with_rule s (new_rule (number_in_kind actor) call.params call.task)) actor (gone_behind at.frame call.rights)))
-      → ((at : Standing) (action : Action) (call : Called) → Stood program actor s at → put_called program at.procedure.kind (context_of s at.frame) action ≡ Ok call
-      → P (with_frame (with_task s call.task) actor (gone_behind at.frame call.rights)))
+  pub call_leaves : ((at : RunningInstr) (i : DataInstr) (c : Context) → IsRunningAt program actor s at → data_instr i (context_of s at.frame) ≡ Ok c → P (after_context s actor at.frame c))
+      → ((at : RunningInstr) (action : Action) (call : Called) → IsRunningAt program actor s at → called program at.procedure.kind (context_of s at.frame) action ≡ Ok call
+      → P (with_frame (with_rule s (new_rule (number_in_kind actor) call.params call.task)) actor (gone_after at.frame call.rights)))
+      → ((at : RunningInstr) (action : Action) (call : Called) → IsRunningAt program actor s at → put_called program at.procedure.kind (context_of s at.frame) action ≡ Ok call
+      → P (with_frame (with_task s call.task) actor (gone_after at.frame call.rights)))
       → IfWent (call_event program actor s) P
-  call_leaves on_data rule put = if_both (standing_of program actor s) (λ at stands. by at (stood program actor s at stands) at.instr)
+  call_leaves on_data rule put = if_both (running_instr_of program actor s) (λ at stands. by at (is_running_at program actor s at stands) at.instr)
     where
-      by : (at : Standing) → Stood program actor s at → (i : Instr) → IfWent (call_by program s actor at i) P
+      by : (at : RunningInstr) → IsRunningAt program actor s at → (i : Instr) → IfWent (call_by program s actor at i) P
       by at here (instr.Local i) = record { is = tt }
       by at here (instr.Data i) = if_ok (data_instr i (context_of s at.frame)) (λ c e. record { is = on_data at i c here e })
       by at here (instr.Rule action) = if_ok (called program at.procedure.kind (context_of s at.frame) action) (λ call e. record { is = rule at action call here e })
@@ -93,7 +93,7 @@ module _ (program : List Procedure) (actor : Actor) (s : State) {P : State → T
       by at here instr.Ret = record { is = tt }
 
   pub end_leaves : P (record s { frames = remove s.frames actor }) → IfWent (end_event program actor s) P
-  end_leaves h = if_both (standing_of program actor s) (λ at _. if_only (is_ret at.instr) (λ _. if_then (outcome_of (must (list_all is_none at.frame.rights) RightLeft)) (λ _. record { is = h })))
+  end_leaves h = if_both (running_instr_of program actor s) (λ at _. if_only (is_ret at.instr) (λ _. if_then (outcome_of (must (list_all is_none at.frame.rights) RightLeft)) (λ _. record { is = h })))
 
 -- ---- rules and notices
 

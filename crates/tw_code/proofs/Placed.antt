@@ -44,12 +44,12 @@ use Rattle.tw_code.specs.declared.instr.Instr.TheVariants as instr
 use Rattle.tw_code.specs.declared.procedure.Procedure.{Procedure}
 use Rattle.tw_code.specs.machine.Arguments.{HandedOver, handed_over, with_arg, priority_at, values_suit, all_pass, is_live, is_of_type, is_closed_if_asked, Called, called, put_called}
 use Rattle.tw_code.specs.machine.Data.{Context, data_instr}
-use Rattle.tw_code.specs.machine.Machine.{Standing, standing_of, call_by, call_event, own_rule, id_in, ask_event, ready_at, deliver_event, release_event, is_ret, local_steps, step, run}
+use Rattle.tw_code.specs.machine.Machine.{RunningInstr, running_instr_of, call_by, call_event, own_rule, id_in, ask_event, ready_at, deliver_event, release_event, is_ret, local_steps, step, run}
 use Rattle.tw_code.specs.machine.Opening.{opening, reached}
 use Rattle.tw_code.specs.machine.Rights.{Rights, held}
 use Rattle.tw_code.specs.machine.State.{Frame, Frames, State, values_in, filled, frame_of, context_of, with_stage}
 use Rattle.tw_types.proofs.Best.{best_found}
-use Rattle.tw_code.proofs.Leaving.{Stood, stood, owned}
+use Rattle.tw_code.proofs.Leaving.{IsRunningAt, is_running_at, owned}
 
 -- ---- the results of an action
 
@@ -245,9 +245,9 @@ module _ (program : List Procedure) (layout : ActorCounts) (targets : HasTargets
       })))
 
   called_so : (actor : Actor) → IfWent (call_event program actor s) Placed
-  called_so actor = if_both (standing_of program actor s) (λ at e. by at at.instr (stood program actor s at e) refl)
+  called_so actor = if_both (running_instr_of program actor s) (λ at e. by at at.instr (is_running_at program actor s at e) refl)
     where
-      by : (at : Standing) (i : Instr) → Stood program actor s at → at.instr ≡ i → IfWent (call_by program s actor at i) Placed
+      by : (at : RunningInstr) (i : Instr) → IsRunningAt program actor s at → at.instr ≡ i → IfWent (call_by program s actor at i) Placed
       by at (instr.Local i) st is = record { is = tt }
       by at (instr.Data i) st is = if_ok (data_instr i (context_of s at.frame)) (λ c _. record { is = record { frames = frame_again actor at.frame _ st.frame refl; tasks = h.tasks; rules = h.rules } })
       by at (instr.Rule action) st is = if_ok (called program at.procedure.kind (context_of s at.frame) action) (λ call e.
@@ -323,7 +323,7 @@ module _ (program : List Procedure) (layout : ActorCounts) (targets : HasTargets
   placed_step (Take actor) = taken actor
   placed_step (Local actor n) = if_only (not (n == 0)) (λ _. if_enabled (get s.frames actor) (λ f is. if_there (slice_get program f.procedure) WrongCall (λ p _. if_both (local_steps n p.code f.position) (λ k _. record { is = record { frames = frame_again actor f _ is refl; tasks = h.tasks; rules = h.rules } }))))
   placed_step (Call actor) = called_so actor
-  placed_step (End actor) = if_both (standing_of program actor s) (λ at _. if_only (is_ret at.instr) (λ _. if_then (outcome_of (must (list_all is_none at.frame.rights) RightLeft)) (λ _. record {
+  placed_step (End actor) = if_both (running_instr_of program actor s) (λ at _. if_only (is_ret at.instr) (λ _. if_then (outcome_of (must (list_all is_none at.frame.rights) RightLeft)) (λ _. record {
     is = record {
       frames = λ other frame e. h.frames other frame (before_removal actor_cmp_total actor_cmp-IsAntisymmetric s.frames actor other frame e).1;
       tasks = h.tasks;

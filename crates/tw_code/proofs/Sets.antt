@@ -70,15 +70,15 @@ with_keeps s [] q h = h
 with_keeps s (n ∷ more) q h = with_keeps (set.insert s n) more q (put_keeps s n q h)
 
 -- a notice that was there is still there
-pub told_keeps : (s : Notices) (id : ℕ) (xs : List Subscriber) (q : Notice) → set.contains s q ≡ true → set.contains (with_notices s (map (notice_to id) xs)) q ≡ true
-told_keeps s id xs q h = with_keeps s (map (notice_to id) xs) q h
+pub notified_keeps : (s : Notices) (id : ℕ) (xs : List Subscriber) (q : Notice) → set.contains s q ≡ true → set.contains (with_notices s (map (notice_to id) xs)) q ≡ true
+notified_keeps s id xs q h = with_keeps s (map (notice_to id) xs) q h
 
 -- the notice of each subscriber is there
-pub told_has : (s : Notices) (id rule parameter : ℕ) (xs : List Subscriber) → 0 ≢ times_among rule parameter xs
+pub notified_has : (s : Notices) (id rule parameter : ℕ) (xs : List Subscriber) → 0 ≢ times_among rule parameter xs
     → set.contains (with_notices s (map (notice_to id) xs)) (record { datum = id; rule = rule; parameter = parameter }) ≡ true
-told_has s id rule parameter [] h = absurd (h refl)
-told_has s id rule parameter (x ∷ xs) h = elim (cases_eq 0 (is_that rule parameter x)) [
-  | inl none ↦ told_has (set.insert s (notice_to id x)) id rule parameter xs (λ e. h (omega arith))
+notified_has s id rule parameter [] h = absurd (h refl)
+notified_has s id rule parameter (x ∷ xs) h = elim (cases_eq 0 (is_that rule parameter x)) [
+  | inl none ↦ notified_has (set.insert s (notice_to id x)) id rule parameter xs (λ e. h (omega arith))
   | inr some ↦
       let both = that_parts rule parameter x some in
       let same : notice_to id x ≡ record { datum = id; rule = rule; parameter = parameter } = rw (both.0, both.1) refl in
@@ -86,10 +86,10 @@ told_has s id rule parameter (x ∷ xs) h = elim (cases_eq 0 (is_that rule param
 ]
 
 -- and there is no other
-pub told_only : (s : Notices) (id : ℕ) (xs : List Subscriber) (q : Notice) → set.contains (with_notices s (map (notice_to id) xs)) q ≡ true
+pub notified_only : (s : Notices) (id : ℕ) (xs : List Subscriber) (q : Notice) → set.contains (with_notices s (map (notice_to id) xs)) q ≡ true
     → (set.contains s q ≡ true) ⊎ ((q.datum ≡ id) × (0 ≢ times_among q.rule q.parameter xs))
-told_only s id [] q h = inl h
-told_only s id (x ∷ xs) q h = elim (told_only (set.insert s (notice_to id x)) id xs q h) [
+notified_only s id [] q h = inl h
+notified_only s id (x ∷ xs) q h = elim (notified_only (set.insert s (notice_to id x)) id xs q h) [
   | inr later ↦ inr (later.0, λ e. later.1 (omega arith))
   | inl now ↦ elim (put_only s (notice_to id x) q now) [
     | inr before ↦ inl before

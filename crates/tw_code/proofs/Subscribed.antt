@@ -64,5 +64,5 @@ noticed_alike s t rule parameter (Some (RightArg id)) h = ap (λ b. if b then 1 
 abbrev pub silenced : Datum → Datum
 silenced y = record y { subscribers = [] }
 
-abbrev pub and_told : Notices → ℕ → Datum → Notices
-and_told s id y = with_notices s (map (notice_to id) y.subscribers)
+abbrev pub and_notified : Notices → ℕ → Datum → Notices
+and_notified s id y = with_notices s (map (notice_to id) y.subscribers)

@@ -1,6 +1,6 @@
 -- The register checks of diagnostics are the verifier's.
 use Rattle.std.proofs.Common.{◌≡◌, ℕ, Bool, true, false, cond, List, [], ◌∷◌, ◌++◌, map, None, refl, ap}
-use Rattle.tw_diagnostics.proofs.ReasonNames.{Scalar, Typing, checks_args, checks_data, checks_local, checks_priority, checks_right, checks_value, asks_args, asks_data, asks_local, asks_priority, asks_value, may_stand_for, question_of, right_at, slice_set}
+use Rattle.tw_diagnostics.proofs.ReasonNames.{Scalar, Typing, checks_args, checks_data, checks_local, checks_priority, checks_right, checks_value, asks_args, asks_data, asks_local, asks_priority, asks_value, right_fits_param, question_of, right_at, slice_set}
 use Rattle.tw_types.specs.declared.param.Param.{Param}
 use Rattle.tw_types.specs.Mode.{is_val}
 use Rattle.tw_code.specs.declared.instr.DataInstr.{DataInstr}
@@ -52,9 +52,9 @@ module _ (waits : Bool) (registers : List Scalar) (typing : Typing) where
     where
       by : (v : Bool) → ((after : Typing) → map question_of (checks_args waits registers params args typing after) ≡ asks_args waits registers params args after)
           → map question_of (cond v (checks_value registers arg p.ty.scalar ++ checks_args waits registers params args typing left) (checks_right waits p arg typing left ∷ checks_args waits registers params args typing (slice_set left arg None)))
-          ≡ cond v (asks_value registers arg p.ty.scalar ++ asks_args waits registers params args left) ((4, passes (may_stand_for waits p) (right_at left arg)) ∷ asks_args waits registers params args (slice_set left arg None))
+          ≡ cond v (asks_value registers arg p.ty.scalar ++ asks_args waits registers params args left) ((4, passes (right_fits_param waits p) (right_at left arg)) ∷ asks_args waits registers params args (slice_set left arg None))
       by true more = ap (λ (qs : List Question). asks_value registers arg p.ty.scalar ++ qs) (more left)
-      by false more = ap (λ (qs : List Question). (4, passes (may_stand_for waits p) (right_at left arg)) ∷ qs) (more (slice_set left arg None))
+      by false more = ap (λ (qs : List Question). (4, passes (right_fits_param waits p) (right_at left arg)) ∷ qs) (more (slice_set left arg None))
 
 pub asks_the_same_lem : RegisterChecksAgree
 asks_the_same_lem = record {

@@ -6,7 +6,7 @@ pub use Rattle.std.specs.Str.{bytes_eq}
 pub use Rattle.std.specs.Str.Lines.{lines}
 pub use Rattle.tw_types.specs.declared.data_type.Scalar.{Scalar}
 pub use Rattle.tw_code.specs.declared.version.Version.{Version}
-pub use Rattle.tw_code.specs.accepting.Typing.{after, asks_args, asks_data, asks_local, asks_priority, asks_value, may_stand_for, value_types, without_args}
+pub use Rattle.tw_code.specs.accepting.Typing.{after, asks_args, asks_data, asks_local, asks_priority, asks_value, right_fits_param, value_types, without_args}
 pub use Rattle.tw_code.specs.machine.Rights.{Typing, right_at}
 pub use Rattle.tw_lexer.proofs.Once.{blank_no_word, broken_no_line, first_word_once, first_words_more, line_once, word_here}
 pub use Rattle.tw_lexer.specs.Seen.{IsRead, seen}

@@ -20,7 +20,7 @@ use Rattle.tw_code.specs.declared.instr.Priority.{Priority}
 use Rattle.tw_code.specs.declared.instr.Priority.TheVariants.{Constant, Computed}
 use Rattle.tw_code.specs.declared.procedure.Procedure.{Procedure}
 use Rattle.tw_code.specs.accepting.Question.{Question, passes}
-use Rattle.tw_code.specs.accepting.Typing.{may_stand_for, reads, reads_closed_container, reads_closed_container_by, reads_closed_scalar, reads_member_of, value_types, writes, writes_container_by, writes_scalar}
+use Rattle.tw_code.specs.accepting.Typing.{right_fits_param, reads, reads_closed_container, reads_closed_container_by, reads_closed_scalar, reads_member_of, value_types, writes, writes_container_by, writes_scalar}
 use Rattle.tw_code.specs.machine.Arguments.{params_of}
 use Rattle.tw_code.specs.machine.Rights.{RightType, Typing, right_at}
 use Rattle.tw_diagnostics.specs.declared.register_check.RegisterCheck.{RegisterCheck}
@@ -161,7 +161,7 @@ argument_held arg typing left = if is_none (right_at left arg) && is_some (right
 abbrev pub checks_right : Bool → Param → ℕ → Typing → Typing → RegisterCheck
 checks_right waits p arg typing left = record {
   number = 4;
-  is_met = passes (may_stand_for waits p) (right_at left arg);
+  is_met = passes (right_fits_param waits p) (right_at left arg);
   register = arg;
   held = argument_held arg typing left;
   wanted = wanted.Param waits p;

@@ -45,7 +45,7 @@ fn right_check(waits: bool, param: &Param, arg: u8, typing: &Typing, left: &Typi
 {
     RegisterCheck {
         number: 4,
-        is_met: may_stand_for(waits, *param, left.right_at(arg)),
+        is_met: right_fits_param(waits, *param, left.right_at(arg)),
         register: arg,
         held: held_by(arg, typing, left),
         wanted: Requirement::Param(waits, *param),

@@ -2,7 +2,7 @@
 
 ghost use Rattle.std.specs.Prelude.{◌≡◌};
 ghost use Rattle.tw_code.specs.accepting.Question.{passes};
-ghost use Rattle.tw_code.specs.accepting.Typing.{may_stand_for, reads, reads_closed_container, reads_closed_container_by, reads_closed_scalar, reads_member_of, writes, writes_container_by, writes_scalar};
+ghost use Rattle.tw_code.specs.accepting.Typing.{right_fits_param, reads, reads_closed_container, reads_closed_container_by, reads_closed_scalar, reads_member_of, writes, writes_container_by, writes_scalar};
 
 use tw_types::{Mode, Param, Scalar};
 use tw_verify::RightType;
@@ -100,7 +100,7 @@ pub(crate) fn reads_member_of(container: Option<RightType>, member: Option<Right
 
 /// Returns whether a parameter accepts a right; a `closed` one accepts any read, if the task waits for its data.
 fn fits_param(waits: bool, param: Param, right: RightType) -> bool
-    ensures { result ≡ may_stand_for waits param right }
+    ensures { result ≡ right_fits_param waits param right }
 {
     let suits = match param.mode {
         Mode::Val => false,
@@ -112,8 +112,8 @@ fn fits_param(waits: bool, param: Param, right: RightType) -> bool
     suits && right.ty() == param.ty
 }
 
-pub(crate) fn may_stand_for(waits: bool, param: Param, right: Option<RightType>) -> bool
-    ensures { result ≡ passes (may_stand_for waits param) right }
+pub(crate) fn right_fits_param(waits: bool, param: Param, right: Option<RightType>) -> bool
+    ensures { result ≡ passes (right_fits_param waits param) right }
 {
     match right {
         Some(right) => fits_param(waits, param, right),

@@ -7,5 +7,5 @@ pub mod Drafts
 pub mod JobBuffers
 pub mod Banks
 pub mod Pieces
-pub mod Standing
+pub mod Positions
 pub mod Requirements

@@ -19,7 +19,7 @@ use Rattle.tw_budget.proofs.FrameTheorems.{below_budget}
 use Rattle.tw_code.specs.accepting.Walk.{IsBudget}
 use Rattle.tw_code.specs.format.Program.{IsProgram}
 use Rattle.tw_soundness.specs.NoTrap.{AreRight}
-use Rattle.tw_soundness.specs.Standing.{Accepts, Stands}
+use Rattle.tw_soundness.specs.AtPlace.{Accepts, Stands}
 use Rattle.tw_soundness.proofs.Safe.{accepts}
 use Rattle.tw_frame.specs.Banks.{HasText}
 use Rattle.tw_frame.specs.Jobs.{DoneView, IsDone, JobView}

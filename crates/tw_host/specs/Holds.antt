@@ -6,7 +6,7 @@ use Rattle.tw_code.specs.declared.procedure.Procedure.{Procedure}
 use Rattle.tw_code.specs.accepting.Flow.{flows}
 use Rattle.tw_code.specs.accepting.Walk.{IsBudget}
 use Rattle.tw_code.specs.machine.Rights.{Typing}
-use Rattle.tw_soundness.specs.Standing.{Accepts}
+use Rattle.tw_soundness.specs.AtPlace.{Accepts}
 use Rattle.tw_frame.specs.Banks.{HasText}
 use Rattle.tw_frame.specs.Jobs.{DoneView, JobView}
 use Rattle.tw_frame.specs.Ready.{IsStop}

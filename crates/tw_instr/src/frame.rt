@@ -4,7 +4,7 @@ ghost use Rattle.std.specs.Prelude.{◌≡◌, ◌<◌, ◌^◌, ◌+◌, IfOk, 
 ghost use Rattle.std.specs.List.{list_all};
 ghost use Rattle.tw_code.specs.machine.Rights.{right_at};
 ghost use Rattle.tw_code.specs.machine.Position.{at_goal, at_next_place, with_value};
-ghost use Rattle.tw_code.specs.machine.State.{gone_behind};
+ghost use Rattle.tw_code.specs.machine.State.{gone_after};
 ghost use Rattle.tw_instr.specs.Stretch.{IsStretch};
 
 use crate::local::count_local;
@@ -168,7 +168,7 @@ impl Frame {
     pub fn finish_action(&mut self, rights: [Option<DatumId>; 16])
         requires place { self.old.position.place < 2 ^ 63 }
         requires spent { self.old.spent < 2 ^ 63 }
-        ensures { self.new ≡ gone_behind self.old rights }
+        ensures { self.new ≡ gone_after self.old rights }
     {
         self.position.to_next_place();
         self.rights = rights;

@@ -3,7 +3,7 @@ pub mod Takes
 pub mod Quiet
 pub mod InputData
 pub mod Parameters
-pub mod Standing
+pub mod Calls
 pub mod Pending
 pub mod Growth
 pub mod Bests

@@ -10,7 +10,7 @@ use Rattle.tw_types.specs.Store.{Datum, is_closed}
 use Rattle.tw_code.specs.declared.instr.Instr.{Instr}
 use Rattle.tw_code.specs.declared.instr.Instr.TheVariants as instr
 use Rattle.tw_code.specs.declared.procedure.Procedure.{Procedure}
-use Rattle.tw_code.specs.machine.Machine.{Standing, ask_event, asked, call_event, release_event, standing_of, take_event}
+use Rattle.tw_code.specs.machine.Machine.{RunningInstr, ask_event, asked, call_event, release_event, running_instr_of, take_event}
 use Rattle.tw_code.specs.machine.State.{State}
 use Rattle.tw_instr.specs.Memory.{takes_memory}
 
@@ -45,14 +45,14 @@ CallTakesMemory o (instr.Put action) = Unit {0}
 CallTakesMemory o instr.Ret = ⊥
 
 -- holds if a task runs there, and P holds of its next instruction
-abbrev pub HasCome : (Instr → Type 0) → Outcome Standing → Type 0
+abbrev pub HasCome : (Instr → Type 0) → Outcome RunningInstr → Type 0
 HasCome P (Went at) = P at.instr
 HasCome P NotEnabled = ⊥
 HasCome P (Trap cause) = ⊥
 
 -- holds if the next instruction of the actor's task may allocate
 abbrev pub MayWant : List Procedure → Actor → State → Type 0
-MayWant program actor s = HasCome (CallTakesMemory (call_event program actor s)) (standing_of program actor s)
+MayWant program actor s = HasCome (CallTakesMemory (call_event program actor s)) (running_instr_of program actor s)
 
 -- ---- events
 
@@ -64,7 +64,7 @@ AsksOpen engine number parameter s =
 -- Holds if the event may allocate. A Take copies values while it checks their types, and local instructions change a copy of the position.
 abbrev pub TakesMemory : List Procedure → ActorCounts → Event → State → Type 0
 TakesMemory program layout (Take actor) s = IsEnabled (take_event program layout actor s)
-TakesMemory program layout (Local actor n) s = HasCome IsLocal (standing_of program actor s)
+TakesMemory program layout (Local actor n) s = HasCome IsLocal (running_instr_of program actor s)
 TakesMemory program layout (Call actor) s = MayWant program actor s
 TakesMemory program layout (End actor) s = ⊥
 TakesMemory program layout (Ask engine number parameter) s = AsksOpen engine number parameter s

@@ -1,6 +1,6 @@
 -- RULE and PUT: arguments that leave the frame, and the rest of it.
 use Rattle.std.proofs.Common.{map as each, ◌≡◌, ◌+◌, ◌<◌, ◌≤◌, ◌∙◌, ℕ, List, Option, Some, IsSome, refl, sym, ap, subst, slice_get, length, arith}
-use Rattle.tw_pool_state.proofs.PartNames.{Action, Actor, ActorCounts, AreParts, ArePlaced, Arg, ArgsStand, FrameFits, FrameView, Held, IsProcedure, IsProgram, Notices, Parts, Procedure, TypedProgram, Typing, Value, at_next_place, bare_arg, bare_file, bare_frame, context_of, get, gone_behind, gone_on, kinds_in, kinds_of, named_values, params_in, params_of, same_Some, slice_get_within, state_of, typings_of, without_args}
+use Rattle.tw_pool_state.proofs.PartNames.{Action, Actor, ActorCounts, AreParts, ArePlaced, Arg, ArgsStand, FrameFits, FrameView, Held, IsProcedure, IsProgram, Notices, Parts, Procedure, TypedProgram, Typing, Value, at_next_place, bare_arg, bare_file, bare_frame, context_of, get, gone_after, gone_on, kinds_in, kinds_of, named_values, params_in, params_of, same_Some, slice_get_within, state_of, typings_of, without_args}
 use Rattle.tw_rights.specs.Bundled.{Bundled, bundled}
 use Rattle.tw_code.specs.declared.instr.Instr.{Instr}
 use Rattle.tw_code.specs.machine.Holders.{typing_at}
@@ -43,7 +43,7 @@ module _ (verified : TypedProgram) (layout : ActorCounts) (old : Parts) (notices
     pub bare_args : each bare_arg args ≡ u.given.args
     bare_args = ap (λ (o : Bundled). each bare_arg o.args) (sym same) ∙ all_handed.args
 
-    pub frame_is : bare_frame (gone_on f file) ≡ gone_behind (bare_frame f) u.given.rights
+    pub frame_is : bare_frame (gone_on f file) ≡ gone_after (bare_frame f) u.given.rights
     frame_is =
         let rights : bare_file file ≡ u.given.rights = ap (λ (o : Bundled). bare_file o.file) (sym same) ∙ all_handed.rights in
         λ i. record { task = f.task; procedure = f.procedure; position = at_next_place f.position; rights = rights i; spent = f.spent + 1 }

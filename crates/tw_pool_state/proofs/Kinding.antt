@@ -1,6 +1,6 @@
 -- RULE and PUT: the kinds of the rights that leave the registers, and of those that are left.
 use Rattle.std.proofs.Common.{◌≡◌, ℕ, zero, suc, Bool, true, false, if◌then◌else◌, List, [], ◌∷◌, ◌++◌, Option, Some, None, refl, sym, ap, ◌∙◌, slice_set, slice_index_or, option_map, set}
-use Rattle.tw_pool_state.proofs.PartNames.{AllYes, Held, Mode, Param, RightType, Scalar, Typing, asks_args, asks_value, first_so, is_closed_mode, is_read, is_val, is_write, kinds_in, map-set, may_stand_for, passed, passes, right_at, same_Some, same_type, suits_mode, without_args, yes_behind}
+use Rattle.tw_pool_state.proofs.PartNames.{AllYes, Held, Mode, Param, RightType, Scalar, Typing, asks_args, asks_value, first_so, is_closed_mode, is_read, is_val, is_write, kinds_in, map-set, right_fits_param, passed, passes, right_at, same_Some, same_type, suits_mode, without_args, yes_after}
 use Rattle.tw_types.specs.declared.param.Mode.TheVariants as mode
 use Rattle.tw_rights.specs.Kinds.{kinds_of, writes}
 use Rattle.tw_pool_state.proofs.Handing.{AreSuited, Suits, SuitsOr, without_held}
@@ -47,10 +47,10 @@ same_kind waits mode.Ref t e = by t.mode e
 same_kind waits mode.Write t e = e
 
 module _ (waits : Bool) (declared : List Scalar) where
-  suits_at : (p : Param) (o : Option Held) (t : Option RightType) → option_map writes o ≡ option_map (λ (t : RightType). is_write t.mode) t → passes (may_stand_for waits p) t ≡ true → Suits p.mode o
+  suits_at : (p : Param) (o : Option Held) (t : Option RightType) → option_map writes o ≡ option_map (λ (t : RightType). is_write t.mode) t → passes (right_fits_param waits p) t ≡ true → Suits p.mode o
   suits_at p None t e met = tt
   suits_at p (Some h) t e met =
-      let right = passed (may_stand_for waits p) t met in
+      let right = passed (right_fits_param waits p) t met in
       let kind : writes h ≡ is_write right.0.mode = same_Some _ _ (e ∙ ap (option_map (λ (t : RightType). is_write t.mode)) right.1) in
       kind ∙ same_kind waits p.mode right.0 (first_so (suits_mode waits p.mode right.0) (same_type right.0.ty p.ty) right.2)
 
@@ -62,11 +62,11 @@ module _ (waits : Bool) (declared : List Scalar) where
       (map-set (option_map writes) held register None ∙ ap (λ ks. set ks register None) e ∙ sym (map-set (option_map (λ (t : RightType). is_write t.mode)) typing register None)) m)
     where
       by : (b : Bool)
-          → AllYes (if b then asks_value declared register p.ty.scalar ++ asks_args waits declared params registers typing else (4, passes (may_stand_for waits p) (right_at typing register)) ∷ asks_args waits declared params registers (slice_set typing register None))
+          → AllYes (if b then asks_value declared register p.ty.scalar ++ asks_args waits declared params registers typing else (4, passes (right_fits_param waits p) (right_at typing register)) ∷ asks_args waits declared params registers (slice_set typing register None))
           → (AllYes (asks_args waits declared params registers typing) → AreSuited held params registers)
           → (AllYes (asks_args waits declared params registers (slice_set typing register None)) → AreSuited (set held register None) params registers)
           → SuitsOr b (AreSuited held params registers) (Suits p.mode (slice_index_or held register None) × AreSuited (set held register None) params registers)
-      by true m same left = same (yes_behind (asks_value declared register p.ty.scalar) (asks_args waits declared params registers typing) m)
+      by true m same left = same (yes_after (asks_value declared register p.ty.scalar) (asks_args waits declared params registers typing) m)
       by false m same left = (suits_at p (slice_index_or held register None) (right_at typing register) (kind_there held typing register e) m.0, left m.1)
 
 -- the remaining rights are of the kinds of the remaining typing

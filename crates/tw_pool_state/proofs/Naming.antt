@@ -1,6 +1,6 @@
 -- RULE and PUT: consequences of the theorem, if a task is at one.
 use Rattle.std.proofs.Common.{◌≡◌, ◌==◌, ℤ, Bool, true, false, List, Some, Result, Ok, Err, refl, sym, ap, subst, ◌∙◌, length, slice_get}
-use Rattle.tw_pool_state.proofs.PartNames.{Action, Actor, ActorCounts, AllYes, AreParts, ArgumentNotClosed, Call, Called, Cause, Context, FrameView, FreedDatum, HandedOver, Held, Notices, Parts, Procedure, Trap, TypedProgram, Typing, WrongCall, WrongRegister, WrongType, all_pass, asked_at, asks_callee, asks_priority, bare_frame, called, context_of, get, handed_over, is_closed_if_asked, is_control, is_live, is_of_type, mapped, must_then, ok_first, priority_at, put_called, same_Some, state_of, there_then, typings_of, values_suit, yes_behind}
+use Rattle.tw_pool_state.proofs.PartNames.{Action, Actor, ActorCounts, AllYes, AreParts, ArgumentNotClosed, Call, Called, Cause, Context, FrameView, FreedDatum, HandedOver, Held, Notices, Parts, Procedure, Trap, TypedProgram, Typing, WrongCall, WrongRegister, WrongType, all_pass, asked_at, asks_callee, asks_priority, bare_frame, called, context_of, get, handed_over, is_closed_if_asked, is_control, is_live, is_of_type, mapped, must_then, ok_first, priority_at, put_called, same_Some, state_of, there_then, typings_of, values_suit, yes_after}
 use Rattle.tw_types.specs.declared.actor.Kind.{Kind}
 use Rattle.std.specs.declared.option.Option.{Option}
 use Rattle.tw_code.specs.declared.instr.Instr.TheVariants as instr
@@ -80,7 +80,7 @@ module _ (verified : TypedProgram) (layout : ActorCounts) (old : Parts) (notices
     rules = by (called verified.program p.kind context action) refl
       where
         by : (o : Result Called Cause) → called verified.program p.kind context action ≡ o → IsNamed verified.program p.kind context action f.held
-        by (Ok call) ok = named true (yes_behind (asks_priority p.registers action.priority) _ (asked_at verified.program (typings_of verified) h.runnable.is h.runnable.right f.procedure p here f.position.place (instr.Rule action) at).1) call ok
+        by (Ok call) ok = named true (yes_after (asks_priority p.registers action.priority) _ (asked_at verified.program (typings_of verified) h.runnable.is h.runnable.right f.procedure p here f.position.place (instr.Rule action) at).1) call ok
         by (Err why) err = absurd ((safe verified.program (typings_of verified) h.runnable.is h.runnable.right layout (state_of old notices) (held verified layout old notices h)).no_trap (Call actor) why (rule_trapped why err))
 
   -- ---- PUT
@@ -103,7 +103,7 @@ module _ (verified : TypedProgram) (layout : ActorCounts) (old : Parts) (notices
             let outer = ok_first (called verified.program p.kind context action) _ call ok in
             let closed = must_then (all_pass is_closed_if_asked old.store.store.live outer.0.params outer.0.task.args) ArgumentNotClosed _ call outer.2 in
             record {
-              is_named = named false (yes_behind (asks_priority p.registers action.priority) _ (asked_at verified.program (typings_of verified) h.runnable.is h.runnable.right f.procedure p here f.position.place (instr.Put action) at).1) outer.0 outer.1;
+              is_named = named false (yes_after (asks_priority p.registers action.priority) _ (asked_at verified.program (typings_of verified) h.runnable.is h.runnable.right f.procedure p here f.position.place (instr.Put action) at).1) outer.0 outer.1;
               is_closed = ok ∙ sym closed.1 ∙ sym outer.1;
             }
         by (Err why) err = absurd ((safe verified.program (typings_of verified) h.runnable.is h.runnable.right layout (state_of old notices) (held verified layout old notices h)).no_trap (Call actor) why (put_trapped why err))

@@ -1,6 +1,6 @@
 -- RULE: on the parts.
 use Rattle.std.proofs.Common.{map as each, ◌≡◌, ◌+◌, ◌∙◌, List, Option, Some, refl, sym, ap, subst, slice_get}
-use Rattle.tw_pool_state.proofs.PartNames.{Action, Actor, ActorCounts, AreParts, Arg, Call, Completed, FrameFits, FrameView, Goes, Held, MayStand, Notices, Parts, Procedure, Right, RuleOf, Stand, TypedProgram, Value, Went, actor_cmp-IsAntisymmetric, actor_cmp_total, at_next_place, bare_frame, bare_rule, bare_task, context_of, get, gone_behind, gone_on, insert, insert_mapped, mapped, named_values, nat_cmp-IsAntisymmetric, nat_cmp_total, new_rule, number_in_kind, state_of, typed_after, typings_of, with_frame, with_rule}
+use Rattle.tw_pool_state.proofs.PartNames.{Action, Actor, ActorCounts, AreParts, Arg, Call, Completed, FrameFits, FrameView, Goes, Held, MayStand, Notices, Parts, Procedure, Right, RuleOf, Stand, TypedProgram, Value, Went, actor_cmp-IsAntisymmetric, actor_cmp_total, at_next_place, bare_frame, bare_rule, bare_task, context_of, get, gone_after, gone_on, insert, insert_mapped, mapped, named_values, nat_cmp-IsAntisymmetric, nat_cmp_total, new_rule, number_in_kind, state_of, typed_after, typings_of, with_frame, with_rule}
 use Rattle.tw_rights.specs.Bundled.{bundled}
 use Rattle.tw_code.specs.declared.instr.Instr.TheVariants as instr
 use Rattle.tw_code.specs.machine.Machine.{step}
@@ -18,7 +18,7 @@ module _ (verified : TypedProgram) (layout : ActorCounts) (old : Parts) (notices
   pub rule_named : IsNamed verified.program p.kind (context_of (state_of old notices) (bare_frame f)) action f.held
   rule_named = rules verified layout old notices h actor f p action runs here at
 
-  rule_steps : step verified.program layout (Call actor) (state_of old notices) ≡ Went (with_frame (with_rule (state_of old notices) (new_rule (number_in_kind actor) rule_named.procedure.params (record { kind = rule_named.procedure.kind; procedure = action.procedure; priority = rule_named.priority; target = action.target; args = rule_named.given.args }))) actor (gone_behind (bare_frame f) rule_named.given.rights))
+  rule_steps : step verified.program layout (Call actor) (state_of old notices) ≡ Went (with_frame (with_rule (state_of old notices) (new_rule (number_in_kind actor) rule_named.procedure.params (record { kind = rule_named.procedure.kind; procedure = action.procedure; priority = rule_named.priority; target = action.target; args = rule_named.given.args }))) actor (gone_after (bare_frame f) rule_named.given.rights))
   unfolding step
   rule_steps =
       let t = seen bare_frame old.seats actor (Some f) runs in
@@ -28,7 +28,7 @@ module _ (verified : TypedProgram) (layout : ActorCounts) (old : Parts) (notices
   -- it may run from the place after it
   pub rule_stands : MayStand f.program.program f.procedure (at_next_place f.position)
   rule_stands = subst (λ (v : TypedProgram). MayStand v.program f.procedure (at_next_place f.position)) (sym (h.stand.frames actor f runs).program)
-      (stands_then verified layout old notices h actor f runs (Call actor) _ rule_steps (gone_behind (bare_frame f) rule_named.given.rights) (get_own (mapped bare_frame old.seats) actor (gone_behind (bare_frame f) rule_named.given.rights)))
+      (stands_then verified layout old notices h actor f runs (Call actor) _ rule_steps (gone_after (bare_frame f) rule_named.given.rights) (get_own (mapped bare_frame old.seats) actor (gone_after (bare_frame f) rule_named.given.rights)))
 
   module _ (vals : List Value) (are : each Some vals ≡ named_values f.position.values rule_named.procedure.params action.args)
       (args : List Arg) (file : List (Option Held)) (over : bundled f.held rule_named.procedure.params action.args vals ≡ Some (record { args = args; file = file })) where
@@ -40,7 +40,7 @@ module _ (verified : TypedProgram) (layout : ActorCounts) (old : Parts) (notices
         (bare_args verified layout old notices h actor f p action runs rule_named vals are args file over)
 
     goes : step verified.program layout (Call actor) (state_of old notices) ≡ Went (with_frame (with_rule (state_of old notices) (bare_rule rule)) actor (bare_frame (gone_on f file)))
-    goes = rule_steps ∙ ap (λ k. Went (with_frame (with_rule (state_of old notices) k) actor (gone_behind (bare_frame f) rule_named.given.rights))) (sym bare_is)
+    goes = rule_steps ∙ ap (λ k. Went (with_frame (with_rule (state_of old notices) k) actor (gone_after (bare_frame f) rule_named.given.rights))) (sym bare_is)
         ∙ ap (λ k. Went (with_frame (with_rule (state_of old notices) (bare_rule rule)) actor k)) (sym (frame_is verified layout old notices h actor f p action runs rule_named vals are args file over))
 
     fits : FrameFits verified old.store.places actor (gone_on f file)

@@ -39,7 +39,7 @@ pub use Rattle.tw_code.specs.declared.flow.Way.TheVariants.{Completed, Skipped}
 pub use Rattle.tw_code.specs.declared.instr.Action.{Action}
 pub use Rattle.tw_code.specs.declared.procedure.Procedure.{Procedure}
 pub use Rattle.tw_code.specs.accepting.Question.{passes}
-pub use Rattle.tw_code.specs.accepting.Typing.{a_member_read, a_read, a_write, after_data, asks_args, asks_callee, asks_data, asks_priority, asks_value, may_stand_for, reads, reads_closed_container, reads_closed_container_by, reads_closed_scalar, reads_member_of, rights_given, suits_mode, without_args, writes, writes_container_by, writes_scalar}
+pub use Rattle.tw_code.specs.accepting.Typing.{a_member_read, a_read, a_write, after_data, asks_args, asks_callee, asks_data, asks_priority, asks_value, right_fits_param, reads, reads_closed_container, reads_closed_container_by, reads_closed_scalar, reads_member_of, rights_given, suits_mode, without_args, writes, writes_container_by, writes_scalar}
 pub use Rattle.tw_code.specs.format.Program.{IsInstr, IsProcedure, IsProgram}
 pub use Rattle.tw_code.specs.machine.Arguments.{Called, HandedOver, all_pass, called, handed_over, has_type, is_closed_if_asked, is_live, is_of_type, params_in, params_of, priority_at, put_called, values_suit}
 pub use Rattle.tw_code.specs.machine.Data.{Context, after_insert, after_look, data_instr, datum_at, suits}
@@ -47,7 +47,7 @@ pub use Rattle.tw_code.specs.machine.Machine.{step}
 pub use Rattle.tw_code.specs.machine.Opening.{Opened, closed_scalar, main_params, nothing_opened, numbered, opened, opening, with_container, with_given, with_input, with_output}
 pub use Rattle.tw_code.specs.machine.Position.{Position, at_goal, at_next_place, int_at, int_in, must_have_type, of_type_at, with_result, with_value}
 pub use Rattle.tw_code.specs.machine.Rights.{RightType, Typing, first_rights, must_be_empty, right_at, right_of}
-pub use Rattle.tw_code.specs.machine.State.{State, after_context, context_of, frame_of, gone_behind, new_rule, with_frame, with_rule, with_stage, with_task}
+pub use Rattle.tw_code.specs.machine.State.{State, after_context, context_of, frame_of, gone_after, new_rule, with_frame, with_rule, with_stage, with_task}
 pub use Rattle.tw_pool_state.specs.declared.parts.Parts.{Parts}
 pub use Rattle.tw_rights.specs.declared.arg.Arg.{Arg}
 pub use Rattle.tw_rights.specs.declared.arg.Arg.TheVariants.{Read, Val, Write}
@@ -56,7 +56,7 @@ pub use Rattle.tw_frame.specs.Drafts.{MaySet, MayStart, StartsAsMachine, started
 pub use Rattle.tw_frame.specs.Jobs.{DoneView, DraftView, FrameView, JobView, MayStand, bare_frame, draft_of, job_of}
 pub use Rattle.tw_soundness.proofs.Conditions.{copy_read_asks, copy_write_asks, drop_read_asks, drop_write_asks, get_asks, insert_asks, look_asks, new_asks, size_asks, store_asks, subscript_asks}
 pub use Rattle.tw_soundness.proofs.Running.{asked_at, stands_there, steps_leave, typed_after, typed_at_start}
-pub use Rattle.tw_soundness.proofs.Values.{AllYes, passed, yes_behind}
+pub use Rattle.tw_soundness.proofs.Values.{AllYes, passed, yes_after}
 pub use Rattle.tw_pool_state.specs.Coming.{Begins, BeginsOrNone, begun, come, gone_on, lent_as}
 pub use Rattle.tw_pool_state.specs.Copies.{named_values}
 pub use Rattle.tw_pool_state.specs.Data.{HasRoom, IsAnswer, IsDone, IsLentAnswer, IsLentBehind, IsLive, IsRefused, AreNotified, MayDo, sees}

@@ -1,6 +1,6 @@
 -- PUT: on the parts.
 use Rattle.std.proofs.Common.{map as each, ◌≡◌, ◌+◌, ◌∙◌, List, Option, Some, refl, sym, ap, subst, slice_get}
-use Rattle.tw_pool_state.proofs.PartNames.{Action, Actor, ActorCounts, AreParts, Arg, Call, Completed, FrameFits, FrameView, Goes, Held, MayStand, Notices, Parts, Procedure, Right, Stand, TaskOf, TypedProgram, Value, Went, actor_cmp-IsAntisymmetric, actor_cmp_total, at_next_place, bare_frame, bare_rule, bare_task, context_of, get, gone_behind, gone_on, insert, insert_mapped, mapped, named_values, nat_cmp-IsAntisymmetric, nat_cmp_total, state_of, typed_after, typings_of, with_frame, with_task}
+use Rattle.tw_pool_state.proofs.PartNames.{Action, Actor, ActorCounts, AreParts, Arg, Call, Completed, FrameFits, FrameView, Goes, Held, MayStand, Notices, Parts, Procedure, Right, Stand, TaskOf, TypedProgram, Value, Went, actor_cmp-IsAntisymmetric, actor_cmp_total, at_next_place, bare_frame, bare_rule, bare_task, context_of, get, gone_after, gone_on, insert, insert_mapped, mapped, named_values, nat_cmp-IsAntisymmetric, nat_cmp_total, state_of, typed_after, typings_of, with_frame, with_task}
 use Rattle.tw_rights.specs.Bundled.{bundled}
 use Rattle.tw_code.specs.declared.instr.Instr.TheVariants as instr
 use Rattle.tw_code.specs.machine.Machine.{step}
@@ -17,7 +17,7 @@ module _ (verified : TypedProgram) (layout : ActorCounts) (old : Parts) (notices
   pub put_named : IsNamed verified.program p.kind (context_of (state_of old notices) (bare_frame f)) action f.held
   put_named = (puts verified layout old notices h actor f p action runs here at).is_named
 
-  put_steps : step verified.program layout (Call actor) (state_of old notices) ≡ Went (with_frame (with_task (state_of old notices) (record { kind = put_named.procedure.kind; procedure = action.procedure; priority = put_named.priority; target = action.target; args = put_named.given.args })) actor (gone_behind (bare_frame f) put_named.given.rights))
+  put_steps : step verified.program layout (Call actor) (state_of old notices) ≡ Went (with_frame (with_task (state_of old notices) (record { kind = put_named.procedure.kind; procedure = action.procedure; priority = put_named.priority; target = action.target; args = put_named.given.args })) actor (gone_after (bare_frame f) put_named.given.rights))
   unfolding step
   put_steps =
       let t = seen bare_frame old.seats actor (Some f) runs in
@@ -27,7 +27,7 @@ module _ (verified : TypedProgram) (layout : ActorCounts) (old : Parts) (notices
   -- it may run from the place after it
   pub put_stands : MayStand f.program.program f.procedure (at_next_place f.position)
   put_stands = subst (λ (v : TypedProgram). MayStand v.program f.procedure (at_next_place f.position)) (sym (h.stand.frames actor f runs).program)
-      (stands_then verified layout old notices h actor f runs (Call actor) _ put_steps (gone_behind (bare_frame f) put_named.given.rights) (get_own (mapped bare_frame old.seats) actor (gone_behind (bare_frame f) put_named.given.rights)))
+      (stands_then verified layout old notices h actor f runs (Call actor) _ put_steps (gone_after (bare_frame f) put_named.given.rights) (get_own (mapped bare_frame old.seats) actor (gone_after (bare_frame f) put_named.given.rights)))
 
   module _ (vals : List Value) (are : each Some vals ≡ named_values f.position.values put_named.procedure.params action.args)
       (args : List Arg) (file : List (Option Held)) (over : bundled f.held put_named.procedure.params action.args vals ≡ Some (record { args = args; file = file })) where
@@ -39,7 +39,7 @@ module _ (verified : TypedProgram) (layout : ActorCounts) (old : Parts) (notices
         (bare_args verified layout old notices h actor f p action runs put_named vals are args file over)
 
     goes : step verified.program layout (Call actor) (state_of old notices) ≡ Went (with_frame (with_task (state_of old notices) (bare_task task)) actor (bare_frame (gone_on f file)))
-    goes = put_steps ∙ ap (λ k. Went (with_frame (with_task (state_of old notices) k) actor (gone_behind (bare_frame f) put_named.given.rights))) (sym bare_is)
+    goes = put_steps ∙ ap (λ k. Went (with_frame (with_task (state_of old notices) k) actor (gone_after (bare_frame f) put_named.given.rights))) (sym bare_is)
         ∙ ap (λ k. Went (with_frame (with_task (state_of old notices) (bare_task task)) actor k)) (sym (frame_is verified layout old notices h actor f p action runs put_named vals are args file over))
 
     fits : FrameFits verified old.store.places actor (gone_on f file)

@@ -13,7 +13,7 @@ use Rattle.tw_soundness.proofs.Registers.{Settles}
 use Rattle.tw_soundness.proofs.Steps.{Goes, keeps_mapped, goes_mapped}
 use Rattle.tw_soundness.proofs.TaskEvents.{Starts, fits_of, other_reads, other_writes}
 use Rattle.tw_soundness.proofs.Values.{AllYes, Moves, all_yes}
-use Rattle.tw_soundness.proofs.Whole.{GoesBehind, LeftSo}
+use Rattle.tw_soundness.proofs.Whole.{GoesAfter, LeftSo}
 
 pub all_found : {A : Type 0} (P : A → Type 0) (xs : List A) (k : ℕ) (x : A) → AllByRecursion P xs → slice_get xs k ≡ Some x → P x
 all_found P [] k x all here = cc
@@ -77,7 +77,7 @@ module _ (program : List Procedure) (typings : Typings) (accepts : (k : ℕ) (p 
       straight : Moves p.registers Straight f.position (at_next_place f.position)
       straight = record { way = Completed; goes_on = refl; values = stands.values }
 
-      behind_rule : (action : Action) → i ≡ instr.Rule action → GoesBehind program typings s held a f is p here action
+      behind_rule : (action : Action) → i ≡ instr.Rule action → GoesAfter program typings s held a f is p here action
       behind_rule action e =
           let own : slice_get p.code f.position.place ≡ Some (instr.Rule action) = at ∙ ap Some e in
           record {
@@ -85,7 +85,7 @@ module _ (program : List Procedure) (typings : Typings) (accepts : (k : ℕ) (p 
             next = typing_on program (typings f.procedure) p acc f.spent f.position (at_next_place f.position) (instr.Rule action) stands own straight;
           }
 
-      behind_put : (action : Action) → i ≡ instr.Put action → GoesBehind program typings s held a f is p here action
+      behind_put : (action : Action) → i ≡ instr.Put action → GoesAfter program typings s held a f is p here action
       behind_put action e =
           let own : slice_get p.code f.position.place ≡ Some (instr.Put action) = at ∙ ap Some e in
           record {

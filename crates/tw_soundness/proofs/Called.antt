@@ -7,7 +7,7 @@ use Rattle.tw_code.specs.declared.instr.Priority.{Priority}
 use Rattle.tw_code.specs.declared.instr.Priority.TheVariants.{Constant, Computed}
 use Rattle.tw_soundness.proofs.Over.{over_params}
 use Rattle.tw_soundness.proofs.Given.{GivenSo, moved_goes, values_met, all_live, all_typed, all_closed}
-use Rattle.tw_soundness.proofs.Values.{AllYes, declared_as, int_there, yes_before, yes_behind}
+use Rattle.tw_soundness.proofs.Values.{AllYes, declared_as, int_there, yes_before, yes_after}
 use Rattle.tw_soundness.proofs.Registers.{Fits}
 use Rattle.tw_soundness.proofs.Steps.{Goes, goes, goes_must, goes_more}
 
@@ -49,7 +49,7 @@ module _ (program : List Procedure) (p : Procedure) (c : Context) (typing : Typi
 
   pub called_goes : (waits : Bool) → AllYes (asks_action waits program p action typing) → Goes (called program p.kind c action) (CalledSo waits)
   called_goes waits met =
-      let callee = callee_met waits p.registers (slice_get program action.procedure) action.args typing (yes_behind (asks_priority p.registers action.priority) _ met.1) in
+      let callee = callee_met waits p.registers (slice_get program action.procedure) action.args typing (yes_after (asks_priority p.registers action.priority) _ met.1) in
       let priority = priority_there action.priority (yes_before (asks_priority p.registers action.priority) _ met.1) in
       let q = callee.procedure in
       goes (procedure_of program action.procedure) _ _ q (ap (λ o. ok_or o WrongCall) callee.is)

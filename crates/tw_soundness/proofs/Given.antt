@@ -1,6 +1,6 @@
 -- RULE and PUT move rights out of their registers, and make them arguments of the parameters, if their checks hold.
 use Rattle.std.proofs.Common.{◌≡◌, ℕ, ◌+◌, ◌<◌, Bool, true, false, not, ◌||◌, if◌then◌else◌, List, [], ◌∷◌, ◌++◌, map, length, slice_get, slice_set, Option, Some, None, is_some, refl, sym, ap, subst, ◌∙◌, arith, inl, inr}
-use Rattle.tw_soundness.proofs.MachineNames.{Arg, ArgFits, ArgsFit, Cause, Closed, Datum, EmptyRegister, Free, HandedOver, Holds, Mode, NestedScalar, Ok, Param, Ref, Result, RightArg, RightType, Rights, RightsFit, RuleArgsFit, Scalar, Store, Typing, Unasked, Val, Value, ValueArg, ValuesFit, Write, WrongRegister, all_pass, and_from, and_parts, asks_args, asks_value, cases_Bool, first_stage, get, handed_over, has_type, held, hits, hits_same, is_asked_for, is_closed, is_closed_if_asked, is_closed_mode, is_live, is_of_type, is_read, is_val, is_write, may_stand_for, ok_or, option_flatten, or_left, or_right, over, passes, read_by, right_at, right_of, right_until, same_scalar, same_type, same_types, scalar_itself, scalar_of, suits_mode, type_itself, values_suit, with_arg, without_args, write_by}
+use Rattle.tw_soundness.proofs.MachineNames.{Arg, ArgFits, ArgsFit, Cause, Closed, Datum, EmptyRegister, Free, HandedOver, Holds, Mode, NestedScalar, Ok, Param, Ref, Result, RightArg, RightType, Rights, RightsFit, RuleArgsFit, Scalar, Store, Typing, Unasked, Val, Value, ValueArg, ValuesFit, Write, WrongRegister, all_pass, and_from, and_parts, asks_args, asks_value, cases_Bool, first_stage, get, handed_over, has_type, held, hits, hits_same, is_asked_for, is_closed, is_closed_if_asked, is_closed_mode, is_live, is_of_type, is_read, is_val, is_write, right_fits_param, ok_or, option_flatten, or_left, or_right, over, passes, read_by, right_at, right_of, right_until, same_scalar, same_type, same_types, scalar_itself, scalar_of, suits_mode, type_itself, values_suit, with_arg, without_args, write_by}
 use Rattle.tw_types.specs.Result.{◌>>=◌}
 use Rattle.tw_soundness.proofs.Over.{over_params}
 use Rattle.tw_soundness.proofs.Registers.{Found, found, emptied, rights_set}
@@ -10,7 +10,7 @@ use Rattle.tw_soundness.proofs.Values.{AllYes, declared_as, value_found, passed}
 -- ---- the argument of a parameter
 
 -- a right that suits the parameter, held on this datum
-pub record StandsFor (waits : Bool) (s : Store) (p : Param) (id : ℕ) : Type 0 where
+pub record FitsParam (waits : Bool) (s : Store) (p : Param) (id : ℕ) : Type 0 where
   pub right : RightType
   pub suits : suits_mode waits p.mode right ≡ true
   pub ty : right.ty ≡ p.ty
@@ -20,7 +20,7 @@ abbrev pub ArgStands : Bool → Store → Param → Bool → Arg → Type 0
 ArgStands waits s p true (ValueArg x) = scalar_of x ≡ p.ty.scalar
 ArgStands waits s p true (RightArg id) = ⊥
 ArgStands waits s p false (ValueArg x) = ⊥
-ArgStands waits s p false (RightArg id) = StandsFor waits s p id
+ArgStands waits s p false (RightArg id) = FitsParam waits s p id
 
 abbrev pub ArgsStand : Bool → Store → List Param → List Arg → Type 0
 ArgsStand waits s [] [] = Unit {0}
@@ -83,7 +83,7 @@ module _ (waits : Bool) (s : Store) (declared : List Scalar) (values : List Valu
         writes = λ d. let z : write_by d (right_of p) None ≡ 0 = ap (λ o. write_by d o None) none in let h = so.writes d in omega arith;
       }))
 
-  right_goes : (p : Param) (params : List Param) (r : ℕ) (registers : List ℕ) (typing : Typing) (rights : Rights) (q : RightType) → is_val p.mode ≡ false → may_stand_for waits p q ≡ true → (f : Found s rights typing r q)
+  right_goes : (p : Param) (params : List Param) (r : ℕ) (registers : List ℕ) (typing : Typing) (rights : Rights) (q : RightType) → is_val p.mode ≡ false → right_fits_param waits p q ≡ true → (f : Found s rights typing r q)
       → Goes (handed_over values (slice_set rights r None) params registers) (GivenSo waits s params (slice_set typing r None) (slice_set rights r None) (without_args params registers (slice_set typing r None)))
       → Goes (right_then values rights params registers r) (GivenSo waits s (p ∷ params) typing rights (without_args params registers (slice_set typing r None)))
   right_goes p params r registers typing rights q e stands f rest =
@@ -114,15 +114,15 @@ module _ (waits : Bool) (s : Store) (declared : List Scalar) (values : List Valu
   moved_goes (p ∷ params) (r ∷ registers) typing rights f met long = elim (cases_Bool (is_val p.mode)) [
     | inl e ↦
         let asked : AllYes (asks_value declared r p.ty.scalar ++ asks_args waits declared params registers typing) =
-        subst (λ b. AllYes (if b then asks_value declared r p.ty.scalar ++ asks_args waits declared params registers typing else (4, passes (may_stand_for waits p) (right_at typing r)) ∷ asks_args waits declared params registers (slice_set typing r None))) e met in
+        subst (λ b. AllYes (if b then asks_value declared r p.ty.scalar ++ asks_args waits declared params registers typing else (4, passes (right_fits_param waits p) (right_at typing r)) ∷ asks_args waits declared params registers (slice_set typing r None))) e met in
         let rest = moved_goes params registers typing rights f asked.1.1 (omega arith) in
         let done = value_goes p params r registers typing rights e asked rest in
         let one = subst (λ b. Goes (if b then value_then values rights params registers r else right_then values rights params registers r) (GivenSo waits s (p ∷ params) typing rights (without_args params registers typing))) (sym e) done in
         subst (λ b. Goes (handed_over values rights (p ∷ params) (r ∷ registers)) (GivenSo waits s (p ∷ params) typing rights (without_args params registers (if b then typing else slice_set typing r None)))) (sym e) one
     | inr e ↦
-        let asked : AllYes ((4, passes (may_stand_for waits p) (right_at typing r)) ∷ asks_args waits declared params registers (slice_set typing r None)) =
-        subst (λ b. AllYes (if b then asks_value declared r p.ty.scalar ++ asks_args waits declared params registers typing else (4, passes (may_stand_for waits p) (right_at typing r)) ∷ asks_args waits declared params registers (slice_set typing r None))) e met in
-        let q = passed (may_stand_for waits p) (right_at typing r) asked.0 in
+        let asked : AllYes ((4, passes (right_fits_param waits p) (right_at typing r)) ∷ asks_args waits declared params registers (slice_set typing r None)) =
+        subst (λ b. AllYes (if b then asks_value declared r p.ty.scalar ++ asks_args waits declared params registers typing else (4, passes (right_fits_param waits p) (right_at typing r)) ∷ asks_args waits declared params registers (slice_set typing r None))) e met in
+        let q = passed (right_fits_param waits p) (right_at typing r) asked.0 in
         let rest = moved_goes params registers (slice_set typing r None) (slice_set rights r None) (rights_set s typing rights r None None f tt) asked.1 (omega arith) in
         let done = right_goes p params r registers typing rights q.0 e q.2 (found s rights typing r q.0 f q.1) rest in
         let one = subst (λ b. Goes (if b then value_then values rights params registers r else right_then values rights params registers r) (GivenSo waits s (p ∷ params) typing rights (without_args params registers (slice_set typing r None)))) (sym e) done in
@@ -136,13 +136,13 @@ module _ (waits : Bool) (s : Store) (declared : List Scalar) (values : List Valu
   values_met (p ∷ params) (r ∷ registers) typing met = elim (cases_Bool (is_val p.mode)) [
     | inl e ↦
         let asked : AllYes (asks_value declared r p.ty.scalar ++ asks_args waits declared params registers typing) =
-        subst (λ b. AllYes (if b then asks_value declared r p.ty.scalar ++ asks_args waits declared params registers typing else (4, passes (may_stand_for waits p) (right_at typing r)) ∷ asks_args waits declared params registers (slice_set typing r None))) e met in
+        subst (λ b. AllYes (if b then asks_value declared r p.ty.scalar ++ asks_args waits declared params registers typing else (4, passes (right_fits_param waits p) (right_at typing r)) ∷ asks_args waits declared params registers (slice_set typing r None))) e met in
         let x = value_found declared values r p.ty.scalar fit (declared_as (slice_get declared r) p.ty.scalar asked.1.0) in
         let has : has_type (slice_get values r) p ≡ true = ap (λ o. has_type o p) x.1 ∙ ap (λ (u : Scalar). same_scalar u p.ty.scalar) x.2 ∙ scalar_itself p.ty.scalar in
         and_from (not (is_val p.mode) || has_type (slice_get values r) p) (values_suit values params registers) (or_right (not (is_val p.mode)) (has_type (slice_get values r) p) has) (values_met params registers typing asked.1.1)
     | inr e ↦
-        let asked : AllYes ((4, passes (may_stand_for waits p) (right_at typing r)) ∷ asks_args waits declared params registers (slice_set typing r None)) =
-        subst (λ b. AllYes (if b then asks_value declared r p.ty.scalar ++ asks_args waits declared params registers typing else (4, passes (may_stand_for waits p) (right_at typing r)) ∷ asks_args waits declared params registers (slice_set typing r None))) e met in
+        let asked : AllYes ((4, passes (right_fits_param waits p) (right_at typing r)) ∷ asks_args waits declared params registers (slice_set typing r None)) =
+        subst (λ b. AllYes (if b then asks_value declared r p.ty.scalar ++ asks_args waits declared params registers typing else (4, passes (right_fits_param waits p) (right_at typing r)) ∷ asks_args waits declared params registers (slice_set typing r None))) e met in
         and_from (not (is_val p.mode) || has_type (slice_get values r) p) (values_suit values params registers) (or_left (not (is_val p.mode)) (has_type (slice_get values r) p) (ap not e)) (values_met params registers (slice_set typing r None) asked.1)
   ]
 
@@ -178,7 +178,7 @@ all_typed waits s (p ∷ params) (RightArg id ∷ args) h = elim (cases_Bool (is
   | inr e ↦ and_from (is_of_type p (get s.live id)) (all_pass is_of_type s.live params args) (one (subst (λ b. ArgStands waits s p b (RightArg id)) e h.0) (get s.live id) refl) (all_typed waits s params args h.1)
 ]
   where
-    one : StandsFor waits s p id → (o : Option Datum) → get s.live id ≡ o → is_of_type p o ≡ true
+    one : FitsParam waits s p id → (o : Option Datum) → get s.live id ≡ o → is_of_type p o ≡ true
     one f None at = refl
     one f (Some x) at = ap (λ (u : NestedScalar). same_type u p.ty) (f.holds.ty x at ∙ f.ty) ∙ type_itself p.ty
 
@@ -192,7 +192,7 @@ all_closed s (p ∷ params) (RightArg id ∷ args) h = elim (cases_Bool (is_val 
   | inr e ↦ and_from (is_closed_if_asked p (get s.live id)) (all_pass is_closed_if_asked s.live params args) (one (subst (λ b. ArgStands false s p b (RightArg id)) e h.0) (get s.live id) refl) (all_closed s params args h.1)
 ]
   where
-    one : StandsFor false s p id → (o : Option Datum) → get s.live id ≡ o → is_closed_if_asked p o ≡ true
+    one : FitsParam false s p id → (o : Option Datum) → get s.live id ≡ o → is_closed_if_asked p o ≡ true
     one f None at = refl
     one f (Some x) at = by p.mode f.suits
       where
@@ -204,7 +204,7 @@ all_closed s (p ∷ params) (RightArg id ∷ args) h = elim (cases_Bool (is_val 
 
 -- ---- the arguments then
 
-holds_as : (waits : Bool) (s : Store) (p : Param) (id : ℕ) (mode : Mode) → StandsFor waits s p id → (is_closed_mode mode ≡ true → is_closed_mode p.mode ≡ true) → (is_closed_mode mode ≡ true → waits ≡ false) → Holds s (record { mode = mode; ty = p.ty }) id
+holds_as : (waits : Bool) (s : Store) (p : Param) (id : ℕ) (mode : Mode) → FitsParam waits s p id → (is_closed_mode mode ≡ true → is_closed_mode p.mode ≡ true) → (is_closed_mode mode ≡ true → waits ≡ false) → Holds s (record { mode = mode; ty = p.ty }) id
 holds_as waits s p id mode f to now = record {
   given = f.holds.given;
   ty = λ x at. f.holds.ty x at ∙ f.ty;

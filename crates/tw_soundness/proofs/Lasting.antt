@@ -6,8 +6,8 @@ use Rattle.tw_types.specs.declared.event.Event.TheVariants.{Take, Local, Call, E
 use Rattle.tw_types.specs.declared.notice.Subscriber.{Subscriber}
 use Rattle.tw_types.proofs.Outcomes.{IfWent, if_both, if_ok, same_went, went_first, went_of}
 use Rattle.tw_code.specs.declared.instr.Instr.TheVariants as instr
-use Rattle.tw_code.specs.machine.Machine.{Standing, call_by, call_event, run, standing_of, step}
-use Rattle.tw_code.proofs.Leaving.{Stood, ask_leaves, deliver_leaves, end_leaves, local_leaves, release_leaves, stood, take_leaves}
+use Rattle.tw_code.specs.machine.Machine.{RunningInstr, call_by, call_event, run, running_instr_of, step}
+use Rattle.tw_code.proofs.Leaving.{IsRunningAt, ask_leaves, deliver_leaves, end_leaves, local_leaves, release_leaves, is_running_at, take_leaves}
 use Rattle.tw_soundness.proofs.AllEvents.{Accepted, step_keeps}
 use Rattle.tw_soundness.proofs.Registers.{Undisturbed, undisturbed_after, undisturbed_itself}
 use Rattle.tw_soundness.proofs.Stages.{subscribed_undisturbed}
@@ -47,16 +47,16 @@ module _ (program : List Procedure) (typings : Typings) (accepted : Accepted pro
         running_put s.frames a g next (let l = h a f is in omega (arith, same)) (λ b x at. let l = h b x at in omega arith)
 
     called_lasts : (a : Actor) → IfWent (call_event program a s) (Lasts s)
-    called_lasts a = if_both (standing_of program a s) (λ at e. by at (stood program a s at e) at.instr refl)
+    called_lasts a = if_both (running_instr_of program a s) (λ at e. by at (is_running_at program a s at e) at.instr refl)
       where
-        left : (at : Standing) → Stood program a s at → (d : DataInstr) (c : Context) → at.instr ≡ instr.Data d → data_instr d (context_of s at.frame) ≡ Ok c → Undisturbed s.store c.store
+        left : (at : RunningInstr) → IsRunningAt program a s at → (d : DataInstr) (c : Context) → at.instr ≡ instr.Data d → data_instr d (context_of s at.frame) ≡ Ok c → Undisturbed s.store c.store
         left at st d c is e =
             let k = accepted.known s held a at.frame st.frame in
             let own : k.procedure ≡ at.procedure = same_Some k.procedure at.procedure (sym k.here ∙ st.procedure) in
             let same : k.instr ≡ instr.Data d = same_Some k.instr (instr.Data d) (sym k.at ∙ ap (λ (q : Procedure). slice_get q.code at.frame.position.place) own ∙ st.instr ∙ ap Some is) in
             (goes_at (data_instr d (context_of s at.frame)) (LeftSo program typings s held a at.frame st.frame k.procedure k.here) c (k.turn.by_data d same) e).settles.others
 
-        by : (at : Standing) → Stood program a s at → (i : Instr) → at.instr ≡ i → IfWent (call_by program s a at i) (Lasts s)
+        by : (at : RunningInstr) → IsRunningAt program a s at → (i : Instr) → at.instr ≡ i → IfWent (call_by program s a at i) (Lasts s)
         by at st (instr.Local i) is = record { is = tt }
         by at st (instr.Data d) is = if_ok (data_instr d (context_of s at.frame)) (λ c e. record {
           is = record {

@@ -50,19 +50,19 @@ pub use Rattle.tw_code.specs.declared.instr.Instr.{Instr}
 pub use Rattle.tw_code.specs.declared.procedure.Procedure.{Procedure}
 pub use Rattle.tw_code.specs.accepting.Flow.{data_flow, flow_of, flows, local_flow, onward}
 pub use Rattle.tw_code.specs.accepting.Question.{Question, passes, rejection_in}
-pub use Rattle.tw_code.specs.accepting.Typing.{a_member_read, a_read, a_write, after, after_data, asks, asks_action, asks_alike, asks_args, asks_at, asks_callee, asks_data, asks_local, asks_params, asks_priority, asks_value, asks_values, is_free, may_stand_for, reads, reads_closed_container, reads_closed_container_by, reads_closed_scalar, reads_member_of, rights_given, start_typing, suits_mode, value_types, values_fit, without_args, writes, writes_container_by, writes_scalar}
+pub use Rattle.tw_code.specs.accepting.Typing.{a_member_read, a_read, a_write, after, after_data, asks, asks_action, asks_alike, asks_args, asks_at, asks_callee, asks_data, asks_local, asks_params, asks_priority, asks_value, asks_values, is_free, right_fits_param, reads, reads_closed_container, reads_closed_container_by, reads_closed_scalar, reads_member_of, rights_given, start_typing, suits_mode, value_types, values_fit, without_args, writes, writes_container_by, writes_scalar}
 pub use Rattle.tw_code.specs.accepting.Walk.{IsBudget, greatest_budget, moved}
 pub use Rattle.tw_code.specs.format.Program.{IsDataInstr, IsInstr, IsParam, IsProcedure, IsProgram, IsTypeUnder}
 pub use Rattle.tw_code.specs.machine.Arguments.{Called, HandedOver, all_pass, called, handed_over, has_type, is_closed_if_asked, is_live, is_of_type, params_in, params_of, priority_at, procedure_of, put_called, values_suit, with_arg}
 pub use Rattle.tw_code.specs.machine.Data.{Context, after_insert, after_look, data_instr, datum_at, datum_of, given, suits}
 pub use Rattle.tw_code.specs.machine.Holders.{Typings, frame_reads, frame_writes, id_of, over, read_by, reads_of, rule_reads, rule_writes, task_reads, task_writes, typing_at, typing_of, write_by, writes_of}
-pub use Rattle.tw_code.specs.machine.Machine.{Standing, ask_event, asked, call_by, call_event, deliver_event, id_in, is_ret, local_of, local_step, local_steps, own_rule, put_event, ready_at, release_event, rule_event, run, standing_of, step, take_event}
+pub use Rattle.tw_code.specs.machine.Machine.{RunningInstr, ask_event, asked, call_by, call_event, deliver_event, id_in, is_ret, local_of, local_step, local_steps, own_rule, put_event, ready_at, release_event, rule_event, run, running_instr_of, step, take_event}
 pub use Rattle.tw_code.specs.machine.Opening.{added_given, closed_scalar, numbered, opening, reached, with_container, with_input}
 pub use Rattle.tw_code.specs.machine.Position.{Cursor, Loop, Position, after_end, at_goal, at_next_place, goal_of, int_at, int_in, must_have_type, of_type_at, text_at, text_in, turned, value_at, with_result, with_value}
 pub use Rattle.tw_code.specs.machine.Rights.{RightType, Rights, Typing, first_rights, held, must_be_empty, right_at, right_of}
-pub use Rattle.tw_code.specs.machine.State.{Frame, Frames, State, after_context, context_of, filled, frame_of, gone_behind, ids_in, new_rule, values_in, with_frame, with_rule, with_stage, with_task}
+pub use Rattle.tw_code.specs.machine.State.{Frame, Frames, State, after_context, context_of, filled, frame_of, gone_after, ids_in, new_rule, values_in, with_frame, with_rule, with_stage, with_task}
 pub use Rattle.tw_code.specs.machine.Waiting.{arg_at, stage_at, times_among, times_at, times_noticed, times_noticed_by, times_subscribed, times_waiting}
 pub use Rattle.tw_soundness.specs.InOrder.{ArgAsDue, HeldAsDue, IsArgOf, IsHeldAs, IsInOrder, IsTypedFrame, IsTypedRule, IsTypedTask, LivesOn, RuleArgAsDue, StaysInOrder, ValueAsDue, is_asked_for, output_rights, read_until, right_until}
 pub use Rattle.tw_soundness.specs.Invariant.{AreBegun, ArgFits, ArgsFit, BudgetsHeld, CountsHeld, Holds, IsHeld, NumbersHeld, RightFits, RightsFit, RuleArgsFit, TypesHeld, ValuesFit}
 pub use Rattle.tw_soundness.specs.NoTrap.{AreRight, ExactlyOne, GivesState, HasOneStep, IsBelowBudget, IsSafe, NoTrap}
-pub use Rattle.tw_soundness.specs.Standing.{Accepts, Stands}
+pub use Rattle.tw_soundness.specs.AtPlace.{Accepts, Stands}

@@ -14,7 +14,7 @@ use Rattle.tw_budget.specs.Frames.{LoopsFit}
 use Rattle.tw_budget.proofs.FrameTheorems.{stays_within, end_goes_on}
 use Rattle.tw_budget.proofs.Places.{close_end}
 use Rattle.tw_soundness.proofs.Steps.{Happens, Keeps, goes_happens, happens_keeps, keeps_more, waits_keeps}
-use Rattle.tw_soundness.proofs.Values.{AllYes, HasLoop, Moves, all_yes, local_moves, yes_behind}
+use Rattle.tw_soundness.proofs.Values.{AllYes, HasLoop, Moves, all_yes, local_moves, yes_after}
 
 -- ---- loops
 
@@ -110,7 +110,7 @@ module _ (program : List Procedure) (typings : List Typing) (p : Procedure) (acc
   -- the checks of its instruction hold
   pub asked : (place : ℕ) (i : Instr) → slice_get p.code place ≡ Some i → AllYes (asks program p i (get_or typings place []))
   asked place i here =
-      yes_behind (if place == 0 then asks_params p else []) (asks program p i (get_or typings place []))
+      yes_after (if place == 0 then asks_params p else []) (asks program p i (get_or typings place []))
       (all_yes (asks_at program p place i (get_or typings place [])) (accepts.typed.asks place i (get_or typings place []) here (typing_there place (slice_get_within p.code place i here))))
 
   -- an END has a loop

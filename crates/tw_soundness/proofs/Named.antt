@@ -3,8 +3,8 @@ use Rattle.std.proofs.Common.{◌≡◌, ◌≢◌, ℕ, ◌+◌, ◌≤◌, inl
 use Rattle.tw_soundness.proofs.MachineNames.{Data, Datum, Notice, Notices, RightArg, Rules, arg_at, cases_Bool, cases_eq, data_insert_other, data_insert_same, get, insert, is_closed, notices_of, part, same_Some, stage_at, subscribers_cleared, times_among, times_noticed, times_subscribed, times_waiting, total, with_notices}
 use Rattle.std.specs.FinSet as set
 use Rattle.tw_soundness.specs.Noticed.{AreNamed}
-use Rattle.tw_code.proofs.Sets.{told_keeps, told_has, told_only}
-use Rattle.tw_code.proofs.Subscribed.{subscribed_put, subscribed-le, waits-le, noticed_at, noticed_one, noticed_alike, silenced, and_told}
+use Rattle.tw_code.proofs.Sets.{notified_keeps, notified_has, notified_only}
+use Rattle.tw_code.proofs.Subscribed.{subscribed_put, subscribed-le, waits-le, noticed_at, noticed_one, noticed_alike, silenced, and_notified}
 use Rattle.tw_soundness.proofs.Sums.{same_bool, subscribed_same}
 
 -- ---- waiting parameters
@@ -119,7 +119,7 @@ named_told m s rules id x y h is same stays = by (is_closed y) refl
           );
         }
 
-    closed_case : is_closed y ≡ true → AreNamed (insert m id (silenced y)) (and_told s id y) rules
+    closed_case : is_closed y ≡ true → AreNamed (insert m id (silenced y)) (and_notified s id y) rules
     closed_case closed = record {
       once = λ r p. counted r p;
       subscribers = λ d z r p at some. elim (cases_eq d id) [
@@ -128,7 +128,7 @@ named_told m s rules id x y h is same stays = by (is_closed y) refl
             absurd (some (ap (times_subscribed r p) z_is))
         | inr e ↦ h.subscribers d z r p (sym (data_insert_other m id (silenced y) d e) ∙ at) some
       ];
-      notices = λ q there. elim (told_only s id y.subscribers q there) [
+      notices = λ q there. elim (notified_only s id y.subscribers q there) [
         | inl before ↦ (
           (h.notices q before).0,
           λ z at. elim (cases_eq q.datum id) [
@@ -148,7 +148,7 @@ named_told m s rules id x y h is same stays = by (is_closed y) refl
       ];
     }
       where
-        counted : (r p : ℕ) → total (times_subscribed r p) (insert m id (silenced y)) + times_noticed (and_told s id y) rules r p ≡ times_waiting rules r p
+        counted : (r p : ℕ) → total (times_subscribed r p) (insert m id (silenced y)) + times_noticed (and_notified s id y) rules r p ≡ times_waiting rules r p
         counted r p =
             let put = subscribed_put r p m id x (silenced y) is in
             let o = h.once r p in
@@ -156,17 +156,17 @@ named_told m s rules id x y h is same stays = by (is_closed y) refl
             let k = subscribed-le r p m id x is in
             elim (cases_eq 0 (times_subscribed r p x)) [
               | inl none ↦
-                  let unchanged : times_noticed (and_told s id y) rules r p ≡ times_noticed s rules r p = noticed_alike s (and_told s id y) r p (arg_at (get rules r) p) (λ d arg. same_bool _ _ (λ t. old_only d t none) (λ t. told_keeps s id y.subscribers _ t)) in
+                  let unchanged : times_noticed (and_notified s id y) rules r p ≡ times_noticed s rules r p = noticed_alike s (and_notified s id y) r p (arg_at (get rules r) p) (λ d arg. same_bool _ _ (λ t. old_only d t none) (λ t. notified_keeps s id y.subscribers _ t)) in
                   omega arith
               | inr some ↦
                   let arg = (h.subscribers id x r p is some).1 in
-                  let has = told_has s id r p y.subscribers (λ n. some (n ∙ ap (times_among r p) same)) in
-                  let one : times_noticed (and_told s id y) rules r p ≡ 1 = noticed_at (and_told s id y) rules r p id arg ∙ ap (λ b. if b then 1 else 0) has in
+                  let has = notified_has s id r p y.subscribers (λ n. some (n ∙ ap (times_among r p) same)) in
+                  let one : times_noticed (and_notified s id y) rules r p ≡ 1 = noticed_at (and_notified s id y) rules r p id arg ∙ ap (λ b. if b then 1 else 0) has in
                   omega arith
             ]
           where
-            old_only : (d : ℕ) → set.contains (and_told s id y) (record { datum = d; rule = r; parameter = p }) ≡ true → 0 ≡ times_subscribed r p x → set.contains s (record { datum = d; rule = r; parameter = p }) ≡ true
-            old_only d t none = elim (told_only s id y.subscribers (record { datum = d; rule = r; parameter = p }) t) [
+            old_only : (d : ℕ) → set.contains (and_notified s id y) (record { datum = d; rule = r; parameter = p }) ≡ true → 0 ≡ times_subscribed r p x → set.contains s (record { datum = d; rule = r; parameter = p }) ≡ true
+            old_only d t none = elim (notified_only s id y.subscribers (record { datum = d; rule = r; parameter = p }) t) [
               | inl before ↦ before
               | inr now ↦ absurd (now.1 (none ∙ ap (times_among r p) (sym same)))
             ]

@@ -1,9 +1,9 @@
 -- Each running task has exactly one next step, which succeeds, and is below its budget.
 use Rattle.std.proofs.Common.{◌≡◌, ℕ, ◌+◌, inl, inr, true, false, List, slice_get, Some, None, is_none, refl, sym, ap, subst, ◌∙◌}
-use Rattle.tw_soundness.proofs.MachineNames.{◌>>=◌, ◌>>◌, Accepts, Actor, ActorCounts, Cause, Err, ExactlyOne, Frame, GivesState, HasOneStep, Instr, IsBelowBudget, IsHeld, NotEnabled, Ok, Outcome, Position, Procedure, Result, RightLeft, State, Trap, Typings, Went, after_context, asks, called, context_of, data_instr, flows, get, gone_behind, list_all, must, new_rule, number_in_kind, only_if, outcome_of, put_called, remove, typing_of, with_frame, with_rule, with_task}
+use Rattle.tw_soundness.proofs.MachineNames.{◌>>=◌, ◌>>◌, Accepts, Actor, ActorCounts, Cause, Err, ExactlyOne, Frame, GivesState, HasOneStep, Instr, IsBelowBudget, IsHeld, NotEnabled, Ok, Outcome, Position, Procedure, Result, RightLeft, State, Trap, Typings, Went, after_context, asks, called, context_of, data_instr, flows, get, gone_after, list_all, must, new_rule, number_in_kind, only_if, outcome_of, put_called, remove, typing_of, with_frame, with_rule, with_task}
 use Rattle.tw_code.specs.declared.instr.Instr.TheVariants as instr
 use Rattle.tw_code.specs.declared.instr.LocalInstr.{LocalInstr}
-use Rattle.tw_code.specs.machine.Machine.{Standing, call_by, call_event, end_event, is_ret, local_event, local_of, local_step, local_steps, standing_of, step}
+use Rattle.tw_code.specs.machine.Machine.{RunningInstr, call_by, call_event, end_event, is_ret, local_event, local_of, local_step, local_steps, running_instr_of, step}
 use Rattle.tw_budget.proofs.FrameTheorems.{below_budget}
 use Rattle.tw_soundness.proofs.Accepted.{known, stands}
 use Rattle.tw_soundness.proofs.AllEvents.{Known, all_empty}
@@ -28,14 +28,14 @@ module _ (program : List Procedure) (typings : Typings) (accepts : (k : ℕ) (p 
     acc : Accepts program (typings f.procedure) k.procedure
     acc = accepts f.procedure k.procedure k.here
 
-    abbrev standing : Standing
+    abbrev standing : RunningInstr
     standing = record { frame = f; procedure = k.procedure; instr = k.instr }
 
     call_is : call_event program a s ≡ call_by program s a standing k.instr
-    call_is = ap (λ (o : Outcome Standing). o >>= λ at. call_by program s a at at.instr) standing_is
+    call_is = ap (λ (o : Outcome RunningInstr). o >>= λ at. call_by program s a at at.instr) running_instr_is
       where
-        standing_is : standing_of program a s ≡ Went standing
-        standing_is = rw (is, k.here, k.at) refl
+        running_instr_is : running_instr_of program a s ≡ Went standing
+        running_instr_is = rw (is, k.here, k.at) refl
 
     abbrev ended : Instr → Outcome State
     ended i = only_if (is_ret i) >> (outcome_of (must (list_all is_none f.rights) RightLeft) >> Went (record s { frames = remove s.frames a }))
@@ -79,11 +79,11 @@ module _ (program : List Procedure) (typings : Typings) (accepts : (k : ℕ) (p 
         by (instr.Data d) e = by_call (instr.Data d) e refl refl
             (goes_gives (data_instr d (context_of s f)) (after_context s a f) _ (k.turn.by_data d e))
         by (instr.Rule action) e = by_call (instr.Rule action) e refl refl
-            (goes_gives (called program k.procedure.kind (context_of s f) action) (λ call. with_frame (with_rule s (new_rule (number_in_kind a) call.params call.task)) a (gone_behind f call.rights)) _
+            (goes_gives (called program k.procedure.kind (context_of s f) action) (λ call. with_frame (with_rule s (new_rule (number_in_kind a) call.params call.task)) a (gone_after f call.rights)) _
             (called_goes program k.procedure (context_of s f) (typing_of typings f) (other_reads program typings s a) (other_writes program typings s a) action (fits_of program typings s held a f is) (held.types.values a f k.procedure is k.here) true
             (subst (λ i. AllYes (asks program k.procedure i (typing_of typings f))) e k.turn.met)))
         by (instr.Put action) e = by_call (instr.Put action) e refl refl
-            (goes_gives (put_called program k.procedure.kind (context_of s f) action) (λ call. with_frame (with_task s call.task) a (gone_behind f call.rights)) _
+            (goes_gives (put_called program k.procedure.kind (context_of s f) action) (λ call. with_frame (with_task s call.task) a (gone_after f call.rights)) _
             (put_goes program k.procedure (context_of s f) (typing_of typings f) (other_reads program typings s a) (other_writes program typings s a) action (fits_of program typings s held a f is) (held.types.values a f k.procedure is k.here)
             (subst (λ i. AllYes (asks program k.procedure i (typing_of typings f))) e k.turn.met)))
         by instr.Ret e =

@@ -26,9 +26,9 @@ all_yes [] e = tt
 all_yes ((n, true) ∷ questions) e = (refl, all_yes questions e)
 all_yes ((n, false) ∷ questions) e = cc
 
-pub yes_behind : (first second : List Question) → AllYes (first ++ second) → AllYes second
-yes_behind [] second h = h
-yes_behind (q ∷ first) second h = yes_behind first second h.1
+pub yes_after : (first second : List Question) → AllYes (first ++ second) → AllYes second
+yes_after [] second h = h
+yes_after (q ∷ first) second h = yes_after first second h.1
 
 pub yes_before : (first second : List Question) → AllYes (first ++ second) → AllYes first
 yes_before [] second h = tt

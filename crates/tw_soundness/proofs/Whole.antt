@@ -1,6 +1,6 @@
 -- The three events of a running task keep the invariant, and never trap, if its step is one that the typing allows.
 use Rattle.std.proofs.Common.{◌≡◌, ℕ, ◌+◌, ◌<◌, true, List, slice_get, Some, refl, sym, ap, subst, ◌∙◌, arith}
-use Rattle.tw_soundness.proofs.MachineNames.{◌>>=◌, Actor, Cause, Context, CountsHeld, DataInstr, Datum, Err, Frame, Instr, IsHeld, Ok, Outcome, Procedure, Result, RightType, Scalar, Standing, Stands, State, TypesHeld, Typing, Typings, Went, actor_cmp, actor_cmp-IsAntisymmetric, actor_cmp_total, after_context, asks, asks_data, at_next_place, balanced_same, call_by, call_event, context_of, data_instr, frame_reads, frame_writes, get, insert, is_write, ok_of, option_flatten, outcome_of, params_of, right_at, same_Some, standing_of, total, typing_at, typing_of, without_args, writes}
+use Rattle.tw_soundness.proofs.MachineNames.{◌>>=◌, Actor, Cause, Context, CountsHeld, DataInstr, Datum, Err, Frame, Instr, IsHeld, Ok, Outcome, Procedure, Result, RightType, Scalar, RunningInstr, Stands, State, TypesHeld, Typing, Typings, Went, actor_cmp, actor_cmp-IsAntisymmetric, actor_cmp_total, after_context, asks, asks_data, at_next_place, balanced_same, call_by, call_event, context_of, data_instr, frame_reads, frame_writes, get, insert, is_write, ok_of, option_flatten, outcome_of, params_of, right_at, same_Some, running_instr_of, total, typing_at, typing_of, without_args, writes}
 use Rattle.tw_code.specs.declared.instr.DataInstr.TheVariants as on_data
 use Rattle.tw_code.specs.declared.instr.Action.{Action}
 use Rattle.tw_code.specs.declared.instr.Instr.TheVariants as instr
@@ -49,7 +49,7 @@ module _ (program : List Procedure) (typings : Typings) (s : State) (held : IsHe
     pub settles : Settles (typing_at typings f.procedure c.position.place) (context_of s f) (other_reads program typings s a) (other_writes program typings s a) c
 
   -- where a task continues after a RULE or PUT, which are straight
-  pub record GoesBehind (action : Action) : Type 0 where
+  pub record GoesAfter (action : Action) : Type 0 where
     pub stands : Stands p (f.spent + 1) (at_next_place f.position)
     pub next : typing_at typings f.procedure (f.position.place + 1) ≡ without_args (params_of program action.procedure) action.args (typing_of typings f)
 
@@ -57,8 +57,8 @@ module _ (program : List Procedure) (typings : Typings) (s : State) (held : IsHe
   pub record Turn (i : Instr) : Type 0 where
     pub met : AllYes (asks program p i (typing_of typings f))
     pub by_data : (d : DataInstr) → i ≡ instr.Data d → Goes (data_instr d (context_of s f)) LeftSo
-    pub behind_rule : (action : Action) → i ≡ instr.Rule action → GoesBehind action
-    pub behind_put : (action : Action) → i ≡ instr.Put action → GoesBehind action
+    pub behind_rule : (action : Action) → i ≡ instr.Rule action → GoesAfter action
+    pub behind_put : (action : Action) → i ≡ instr.Put action → GoesAfter action
 
   module _ (c : Context) (l : LeftSo c) where
     abbrev next_frame : Frame
@@ -105,10 +105,10 @@ module _ (program : List Procedure) (typings : Typings) (s : State) (held : IsHe
   keeps_data i (Err cause) e met l = l
 
   pub call_keeps : (i : Instr) → slice_get p.code f.position.place ≡ Some i → Turn i → Keeps (call_event program a s) (IsHeld program typings)
-  call_keeps i at_place turn = subst (λ (o : Outcome Standing). Keeps (o >>= λ at. call_by program s a at at.instr) (IsHeld program typings)) (sym standing_is) (by i turn)
+  call_keeps i at_place turn = subst (λ (o : Outcome RunningInstr). Keeps (o >>= λ at. call_by program s a at at.instr) (IsHeld program typings)) (sym running_instr_is) (by i turn)
     where
-      standing_is : standing_of program a s ≡ Went (record { frame = f; procedure = p; instr = i })
-      standing_is = rw (is, here, at_place) refl
+      running_instr_is : running_instr_of program a s ≡ Went (record { frame = f; procedure = p; instr = i })
+      running_instr_is = rw (is, here, at_place) refl
 
       by : (i : Instr) → Turn i → Keeps (call_by program s a (record { frame = f; procedure = p; instr = i }) i) (IsHeld program typings)
       by (instr.Local j) t = tt

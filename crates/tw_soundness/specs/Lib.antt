@@ -7,4 +7,4 @@ pub mod EndsWell
 -- it, and none of it has to be trusted.
 pub mod Noticed
 pub mod Invariant
-pub mod Standing
+pub mod AtPlace

@@ -14,10 +14,10 @@ use Rattle.tw_code.specs.declared.instr.Instr.TheVariants as instr
 use Rattle.tw_code.specs.declared.procedure.Procedure.{Procedure}
 use Rattle.tw_code.specs.machine.Arguments.{called, put_called}
 use Rattle.tw_code.specs.machine.Data.{data_instr}
-use Rattle.tw_code.specs.machine.Machine.{Standing, call_by, call_event, standing_of, step}
+use Rattle.tw_code.specs.machine.Machine.{RunningInstr, call_by, call_event, running_instr_of, step}
 use Rattle.tw_code.specs.machine.Rights.{right_at}
 use Rattle.tw_code.specs.machine.State.{Frame, State, context_of}
-use Rattle.tw_code.proofs.Leaving.{Stood, stood, take_leaves, local_leaves, end_leaves, ask_leaves, deliver_leaves, release_leaves}
+use Rattle.tw_code.proofs.Leaving.{IsRunningAt, is_running_at, take_leaves, local_leaves, end_leaves, ask_leaves, deliver_leaves, release_leaves}
 use Rattle.tw_stats.specs.declared.dependency.Dependency.{Dependency}
 use Rattle.tw_stats.specs.declared.dependency.Dependency.TheVariants.{Datum}
 use Rattle.tw_stats.specs.Kept.{rules_in, tasks_in}
@@ -40,7 +40,7 @@ datum_more s t (Some id) task rule = record { task = task ∙ no_more s.next_tas
 
 module _ (program : List Procedure) (actor : Actor) (s : State) where
   -- the actor's task makes this by its next instruction
-  made_here : (at : Standing) → Stood program actor s at → (i : Instr) → at.instr ≡ i → made_in program s (get s.frames actor) ≡ made_by s at.frame (Some i)
+  made_here : (at : RunningInstr) → IsRunningAt program actor s at → (i : Instr) → at.instr ≡ i → made_in program s (get s.frames actor) ≡ made_by s at.frame (Some i)
   made_here at h i is =
       ap (λ (f : Option Frame). made_in program s f) h.frame
       ∙ ap (λ (p : Option Procedure). made_by s at.frame (option_and_then (λ p. slice_get p.code at.frame.position.place) p)) h.procedure
@@ -50,9 +50,9 @@ module _ (program : List Procedure) (actor : Actor) (s : State) where
   more_of made other t same h = record { task = h.task ∙ ap (λ (o : Option Dependency). s.next_task + tasks_in o) (sym same); rule = h.rule ∙ ap (λ (o : Option Dependency). s.next_rule + rules_in o) (sym same) }
 
   call_more : IfWent (call_event program actor s) (AreMore s (made_in program s (get s.frames actor)))
-  call_more = if_both (standing_of program actor s) (λ at stands. by at (stood program actor s at stands) at.instr refl)
+  call_more = if_both (running_instr_of program actor s) (λ at stands. by at (is_running_at program actor s at stands) at.instr refl)
     where
-      by : (at : Standing) → Stood program actor s at → (i : Instr) → at.instr ≡ i → IfWent (call_by program s actor at i) (AreMore s (made_in program s (get s.frames actor)))
+      by : (at : RunningInstr) → IsRunningAt program actor s at → (i : Instr) → at.instr ≡ i → IfWent (call_by program s actor at i) (AreMore s (made_in program s (get s.frames actor)))
       by at here (instr.Local i) is = record { is = tt }
       by at here (instr.Data i) is =
           if_ok (data_instr i (context_of s at.frame)) (λ c e. record { is = more_of _ _ _ (made_here at here (instr.Data i) is) (datum_more s _ (option_and_then (right_at at.frame.rights) (written i)) refl refl) })

@@ -1,6 +1,6 @@
 -- The checks that RULE and PUT make of their arguments, one by one.
 use Rattle.std.proofs.Common.{◌≡◌, ◌⊎◌, inl, inr, ℕ, Bool, true, false, List, [], ◌∷◌, ◌++◌, refl, sym, ap, ◌∙◌}
-use Rattle.tw_verify.proofs.VerifierNames.{None, Question, Scalar, Typing, append-nil, asks_args, asks_value, if◌then◌else◌, lowest_of, may_stand_for, passes, rejection_in, right_at, slice_set, without_args}
+use Rattle.tw_verify.proofs.VerifierNames.{None, Question, Scalar, Typing, append-nil, asks_args, asks_value, if◌then◌else◌, lowest_of, right_fits_param, passes, rejection_in, right_at, slice_set, without_args}
 use Rattle.tw_types.specs.declared.param.Param.{Param}
 use Rattle.tw_types.specs.Mode.{is_val}
 use Rattle.tw_verify.proofs.Numbers.{rejection_in-append}
@@ -9,7 +9,7 @@ use Rattle.tw_verify.proofs.Numbers.{rejection_in-append}
 pub ask_more : (waits : Bool) (registers : List Scalar) (p : Param) (params : List Param) (arg : ℕ) (args : List ℕ) (typing : Typing)
     → rejection_in (asks_args waits registers (p ∷ params) (arg ∷ args) typing)
     ≡ lowest_of (rejection_in (asks_args waits registers (p ∷ []) (arg ∷ []) typing)) (rejection_in (asks_args waits registers params args (without_args (p ∷ []) (arg ∷ []) typing)))
-ask_more waits registers p params arg args typing = by (is_val p.mode) (asks_value registers arg p.ty.scalar) (4, passes (may_stand_for waits p) (right_at typing arg))
+ask_more waits registers p params arg args typing = by (is_val p.mode) (asks_value registers arg p.ty.scalar) (4, passes (right_fits_param waits p) (right_at typing arg))
   where
     by : (b : Bool) (value : List Question) (right : Question) → rejection_in (if b then value ++ asks_args waits registers params args typing else right ∷ asks_args waits registers params args (slice_set typing arg None))
         ≡ lowest_of (rejection_in (if b then value ++ [] else right ∷ [])) (rejection_in (asks_args waits registers params args (if b then typing else slice_set typing arg None)))

@@ -32,7 +32,7 @@ fn argument_rejection(
     }
     let fits = typing
         .right_at(arg)
-        .is_some_and(|right| right.may_stand_for(waits, param));
+        .is_some_and(|right| right.right_fits_param(waits, param));
     (!fits).then_some(VerifyError::WrongRight)
 }
 

@@ -9,7 +9,7 @@ ghost use Rattle.tw_code.specs.format.Program.{IsAction, IsDataInstr, IsInstr, I
 ghost use Rattle.tw_code.specs.declared.instr.DataInstr.TheVariants as on_data;
 ghost use Rattle.tw_code.specs.machine.Arguments.{params_of};
 ghost use Rattle.tw_code.specs.machine.Rights.{right_at};
-ghost use Rattle.tw_code.specs.accepting.Typing.{start_typing, is_free, writes, writes_scalar, writes_container_by, reads, reads_closed_scalar, reads_closed_container, reads_closed_container_by, reads_member_of, a_write, a_read, may_stand_for, after_data, without_args, after};
+ghost use Rattle.tw_code.specs.accepting.Typing.{start_typing, is_free, writes, writes_scalar, writes_container_by, reads, reads_closed_scalar, reads_closed_container, reads_closed_container_by, reads_member_of, a_write, a_read, right_fits_param, after_data, without_args, after};
 ghost use Rattle.tw_verify.specs.Same.{same_typing};
 
 use std::marker::Model;
@@ -118,8 +118,8 @@ impl RightType {
     }
 
     /// Returns whether it suits a parameter. For a `closed` one any read does, if the task waits for its data.
-    pub(crate) fn may_stand_for(self, waits: bool, param: Param) -> bool
-        ensures { result ≡ may_stand_for waits param self }
+    pub(crate) fn right_fits_param(self, waits: bool, param: Param) -> bool
+        ensures { result ≡ right_fits_param waits param self }
     {
         let suits = match param.mode {
             Mode::Val => false,

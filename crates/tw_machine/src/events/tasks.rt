@@ -4,7 +4,7 @@ ghost use Rattle.std.specs.Prelude.{◌≡◌, ◌<◌, ◌^◌, IfSome, MatchRe
 ghost use Rattle.std.specs.FinMap.{get, remove};
 ghost use Rattle.tw_types.specs.declared.actor.Actor.{Actor as AnActor};
 ghost use Rattle.tw_types.specs.Outcome.{Went};
-ghost use Rattle.tw_code.specs.machine.Machine.{end_event, local_event, local_step, standing_of, take_event};
+ghost use Rattle.tw_code.specs.machine.Machine.{end_event, local_event, local_step, running_instr_of, take_event};
 ghost use Rattle.tw_code.specs.machine.State.{State as Meaning};
 ghost use Rattle.tw_instr.specs.Attempts.{Changes, IsStopped, barred_by, unless_barred};
 ghost use Rattle.tw_machine.specs.Events.{FrameComes, FramesCome, IsLocalAt, instr_of, with_frames, with_tasks};
@@ -53,7 +53,7 @@ pub fn local(
     requires steps { steps < 2 ^ 63 }
     requires spent { IfSome (get (frames_of frames.old.entries) actor) (λ frame. frame.spent < 2 ^ 63) }
     ensures goes { FramesCome (local_event program.now actor steps) (frames_of frames.old.entries) result (frames_of frames.new.entries) }
-    ensures memory { result ≡ Err Stopped.NoMemory → (s : Meaning) → HasCome IsLocal (standing_of program.now actor (with_frames s (frames_of frames.old.entries))) }
+    ensures memory { result ≡ Err Stopped.NoMemory → (s : Meaning) → HasCome IsLocal (running_instr_of program.now actor (with_frames s (frames_of frames.old.entries))) }
 {
     let Some(frame) = frames.get_mut(&actor) else {
         return Err(Stopped::NotEnabled);
@@ -70,7 +70,7 @@ fn local_of(
     requires steps { steps < 2 ^ 63 }
     requires spent { frame.old.spent < 2 ^ 63 }
     ensures goes { FrameComes (λ actor. local_event program.now actor steps) frame.old result frame.new }
-    ensures memory { result ≡ Err Stopped.NoMemory → (s : Meaning) (actor : AnActor) → get s.frames actor ≡ Some frame.old → HasCome IsLocal (standing_of program.now actor s) }
+    ensures memory { result ≡ Err Stopped.NoMemory → (s : Meaning) (actor : AnActor) → get s.frames actor ≡ Some frame.old → HasCome IsLocal (running_instr_of program.now actor s) }
 {
     if steps == 0 {
         return Err(Stopped::NotEnabled);

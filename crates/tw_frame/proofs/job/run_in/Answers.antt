@@ -6,7 +6,7 @@ use Rattle.tw_frame.specs.declared.context.Context.{Context}
 use Rattle.tw_frame.specs.Banks.{HasText}
 use Rattle.tw_frame.specs.Jobs.{position_of}
 use Rattle.tw_frame.specs.Ready.{IsReached}
-use Rattle.tw_frame.specs.Standing.{standing}
+use Rattle.tw_frame.specs.Positions.{standing}
 use Rattle.tw_frame.proofs.Lending.{done_before, done_run, known, ready, short_before, there}
 use Rattle.tw_frame.proofs.Running.{is_below}
 use Rattle.tw_frame.proofs.job.run_in.Goals as goal

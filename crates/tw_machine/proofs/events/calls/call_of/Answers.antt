@@ -1,6 +1,6 @@
 use Rattle.std.proofs.Common.{refl}
 use Rattle.tw_code.specs.declared.instr.Instr.TheVariants.{Data as DATA, Put as PUT, Rule as RULE}
-use Rattle.tw_machine.proofs.Standing.{calls_come}
+use Rattle.tw_machine.proofs.Calls.{calls_come}
 use Rattle.tw_machine.proofs.events.calls.call_of.Goals as goal
 
 pub returns-in-Data-clause-comes : goal.returns-in-Data-clause-comes
