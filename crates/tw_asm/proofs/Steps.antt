@@ -2,7 +2,7 @@
 use Rattle.std.proofs.Common.{◌≡◌, ◌⊎◌, ℕ, suc, ◌+◌, List, [], ◌∷◌, ◌++◌, length, map, Option, Some, None, Result, Ok, Err, MatchResult, inl, inr, refl, sym, subst, ap, ◌∙◌, arith}
 use Rattle.tw_asm.proofs.AsmNames.{AfterHead, AnyShortName, AreNotRead, AreTextRead, AsmFault, AtStart, HeadRead, VersionRead, Code, FaultNo, Head, InBody, IsLineFault, IsMemory, IsNotFinished, IsRead, IsShortName, IsUnfinished, Label, LineFault, LineRead, LineSays, LinesRead, LinesSay, MayFollow, NoName, OfVersion, OnlyName, Place, Placed, Progress, Read, Registers, Say, Section, ParserState, Stage, Statement, Version, Within, Word, after, after_line, enumerate_from, length-append, line_step, lines, map-append, outset, progress_from, situation_from, situation_of, step}
 use denote.Ref.{Bor}
-use Rattle.tw_lexer.proofs.LineLoops.{StandsAtLine, all_lines}
+use Rattle.tw_lexer.proofs.LineLoops.{IsAtLine, all_lines}
 use Rattle.tw_asm.proofs.Once.{spells_more}
 use Rattle.tw_asm.proofs.Stages.{body_head, body_start, head_body, head_start, progress, start_body, start_head, version_body, version_head, version_start}
 
@@ -156,7 +156,7 @@ pub items_more : (items : List (ℕ × Bor (List ℕ))) (item : ℕ × Bor (List
 items_more items item p q e a t =
     subst (λ (ls : List (List ℕ)). AreTextRead ls q) (sym (map-append (λ (x : ℕ × Bor (List ℕ)). x.1.now) items (item ∷ []))) (taken_more (map (λ (x : ℕ × Bor (List ℕ)). x.1.now) items) item.1.now item.0 p q e a t)
 
-pub line_stopped : (text : List ℕ) (before : List (List ℕ)) (line : List ℕ) (index : ℕ) (p : Progress) (f : AsmFault) → StandsAtLine (lines text) before index line → AreTextRead before p
+pub line_stopped : (text : List ℕ) (before : List (List ℕ)) (line : List ℕ) (index : ℕ) (p : Progress) (f : AsmFault) → IsAtLine (lines text) before index line → AreTextRead before p
     → IsMemory f ⊎ LineFault (index + 1) (situation_of p) line f.no f.line → IsMemory f ⊎ IsLineFault text f.no f.line
 line_stopped text before line index p f s a (inl m) = inl m
 line_stopped text before line index p f s a (inr x) =

@@ -63,11 +63,11 @@ pub record IsFormat {A : Type 0} (Fits : A → Type 0) (write : A → List Item)
   pub takes : (bytes : List ℕ) (x : A) (rest : List ℕ) → IsBytes bytes → read bytes ≡ Ok (x, rest) → Takes bytes (concat (write x)) rest × Fits x
   pub again : (x : A) (rest : List ℕ) → Fits x → read (concat (write x) ++ rest) ≡ Ok (x, rest)
 
-pub behind : (xs ys : List Item) (rest : List ℕ) → concat (xs ++ ys) ++ rest ≡ concat xs ++ (concat ys ++ rest)
-behind xs ys rest = ap (λ (t : List ℕ). t ++ rest) (joined xs ys) ∙ append_assoc (concat xs) (concat ys) rest
+pub goes_after : (xs ys : List Item) (rest : List ℕ) → concat (xs ++ ys) ++ rest ≡ concat xs ++ (concat ys ++ rest)
+goes_after xs ys rest = ap (λ (t : List ℕ). t ++ rest) (joined xs ys) ∙ append_assoc (concat xs) (concat ys) rest
 
 pub Takes-then : (a : List ℕ) (xs : List Item) (b : List ℕ) (ys : List Item) (c : List ℕ) → Takes a (concat xs) b → Takes b (concat ys) c → Takes a (concat (xs ++ ys)) c
-Takes-then a xs b ys c p q = record { parts = p.parts ∙ ap (λ (t : List ℕ). concat xs ++ t) q.parts ∙ sym (behind xs ys c); rest_fits = q.rest_fits }
+Takes-then a xs b ys c p q = record { parts = p.parts ∙ ap (λ (t : List ℕ). concat xs ++ t) q.parts ∙ sym (goes_after xs ys c); rest_fits = q.rest_fits }
 
 -- ---- a value, and another with the parser that depends on it
 
@@ -82,7 +82,7 @@ module _ {A B : Type 0} {F : A → Type 0} {G : A → B → Type 0} {w : A → L
         subst (λ (y : (A × B) × List ℕ). Takes bytes (concat (w y.0.0 ++ v y.0.0 y.0.1)) y.1 × (F y.0.0 × G y.0.0 y.0.1)) (ok_is ((a.0.0, b.0.0), b.0.1) (x, rest) b.2)
         (Takes-then bytes (w a.0.0) a.0.1 (v a.0.0 b.0.0) b.0.1 t.0 u.0, (t.1, u.1));
     again = λ x rest fits.
-        ap (then_at r s) (behind (w x.0) (v x.0 x.1) rest) ∙ rw (first.again x.0 (concat (v x.0 x.1) ++ rest) fits.0, (second x.0).again x.1 rest fits.1) refl;
+        ap (then_at r s) (goes_after (w x.0) (v x.0 x.1) rest) ∙ rw (first.again x.0 (concat (v x.0 x.1) ++ rest) fits.0, (second x.0).again x.1 rest fits.1) refl;
   }
 
 -- ---- several values in sequence
@@ -102,7 +102,7 @@ module _ {A : Type 0} {F : A → Type 0} {w : A → List Item} {r : Reading A} (
   pub many_again : (xs : List A) (rest : List ℕ) → AllByRecursion F xs → many r (length xs) (concat (flat_map w xs) ++ rest) ≡ Ok (xs, rest)
   many_again [] rest fits = refl
   many_again (x ∷ xs) rest fits =
-      ap (many r (suc (length xs))) (behind (w x) (flat_map w xs) rest) ∙ rw (each.again x (concat (flat_map w xs) ++ rest) fits.0, many_again xs rest fits.1) refl
+      ap (many r (suc (length xs))) (goes_after (w x) (flat_map w xs) rest) ∙ rw (each.again x (concat (flat_map w xs) ++ rest) fits.0, many_again xs rest fits.1) refl
 
   -- a count, and this many values
   pub counted_format : {low high : ℕ} {c : ℕ → List Item} {q : Reading ℕ} → IsFormat (IsWithin low high) c q → IsFormat (IsList low high F) (λ (xs : List A). c (length xs) ++ flat_map w xs) (counted q r)
@@ -114,7 +114,7 @@ module _ {A : Type 0} {F : A → Type 0} {w : A → List Item} {r : Reading A} (
         let all = Takes-then bytes (c a.0.0) a.0.1 (flat_map w xs) rest t.0 u.0 in
         (subst (λ n. Takes bytes (concat (c n ++ flat_map w xs)) rest) (sym u.1) all, (subst (λ n. IsWithin low high n) (sym u.1) t.1, u.2));
     again = λ xs rest fits.
-        ap (counted q r) (behind (c (length xs)) (flat_map w xs) rest) ∙ rw (count.again (length xs) (concat (flat_map w xs) ++ rest) fits.0, many_again xs rest fits.1) refl;
+        ap (counted q r) (goes_after (c (length xs)) (flat_map w xs) rest) ∙ rw (count.again (length xs) (concat (flat_map w xs) ++ rest) fits.0, many_again xs rest fits.1) refl;
   }
 
 -- ---- a parsed value, converted

@@ -15,7 +15,7 @@ use Rattle.tw_code.specs.declared.version.Version.TheVariants.{One, Two}
 use Rattle.tw_code.specs.format.Program.{IsInstrOf, IsList, IsOperandOf, IsRegister, IsTarget, IsWithin}
 use Rattle.tw_binary.specs.Spelling.{Item, byte, counted_items, instr_items, operand_items, register_items, target_code}
 use Rattle.tw_code.specs.format.Table.{Content, Contents, Operand, Row, a_row, code_of, forms_in, forms_of, has_opcode, holds, if_had, opcode_at, row, row_of}
-use Rattle.tw_binary.specs.Reading.{as_is, args_at, behind_code, byte_at, content_at, contents_at, counted, instr_at, made_at, register_at, target_in, target_at}
+use Rattle.tw_binary.specs.Reading.{as_is, args_at, after_code, byte_at, content_at, contents_at, counted, instr_at, made_at, register_at, target_in, target_at}
 use Rattle.tw_binary.proofs.Formats.{chosen, IsBytes, IsBytes-rest, Takes, IsMade, as_is_takes, as_is_again, ok_is}
 use Rattle.tw_binary.proofs.Breaks.{IsStrict, FailsAt, GoesOn, carried, due_after, no_err, err_is, both_strict, counted_strict, as_is_strict, as_is_fails}
 use Rattle.tw_binary.proofs.Bytes.{a_byte, nothing_left, wrong_byte, byte_strict, register_strict}
@@ -99,18 +99,18 @@ module _ (version : Version) (o : Opcode) (had : has_opcode version o ≡ true) 
   known : opcode_at version (code_of o) ≡ Some o
   known = ap (if_had version) (code_known o) ∙ ap (λ (b : Bool). cond b (Some o) None) had
 
-  behind : GoesOn (AreContents version (forms_of o)) (contents_items (forms_of o)) (contents_at version (forms_of o)) (IsInstrOf version) instr_items (instr_at version) (concat (byte (code_of o) ∷ []))
+  goes_after : GoesOn (AreContents version (forms_of o)) (contents_items (forms_of o)) (contents_at version (forms_of o)) (IsInstrOf version) instr_items (instr_at version) (concat (byte (code_of o) ∷ []))
   unfolding instr_at
-  behind = record { due = due_after (instr_of o) fit (byte (code_of o) ∷ []) (λ x h. spelled x); fails = fails } where
+  goes_after = record { due = due_after (instr_of o) fit (byte (code_of o) ∷ []) (λ x h. spelled x); fails = fails } where
     fails : (rest : List ℕ) (d : Broken) → contents_at version (forms_of o) rest ≡ Err d → instr_at version (concat (byte (code_of o) ∷ []) ++ rest) ≡ Err d
     fails rest d h =
         let stops : as_is (instr_of o) (contents_at version (forms_of o)) rest ≡ Err d = rw h refl in
-        ap (λ (found : Option Opcode). behind_code version (code_of o) found rest) known ∙ by_row version (row_of o) rest ∙ stops
+        ap (λ (found : Option Opcode). after_code version (code_of o) found rest) known ∙ by_row version (row_of o) rest ∙ stops
 
   again : (x : Contents (forms_of o)) (rest : List ℕ) → AreContents version (forms_of o) x → instr_at version (concat (byte (code_of o) ∷ contents_items (forms_of o) x) ++ rest) ≡ Ok (instr_of o x, rest)
   unfolding instr_at
   again x rest h =
-      ap (λ (found : Option Opcode). behind_code version (code_of o) found (concat (contents_items (forms_of o) x) ++ rest)) known
+      ap (λ (found : Option Opcode). after_code version (code_of o) found (concat (contents_items (forms_of o) x) ++ rest)) known
       ∙ by_row version (row_of o) (concat (contents_items (forms_of o) x) ++ rest)
       ∙ as_is_again (contents_strict version (forms_of o)).format (instr_of o) x rest h
 
@@ -154,7 +154,7 @@ instr_strict version = record { format = record { takes = takes; again = instr_a
   takes [] x rest fits e = absurd cc
   takes (c ∷ bytes) x rest fits e = by (opcode_at version c) refl e
     where
-      by : (o : Option Opcode) → opcode_at version c ≡ o → behind_code version c o bytes ≡ Ok (x, rest) → Takes (c ∷ bytes) (concat (instr_items x)) rest × IsInstrOf version x
+      by : (o : Option Opcode) → opcode_at version c ≡ o → after_code version c o bytes ≡ Ok (x, rest) → Takes (c ∷ bytes) (concat (instr_items x)) rest × IsInstrOf version x
       by None is h = absurd cc
       by (Some o) is h =
           let of = found version c o is in
@@ -173,9 +173,9 @@ instr_strict version = record { format = record { takes = takes; again = instr_a
   fails [] f fits e = inl (nothing_left f instr.Ret (ret_fits version) 0x42 [] refl (err_is {Z = Instr × List ℕ} _ f e))
   fails (c ∷ bytes) f fits e = by (opcode_at version c) refl e
     where
-      by : (o : Option Opcode) → opcode_at version c ≡ o → behind_code version c o bytes ≡ Err f → FailsAt (IsInstrOf version) instr_items (instr_at version) (c ∷ bytes) f
+      by : (o : Option Opcode) → opcode_at version c ≡ o → after_code version c o bytes ≡ Err f → FailsAt (IsInstrOf version) instr_items (instr_at version) (c ∷ bytes) f
       by None is h = inr (wrong_byte c bytes Unknown f instr.Ret (ret_fits version) 0x42 [] refl tt (err_is {Z = Instr × List ℕ} _ f h) (λ rest. rw is refl))
       by (Some o) is h =
           let of = found version c o is in
           let strict = contents_strict version (forms_of o) in
-          carried (behind version o of.1) bytes (c ∷ bytes) f (ap (λ (k : ℕ). k ∷ bytes) (sym of.0)) (strict.fails bytes f (IsBytes-rest c bytes fits) (as_is_fails (instr_of o) (contents_at version (forms_of o)) bytes f (sym (by_row version (row_of o) bytes) ∙ h)))
+          carried (goes_after version o of.1) bytes (c ∷ bytes) f (ap (λ (k : ℕ). k ∷ bytes) (sym of.0)) (strict.fails bytes f (IsBytes-rest c bytes fits) (as_is_fails (instr_of o) (contents_at version (forms_of o)) bytes f (sym (by_row version (row_of o) bytes) ∙ h)))

@@ -13,7 +13,7 @@ use Rattle.tw_code.specs.format.Program.{IsWithin}
 use Rattle.tw_binary.specs.Spelling.{Item, wide, text_items}
 use Rattle.tw_types.specs.Result.{◌>>=◌}
 use Rattle.tw_binary.specs.Reading.{wide_at, utf8_at, text_at, wrong}
-use Rattle.tw_binary.proofs.Formats.{IsBytes, bind_ok, passed, Takes, Takes-then, behind}
+use Rattle.tw_binary.proofs.Formats.{IsBytes, bind_ok, passed, Takes, Takes-then, goes_after}
 use Rattle.tw_binary.proofs.Breaks.{IsStrict, IsOfItem, FailsAt, GoesOn, ended, carried, due_first, due_after, bind_err, refused}
 use Rattle.tw_binary.proofs.Numbers.{a_wide, wide_strict, unless, until, front_of, cut_off}
 
@@ -139,7 +139,7 @@ text_strict = record { format = record { takes = takes; again = again }; some = 
 
   again : (x rest : List ℕ) → IsText x → text_at (concat (text_items x) ++ rest) ≡ Ok (x, rest)
   again x rest h =
-      ap text_at (behind (a_wide (length x)) (a_text x) rest)
+      ap text_at (goes_after (a_wide (length x)) (a_text x) rest)
       ∙ (ap (λ r. r >>= λ n. utf8_at n.0 n.1) (length_strict.format.again (length x) (concat (a_text x) ++ rest) (omega arith, h.short)) ∙ (utf8_strict (length x)).format.again x rest (refl, h.utf8))
 
   fails : (bytes : List ℕ) (f : Broken) → IsBytes bytes → text_at bytes ≡ Err f → FailsAt IsText text_items text_at bytes f

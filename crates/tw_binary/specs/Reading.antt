@@ -176,13 +176,13 @@ abbrev pub made_at : Version → Row → Reading Instr
 made_at version (a_row code forms make) bytes = as_is make (contents_at version forms) bytes
 
 -- parses the operands after a code, if an opcode has it; else the code, which is before these bytes, is the fault
-abbrev pub behind_code : Version → ℕ → Option Opcode → Reading Instr
-behind_code version code (Some o) bytes = made_at version (row_of o) bytes
-behind_code version code None bytes = wrong Unknown (code ∷ bytes)
+abbrev pub after_code : Version → ℕ → Option Opcode → Reading Instr
+after_code version code (Some o) bytes = made_at version (row_of o) bytes
+after_code version code None bytes = wrong Unknown (code ∷ bytes)
 
 unfoldable pub instr_at : Version → Reading Instr
 instr_at version [] = missing
-instr_at version (code ∷ rest) = behind_code version code (opcode_at version code) rest
+instr_at version (code ∷ rest) = after_code version code (opcode_at version code) rest
 
 -- ---- programs
 

@@ -41,8 +41,8 @@ behind_blank bytes rest a b = record {
   is_end = b.is_end;
 }
 
-behind_word : (word : Word) (bytes rest after : List ℕ) → IsAfterGap bytes rest → IsFirstWord word rest after → IsFirstWord word bytes after
-behind_word word bytes rest after a f = record {
+after_word : (word : Word) (bytes rest after : List ℕ) → IsAfterGap bytes rest → IsFirstWord word rest after → IsFirstWord word bytes after
+after_word word bytes rest after a f = record {
   gap = a.gap ++ f.gap;
   text = f.text;
   parts = a.parts ∙ ap (λ (x : List ℕ). a.gap ++ x) f.parts ∙ sym (append_assoc a.gap f.gap (f.text ++ after));
@@ -52,8 +52,8 @@ behind_word word bytes rest after a f = record {
 }
 
 -- and the first word is after the gap
-blank_behind : (bytes rest : List ℕ) → IsAfterGap bytes rest → IsBlank bytes → IsBlank rest
-blank_behind bytes rest a b = record {
+blank_after : (bytes rest : List ℕ) → IsAfterGap bytes rest → IsBlank bytes → IsBlank rest
+blank_after bytes rest a b = record {
   gap = [];
   rest = rest;
   parts = refl;
@@ -61,8 +61,8 @@ blank_behind bytes rest a b = record {
   is_end = subst IsAtEnd (gap_once b.gap a.gap b.rest rest b.is_gap a.is_gap (end_here b.rest b.is_end) a.at_word (sym b.parts ∙ a.parts)) b.is_end;
 }
 
-word_behind : (word : Word) (bytes rest after : List ℕ) → IsAfterGap bytes rest → IsFirstWord word bytes after → IsFirstWord word rest after
-word_behind word bytes rest after a f = record {
+word_after : (word : Word) (bytes rest after : List ℕ) → IsAfterGap bytes rest → IsFirstWord word bytes after → IsFirstWord word rest after
+word_after word bytes rest after a f = record {
   gap = [];
   text = f.text;
   parts = gap_once a.gap f.gap rest (f.text ++ after) a.is_gap f.is_gap a.at_word (word_here word f.text after f.is_word).0 (sym a.parts ∙ f.parts);
@@ -71,10 +71,10 @@ word_behind word bytes rest after a f = record {
   edge = f.edge;
 }
 
-pub behind_gap : (found : nexts.Next) (bytes rest : List ℕ) → IsAfterGap bytes rest → IsNext found rest → IsNext found bytes
-behind_gap next.End bytes rest a is = behind_blank bytes rest a is
-behind_gap next.Broken bytes rest a is = (λ blank. is.0 (blank_behind bytes rest a blank), λ word after first. is.1 word after (word_behind word bytes rest after a first))
-behind_gap (next.Found word after) bytes rest a is = behind_word (seen word) bytes rest after.now a is
+pub after_gap : (found : nexts.Next) (bytes rest : List ℕ) → IsAfterGap bytes rest → IsNext found rest → IsNext found bytes
+after_gap next.End bytes rest a is = behind_blank bytes rest a is
+after_gap next.Broken bytes rest a is = (λ blank. is.0 (blank_after bytes rest a blank), λ word after first. is.1 word after (word_after word bytes rest after a first))
+after_gap (next.Found word after) bytes rest a is = after_word (seen word) bytes rest after.now a is
 
 -- ---- if a word is first, or a quote
 
@@ -179,6 +179,6 @@ bare_first (b ∷ rest) l at c q = record {
 
 -- ---- the rest is shorter
 
-pub behind_gap_read : {E : Type 0} (read : Result nexts.Next E) (bytes rest : List ℕ) → IsAfterGap bytes rest → IfOk read (λ found. IsNext found rest) → IfOk read (λ found. IsNext found bytes)
-behind_gap_read (Ok found) bytes rest a is = behind_gap found bytes rest a is
-behind_gap_read (Err e) bytes rest a is = is
+pub after_gap_read : {E : Type 0} (read : Result nexts.Next E) (bytes rest : List ℕ) → IsAfterGap bytes rest → IfOk read (λ found. IsNext found rest) → IfOk read (λ found. IsNext found bytes)
+after_gap_read (Ok found) bytes rest a is = after_gap found bytes rest a is
+after_gap_read (Err e) bytes rest a is = is

@@ -17,7 +17,7 @@ lines_of [] = refl
 lines_of (i ∷ items) = ap (λ (x : List (List ℕ)). i.1.now ∷ x) (lines_of items)
 
 -- a loop over a text's lines is at this line
-pub record StandsAtLine (ls before : List (List ℕ)) (index : ℕ) (line : List ℕ) : Type 0 where
+pub record IsAtLine (ls before : List (List ℕ)) (index : ℕ) (line : List ℕ) : Type 0 where
   pub others : List (List ℕ)
   pub parts : ls ≡ before ++ (line ∷ others)
   pub index_is : index ≡ length before
@@ -26,7 +26,7 @@ first_is : (a b : ℕ) (x y : List ℕ) → ◌≡◌ {A = ℕ × List ℕ} (a, 
 first_is a b x y e = (ap (λ (p : ℕ × List ℕ). p.0) e, ap (λ (p : ℕ × List ℕ). p.1) e)
 
 pub line_turn : (ls : List (List ℕ)) (items : List (ℕ × Bor (List ℕ))) (index : ℕ) (line : List ℕ) → map (λ (item : ℕ × Bor (List ℕ)). (item.0, item.1.now)) items ≡ take (length items) (enumerate_from 0 ls)
-    → length items < length (enumerate_from 0 ls) → ◌≡◌ {A = ℕ × List ℕ} (index, line) (get_or (enumerate_from 0 ls) (length items) (index, line)) → StandsAtLine ls (map (λ item. item.1.now) items) index line
+    → length items < length (enumerate_from 0 ls) → ◌≡◌ {A = ℕ × List ℕ} (index, line) (get_or (enumerate_from 0 ls) (length items) (index, line)) → IsAtLine ls (map (λ item. item.1.now) items) index line
 line_turn ls items index line e low at =
     let few : length items < length ls = omega (arith, low, length-enumerate_from 0 ls) in
     let here = first_is index (0 + length items) line (get_or ls (length items) line) (at ∙ get_or-enumerate_from 0 ls (length items) (index, line) few) in
@@ -47,6 +47,6 @@ all_lines ls items e = sym (lines_of items) ∙ ap (map (λ (x : ℕ × List ℕ
     all_seconds k (l ∷ ls) = ap (λ (x : List (List ℕ)). l ∷ x) (all_seconds (k + 1) ls)
 
 -- the line of a number, if there is one
-pub nth_told : (r : Option (Bor (List ℕ))) (found : Option (List ℕ)) → option_map (λ (line : Bor (List ℕ)). line.now) r ≡ found → MatchOption r (found ≡ None) (λ line. found ≡ Some line.now)
-nth_told None found e = sym e
-nth_told (Some line) found e = sym e
+pub nth_line : (r : Option (Bor (List ℕ))) (found : Option (List ℕ)) → option_map (λ (line : Bor (List ℕ)). line.now) r ≡ found → MatchOption r (found ≡ None) (λ line. found ≡ Some line.now)
+nth_line None found e = sym e
+nth_line (Some line) found e = sym e

@@ -23,6 +23,6 @@ IsIn64 n = FitsSigned w64 n
 -- The result of reading a text: a number that it writes and that is allowed; or it writes none; or it writes one that isn't
 -- allowed. No text writes two numbers.
 abbrev pub IsRead : {A : Type 0} → (A → Type 0) → (A → Type 0) → Result A TokenError → Type 0
-IsRead Spells MayStand (Ok n) = Spells n × MayStand n
-IsRead {A} Spells MayStand (Err Form) = (n : A) → Spells n → ⊥
-IsRead {A} Spells MayStand (Err Limit) = (n : A) × Spells n × (MayStand n → ⊥)
+IsRead Spells IsWithin (Ok n) = Spells n × IsWithin n
+IsRead {A} Spells IsWithin (Err Form) = (n : A) → Spells n → ⊥
+IsRead {A} Spells IsWithin (Err Limit) = (n : A) × Spells n × (IsWithin n → ⊥)

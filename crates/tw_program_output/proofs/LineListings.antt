@@ -179,13 +179,13 @@ zip_front (x ∷ xs) (y ∷ ys) (b ∷ before) pair rest e =
     (more.0, ap (λ (p : Seen). p.0 ∷ xs) (same_head (x, y) b (zip xs ys) (before ++ pair ∷ rest) e) ∙ ap (λ (zs : List (List ℕ)). b.0 ∷ zs) more.1)
 
 -- a loop over the pairs of two lists is at this index and this line
-pub record StandsAtPair (xs before : List (List ℕ)) (index : ℕ) (line : List ℕ) : Type 0 where
+pub record IsAtPair (xs before : List (List ℕ)) (index : ℕ) (line : List ℕ) : Type 0 where
   pub others : List (List ℕ)
   pub parts : xs ≡ before ++ line ∷ others
   pub index_is : index ≡ length before
 
 pub pair_turn : (xs ys : List (List ℕ)) (items : Items) (index : ℕ) (line own : List ℕ) → seen_items items ≡ take (length items) (enumerate_from 0 (zip xs ys)) → length items < length (enumerate_from 0 (zip xs ys))
-    → ◌≡◌ {A = ℕ × Seen} (index, (line, own)) (get_or (enumerate_from 0 (zip xs ys)) (length items) (index, (line, own))) → StandsAtPair xs (written_in (pairs_in items)) index line
+    → ◌≡◌ {A = ℕ × Seen} (index, (line, own)) (get_or (enumerate_from 0 (zip xs ys)) (length items) (index, (line, own))) → IsAtPair xs (written_in (pairs_in items)) index line
 pair_turn xs ys items index line own so_far low at =
     let ps = zip xs ys in
     let few : length items < length ps = omega (arith, low, length-enumerate_from 0 ps) in

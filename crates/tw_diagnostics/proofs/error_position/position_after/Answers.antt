@@ -1,7 +1,7 @@
 use Rattle.std.proofs.Common.{[], ◌∷◌, sym}
 use Rattle.tw_lexer.specs.declared.word.Next.TheVariants as next
 use Rattle.tw_diagnostics.proofs.ReasonNames.{Bare, IsBlank, IsBroken, IsFirstWord, seen}
-use Rattle.tw_lexer.proofs.FirstWords.{behind_gap}
+use Rattle.tw_lexer.proofs.FirstWords.{after_gap}
 use Rattle.tw_lexer.proofs.Texts.{rest_utf8}
 use Rattle.tw_asm.proofs.Whole.{all_fine}
 use Rattle.tw_diagnostics.proofs.LastWords.{first_passed, first_room, one_passed, one_room}
@@ -19,7 +19,7 @@ words-init c = record {
 pub words-preserved-in-Some : goal.words-preserved-in-Some
 words-preserved-in-Some c =
     let here : IsFirstWord (seen c.in-Found.word) c.without_gap-here.result.now c.in-Found.after.now = rw c.in-Found.is at c.in_ok-word.ensures in
-    let first : IsFirstWord (seen c.in-Found.word) c.words.rest.now c.in-Found.after.now = behind_gap (next.Found c.in-Found.word c.in-Found.after) c.words.rest.now c.without_gap-here.result.now c.without_gap-here.ensures.after here in
+    let first : IsFirstWord (seen c.in-Found.word) c.words.rest.now c.in-Found.after.now = after_gap (next.Found c.in-Found.word c.in-Found.after) c.words.rest.now c.without_gap-here.result.now c.without_gap-here.ensures.after here in
     record {
       utf8 = rest_utf8 (seen c.in-Found.word) c.words.rest.now c.in-Found.after.now first c.words.invariant.utf8;
       passed = one_passed (seen c.in-Found.word) c.args.line.now c.words.rest.now c.in-Found.after.now c.words.before c.words.invariant.passed first;
@@ -32,7 +32,7 @@ words-preserved-in-Some c =
 pub words-preserved : goal.words-preserved
 words-preserved c =
     let here : IsFirstWord (seen c.in-Found.word) c.without_gap-here.result.now c.in-Found.after.now = rw c.in-Found.is at c.in_ok-word.ensures in
-    let first : IsFirstWord (seen c.in-Found.word) c.words.rest.now c.in-Found.after.now = behind_gap (next.Found c.in-Found.word c.in-Found.after) c.words.rest.now c.without_gap-here.result.now c.without_gap-here.ensures.after here in
+    let first : IsFirstWord (seen c.in-Found.word) c.words.rest.now c.in-Found.after.now = after_gap (next.Found c.in-Found.word c.in-Found.after) c.words.rest.now c.without_gap-here.result.now c.without_gap-here.ensures.after here in
     record {
       utf8 = rest_utf8 (seen c.in-Found.word) c.words.rest.now c.in-Found.after.now first c.words.invariant.utf8;
       passed = one_passed (seen c.in-Found.word) c.args.line.now c.words.rest.now c.in-Found.after.now c.words.before c.words.invariant.passed first;
@@ -57,7 +57,7 @@ returns-in-End-clause-first c = λ form expected ex.
     let f = c.words.invariant.follows form in
     let nothing : IsBlank c.without_gap-here.result.now = rw c.in-End.is at c.in_ok-word.ensures in
     ended _ _ _ c.end_stop.result
-    (λ may. whole c.args.version expected c.args.first.now c.args.line.now c.words.rest.now c.words.before c.words.ahead.read ex f (behind_gap next.End c.words.rest.now c.without_gap-here.result.now c.without_gap-here.ensures.after nothing) may)
+    (λ may. whole c.args.version expected c.args.first.now c.args.line.now c.words.rest.now c.words.before c.words.ahead.read ex f (after_gap next.End c.words.rest.now c.without_gap-here.result.now c.without_gap-here.ensures.after nothing) may)
     (c.end_stop.ensures.first (Bare f.word.now ∷ f.others) c.words.rest.now f.are c.without_gap-here.ensures.after f.many nothing
     (begins c.args.version expected c.args.first.now c.args.line.now c.words.rest.now c.words.before c.words.ahead.read ex f)
     (vain_end c.args.version expected c.args.first.now c.args.line.now c.words.rest.now c.words.before c.words.ahead.read ex f c.without_gap-here.result.now))
