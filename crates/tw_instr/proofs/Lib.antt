@@ -3,7 +3,7 @@ pub mod Filling
 pub mod Handing
 pub mod Removed
 pub mod Stretches
-pub mod Told
+pub mod Notified
 pub mod Live
 pub mod Views
 pub mod Closes

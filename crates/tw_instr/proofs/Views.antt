@@ -25,12 +25,12 @@ module _ (s : Store) (id : ℕ) where
   pub set_unheard : (value : Value) → get s.live id ≡ None → [] ≡ notices_of_stored s id value
   set_unheard value e = rw e refl
 
-  told : (b : Bool) (subscribers : List Subscriber) → each (notice_to id) (cond b subscribers []) ≡ cond b (each (notice_to id) subscribers) []
-  told true subscribers = refl
-  told false subscribers = refl
+  notified : (b : Bool) (subscribers : List Subscriber) → each (notice_to id) (cond b subscribers []) ≡ cond b (each (notice_to id) subscribers) []
+  notified true subscribers = refl
+  notified false subscribers = refl
 
   pub drop_heard : (x : Datum) → get s.live id ≡ Some x → each (notice_to id) (cond (is_closed (one_write_less x)) x.subscribers []) ≡ notices_of_write_dropped s id
-  drop_heard x e = rw e (told (is_closed (one_write_less x)) x.subscribers)
+  drop_heard x e = rw e (notified (is_closed (one_write_less x)) x.subscribers)
 
   pub drop_unheard : get s.live id ≡ None → [] ≡ notices_of_write_dropped s id
   drop_unheard e = rw e refl

@@ -66,19 +66,19 @@ impl Notices {
 
     /// Adds a notice of the datum for each subscriber, or none if an allocation fails.
     pub fn add_for(&mut self, id: DatumId, subscribers: &[Subscriber]) -> Result<(), AllocError>
-        ensures told { OnOk result (self.new ≡ with_notices self.old (map (notice_to id) subscribers.now)) }
+        ensures notified { OnOk result (self.new ≡ with_notices self.old (map (notice_to id) subscribers.now)) }
         ensures refused { OnErr result (self.new ≡ self.old) }
     {
-        tell_in(&mut self.list, id, subscribers)
+        notify_in(&mut self.list, id, subscribers)
     }
 }
 
-fn tell_in(
+fn notify_in(
     list: &mut Vec<Notice>,
     id: DatumId,
     subscribers: &[Subscriber],
 ) -> Result<(), AllocError>
-    ensures told { OnOk result (list.new.items ≡ list.old.items ++ map (notice_to id) subscribers.now) }
+    ensures notified { OnOk result (list.new.items ≡ list.old.items ++ map (notice_to id) subscribers.now) }
     ensures refused { OnErr result (list.new.items ≡ list.old.items) }
 {
     let before = list.len();

@@ -85,7 +85,7 @@ pub fn drop_read(store: &mut Data, frame: &mut Frame, right: u8) -> Result<(), C
 fn take_write(store: &mut Data, notices: &mut Notices, id: DatumId) -> Result<(), AllocError>
     requires { may_drop_write (get store.old.live id) ≡ Ok tt }
     ensures dropped { OnOk result (store.new ≡ write_dropped store.old id) }
-    ensures told { OnOk result (notices.new ≡ with_notices notices.old (notices_of_write_dropped store.old id)) }
+    ensures notified { OnOk result (notices.new ≡ with_notices notices.old (notices_of_write_dropped store.old id)) }
     ensures refused { OnErr result ((store.new ≡ store.old) × (notices.new ≡ notices.old)) }
 {
     notices.add_for(id, store.heard_by_drop_write(id))?;

@@ -45,7 +45,7 @@ fn datum_at<'a>(store: &'a Data, frame: &Frame, register: u8) -> Option<&'a Datu
 fn set(store: &mut Data, notices: &mut Notices, id: DatumId, value: Value) -> Result<(), AllocError>
     requires { may_store value (get store.old.live id) ≡ Ok tt }
     ensures set { OnOk result (store.new ≡ stored store.old id value) }
-    ensures told { OnOk result (notices.new ≡ with_notices notices.old (notices_of_stored store.old id value)) }
+    ensures notified { OnOk result (notices.new ≡ with_notices notices.old (notices_of_stored store.old id value)) }
     ensures refused { OnErr result ((store.new ≡ store.old) × (notices.new ≡ notices.old)) }
 {
     notices.add_for(id, store.heard_by_set(id))?;

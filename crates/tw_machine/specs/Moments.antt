@@ -13,13 +13,13 @@ pub record Moment : Type 0 where
   pub number : ℕ
   pub event : Event
   pub before : State
-  pub behind : State
+  pub state_after : State
 
 -- returns the moments of the events that succeed from a state, numbered from this one on
 abbrev pub moments : List Procedure → ActorCounts → ℕ → List Event → State → List Moment
 moments program layout number [] s = []
 moments program layout number (event ∷ events) s =
-    if_went (step program layout event s) (λ next. record { number = number; event = event; before = s; behind = next } ∷ moments program layout (suc number) events next)
+    if_went (step program layout event s) (λ next. record { number = number; event = event; before = s; state_after = next } ∷ moments program layout (suc number) events next)
 
 abbrev pub history : PlainView → List Event → List Moment
 history first events = moments first.program first.layout 1 events first.state

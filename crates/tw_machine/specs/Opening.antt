@@ -24,6 +24,6 @@ rejection_of program inputs =
     else None
 
 -- holds for this error; without one, for a failed allocation
-abbrev pub IsTold : Option OpenError → OpenError → Type 0
-IsTold (Some why) told = told ≡ why
-IsTold None told = told ≡ NoMemory
+abbrev pub IsFirstError : Option OpenError → OpenError → Type 0
+IsFirstError (Some why) first_error = first_error ≡ why
+IsFirstError None first_error = first_error ≡ NoMemory

@@ -7,7 +7,7 @@ ghost use Rattle.tw_code.specs.machine.Opening.{opening};
 ghost use Rattle.tw_code.specs.machine.Machine.{step};
 ghost use Rattle.tw_instr.specs.Attempts.{Changes};
 ghost use Rattle.tw_machine.specs.Memory.{TakesMemory};
-ghost use Rattle.tw_machine.specs.Opening.{IsTold, rejection_of};
+ghost use Rattle.tw_machine.specs.Opening.{IsFirstError, rejection_of};
 
 use crate::opening::rejection_of;
 use crate::rejection::{OpenError, OpenRefused};
@@ -64,7 +64,7 @@ impl Plain {
         layout: Layout,
     ) -> Result<Plain, OpenRefused>
         ensures opened { IfOk result (λ plain. plain ≡ record { version = program.version; program = program.procedures; layout = layout; state = opening program.procedures inputs.now }) }
-        ensures asked { MatchResult result (λ _. rejection_of program.procedures inputs.now ≡ None) (λ refused. IsTold (rejection_of program.procedures inputs.now) refused.no) }
+        ensures asked { MatchResult result (λ _. rejection_of program.procedures inputs.now ≡ None) (λ refused. IsFirstError (rejection_of program.procedures inputs.now) refused.no) }
         ensures back { IfErr result (λ refused. refused.program ≡ program) }
         ensures below { IfOk result (λ plain. AreBelow opening_bound plain.state) }
     {

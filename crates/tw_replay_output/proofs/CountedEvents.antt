@@ -28,11 +28,11 @@ few program layout number [] s all = record { count = omega arith; steps = omega
 few program layout number (event ∷ events) s all = go (λ next. few program layout (suc number) events next all.1) (step program layout event s)
   where
     go : ((next : State) → AreFew events (moments program layout (suc number) events next)) → (o : Outcome State)
-        → AreFew (event ∷ events) (if_went o (λ next. record { number = number; event = event; before = s; behind = next } ∷ moments program layout (suc number) events next))
+        → AreFew (event ∷ events) (if_went o (λ next. record { number = number; event = event; before = s; state_after = next } ∷ moments program layout (suc number) events next))
     go rest (Went next) =
         let others = rest next in
         let size : size_of event ≤ 1000000000 = all.0 in
-        let m : Moment = record { number = number; event = event; before = s; behind = next } in
+        let m : Moment = record { number = number; event = event; before = s; state_after = next } in
         let sum = sum_by-cons (λ (m : Moment). size_of m.event) m (moments program layout (suc number) events next) in
         let count = others.count in
         let steps = others.steps in

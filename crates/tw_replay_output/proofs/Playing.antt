@@ -1,6 +1,6 @@
 -- Events, one after the other, in a replay and in a timeline.
 use Rattle.std.proofs.Common.{◌≡◌, ◌+◌, ◌<◌, ◌≤◌, ℕ, zero, suc, List, [], ◌∷◌, ◌++◌, length, length-take, get_or, drop, take, Option, Some, None, refl, sym, ap, subst, ◌∙◌, add-one, drop-cons, arith}
-use Rattle.tw_replay_output.proofs.ReplayNames.{◌>>=◌, AllByRecursion, AreShort, Event, Input, IsShort, IsTold, NotEnabled, Outcome, PlainView, Procedure, Refused, Spoken as Reply, State, Trap, Trapped, Versioned, Went, drop_all, not_enabled_line, rejection_of, reply, size_of, take_all, take_more, trap_line}
+use Rattle.tw_replay_output.proofs.ReplayNames.{◌>>=◌, AllByRecursion, AreShort, Event, Input, IsShort, IsFirstError, NotEnabled, Outcome, PlainView, Procedure, Refused, Spoken as Reply, State, Trap, Trapped, Versioned, Went, drop_all, not_enabled_line, rejection_of, reply, size_of, take_all, take_more, trap_line}
 use Rattle.tw_types.specs.declared.cause.Cause.{Cause}
 use Rattle.tw_types.specs.declared.event.Event.TheVariants.{Take, Local, Call, End, Ask, Deliver, Release}
 use Rattle.tw_types.specs.Cause.{cause_number}
@@ -172,7 +172,7 @@ pub opened_answer : (text : Option (List ℕ)) (order : ReplayOrder) (program : 
     → IsReplayed text order program events r
 opened_answer text order program events r none h = subst (λ (o : Option OpenError). OpensOr text program.procedures order.inputs o (IsAnswered text order program events r) r) (sym none) h
 
-pub refused_answer : (text : Option (List ℕ)) (program : List Procedure) (inputs : List Input) (o : Option OpenError) (why : OpenError) (Answers : Type 0) (r : Reply) → IsTold o why → (why ≡ NoMemory → ⊥)
+pub refused_answer : (text : Option (List ℕ)) (program : List Procedure) (inputs : List Input) (o : Option OpenError) (why : OpenError) (Answers : Type 0) (r : Reply) → IsFirstError o why → (why ≡ NoMemory → ⊥)
     → IsUnopened text program inputs why r → OpensOr text program inputs o Answers r
 refused_answer text program inputs (Some given) why Answers r answered other h = subst (λ (w : OpenError). IsUnopened text program inputs w r) answered h
 refused_answer text program inputs None why Answers r answered other h = absurd (other answered)

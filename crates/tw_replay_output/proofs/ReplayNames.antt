@@ -16,7 +16,7 @@ pub use Rattle.tw_code.specs.machine.State.{Frame, State}
 pub use Rattle.tw_program_output.specs.declared.close.Close.TheVariants.{Refused, Trapped}
 pub use Rattle.tw_program_output.specs.declared.reply.Reply.{Reply}
 pub use Rattle.tw_asm.specs.Origins.{ComesFrom, instr_at}
-pub use Rattle.tw_machine.specs.Opening.{IsTold, open_error_code, rejection_of}
+pub use Rattle.tw_machine.specs.Opening.{IsFirstError, open_error_code, rejection_of}
 pub use Rattle.tw_machine.specs.PlainView.{PlainView}
 pub use Rattle.tw_symbols.specs.Expansion.{ExpandsTo}
 pub use Rattle.tw_replay_output.specs.Circle.{DoesRule, AreEndingDetails, IsMade, Start, PrintRules, PrintsCircle, PrintsRule, reached_from, rule_line, rule_text}

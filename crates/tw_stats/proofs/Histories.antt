@@ -36,8 +36,8 @@ low program layout number [] s m h = let none : h.0 < 0 = h.1 in absurd (omega a
 low program layout number (event ∷ events) s m h = go (λ next later. low program layout (suc number) events next m later) (step program layout event s) h
   where
     go : ((next : State) → Contains (moments program layout (suc number) events next) m → m.number < suc number + length events) → (o : Outcome State)
-        → Contains (if_went o (λ next. record { number = number; event = event; before = s; behind = next } ∷ moments program layout (suc number) events next)) m → m.number < number + length (event ∷ events)
-    go rest (Went next) h = elim (in_rest (record { number = number; event = event; before = s; behind = next }) m (moments program layout (suc number) events next) h.0 h.1 h.2) [
+        → Contains (if_went o (λ next. record { number = number; event = event; before = s; state_after = next } ∷ moments program layout (suc number) events next)) m → m.number < number + length (event ∷ events)
+    go rest (Went next) h = elim (in_rest (record { number = number; event = event; before = s; state_after = next }) m (moments program layout (suc number) events next) h.0 h.1 h.2) [
       | inl same ↦ let number_is : m.number ≡ number = ap (λ (m : Moment). m.number) same in omega arith
       | inr later ↦ let others = rest next later in omega arith
     ]
@@ -46,7 +46,7 @@ low program layout number (event ∷ events) s m h = go (λ next later. low prog
 
 -- the moment of the next event
 abbrev pub next_moment : List Event → Event → State → State → Moment
-next_moment events event s t = record { number = 1 + length events; event = event; before = s; behind = t }
+next_moment events event s t = record { number = 1 + length events; event = event; before = s; state_after = t }
 
 pub is_later : (first : PlainView) (events : List Event) (event : Event) (s t : State) → IsLater (history first events) (next_moment events event s t)
 is_later first events event s t earlier h = low first.program first.layout 1 events first.state earlier h
@@ -65,13 +65,13 @@ spent_in s actor below = go (get s.frames actor) refl
     go (Some f) e = below.spent actor f e
 
 pub has_spent_few : (event : Event) (s t : State) → AreBelow (2 ^ 63) s → AreBelow (2 ^ 63) t → HasSpentFew (doer_at event s t)
-has_spent_few (Take actor) s t before behind = spent_in t actor behind
-has_spent_few (Local actor n) s t before behind = spent_in s actor before
-has_spent_few (Call actor) s t before behind = spent_in s actor before
-has_spent_few (End actor) s t before behind = spent_in s actor before
-has_spent_few (Ask engine rule parameter) s t before behind = tt
-has_spent_few (Deliver server datum rule parameter) s t before behind = tt
-has_spent_few (Release engine rule) s t before behind = tt
+has_spent_few (Take actor) s t before state_after = spent_in t actor state_after
+has_spent_few (Local actor n) s t before state_after = spent_in s actor before
+has_spent_few (Call actor) s t before state_after = spent_in s actor before
+has_spent_few (End actor) s t before state_after = spent_in s actor before
+has_spent_few (Ask engine rule parameter) s t before state_after = tt
+has_spent_few (Deliver server datum rule parameter) s t before state_after = tt
+has_spent_few (Release engine rule) s t before state_after = tt
 
 -- ---- all of it
 
@@ -83,16 +83,16 @@ module _ (first : PlainView) (events : List Event) (event : Event) (s t : State)
   pub tally_more : IsTally first events s old → IsComing first.program event s c → step first.program first.layout event s ≡ Went t → AreBelow (2 ^ 63) s → AreBelow (2 ^ 63) t → IsSmall (history first (events ++ event ∷ []))
       → executor ≡ doer_at event s t → needed ≡ needs_by event executor c.asked → brought ≡ brings_by event executor c.made
       → ((moments : List Moment) (m : Moment) → m.event ≡ event → IsSmall (moments ++ m ∷ []) → AreCounts moments old.counts → AreCounts (moments ++ m ∷ []) new.counts)
-      → ((moments : List Moment) (m : Moment) → m.event ≡ event → doer_at m.event m.before m.behind ≡ executor → IsSmall (moments ++ m ∷ []) → HasSpentFew executor → AreOfProcedures moments old.procedures → AreOfProcedures (moments ++ m ∷ []) new.procedures)
+      → ((moments : List Moment) (m : Moment) → m.event ≡ event → doer_at m.event m.before m.state_after ≡ executor → IsSmall (moments ++ m ∷ []) → HasSpentFew executor → AreOfProcedures moments old.procedures → AreOfProcedures (moments ++ m ∷ []) new.procedures)
       → ((program : List Procedure) (moments : List Moment) (m : Moment) → m.event ≡ event → needs m ≡ needed → provides program m ≡ brought → IsLater moments m → IsSmall (moments ++ m ∷ []) → AreChains program moments old.chains → AreChains program (moments ++ m ∷ []) new.chains)
       → AreNextAfter old.next c.made new.next → IsTally first (events ++ event ∷ []) t new
-  tally_more h pre_state went before behind small by needs_is brings_is counts procedures chains next =
+  tally_more h pre_state went before state_after small by needs_is brings_is counts procedures chains next =
       let program = first.program in
       let past : List Moment = history first events in
       let m : Moment = next_moment events event s t in
       let whole = history_more first events event s t h.reached went in
       let fits : IsSmall (past ++ m ∷ []) = subst IsSmall whole small in
-      let few : HasSpentFew executor = subst HasSpentFew (sym by) (has_spent_few event s t before behind) in
+      let few : HasSpentFew executor = subst HasSpentFew (sym by) (has_spent_few event s t before state_after) in
       let of_needs : needs m ≡ needed = sym (needs_is ∙ ap (λ (d : Option Executor). needs_by event d c.asked) by ∙ ap (λ (a : Option ℕ). needs_by event (doer_at event s t) a) pre_state.asked) in
       let of_brings : provides program m ≡ brought = sym (brings_is ∙ ap (λ (d : Option Executor). brings_by event d c.made) by ∙ ap (λ (x : Option Dependency). brings_by event (doer_at event s t) x) pre_state.made) in
       let later = is_later first events event s t in

@@ -42,7 +42,7 @@ doer_at (Deliver server datum rule parameter) s next = None
 doer_at (Release engine rule) s next = None
 
 abbrev pub done_by : Moment → Option Executor
-done_by m = doer_at m.event m.before m.behind
+done_by m = doer_at m.event m.before m.state_after
 
 -- returns the dependency on a task, if there is one
 abbrev pub task_of : Option Executor → List Dependency

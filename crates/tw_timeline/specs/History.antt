@@ -47,7 +47,7 @@ begun_at number (Deliver server datum rule parameter) s = []
 begun_at number (Release engine rule) s = []
 
 abbrev pub begun : Moment → List Bar
-begun m = begun_at m.number m.event m.behind
+begun m = begun_at m.number m.event m.state_after
 
 abbrev pub is_end_of : Actor → Event → Bool
 is_end_of actor (Take other) = false
@@ -71,7 +71,7 @@ ended marks b = record b { to = first_end b.actor (drop b.from marks) }
 
 -- returns the number of the task that the event put, by a PUT or a Release, with the event's place
 abbrev pub made : Moment → List (ℕ × Place)
-made m = map (λ task. (task, record { actor = actor_of m.event; number = m.number })) (put_between m.before m.behind)
+made m = map (λ task. (task, record { actor = actor_of m.event; number = m.number })) (put_between m.before m.state_after)
 
 -- returns the place of the event that made the task of this number
 abbrev pub maker : ℕ → List (ℕ × Place) → Option Place

@@ -36,7 +36,7 @@ loop-index-preserved c =
     let went : step first.program first.layout event at.state ≡ Went next.state = stepped first at event (Went next.state) kept.stays c.in-Ok.ensures.steps in
     let short : size_of event ≤ 1000000000 = event_small events i event c.requires.sizes inside is in
     let before : AreBelow (2 ^ 63) at.state = below_more (opening_bound + 1000000000 * i) _ _ (omega (arith, c.requires.few, inside)) kept.below in
-    let behind : AreBelow (2 ^ 63) next.state = below_more (opening_bound + 1000000000 * i + size_of event) _ _ (omega (arith, c.requires.few, inside)) (c.step.ensures.below (opening_bound + 1000000000 * i) kept.below) in
+    let below_after : AreBelow (2 ^ 63) next.state = below_more (opening_bound + 1000000000 * i + size_of event) _ _ (omega (arith, c.requires.few, inside)) (c.step.ensures.below (opening_bound + 1000000000 * i) kept.below) in
     record {
       stays = stays_so first at next kept.stays c.step.ensures.version c.step.ensures.program c.step.ensures.layout;
       same = went_on first.program first.program first.layout first.layout events i event at.state next.state (played_from first events) refl refl inside is went kept.same;
@@ -44,7 +44,7 @@ loop-index-preserved c =
       below = below_more _ _ _ (omega arith) (c.step.ensures.below (opening_bound + 1000000000 * i) kept.below);
       stats_builder =
           tally_on first events i event next.state c.count_event.new.self inside is
-          (c.in_ok-count_event-in-Ok.ensures first (take i events) at.state kept.stats_builder (came first at event c.pre_state-pre_state.result kept.stays (c.pre_state-pre_state.ensures kept.stats_builder.next)) went before behind (small_on first events i event inside is c.requires.sizes c.requires.few));
+          (c.in_ok-count_event-in-Ok.ensures first (take i events) at.state kept.stats_builder (came first at event c.pre_state-pre_state.result kept.stays (c.pre_state-pre_state.ensures kept.stats_builder.next)) went before below_after (small_on first events i event inside is c.requires.sizes c.requires.few));
     }
 
 pub returns : goal.returns

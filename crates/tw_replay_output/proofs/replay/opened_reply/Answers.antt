@@ -1,5 +1,5 @@
 use Rattle.std.proofs.Common.{◌≡◌, List, None, ap, subst, sym}
-use Rattle.tw_replay_output.proofs.ReplayNames.{AreKnownBudgets, IfOk-weaker, Input, IsAnswer, IsAnswered, IsFirst, IsTold, PlainView, Reply, Versioned, rejection_of, reply, text_of}
+use Rattle.tw_replay_output.proofs.ReplayNames.{AreKnownBudgets, IfOk-weaker, Input, IsAnswer, IsAnswered, IsFirst, IsFirstError, PlainView, Reply, Versioned, rejection_of, reply, text_of}
 use Rattle.tw_timeline.specs.History.{IsOpening}
 use Rattle.tw_timeline.proofs.History.{opening_is}
 use Rattle.tw_stats.proofs.Openings.{first_is}
@@ -34,7 +34,7 @@ returns-in-Err c =
     let program = c.args.program in
     let text = text_of c.args.source.now in
     let why = c.in-Err.refused.no in
-    let asked = subst (λ (given : List Input). IsTold (rejection_of program.procedures given) why) c.as_slice.ensures c.in-Err.ensures.asked in
+    let asked = subst (λ (given : List Input). IsFirstError (rejection_of program.procedures given) why) c.as_slice.ensures c.in-Err.ensures.asked in
     IfOk-weaker _ _ _
     (λ (r : Reply) h. refused_answer text program.procedures order.inputs (rejection_of program.procedures order.inputs) why (IsAnswered text order program c.args.events.now (reply r.text.items r.close)) (reply r.text.items r.close) asked h.0
     (subst (λ (p : Versioned). IsUnopened text p.procedures order.inputs why (reply r.text.items r.close)) c.in-Err.ensures.back h.1)) c.unopened_reply.ensures

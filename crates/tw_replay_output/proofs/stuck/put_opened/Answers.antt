@@ -1,5 +1,5 @@
 use Rattle.std.proofs.Common.{Option, subst}
-use Rattle.tw_replay_output.proofs.ReplayNames.{IsTold, on_ok_weaker}
+use Rattle.tw_replay_output.proofs.ReplayNames.{IsFirstError, on_ok_weaker}
 use Rattle.tw_machine.specs.declared.rejection.OpenError.{OpenError}
 use Rattle.tw_replay_output.proofs.Making.{opened_so, opens_so}
 use Rattle.tw_replay_output.proofs.stuck.put_opened.Goals as goal
@@ -12,4 +12,4 @@ returns-in-Ok c =
 pub returns : goal.returns
 returns c = λ start s starts same can leads.
     let none = opens_so start c.args.program c.args.inputs.now c.args.layout starts same can.opens in
-    absurd (c.in_default.not-NoMemory (subst (λ (o : Option OpenError). IsTold o c.in-Err.refused.no) none c.in-Err.ensures.asked))
+    absurd (c.in_default.not-NoMemory (subst (λ (o : Option OpenError). IsFirstError o c.in-Err.refused.no) none c.in-Err.ensures.asked))
