@@ -49,7 +49,7 @@ use Rattle.tw_code.proofs.Leaving.{IsRunningAt, is_running_at, ask_leaves, deliv
 use Rattle.tw_code.proofs.Placed.{IsCalled, called_is, put_called_is}
 use Rattle.tw_budget.specs.Frames.{LoopsFit}
 use Rattle.tw_budget.specs.Sound.{IsSound}
-use Rattle.tw_budget.proofs.FrameTheorems.{stands_next}
+use Rattle.tw_budget.proofs.FrameTheorems.{fits_next}
 use Rattle.tw_soundness.specs.Invariant.{IsHeld}
 use Rattle.tw_soundness.specs.NoTrap.{AreRight}
 use Rattle.tw_soundness.proofs.Safe.{accepts}
@@ -174,7 +174,7 @@ module _ (program : List Procedure) (p : Procedure) (sound : IsSound (flows p.co
 
   fits_on : (at to : Position) (i : Instr) → Fits at → slice_get p.code at.place ≡ Some i → GoesBy (flow_of i) at to → Fits to
   fits_on at to i fit here g =
-      let st = stands_next (flows p.code) sound at.place (flow_of i) at.loops g.way (record { place = to.place; loops = to.loops }) (flow_there p.code at.place i here) fit.loops g.goes in
+      let st = fits_next (flows p.code) sound at.place (flow_of i) at.loops g.way (record { place = to.place; loops = to.loops }) (flow_there p.code at.place i here) fit.loops g.goes in
       record { inside = st.0; loops = st.1 }
 
   -- several local steps are paid for

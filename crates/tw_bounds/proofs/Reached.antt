@@ -11,7 +11,7 @@ use Rattle.tw_code.specs.accepting.Structure.{end_of}
 use Rattle.tw_code.specs.accepting.Walk.{IsWalk, moved, Rest}
 use Rattle.tw_budget.specs.Frames.{LoopsFit}
 use Rattle.tw_budget.specs.Sound.{IsSound}
-use Rattle.tw_budget.proofs.FrameTheorems.{stands_next}
+use Rattle.tw_budget.proofs.FrameTheorems.{fits_next}
 use Rattle.tw_budget.proofs.Lengths.{step_of, next_close, branch_goal, jump_goal, there}
 use Rattle.tw_budget.proofs.Places.{straight_end, branch_end, close_end, start_outside, stop_outside, begun, not_last}
 use Rattle.tw_bounds.specs.GreatestCost.{greatest_cost}
@@ -119,7 +119,7 @@ module _ (cost : ℕ → ℕ) (code : List Flow) (s : IsSound code) where
   rest_within (p ∷ places) place loops inside f r =
       let i = there code place inside in
       let e = sym (step_of code place i.0 r.0 loops i.1) ∙ r.2 in
-      let st = stands_next code s place i.0 loops r.0 _ i.1 f e in
+      let st = fits_next code s place i.0 loops r.0 _ i.1 f e in
       let on = rest_within places p r.1 st.0 st.1 r.3 in
       let h = pays cost code s place i.0 loops r.0 _ i.1 f e in
       omega arith

@@ -10,9 +10,9 @@ use Rattle.tw_verdict.specs.Source.{IsTextWord, IsWordIn}
 
 pub kept_word : (text plain : List ℕ) (which : FaultNo) (line : ℕ) (found : Result (ℕ × ℕ) AllocError) → ExpandsTo text plain
     → is_same_line (slice_get (lines text) (line - 1)) (slice_get (lines plain) (line - 1)) ≡ true → IfOk found (IsWordIn plain which line) → IfOk found (IsTextWord text which line)
-kept_word text plain which line (Ok at) stands same is = (plain, stands, inl (same, is))
-kept_word text plain which line (Err e) stands same is = tt
+kept_word text plain which line (Ok at) is_at same is = (plain, is_at, inl (same, is))
+kept_word text plain which line (Err e) is_at same is = tt
 
 pub other_word : (text plain : List ℕ) (which : FaultNo) (line : ℕ) → ExpandsTo text plain
     → is_same_line (slice_get (lines text) (line - 1)) (slice_get (lines plain) (line - 1)) ≡ false → IsTextWord text which line (0, 0)
-other_word text plain which line stands other = (plain, stands, inr (other, refl))
+other_word text plain which line is_at other = (plain, is_at, inr (other, refl))

@@ -9,6 +9,6 @@ returns-in-NoMemory c = λ program is. inr (c.in-NoMemory.is, c.no_memory.ensure
 pub returns-in_default : goal.returns-in_default
 returns-in_default c = λ program is.
     let refused = c.args.refused.now in
-    let told : ℕ → Verdict = λ n. record { letter = 86; number = n; engines = 0; workers = 0; procedure = refused.procedure; place = refused.place } in
+    let to_verdict : ℕ → Verdict = λ n. record { letter = 86; number = n; engines = 0; workers = 0; procedure = refused.procedure; place = refused.place } in
     let whole : Verdict → SourceVerdict = λ v. record { verdict = v; line = c.line_of-line.result; word = 0; column = 0 } in
-    inl (c.in_default.not-NoMemory, c.line_of-line.result, c.line_of-line.ensures program is, ap whole (c.refused_at-verdict.ensures ∙ ap told c.number.ensures))
+    inl (c.in_default.not-NoMemory, c.line_of-line.result, c.line_of-line.ensures program is, ap whole (c.refused_at-verdict.ensures ∙ ap to_verdict c.number.ensures))

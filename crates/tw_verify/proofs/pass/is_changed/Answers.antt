@@ -16,25 +16,25 @@ so true h = refl
 so false h = cc
 
 pub returns-in-Some-typing_at-clause-found : goal.returns-in-Some-typing_at-clause-found
-returns-in-Some-typing_at-clause-found c = λ told. record {
+returns-in-Some-typing_at-clause-found c = λ answer. record {
   first = c.in-Some.first;
   end = c.first.ensures.found c.in-Some.first c.in-Some.is;
   begun = c.in-Some-typing_at.begun;
   there = sym c.typing_at.ensures ∙ c.in-Some-typing_at.is;
   differs = λ same.
-      let both : true ≡ false = sym ((typing_decides c.args.typing.now c.in-Some-typing_at.begun).1 same) ∙ sym c.is_same.ensures ∙ opposite c.is_same.result told in
+      let both : true ≡ false = sym ((typing_decides c.args.typing.now c.in-Some-typing_at.begun).1 same) ∙ sym c.is_same.ensures ∙ opposite c.is_same.result answer in
       cc;
 }
 
 pub returns-in-Some-typing_at-clause-all : goal.returns-in-Some-typing_at-clause-all
-returns-in-Some-typing_at-clause-all c = λ first begun told end there.
+returns-in-Some-typing_at-clause-all c = λ first begun answer end there.
     let here = same_Some c.in-Some.first first (sym c.in-Some.is ∙ c.first.ensures.all first end) in
     let at = sym c.typing_at.ensures ∙ c.in-Some-typing_at.is in
-    let same = (typing_decides c.args.typing.now c.in-Some-typing_at.begun).0 (sym c.is_same.ensures ∙ so c.is_same.result told) in
+    let same = (typing_decides c.args.typing.now c.in-Some-typing_at.begun).0 (sym c.is_same.ensures ∙ so c.is_same.result answer) in
     same ∙ same_Some c.in-Some-typing_at.begun begun (sym at ∙ ap (slice_get c.args.typings.now) here ∙ there)
 
 pub returns-in-None-clause-all : goal.returns-in-None-clause-all
-returns-in-None-clause-all c = λ first begun told end there.
+returns-in-None-clause-all c = λ first begun answer end there.
     let here = same_Some c.in-Some.first first (sym c.in-Some.is ∙ c.first.ensures.all first end) in
     let none : None ≡ Some begun = sym (sym c.typing_at.ensures ∙ c.in-None.is) ∙ ap (slice_get c.args.typings.now) here ∙ there in
     cc
