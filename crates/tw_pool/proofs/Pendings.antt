@@ -20,7 +20,7 @@ use Rattle.tw_rights.specs.declared.arg.Arg.{Arg}
 use Rattle.tw_rights.specs.declared.arg.Arg.TheVariants.{Val, Read, Write}
 use Rattle.tw_rights.specs.Rights.{Right}
 use Rattle.tw_rules.specs.declared.erased.ErasedArg.{ErasedArg}
-use Rattle.tw_rules.specs.Table.{erased_arg, told}
+use Rattle.tw_rules.specs.Table.{erased_arg, erasure}
 use Rattle.tw_store.specs.Slots.{Places}
 use Rattle.tw_code.specs.declared.procedure.Procedure.{Procedure}
 use Rattle.tw_code.specs.machine.Arguments.{params_of}
@@ -97,19 +97,19 @@ writes_are places (p ∷ params) (Write right ∷ args) stand =
     ap (λ (ids : List ℕ). right.id ∷ ids) (writes_are places params args stand.1)
     ∙ ap (λ (b : Bool). cond b (right.id ∷ written_by params (map bare_arg args)) (written_by params (map bare_arg args))) (sym (write_mode places p right stand.0))
 
-one_is : (program : List Procedure) (places : Places) (e : ℕ × RuleOf Arg) → ArgsStand places (params_of program e.1.procedure) e.1.args → pending_with_data (told e) ≡ pending_of program (entry_by bare_rule e)
+one_is : (program : List Procedure) (places : Places) (e : ℕ × RuleOf Arg) → ArgsStand places (params_of program e.1.procedure) e.1.args → pending_with_data (erasure e) ≡ pending_of program (entry_by bare_rule e)
 one_is program places e stand = λ i. record { number = e.0; waits = waits_are e.1.stages e.1.args i; writes = writes_are places (params_of program e.1.procedure) e.1.args stand i }
 
 -- ---- all of them
 
 all_are : (program : List Procedure) (places : Places) (es : List (ℕ × RuleOf Arg)) → ((e : ℕ × RuleOf Arg) → IsEntry e es → ArgsStand places (params_of program e.1.procedure) e.1.args)
-    → map pending_with_data (map told es) ≡ map (pending_of program) (map (entry_by bare_rule) es)
+    → map pending_with_data (map erasure es) ≡ map (pending_of program) (map (entry_by bare_rule) es)
 all_are program places [] stand = refl
 all_are program places (e ∷ es) stand =
-    ap (λ (p : Pending). p ∷ map pending_with_data (map told es)) (one_is program places e (stand e (inl refl)))
+    ap (λ (p : Pending). p ∷ map pending_with_data (map erasure es)) (one_is program places e (stand e (inl refl)))
     ∙ ap (λ (ps : List Pending). pending_of program (entry_by bare_rule e) ∷ ps) (all_are program places es (λ f is. stand f (inr is)))
 
 pub pending_is : (program : List Procedure) (places : Places) (rules : RulesOf Arg) → ((number : ℕ) (r : RuleOf Arg) → get rules number ≡ Some r → ArgsStand places (params_of program r.procedure) r.args)
-    → map pending_with_data (map told (entries rules)) ≡ map (pending_of program) (entries (mapped bare_rule rules))
+    → map pending_with_data (map erasure (entries rules)) ≡ map (pending_of program) (entries (mapped bare_rule rules))
 pending_is program places rules stand =
     all_are program places (entries rules) (λ e is. stand e.0 e.1 (get_entry nat_cmp nat_cmp_total rules e is)) ∙ ap (map (pending_of program)) (sym (entries_mapped bare_rule rules))

@@ -3,7 +3,7 @@
 ghost use Rattle.std.specs.Prelude.{◌≡◌, map as each};
 ghost use Rattle.std.specs.FinMap.{entries};
 ghost use Rattle.tw_rights.specs.Rights.{Right};
-ghost use Rattle.tw_rules.specs.Table.{told};
+ghost use Rattle.tw_rules.specs.Table.{erasure};
 
 use crate::parts::Parts;
 use tw_rules::ErasedRule;
@@ -24,7 +24,7 @@ impl<'a> Parts<'a> {
     pub fn shut(self) -> Remains
         ensures store { result.store ≡ self.entry.store }
         ensures outputs { result.outputs.items ≡ each (λ (r : Right). r.id) self.entry.outputs }
-        ensures pending { result.pending.items ≡ each told (entries self.entry.rules.rules) }
+        ensures pending { result.pending.items ≡ each erasure (entries self.entry.rules.rules) }
     {
         let Parts {
             store,

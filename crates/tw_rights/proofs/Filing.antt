@@ -20,14 +20,14 @@ rights_few (arg.Val value ∷ xs) = let rest = rights_few xs in omega arith
 rights_few (arg.Read right ∷ xs) = let rest = rights_few xs in omega arith
 rights_few (arg.Write right ∷ xs) = let rest = rights_few xs in omega arith
 
-put_behind : (xs : List Held) (x : Held) (n : ℕ) → set (each Some xs ++ replicate (suc n) None) (length xs) (Some x) ≡ each Some (xs ++ x ∷ []) ++ replicate n None
-put_behind [] x n = refl
-put_behind (y ∷ xs) x n = ap (λ ys. Some y ∷ ys) (put_behind xs x n)
+put_after : (xs : List Held) (x : Held) (n : ℕ) → set (each Some xs ++ replicate (suc n) None) (length xs) (Some x) ≡ each Some (xs ++ x ∷ []) ++ replicate n None
+put_after [] x n = refl
+put_after (y ∷ xs) x n = ap (λ ys. Some y ∷ ys) (put_after xs x n)
 
 pub filed_more : (xs : List Held) (x : Held) → length xs < 16 → set (filed xs) (length xs) (Some x) ≡ filed (xs ++ x ∷ [])
 filed_more xs x room =
     let left : 16 - length xs ≡ suc (16 - length (xs ++ x ∷ [])) = omega (arith, room, length-append xs (x ∷ [])) in
-    ap (λ (n : ℕ). set (each Some xs ++ replicate n None) (length xs) (Some x)) left ∙ put_behind xs x (16 - length (xs ++ x ∷ []))
+    ap (λ (n : ℕ). set (each Some xs ++ replicate n None) (length xs) (Some x)) left ∙ put_after xs x (16 - length (xs ++ x ∷ []))
 
 -- ---- the last argument
 

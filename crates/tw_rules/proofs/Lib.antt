@@ -8,4 +8,4 @@ pub mod Heaps
 pub mod Rooms
 pub mod Fitting
 pub mod SameOrder
-pub mod Told
+pub mod Erasing

@@ -75,9 +75,9 @@ module _ {X : Type 0} (number : X → ℕ) where
   all_agree [] h = tt
   all_agree (x ∷ xs) h = ((λ _. refl, alone x xs h.0), joined x xs xs h.0 (all_agree xs h.1))
 
-  behind : (x : X) (xs ys : List X) → AllByRecursion (λ y. AllByRecursion (Agrees y) (x ∷ xs)) ys → AllByRecursion (λ y. AllByRecursion (Agrees y) xs) ys
-  behind x xs [] h = tt
-  behind x xs (y ∷ ys) h = (h.0.1, behind x xs ys h.1)
+  after_all : (x : X) (xs ys : List X) → AllByRecursion (λ y. AllByRecursion (Agrees y) (x ∷ xs)) ys → AllByRecursion (λ y. AllByRecursion (Agrees y) xs) ys
+  after_all x xs [] h = tt
+  after_all x xs (y ∷ ys) h = (h.0.1, after_all x xs ys h.1)
 
   same_by : (xs ys : List X) → map number ys ≡ map number xs → AllByRecursion (λ y. AllByRecursion (Agrees y) xs) ys → ys ≡ xs
   same_by [] [] same h = refl
@@ -86,7 +86,7 @@ module _ {X : Type 0} (number : X → ℕ) where
   same_by (x ∷ xs) (y ∷ ys) same h =
       let head : number x ≡ number y = cc in
       let rest : map number ys ≡ map number xs = cc in
-      ap (λ (z : X). z ∷ ys) (h.0.0 head) ∙ ap (λ (zs : List X). x ∷ zs) (same_by xs ys rest (behind x xs ys h.1))
+      ap (λ (z : X). z ∷ ys) (h.0.0 head) ∙ ap (λ (zs : List X). x ∷ zs) (same_by xs ys rest (after_all x xs ys h.1))
 
   pub same_order : (xs ys : List X) → RiseStrictly (map number xs) → IsNonDecreasingBy number ys → IsPermutation xs ys → ys ≡ xs
   same_order xs ys up ups moved =

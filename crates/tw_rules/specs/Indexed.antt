@@ -93,8 +93,8 @@ has_place spare len capacity = nat_lt 0 spare && nat_lt len capacity
 abbrev pub AreFitting : Rules → Type 0
 AreFitting rules = (number : ℕ) (rule : RuleOf Arg) → map.get rules number ≡ Some rule → FitsStages rule
 
-pub record IsTable (entries : List (ℕ × Pending)) (next : ℕ) (agendas : List Agenda) (told : List ErasedRule) (capacity : ℕ) : Type 0 where
+pub record IsTable (entries : List (ℕ × Pending)) (next : ℕ) (agendas : List Agenda) (erasure : List ErasedRule) (capacity : ℕ) : Type 0 where
   pub index : IsIndexed (rules_in entries) next agendas
-  pub blank : told ≡ []
+  pub blank : erasure ≡ []
   pub fits : length entries ≤ capacity
   pub fitting : AreFitting (rules_in entries)

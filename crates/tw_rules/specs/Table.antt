@@ -114,5 +114,5 @@ erased_arg (Read right) = plain.Read right.id
 erased_arg (Write right) = plain.Write right.id
 
 -- returns a rule with its number, without rights
-abbrev pub told : ℕ × RuleOf Arg → ErasedRule
-told e = record { number = e.0; engine = e.1.engine; action = action_of e.1; args = each erased_arg e.1.args; stages = e.1.stages }
+abbrev pub erasure : ℕ × RuleOf Arg → ErasedRule
+erasure e = record { number = e.0; engine = e.1.engine; action = action_of e.1; args = each erased_arg e.1.args; stages = e.1.stages }

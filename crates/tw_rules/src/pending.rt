@@ -2,7 +2,7 @@
 
 ghost use Rattle.std.specs.Prelude.{◌≡◌, ◌≤◌, length, map};
 ghost use Rattle.tw_types.specs.Rule.{first_stage, first_unasked, has_unasked, is_releasable};
-ghost use Rattle.tw_rules.specs.Table.{erased_arg, told};
+ghost use Rattle.tw_rules.specs.Table.{erased_arg, erasure};
 ghost use Rattle.tw_rules.specs.Entries.{rule_in};
 
 use crate::array_vec8::ArrayVec8;
@@ -42,7 +42,7 @@ impl Pending {
 
     /// Ends the rule with its rights, and returns it without rights.
     pub fn spend(self, number: u64) -> ErasedRule
-        ensures { result ≡ told (number, rule_in self) }
+        ensures { result ≡ erasure (number, rule_in self) }
     {
         let Pending {
             engine,

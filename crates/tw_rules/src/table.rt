@@ -7,7 +7,7 @@ ghost use Rattle.std.specs.List.Sorted.{IsPermutation};
 ghost use Rattle.std.specs.Option.{option_copied};
 ghost use Rattle.tw_types.specs.declared.stage.Stage.TheVariants.{Unasked, Waiting, Ready};
 ghost use Rattle.tw_types.specs.Rule.{is_releasable, is_settled, is_unasked, next_ask, next_release};
-ghost use Rattle.tw_rules.specs.Table.{AreArgsOf, action_of, arg_at, new_rule, read_right, right_at, room_for, stage_at, staged, told};
+ghost use Rattle.tw_rules.specs.Table.{AreArgsOf, action_of, arg_at, new_rule, read_right, right_at, room_for, stage_at, staged, erasure};
 
 use crate::agenda::Agenda;
 use crate::entries::{find, number_from, pending, put, set_stage, take};
@@ -26,7 +26,7 @@ pub struct RuleTable {
     next: u64,
     agendas: [Agenda; 4],
     /// Empty, with capacity for all rules that `shut` returns.
-    told: Vec<ErasedRule>,
+    erasure: Vec<ErasedRule>,
 }
 
 impl Model for RuleTable {
@@ -49,10 +49,10 @@ impl Model for RuleTable {
     ghost view = { λ t. record {
       rules = rules_in t.rules.entries;
       next = t.next;
-      rooms = rooms_of (has_place (spare t.rules) (hash_map_len t.rules) (vec_capacity t.told)) t.agendas;
+      rooms = rooms_of (has_place (spare t.rules) (hash_map_len t.rules) (vec_capacity t.erasure)) t.agendas;
     } };
 
-    ghost invariant = { λ t. IsTable t.rules.entries t.next t.agendas t.told.items (vec_capacity t.told) };
+    ghost invariant = { λ t. IsTable t.rules.entries t.next t.agendas t.erasure.items (vec_capacity t.erasure) };
 }
 
 impl RuleTable {
@@ -70,7 +70,7 @@ impl RuleTable {
                 Agenda::new(alloc),
                 Agenda::new(alloc),
             ],
-            told: Vec::new(alloc),
+            erasure: Vec::new(alloc),
         }
     }
 
@@ -91,7 +91,7 @@ impl RuleTable {
         ensures reserved { room_for engine self.old ≡ true → IsOk result }
     {
         self.rules.reserve(1)?;
-        self.told.reserve(self.rules.len() + 1)?;
+        self.erasure.reserve(self.rules.len() + 1)?;
         let agenda = &mut self.agendas[usize::from(engine)];
         agenda.reserve()
     }
@@ -254,31 +254,31 @@ impl RuleTable {
     /// Spends every right, and returns the rules that were pending. Takes them by rising number, so that sorting them finds them
     /// sorted; no proof depends on that.
     fn spend_all(self) -> Vec<ErasedRule>
-        ensures { IsPermutation (each told (map.entries self.rules)) result.items }
+        ensures { IsPermutation (each erasure (map.entries self.rules)) result.items }
     {
         let RuleTable {
             mut rules,
             next,
             agendas: _,
-            mut told,
+            mut erasure,
         } = self;
         let mut from = 0;
         while let Some(number) = number_from(&rules, from, next) {
             let rule = take(&mut rules, number);
-            told.push_reserved(rule.spend(number));
+            erasure.push_reserved(rule.spend(number));
             from = number.saturating_add(1);
         }
         rules.destroy_empty();
-        told
+        erasure
     }
 
     /// Spends every right, and returns the rules that were pending, by rising number. Allocates nothing.
     pub fn shut(self) -> Vec<ErasedRule>
-        ensures { result.items ≡ each told (map.entries self.rules) }
+        ensures { result.items ≡ each erasure (map.entries self.rules) }
     {
-        let mut told = self.spend_all();
-        told.sort_unstable_by_key(|rule| rule.number.number());
-        told
+        let mut erasure = self.spend_all();
+        erasure.sort_unstable_by_key(|rule| rule.number.number());
+        erasure
     }
 
     /// Changes the stage of a parameter to one after `Unasked`.

@@ -19,8 +19,8 @@ use Rattle.tw_store.specs.declared.slot.Slot.{Slot}
 use Rattle.tw_store.specs.Placed.{PlacedDatum}
 use Rattle.tw_store.specs.Parts.{HaveOtherRoom, HaveRoom, Queues, data_room_of, served_of, notices_in, rooms_in}
 use Rattle.tw_store.specs.Served.{Served, IsHere, IsNow, IsLeft, IsUnchanged, KeepsOtherRooms, KeepsPlaces, queued, waiting_for, HasNoticeRoom}
-use Rattle.tw_store.specs.Slots.{Slots, StandsAs, AreSeated, live_of, places_of, datum_in, place_in, Remains, IsChanged, IsChangedAt, IsSettled}
-use Rattle.tw_store.proofs.Shown.{seat_of, search_slots, get_nowhere, StandsAt, StandsNowhere}
+use Rattle.tw_store.specs.Slots.{Slots, IsAtPlace, AreSeated, live_of, places_of, datum_in, place_in, Remains, IsChanged, IsChangedAt, IsSettled}
+use Rattle.tw_store.proofs.Shown.{seat_of, search_slots, get_nowhere, IsFoundAt, IsNowhere}
 use Rattle.tw_store.proofs.Roomy.{rooms_kept, rooms_left, same_room, same_rooms}
 use Rattle.tw_store.proofs.Remain.{apart_left, live_at, of_some, place_at, place_leaves, place_stays, seated_left, some_is}
 
@@ -85,11 +85,11 @@ module _ (slab : Slab Slot) (next : ℕ) (queues : Queues) (s : Served) (view : 
     pub left_is : (slab2 : Slab Slot) (queues2 : Queues) (notices : List Notice) → IfSome (get_or slab.slots place None) (λ e. IsSettled e.id f slab.slots slab2.slots)
         → notices ≡ notices_after s.store right.id f → notices_in queues2 ≡ queued right.id notices (notices_in queues) → data_room_of slab ≤ data_room_of slab2
         → (count : ℕ) → count ≡ length notices → HaveOtherRoom (right.id % length queues) count queues queues2 → IsLeft s (served_of slab2 next queues2) right.id f
-    left_is slab2 queues2 notices h heard told more count all have =
+    left_is slab2 queues2 notices h heard notified more count all have =
         let done : IsSettled x.slot.id f slab.slots slab2.slots = of_some (λ (e : Slot). IsSettled e.id f slab.slots slab2.slots) _ x.slot x.there h in
         record {
           store = ap (λ (y : Served). record { live = live_of slab2.slots; next = y.store.next }) view ∙ done.live s.store (ap (λ (y : Served). y.store.live) (sym view)) ∙ ap (λ id. store_after s.store id f) x.id_is;
-          queues = told ∙ ap (λ ns. queued right.id ns (notices_in queues)) heard ∙ ap (λ (y : Served). queued right.id (notices_after s.store right.id f) y.queues) view;
+          queues = notified ∙ ap (λ ns. queued right.id ns (notices_in queues)) heard ∙ ap (λ (y : Served). queued right.id (notices_after s.store right.id f) y.queues) view;
           places = keeps slab2 next queues2 done.remains;
           rooms = subst (λ n. KeepsOtherRooms (right.id % n) (length (notices_after s.store right.id f)) s (served_of slab2 next queues2)) servers
               (subst (λ n. KeepsOtherRooms (right.id % length queues) n s (served_of slab2 next queues2)) (all ∙ ap length heard) (rooms_left slab next queues s view slab2 next queues2 more (right.id % length queues) count have));
@@ -103,10 +103,10 @@ module _ (slab : Slab Slot) (next : ℕ) (queues : Queues) (s : Served) (view : 
 
   pub same_is : (slab2 : Slab Slot) (queues2 : Queues) → slab2.slots ≡ slab.slots → notices_in queues2 ≡ notices_in queues → data_room_of slab ≤ data_room_of slab2 → HaveRoom queues queues2
       → IsUnchanged s (served_of slab2 next queues2)
-  same_is slab2 queues2 slots told more have = record {
+  same_is slab2 queues2 slots notified more have = record {
     store = ap (λ m. record { live = live_of m; next = next }) slots ∙ ap (λ (y : Served). y.store) view;
     places = ap places_of slots ∙ ap (λ (y : Served). y.places) view;
-    queues = told ∙ ap (λ (y : Served). y.queues) view;
+    queues = notified ∙ ap (λ (y : Served). y.queues) view;
     rooms = rooms_kept slab next queues s view slab2 next queues2 more have;
   }
 
@@ -122,12 +122,12 @@ module _ (slab : Slab Slot) (next : ℕ) (queues : Queues) (s : Served) (view : 
 pub set_heard : (s : Served) (id : ℕ) (x : Datum) (value : Value) → get s.store.live id ≡ Some x → map (notice_to id) x.subscribers ≡ notices_after s.store id (set_to value)
 set_heard s id x value e = rw e refl
 
-told_if : (id : ℕ) (b : Bool) (subscribers : List Subscriber) → map (notice_to id) (cond b subscribers []) ≡ cond b (map (notice_to id) subscribers) []
-told_if id true subscribers = refl
-told_if id false subscribers = refl
+notified_if : (id : ℕ) (b : Bool) (subscribers : List Subscriber) → map (notice_to id) (cond b subscribers []) ≡ cond b (map (notice_to id) subscribers) []
+notified_if id true subscribers = refl
+notified_if id false subscribers = refl
 
 pub drop_heard : (s : Served) (id : ℕ) (x : Datum) → get s.store.live id ≡ Some x → map (notice_to id) (cond (is_closed (one_write_less x)) x.subscribers []) ≡ notices_after s.store id one_write_less
-drop_heard s id x e = rw e (told_if id (is_closed (one_write_less x)) x.subscribers)
+drop_heard s id x e = rw e (notified_if id (is_closed (one_write_less x)) x.subscribers)
 
 fewer : (b : Bool) (subscribers : List Subscriber) → length (cond b subscribers []) ≤ length subscribers
 fewer true subscribers = omega arith
@@ -176,7 +176,7 @@ module _ (slab : Slab Slot) (next : ℕ) (queues : Queues) (s : Served) (view : 
       live : get (live_of slab.slots) m.id ≡ get s.store.live m.id
       live = ap (λ (y : Served). get y.store.live m.id) view
 
-      by : StandsAt slab.slots m.id ⊎ StandsNowhere slab.slots m.id → IsHere s (right_on m)
+      by : IsFoundAt slab.slots m.id ⊎ IsNowhere slab.slots m.id → IsHere s (right_on m)
       by (inl t) =
           let one : t.place ≡ m.place = (seated.members place x.slot x.there k m its).1.only t.place t.slot t.there t.id_is in
           ap (λ (y : Served). get y.places m.id) (sym view) ∙ ap (get (places_of slab.slots)) (sym t.id_is) ∙ place_at slab.slots next t.place t.slot seated t.there ∙ ap Some one
@@ -211,7 +211,7 @@ notice_room slab next queues s view seated id x live queues2 count all servers r
 -- ---- a look at an id
 
 pub place_is : (slab : Slab Slot) (next : ℕ) (queues : Queues) (s : Served) → served_of slab next queues ≡ s → AreSeated slab.slots next → (id : ℕ) (r : Option ℕ)
-    → IfSome r (λ place. StandsAs slab.slots id place) → IfNone r ((p : ℕ) (e : Slot) → get_or slab.slots p None ≡ Some e → e.id ≢ id) → r ≡ get s.places id
+    → IfSome r (λ place. IsAtPlace slab.slots id place) → IfNone r ((p : ℕ) (e : Slot) → get_or slab.slots p None ≡ Some e → e.id ≢ id) → r ≡ get s.places id
 place_is slab next queues s view seated id None found absent = sym (ap (λ (y : Served). get y.places id) (sym view) ∙ get_nowhere place_in slab.slots id absent)
 place_is slab next queues s view seated id (Some place) found absent = sym (ap (λ (y : Served). get y.places id) (sym view) ∙ ap (get (places_of slab.slots)) (sym found.id_is) ∙ place_at slab.slots next place found.slot seated found.there)
 
@@ -222,6 +222,6 @@ gone_is slab next queues s view seated id none = ap (λ (y : Served). get y.stor
     clash : (p : ℕ) → None ≡ Some p → ⊥
     clash p e = cc
 
-    by : StandsAt slab.slots id ⊎ StandsNowhere slab.slots id → get (live_of slab.slots) id ≡ None
+    by : IsFoundAt slab.slots id ⊎ IsNowhere slab.slots id → get (live_of slab.slots) id ≡ None
     by (inl t) = absurd (clash t.place (sym none ∙ ap (λ (y : Served). get y.places id) (sym view) ∙ ap (get (places_of slab.slots)) (sym t.id_is) ∙ place_at slab.slots next t.place t.slot seated t.there))
     by (inr n) = get_nowhere datum_in slab.slots id n

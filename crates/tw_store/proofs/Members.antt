@@ -14,7 +14,7 @@ use Rattle.tw_store.specs.Parts.{Queues, served_of}
 use Rattle.tw_store.specs.Served.{Served, KnowsPlaces}
 use Rattle.tw_store.specs.Slots.{AreSeated, IsSlotOf, datum_in, live_of, places_of}
 use Rattle.tw_store.proofs.Remain.{live_at, of_some, place_at}
-use Rattle.tw_store.proofs.Shown.{StandsAt, StandsNowhere, get_nowhere, search_slots, seat_of}
+use Rattle.tw_store.proofs.Shown.{IsFoundAt, IsNowhere, get_nowhere, search_slots, seat_of}
 
 module _ (slab : Slab Slot) (next : ℕ) (queues : Queues) (s : Served) (view : served_of slab next queues ≡ s) (seated : AreSeated slab.slots next) where
   slot_knows : (place : ℕ) (slot : Slot) → get_or slab.slots place None ≡ Some slot → KnowsPlaces s slot.datum
@@ -36,7 +36,7 @@ module _ (slab : Slab Slot) (next : ℕ) (queues : Queues) (s : Served) (view : 
     member_is (Some datum) found absent = sym (live_at slab.slots next member.place (record { id = member.id; datum = datum.now }) seated found.there) ∙ live_is
     member_is None found absent = sym (by (search_slots slab.slots member.id)) ∙ live_is
       where
-        by : StandsAt slab.slots member.id ⊎ StandsNowhere slab.slots member.id → get (live_of slab.slots) member.id ≡ None
+        by : IsFoundAt slab.slots member.id ⊎ IsNowhere slab.slots member.id → get (live_of slab.slots) member.id ≡ None
         by (inl t) =
             let at : get s.places member.id ≡ Some t.place = ap (λ (y : Served). get y.places member.id) (sym view) ∙ ap (get (places_of slab.slots)) (sym t.id_is) ∙ place_at slab.slots next t.place t.slot seated t.there in
             let one : t.place ≡ member.place = knows subscript member has t.place at in

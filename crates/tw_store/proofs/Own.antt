@@ -33,8 +33,8 @@ own_set queues server queue inside own new other n c = elim (eqb_tells other ser
 ]
 
 -- a datum closes
-pub own_told : (queues : List (List Notice)) (id : ℕ) (subscribers : List Subscriber) → 0 < length queues → AreOwn queues → AreOwn (queued id (map (notice_to id) subscribers) queues)
-own_told queues id subscribers some own = own_set queues (id % length queues) _ inside own each
+pub own_notified : (queues : List (List Notice)) (id : ℕ) (subscribers : List Subscriber) → 0 < length queues → AreOwn queues → AreOwn (queued id (map (notice_to id) subscribers) queues)
+own_notified queues id subscribers some own = own_set queues (id % length queues) _ inside own each
   where
     inside : id % length queues < length queues
     inside = omega (arith, some)
@@ -46,8 +46,8 @@ own_told queues id subscribers some own = own_set queues (id % length queues) _ 
     ]
 
 pub own_after : (queues queues2 : Queues) (id : ℕ) (subscribers : List Subscriber) → 0 < length queues → AreOwn (notices_in queues) → notices_in queues2 ≡ queued id (map (notice_to id) subscribers) (notices_in queues) → AreOwn (notices_in queues2)
-own_after queues queues2 id subscribers some own told =
-    subst AreOwn (sym told) (own_told (notices_in queues) id subscribers (subst (λ n. 0 < n) (sym (length-map queues (λ q. q.items))) some) own)
+own_after queues queues2 id subscribers some own notified =
+    subst AreOwn (sym notified) (own_notified (notices_in queues) id subscribers (subst (λ n. 0 < n) (sym (length-map queues (λ q. q.items))) some) own)
 
 -- the oldest notice leaves
 in_rest : (queue : List Notice) (n : Notice) → Contains (drop 1 queue) n → Contains queue n

@@ -14,7 +14,7 @@ use Rattle.tw_store.specs.declared.member.Member.{Member}
 use Rattle.tw_store.specs.declared.slot.Slot.{Slot}
 use Rattle.tw_datum.specs.Kept.{with_kept_member, IsMemberAdded}
 use Rattle.tw_store.specs.Placed.{PlacedDatum, PlacedMembers, id_of}
-use Rattle.tw_store.specs.Slots.{Slots, live_of, places_of, datum_in, place_in, AreApart, IsAt, AllAt, AreSeated, Stood, Remains, IsChanged, IsChangedAt, IsInsertedAt, IsSettled}
+use Rattle.tw_store.specs.Slots.{Slots, live_of, places_of, datum_in, place_in, AreApart, IsAt, AllAt, AreSeated, WasThere, Remains, IsChanged, IsChangedAt, IsInsertedAt, IsSettled}
 use Rattle.tw_store.proofs.Shown.{map_of, get_shown, get_nowhere, search_slots, same_slot, no_slot, shown_put, shown_gone, apart_put, set_there, set_others, seat_of, IsSeat}
 use Rattle.tw_types.proofs.Settled.{changed_is, same, settled_gone, settled_held}
 use Rattle.tw_store.proofs.Live.{after_is}
@@ -25,8 +25,8 @@ use Rattle.tw_types.proofs.Drops.{drop_absent, drop_unread, drop_held, drop_lowe
 pub remains_then : (a b c : Slots) → Remains a b → Remains b c → Remains a c
 remains_then a b c r s = record {
   each = λ q f h.
-      let x : Stood b q f = s.each q f h in
-      let y : Stood a q x.slot = r.each q x.slot x.there in
+      let x : WasThere b q f = s.each q f h in
+      let y : WasThere a q x.slot = r.each q x.slot x.there in
       record { slot = y.slot; there = y.there; id_is = x.id_is ∙ y.id_is; members = x.members ∙ y.members };
 }
 
@@ -34,7 +34,7 @@ remains_then a b c r s = record {
 remains_put : (old new : Slots) (p : ℕ) (e f : Slot) → get_or old p None ≡ Some e → get_or new p None ≡ Some f → f.id ≡ e.id → f.datum.members ≡ e.datum.members
     → ((j : ℕ) → j ≢ p → get_or new j None ≡ get_or old j None) → Remains old new
 remains_put old new p e f was is alike members others = record {
-  each = λ q x h. elim (eqb_tells q p) as (λ _. Stood old q x) [
+  each = λ q x h. elim (eqb_tells q p) as (λ _. WasThere old q x) [
     | inl y ↦
         let it : x ≡ f = same_slot x f (sym h ∙ ap (λ n. get_or new n None) y.1 ∙ is) in
         record { slot = e; there = ap (λ n. get_or old n None) y.1 ∙ was; id_is = ap (λ (s : Slot). s.id) it ∙ alike; members = ap (λ (s : Slot). s.datum.members) it ∙ members }
@@ -44,7 +44,7 @@ remains_put old new p e f was is alike members others = record {
 
 remains_gone : (old new : Slots) (p : ℕ) → get_or new p None ≡ None → ((j : ℕ) → j ≢ p → get_or new j None ≡ get_or old j None) → Remains old new
 remains_gone old new p gone others = record {
-  each = λ q x h. elim (eqb_tells q p) as (λ _. Stood old q x) [
+  each = λ q x h. elim (eqb_tells q p) as (λ _. WasThere old q x) [
     | inl y ↦ absurd (no_slot x (sym gone ∙ ap (λ n. get_or new n None) (sym y.1) ∙ h))
     | inr y ↦ record { slot = x; there = sym (others q y.1) ∙ h; id_is = refl; members = refl }
   ];
@@ -56,12 +56,12 @@ no_datum x e = cc
 module _ (old new : Slots) (r : Remains old new) where
   pub apart_left : AreApart old → AreApart new
   apart_left was p q e f h k i =
-      let x : Stood old p e = r.each p e h in
-      let y : Stood old q f = r.each q f k in
+      let x : WasThere old p e = r.each p e h in
+      let y : WasThere old q f = r.each q f k in
       was p q x.slot y.slot x.there y.there (sym x.id_is ∙ i ∙ y.id_is)
 
   pub at_left : (id p : ℕ) → IsAt old id p → IsAt new id p
-  at_left id p was = record { only = λ q e h i. let x : Stood old q e = r.each q e h in was.only q x.slot x.there (sym x.id_is ∙ i) }
+  at_left id p was = record { only = λ q e h i. let x : WasThere old q e = r.each q e h in was.only q x.slot x.there (sym x.id_is ∙ i) }
 
   pub all_left : (next : ℕ) (ms : PlacedMembers) → AllAt old next ms → AllAt new next ms
   all_left next ms h k m e = let at = h k m e in (at.0, at_left m.id m.place at.1)
@@ -69,15 +69,15 @@ module _ (old new : Slots) (r : Remains old new) where
   pub seated_left : (next : ℕ) → AreSeated old next → AreSeated new next
   seated_left next s = record {
     apart = apart_left s.apart;
-    below = λ p e h. let x : Stood old p e = r.each p e h in subst (λ k. k < next) (sym x.id_is) (s.below p x.slot x.there);
-    members = λ p e h. let x : Stood old p e = r.each p e h in subst (AllAt new next) (sym x.members) (all_left next x.slot.datum.members (s.members p x.slot x.there));
+    below = λ p e h. let x : WasThere old p e = r.each p e h in subst (λ k. k < next) (sym x.id_is) (s.below p x.slot x.there);
+    members = λ p e h. let x : WasThere old p e = r.each p e h in subst (AllAt new next) (sym x.members) (all_left next x.slot.datum.members (s.members p x.slot x.there));
   }
 
   -- data that stay keep their places
   pub place_stays : AreApart old → (id : ℕ) (x : Datum) → get (live_of new) id ≡ Some x → get (places_of new) id ≡ get (places_of old) id
   place_stays apart id x live = elim (search_slots new id) as (λ _. get (places_of new) id ≡ get (places_of old) id) [
     | inl t ↦
-        let y : Stood old t.place t.slot = r.each t.place t.slot t.there in
+        let y : WasThere old t.place t.slot = r.each t.place t.slot t.there in
         ap (get (places_of new)) (sym t.id_is) ∙ get_shown place_in new (apart_left apart) t.place t.slot t.there
         ∙ sym (ap (get (places_of old)) (sym (sym y.id_is ∙ t.id_is)) ∙ get_shown place_in old apart t.place y.slot y.there)
     | inr n ↦ absurd (no_datum x (sym (get_nowhere datum_in new id n) ∙ live))

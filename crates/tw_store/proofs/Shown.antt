@@ -42,35 +42,35 @@ find_none g (None ∷ slots) k q h = find_none g slots (suc k) q (λ p e i. h (s
 find_none g (Some a ∷ slots) k q h = ap (λ b. cond b (Some (g k a)) (find nat_cmp q (shown g (suc k) slots))) (other_key nat_cmp-IsAntisymmetric q a.id (λ i. h zero a refl (sym i)))
     ∙ find_none g slots (suc k) q (λ p e i. h (suc p) e i)
 
-pub record StandsAt (slots : List (Option Slot)) (q : ℕ) : Type 0 where
+pub record IsFoundAt (slots : List (Option Slot)) (q : ℕ) : Type 0 where
   pub place : ℕ
   pub slot : Slot
   pub there : get_or slots place None ≡ Some slot
   pub id_is : slot.id ≡ q
 
-abbrev pub StandsNowhere : List (Option Slot) → ℕ → Type 0
-StandsNowhere slots q = (p : ℕ) (e : Slot) → get_or slots p None ≡ Some e → e.id ≢ q
+abbrev pub IsNowhere : List (Option Slot) → ℕ → Type 0
+IsNowhere slots q = (p : ℕ) (e : Slot) → get_or slots p None ≡ Some e → e.id ≢ q
 
-later : (a : Option Slot) (slots : List (Option Slot)) (q : ℕ) → StandsAt slots q → StandsAt (a ∷ slots) q
+later : (a : Option Slot) (slots : List (Option Slot)) (q : ℕ) → IsFoundAt slots q → IsFoundAt (a ∷ slots) q
 later a slots q s = record { place = suc s.place; slot = s.slot; there = s.there; id_is = s.id_is }
 
-nowhere_none : (slots : List (Option Slot)) (q : ℕ) → StandsNowhere slots q → StandsNowhere (None ∷ slots) q
+nowhere_none : (slots : List (Option Slot)) (q : ℕ) → IsNowhere slots q → IsNowhere (None ∷ slots) q
 nowhere_none slots q n zero e h = absurd (no_slot e h)
 nowhere_none slots q n (suc p) e h = n p e h
 
-nowhere_some : (a : Slot) (slots : List (Option Slot)) (q : ℕ) → a.id ≢ q → StandsNowhere slots q → StandsNowhere (Some a ∷ slots) q
+nowhere_some : (a : Slot) (slots : List (Option Slot)) (q : ℕ) → a.id ≢ q → IsNowhere slots q → IsNowhere (Some a ∷ slots) q
 nowhere_some a slots q y n zero e h = λ i. y (ap (λ s. s.id) (same_slot a e h) ∙ i)
 nowhere_some a slots q y n (suc p) e h = n p e h
 
-pub search_slots : (slots : List (Option Slot)) (q : ℕ) → StandsAt slots q ⊎ StandsNowhere slots q
+pub search_slots : (slots : List (Option Slot)) (q : ℕ) → IsFoundAt slots q ⊎ IsNowhere slots q
 search_slots [] q = inr (λ p e h i. no_slot e h)
-search_slots (None ∷ slots) q = elim (search_slots slots q) as (λ _. StandsAt (None ∷ slots) q ⊎ StandsNowhere (None ∷ slots) q) [
+search_slots (None ∷ slots) q = elim (search_slots slots q) as (λ _. IsFoundAt (None ∷ slots) q ⊎ IsNowhere (None ∷ slots) q) [
   | inl s ↦ inl (later None slots q s)
   | inr n ↦ inr (nowhere_none slots q n)
 ]
-search_slots (Some a ∷ slots) q = elim (eqb_tells a.id q) as (λ _. StandsAt (Some a ∷ slots) q ⊎ StandsNowhere (Some a ∷ slots) q) [
+search_slots (Some a ∷ slots) q = elim (eqb_tells a.id q) as (λ _. IsFoundAt (Some a ∷ slots) q ⊎ IsNowhere (Some a ∷ slots) q) [
   | inl y ↦ inl (record { place = zero; slot = a; there = refl; id_is = y.1 })
-  | inr y ↦ elim (search_slots slots q) as (λ _. StandsAt (Some a ∷ slots) q ⊎ StandsNowhere (Some a ∷ slots) q) [
+  | inr y ↦ elim (search_slots slots q) as (λ _. IsFoundAt (Some a ∷ slots) q ⊎ IsNowhere (Some a ∷ slots) q) [
     | inl s ↦ inl (later (Some a) slots q s)
     | inr n ↦ inr (nowhere_some a slots q y.1 n)
   ]
@@ -88,7 +88,7 @@ module _ {Y : Type 0} (g : ℕ → Slot → Y) where
       ∙ find_shown g slots 0 p e h (λ j f l q i. absurd (let same : j ≡ p = apart j p f e q h i in omega (arith, same, l)))
       ∙ ap (λ n. Some (g n e)) first
 
-  pub get_nowhere : (slots : List (Option Slot)) (q : ℕ) → StandsNowhere slots q → get (map_of slots) q ≡ None
+  pub get_nowhere : (slots : List (Option Slot)) (q : ℕ) → IsNowhere slots q → get (map_of slots) q ≡ None
   get_nowhere slots q h = get-from_entries nat_cmp_total (shown g 0 slots) q ∙ find_none g slots 0 q h
 
   -- e at place p, if there was nothing or a slot of the same id

@@ -57,7 +57,7 @@ pub record AreSeated (slots : Slots) (next : ℕ) : Type 0 where
   pub members : (p : ℕ) (e : Slot) → slot_at slots p ≡ Some e → AllAt slots next e.datum.members
 
 -- the datum of the id is at the place
-pub record StandsAs (slots : Slots) (id place : ℕ) : Type 0 where
+pub record IsAtPlace (slots : Slots) (id place : ℕ) : Type 0 where
   pub slot : Slot
   pub there : slot_at slots place ≡ Some slot
   pub id_is : slot.id ≡ id
@@ -69,7 +69,7 @@ pub record IsSlotOf (slots : Slots) (member : Member) (datum : PlacedDatum) : Ty
 -- ---- effects of a call
 
 -- the slot had a datum before, with the same id and members
-pub record Stood (old : Slots) (q : ℕ) (f : Slot) : Type 0 where
+pub record WasThere (old : Slots) (q : ℕ) (f : Slot) : Type 0 where
   pub slot : Slot
   pub there : slot_at old q ≡ Some slot
   pub id_is : f.id ≡ slot.id
@@ -77,7 +77,7 @@ pub record Stood (old : Slots) (q : ℕ) (f : Slot) : Type 0 where
 
 -- data that are left were there before
 pub record Remains (old new : Slots) : Type 0 where
-  pub each : (q : ℕ) (f : Slot) → slot_at new q ≡ Some f → Stood old q f
+  pub each : (q : ℕ) (f : Slot) → slot_at new q ≡ Some f → WasThere old q f
 
 -- the datum of the id is f of it; all others, and all places, are unchanged
 pub record IsChanged (next id : ℕ) (f : Datum → Datum) (old new : Slots) : Type 0 where

@@ -2,7 +2,7 @@
 
 ghost use Rattle.std.specs.Prelude.{◌≡◌, ◌≢◌, ℕ, IfNone, IfSome, IsSome, Some};
 ghost use Rattle.tw_store.specs.declared.slot.Slot.{Slot as Meaning};
-ghost use Rattle.tw_store.specs.Slots.{slot_at, IsSlotOf, StandsAs};
+ghost use Rattle.tw_store.specs.Slots.{slot_at, IsSlotOf, IsAtPlace};
 
 use crate::member::{Datum, Member};
 use slab::Slab;
@@ -41,7 +41,7 @@ pub fn member_at(slab: &Slab<Slot>, member: Member) -> Option<&Datum>
 
 /// Searches the place of the datum of an id. Takes time linear in the number of places.
 pub fn place_of(slab: &Slab<Slot>, id: DatumId) -> Option<usize>
-    ensures found { IfSome result (λ place. StandsAs slab.now.slots id place) }
+    ensures found { IfSome result (λ place. IsAtPlace slab.now.slots id place) }
     ensures absent { IfNone result ((place : ℕ) (e : Meaning) → slot_at slab.now.slots place ≡ Some e → e.id ≢ id) }
 {
     let number = id.number();

@@ -2,7 +2,7 @@ use Rattle.std.proofs.Common.{◌≡◌, ◌∙◌, ap, map, subst}
 use Rattle.std.specs.FinMap.{entries}
 use Rattle.tw_types.specs.Mapped.{mapped}
 use Rattle.tw_rights.specs.Bare.{bare_rule}
-use Rattle.tw_rules.specs.Table.{told}
+use Rattle.tw_rules.specs.Table.{erasure}
 use Rattle.tw_store.specs.Served.{Served}
 use Rattle.tw_code.specs.machine.Pending.{pending_of}
 use Rattle.tw_code.specs.machine.State.{State}
@@ -22,7 +22,7 @@ returns-clause-left c = record {
     store = ap (λ (s : Served). s.store) c.shut-remains.ensures.store;
     outputs = c.shut-remains.ensures.outputs;
     pending = ap (map pending_with_data) c.shut-remains.ensures.pending
-        ∙ subst (λ (p : PoolView). map pending_with_data (map told (entries c.self.inside.parts.rules.rules)) ≡ map (pending_of p.program.program) (entries (mapped bare_rule c.self.inside.parts.rules.rules))) c.self.view_is
+        ∙ subst (λ (p : PoolView). map pending_with_data (map erasure (entries c.self.inside.parts.rules.rules)) ≡ map (pending_of p.program.program) (entries (mapped bare_rule c.self.inside.parts.rules.rules))) c.self.view_is
         (pending_is c.self.inside.verified.now.program c.self.inside.parts.store.places c.self.inside.parts.rules.rules c.self.invariant.parts.stand.rules);
   };
   closing = c.closing-closing.ensures _ (turning.at_here _ _ _ c.self.inside.stopped c.self.inside.history c.self.inside.parts c.self.invariant c.args.self c.self.view_is);

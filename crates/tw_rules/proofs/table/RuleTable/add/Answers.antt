@@ -29,8 +29,8 @@ invariant_of-self c =
     let can = c.is_releasable.ensures ∙ ap (list_all is_settled) c.first_stages.ensures in
     let index = index_added m t.next t.agendas c.self.invariant.index c.args.engine low c.args.params.now c.args.action c.args.args was c.add.new.self at c.is_releasable.result can c.add.ensures.released c.add.ensures.asked in
     let put = c.put.ensures.put ∙ ap (λ (ss : List Stage). insert m t.next (rule_in (record { engine = c.args.engine; action = c.args.action; args = c.args.args; stages = ss }))) c.first_stages.ensures in
-    let room = has_room (has_place (spare t.rules) (hash_map_len t.rules) (vec_capacity t.told)) t.agendas c.args.engine (subst (λ s. room_for c.args.engine s ≡ true) (sym c.self.view_is) c.in-Ok.ensures.room) in
-    let more : hash_map_len t.rules < vec_capacity t.told = place_capacity (spare t.rules) (hash_map_len t.rules) (vec_capacity t.told) room.place in
+    let room = has_room (has_place (spare t.rules) (hash_map_len t.rules) (vec_capacity t.erasure)) t.agendas c.args.engine (subst (λ s. room_for c.args.engine s ≡ true) (sym c.self.view_is) c.in-Ok.ensures.room) in
+    let more : hash_map_len t.rules < vec_capacity t.erasure = place_capacity (spare t.rules) (hash_map_len t.rules) (vec_capacity t.erasure) room.place in
     let len : length c.put.new.rules.entries ≡ length t.rules.entries + 1 = c.put.ensures.len in
     record {
       index = subst (λ (k : ℕ). IsIndexed (rules_in c.put.new.rules.entries) (t.next + 1) (slice_set t.agendas k c.add.new.self)) (sym same)

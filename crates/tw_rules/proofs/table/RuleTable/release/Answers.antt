@@ -51,7 +51,7 @@ returns-clause-room c = λ engine all.
     let inside : c.from.result < length t.agendas = omega arith in
     let was = get_or t.agendas c.from.result c.index-self-from.result in
     let less : hash_map_len new + 1 ≡ hash_map_len t.rules = c.take-engine.ensures.len in
-    room_kept (has_place (spare t.rules) (hash_map_len t.rules) (vec_capacity t.told)) (has_place (spare new) (hash_map_len new) (vec_capacity t.told)) t.agendas c.from.result was c.trim_releases.new.self
+    room_kept (has_place (spare t.rules) (hash_map_len t.rules) (vec_capacity t.erasure)) (has_place (spare new) (hash_map_len new) (vec_capacity t.erasure)) t.agendas c.from.result was c.trim_releases.new.self
     (slice_get-get_or t.agendas c.from.result c.index-self-from.result inside)
-    (place_kept (spare t.rules) (hash_map_len t.rules) (vec_capacity t.told) (spare new) (hash_map_len new) (vec_capacity t.told) c.take-engine.ensures.spare (omega arith) (omega arith))
+    (place_kept (spare t.rules) (hash_map_len t.rules) (vec_capacity t.erasure) (spare new) (hash_map_len new) (vec_capacity t.erasure) c.take-engine.ensures.spare (omega arith) (omega arith))
     c.trim_releases.ensures.room engine (subst (λ s. room_for engine s ≡ true) (sym c.self.view_is) all)

@@ -14,15 +14,15 @@ returns-in_err-reserve-clause-kept c = λ other all.
     let t = c.self.inside in
     let new = c.reserve.new.self in
     let same : hash_map_len new ≡ hash_map_len t.rules = c.reserve.ensures.entries.1 in
-    room_same (has_place (spare t.rules) (hash_map_len t.rules) (vec_capacity t.told)) (has_place (spare new) (hash_map_len new) (vec_capacity t.told)) t.agendas
-    (place_kept (spare t.rules) (hash_map_len t.rules) (vec_capacity t.told) (spare new) (hash_map_len new) (vec_capacity t.told) c.reserve.ensures.spare (omega arith) (omega arith))
+    room_same (has_place (spare t.rules) (hash_map_len t.rules) (vec_capacity t.erasure)) (has_place (spare new) (hash_map_len new) (vec_capacity t.erasure)) t.agendas
+    (place_kept (spare t.rules) (hash_map_len t.rules) (vec_capacity t.erasure) (spare new) (hash_map_len new) (vec_capacity t.erasure) c.reserve.ensures.spare (omega arith) (omega arith))
     other (subst (λ s. room_for other s ≡ true) (sym c.self.view_is) all)
 
 pub returns-in_err-reserve-clause-reserved : goal.returns-in_err-reserve-clause-reserved
 returns-in_err-reserve-clause-reserved c = λ all.
     let t = c.self.inside in
-    let room = has_room (has_place (spare t.rules) (hash_map_len t.rules) (vec_capacity t.told)) t.agendas c.args.engine (subst (λ s. room_for c.args.engine s ≡ true) (sym c.self.view_is) all) in
-    let some : 0 < spare t.rules = place_spare (spare t.rules) (hash_map_len t.rules) (vec_capacity t.told) room.place in
+    let room = has_room (has_place (spare t.rules) (hash_map_len t.rules) (vec_capacity t.erasure)) t.agendas c.args.engine (subst (λ s. room_for c.args.engine s ≡ true) (sym c.self.view_is) all) in
+    let some : 0 < spare t.rules = place_spare (spare t.rules) (hash_map_len t.rules) (vec_capacity t.erasure) room.place in
     let goes = c.in_err-reserve.ensures.succeeds (omega arith) in
     absurd cc
 
@@ -47,22 +47,22 @@ pub returns-in_err-reserve-2-clause-kept : goal.returns-in_err-reserve-2-clause-
 returns-in_err-reserve-2-clause-kept c = λ other all.
     let t = c.self.inside in
     let new = c.reserve.new.self in
-    let told = c.reserve-2.new.self in
+    let erasure = c.reserve-2.new.self in
     let same : hash_map_len new ≡ hash_map_len t.rules = c.reserve.ensures.entries.1 in
-    room_same (has_place (spare t.rules) (hash_map_len t.rules) (vec_capacity t.told)) (has_place (spare new) (hash_map_len new) (vec_capacity told)) t.agendas
-    (place_kept (spare t.rules) (hash_map_len t.rules) (vec_capacity t.told) (spare new) (hash_map_len new) (vec_capacity told) c.reserve.ensures.spare (omega arith) c.reserve-2.ensures.capacity)
+    room_same (has_place (spare t.rules) (hash_map_len t.rules) (vec_capacity t.erasure)) (has_place (spare new) (hash_map_len new) (vec_capacity erasure)) t.agendas
+    (place_kept (spare t.rules) (hash_map_len t.rules) (vec_capacity t.erasure) (spare new) (hash_map_len new) (vec_capacity erasure) c.reserve.ensures.spare (omega arith) c.reserve-2.ensures.capacity)
     other (subst (λ s. room_for other s ≡ true) (sym c.self.view_is) all)
 
 pub returns-in_err-reserve-2-clause-reserved : goal.returns-in_err-reserve-2-clause-reserved
 returns-in_err-reserve-2-clause-reserved c = λ all.
     let t = c.self.inside in
     let new = c.reserve.new.self in
-    let room = has_room (has_place (spare t.rules) (hash_map_len t.rules) (vec_capacity t.told)) t.agendas c.args.engine (subst (λ s. room_for c.args.engine s ≡ true) (sym c.self.view_is) all) in
-    let more : hash_map_len t.rules < vec_capacity t.told = place_capacity (spare t.rules) (hash_map_len t.rules) (vec_capacity t.told) room.place in
+    let room = has_room (has_place (spare t.rules) (hash_map_len t.rules) (vec_capacity t.erasure)) t.agendas c.args.engine (subst (λ s. room_for c.args.engine s ≡ true) (sym c.self.view_is) all) in
+    let more : hash_map_len t.rules < vec_capacity t.erasure = place_capacity (spare t.rules) (hash_map_len t.rules) (vec_capacity t.erasure) room.place in
     let same : hash_map_len new ≡ hash_map_len t.rules = c.reserve.ensures.entries.1 in
     let count : c.len.result ≡ hash_map_len new = c.len.ensures.len in
-    let none : length t.told.items ≡ 0 = ap length c.self.invariant.blank in
-    let size = t.told.ok.0 in
+    let none : length t.erasure.items ≡ 0 = ap length c.self.invariant.blank in
+    let size = t.erasure.ok.0 in
     let goes = c.in_err-reserve-2.ensures.succeeds (omega arith) in
     absurd cc
 
@@ -94,13 +94,13 @@ pub returns-clause-kept : goal.returns-clause-kept
 returns-clause-kept c = λ other all.
     let t = c.self.inside in
     let new = c.reserve.new.self in
-    let told = c.reserve-2.new.self in
+    let erasure = c.reserve-2.new.self in
     let same : hash_map_len new ≡ hash_map_len t.rules = c.reserve.ensures.entries.1 in
     let engine = c.from.ensures in
     let count = c.self.invariant.index.count in
     let inside : c.from.result < length t.agendas = omega (arith, c.requires) in
     let was = get_or t.agendas c.from.result c.index-self-from.result in
-    room_kept (has_place (spare t.rules) (hash_map_len t.rules) (vec_capacity t.told)) (has_place (spare new) (hash_map_len new) (vec_capacity told)) t.agendas c.from.result was c.reserve-3.new.self
+    room_kept (has_place (spare t.rules) (hash_map_len t.rules) (vec_capacity t.erasure)) (has_place (spare new) (hash_map_len new) (vec_capacity erasure)) t.agendas c.from.result was c.reserve-3.new.self
     (slice_get-get_or t.agendas c.from.result c.index-self-from.result inside)
-    (place_kept (spare t.rules) (hash_map_len t.rules) (vec_capacity t.told) (spare new) (hash_map_len new) (vec_capacity told) c.reserve.ensures.spare (omega arith) c.reserve-2.ensures.capacity)
+    (place_kept (spare t.rules) (hash_map_len t.rules) (vec_capacity t.erasure) (spare new) (hash_map_len new) (vec_capacity erasure) c.reserve.ensures.spare (omega arith) c.reserve-2.ensures.capacity)
     c.reserve-3.ensures.kept other (subst (λ s. room_for other s ≡ true) (sym c.self.view_is) all)

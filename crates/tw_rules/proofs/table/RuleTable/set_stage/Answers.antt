@@ -81,7 +81,7 @@ returns-clause-room c = λ engine all.
     let same : hash_map_len done.new.rules ≡ hash_map_len t.rules = done.ensures.len in
     let spared : spare done.new.rules ≡ spare t.rules = done.ensures.spare in
     let was = get_or t.agendas c.from.result c.index-self-from.result in
-    room_kept (has_place (spare t.rules) (hash_map_len t.rules) (vec_capacity t.told)) (has_place (spare done.new.rules) (hash_map_len done.new.rules) (vec_capacity t.told)) t.agendas c.from.result was c.advance.new.self
+    room_kept (has_place (spare t.rules) (hash_map_len t.rules) (vec_capacity t.erasure)) (has_place (spare done.new.rules) (hash_map_len done.new.rules) (vec_capacity t.erasure)) t.agendas c.from.result was c.advance.new.self
     (slice_get-get_or t.agendas c.from.result c.index-self-from.result inside)
-    (place_kept (spare t.rules) (hash_map_len t.rules) (vec_capacity t.told) (spare done.new.rules) (hash_map_len done.new.rules) (vec_capacity t.told) (omega arith) (omega arith) (omega arith))
+    (place_kept (spare t.rules) (hash_map_len t.rules) (vec_capacity t.erasure) (spare done.new.rules) (hash_map_len done.new.rules) (vec_capacity t.erasure) (omega arith) (omega arith) (omega arith))
     c.advance.ensures.room engine (subst (λ s. room_for engine s ≡ true) (sym c.self.view_is) all)

@@ -2,14 +2,14 @@ use Rattle.std.proofs.Common.{map, rules}
 use Rattle.std.specs.FinMap.{entries}
 use Rattle.std.proofs.lemmas.List.Sorted.{IsNonDecreasingBy-from_sort, IsPermutation-trans, answers_always}
 use Rattle.tw_rules.specs.declared.erased.ErasedRule.{ErasedRule}
-use Rattle.tw_rules.specs.Table.{told}
+use Rattle.tw_rules.specs.Table.{erasure}
 use Rattle.tw_rules.proofs.SameOrder.{same_order}
-use Rattle.tw_rules.proofs.Told.{told_rise}
+use Rattle.tw_rules.proofs.Erasing.{erased_rise}
 use Rattle.tw_rules.proofs.table.RuleTable.shut.Goals as goal
 
 pub returns : goal.returns
 returns c =
     let sorted = c.sort_unstable_by_key.new.self.items in
-    same_order (λ (r : ErasedRule). r.number) (map told (entries c.args.self.rules)) sorted (told_rise c.args.self.rules)
+    same_order (λ (r : ErasedRule). r.number) (map erasure (entries c.args.self.rules)) sorted (erased_rise c.args.self.rules)
     (IsNonDecreasingBy-from_sort (λ (r : ErasedRule). r.number) sorted (c.sort_unstable_by_key.ensures.sorted (λ (r : ErasedRule). r.number) (answers_always _ _ _ (λ f a r g h. search rules))))
-    (IsPermutation-trans _ _ _ c.spend_all-told.ensures c.sort_unstable_by_key.ensures.permutation)
+    (IsPermutation-trans _ _ _ c.spend_all-erasure.ensures c.sort_unstable_by_key.ensures.permutation)

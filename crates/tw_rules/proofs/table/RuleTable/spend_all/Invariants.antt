@@ -4,13 +4,13 @@ use Rattle.std.specs.HashMap.{hash_map_len}
 use Rattle.std.specs.Vec.{vec_capacity, vec_len}
 use Rattle.std.specs.List.Sorted.{IsPermutation}
 use Rattle.tw_rules.specs.Entries.{rules_in}
-use Rattle.tw_rules.specs.Table.{told}
+use Rattle.tw_rules.specs.Table.{erasure}
 use Rattle.tw_rules.proofs.table.RuleTable.spend_all.Given as goal
 
 abbrev pub invariant-loop-number : goal.invariant-loop-number
 invariant-loop-number l = record {
-  whole : IsPermutation (map told (entries (rules_in l.initial.rules.entries))) (l.told.items ++ map told (entries (rules_in l.rules.entries)));
-  room : hash_map_len l.rules + vec_len l.told ≤ vec_capacity l.told;
+  whole : IsPermutation (map erasure (entries (rules_in l.initial.rules.entries))) (l.erasure.items ++ map erasure (entries (rules_in l.rules.entries)));
+  room : hash_map_len l.rules + vec_len l.erasure ≤ vec_capacity l.erasure;
 }
 
 abbrev pub decreases-loop-number : goal.decreases-loop-number
