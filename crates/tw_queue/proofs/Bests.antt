@@ -52,34 +52,34 @@ module _ {A : Type 0} where
         by rest true may is = older rest (best_of actor es) refl may is
         by rest false may is = let there = rest e is in (in_later f e es (first _ _ sorted) there.0, there.1)
 
-    abbrev AllBehind : ℕ × TaskOf A → List (ℕ × TaskOf A) → Type 0
-    AllBehind e es = (f : ℕ × TaskOf A) → IsIn f es → is_eligible actor f.1 ≡ true → IsAhead e f
+    abbrev AreAllAfter : ℕ × TaskOf A → List (ℕ × TaskOf A) → Type 0
+    AreAllAfter e es = (f : ℕ × TaskOf A) → IsIn f es → is_eligible actor f.1 ≡ true → IsAhead e f
 
-    best_of_is : (es : List (ℕ × TaskOf A)) (e : ℕ × TaskOf A) → T (is_sorted nat_cmp es) → IsIn e es → is_eligible actor e.1 ≡ true → AllBehind e es → best_of actor es ≡ Some e
+    best_of_is : (es : List (ℕ × TaskOf A)) (e : ℕ × TaskOf A) → T (is_sorted nat_cmp es) → IsIn e es → is_eligible actor e.1 ≡ true → AreAllAfter e es → best_of actor es ≡ Some e
     best_of_is [] e sorted there may ahead = cc
     best_of_is (f ∷ es) e sorted there may ahead =
-        by (λ is behind. best_of_is es e (second _ _ sorted) is may behind) (eq_by_cmp nat_cmp e.0 f.0) refl there
+        by (λ is not_better. best_of_is es e (second _ _ sorted) is may not_better) (eq_by_cmp nat_cmp e.0 f.0) refl there
       where
         low : T (below_all nat_cmp f.0 es)
         low = first _ _ sorted
 
-        ahead_later : AllBehind e es
+        ahead_later : AreAllAfter e es
         ahead_later g is may_g = ahead g (in_later f g es low is) may_g
 
         leads : (o : Option (ℕ × TaskOf A)) → best_of actor es ≡ o → better e o ≡ e
         leads None is = refl
         leads (Some g) is =
             let there = best_in es g (second _ _ sorted) is in
-            let behind : int_lt e.1.priority g.1.priority ≡ false = not_less _ _ _ (ahead_later g there.0 there.1) in
-            rw behind refl
+            let not_better : int_lt e.1.priority g.1.priority ≡ false = not_less _ _ _ (ahead_later g there.0 there.1) in
+            rw not_better refl
 
         follows : is_eligible actor f.1 ≡ true → nat_cmp f.0 e.0 ≡ Less → better f (Some e) ≡ e
         follows may_f below =
-            let behind = ahead f (in_first f es) may_f in
-            let over : int_lt f.1.priority e.1.priority ≡ true = greater _ _ (rw below at behind) in
+            let not_better = ahead f (in_first f es) may_f in
+            let over : int_lt f.1.priority e.1.priority ≡ true = greater _ _ (rw below at not_better) in
             rw over refl
 
-        by : (IsIn e es → AllBehind e es → best_of actor es ≡ Some e) → (b : Bool) → eq_by_cmp nat_cmp e.0 f.0 ≡ b → cond b (Some f.1) (find nat_cmp e.0 es) ≡ Some e.1 → cond (is_eligible actor f.1) (Some (better f (best_of actor es))) (best_of actor es) ≡ Some e
+        by : (IsIn e es → AreAllAfter e es → best_of actor es ≡ Some e) → (b : Bool) → eq_by_cmp nat_cmp e.0 f.0 ≡ b → cond b (Some f.1) (find nat_cmp e.0 es) ≡ Some e.1 → cond (is_eligible actor f.1) (Some (better f (best_of actor es))) (best_of actor es) ≡ Some e
         by rest true t is =
             let no : e.0 ≡ f.0 = same_no e f t in
             let task : f.1 ≡ e.1 = cc in

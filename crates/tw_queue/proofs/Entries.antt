@@ -52,13 +52,13 @@ find_none (Some a ∷ slots) q h = ap (λ b. cond b (Some (task_in a)) (find nat
     ∙ find_none slots q (λ p w i. h (suc p) w i)
 
 -- a slot has one
-pub record Stands (number : ℕ) (entry : ℕ → Option Waiting) : Type 0 where
+pub record HasEntry (number : ℕ) (entry : ℕ → Option Waiting) : Type 0 where
   pub slot : ℕ
   pub waiting : Waiting
   pub there : entry slot ≡ Some waiting
   pub number_is : waiting.task.no ≡ number
 
-later : (a : Option Waiting) (slots : Slots) (q : ℕ) → Stands q (slot_at slots) → Stands q (slot_at (a ∷ slots))
+later : (a : Option Waiting) (slots : Slots) (q : ℕ) → HasEntry q (slot_at slots) → HasEntry q (slot_at (a ∷ slots))
 later a slots q s = record { slot = suc s.slot; waiting = s.waiting; there = s.there; number_is = s.number_is }
 
 nowhere_none : (slots : Slots) (q : ℕ) → IsNowhere q slots → IsNowhere q (None ∷ slots)
@@ -69,15 +69,15 @@ nowhere_some : (a : Waiting) (slots : Slots) (q : ℕ) → a.task.no ≢ q → I
 nowhere_some a slots q y n zero w h = λ i. y (ap (λ v. v.task.no) (same_entry a w h) ∙ i)
 nowhere_some a slots q y n (suc p) w h = n p w h
 
-search_slots : (slots : Slots) (q : ℕ) → Stands q (slot_at slots) ⊎ IsNowhere q slots
+search_slots : (slots : Slots) (q : ℕ) → HasEntry q (slot_at slots) ⊎ IsNowhere q slots
 search_slots [] q = inr (λ p w h i. no_entry w h)
-search_slots (None ∷ slots) q = elim (search_slots slots q) as (λ _. Stands q (slot_at (None ∷ slots)) ⊎ IsNowhere q (None ∷ slots)) [
+search_slots (None ∷ slots) q = elim (search_slots slots q) as (λ _. HasEntry q (slot_at (None ∷ slots)) ⊎ IsNowhere q (None ∷ slots)) [
   | inl s ↦ inl (later None slots q s)
   | inr n ↦ inr (nowhere_none slots q n)
 ]
-search_slots (Some a ∷ slots) q = elim (eqb_tells a.task.no q) as (λ _. Stands q (slot_at (Some a ∷ slots)) ⊎ IsNowhere q (Some a ∷ slots)) [
+search_slots (Some a ∷ slots) q = elim (eqb_tells a.task.no q) as (λ _. HasEntry q (slot_at (Some a ∷ slots)) ⊎ IsNowhere q (Some a ∷ slots)) [
   | inl y ↦ inl (record { slot = zero; waiting = a; there = refl; number_is = y.1 })
-  | inr y ↦ elim (search_slots slots q) as (λ _. Stands q (slot_at (Some a ∷ slots)) ⊎ IsNowhere q (Some a ∷ slots)) [
+  | inr y ↦ elim (search_slots slots q) as (λ _. HasEntry q (slot_at (Some a ∷ slots)) ⊎ IsNowhere q (Some a ∷ slots)) [
     | inl s ↦ inl (later (Some a) slots q s)
     | inr n ↦ inr (nowhere_some a slots q y.1 n)
   ]
@@ -96,7 +96,7 @@ get_nowhere slots q h = get-from_entries nat_cmp_total (numbered slots) q ∙ fi
 -- each entry is a task of the map, and each task of the map an entry
 pub record AreSeen (entry : ℕ → Option Waiting) (tasks : TasksOf Arg) : Type 0 where
   pub here : (slot : ℕ) (w : Waiting) → entry slot ≡ Some w → get tasks w.task.no ≡ Some (task_in w)
-  pub found : (number : ℕ) (t : TaskOf Arg) → get tasks number ≡ Some t → (s : Stands number entry) × (task_in s.waiting ≡ t)
+  pub found : (number : ℕ) (t : TaskOf Arg) → get tasks number ≡ Some t → (s : HasEntry number entry) × (task_in s.waiting ≡ t)
 
 same_task : (t u : TaskOf Arg) → Some t ≡ Some u → t ≡ u
 same_task t u h = cc
@@ -107,7 +107,7 @@ no_task t h = cc
 pub seen : (slots : Slots) → AreApart (slot_at slots) → AreSeen (slot_at slots) (tasks_in slots)
 seen slots apart = record {
   here = get_here slots apart;
-  found = λ q t e. elim (search_slots slots q) as (λ _. (s : Stands q (slot_at slots)) × (task_in s.waiting ≡ t)) [
+  found = λ q t e. elim (search_slots slots q) as (λ _. (s : HasEntry q (slot_at slots)) × (task_in s.waiting ≡ t)) [
     | inl s ↦ (s, same_task _ _ (sym (get_here slots apart s.slot s.waiting s.there) ∙ ap (get (tasks_in slots)) s.number_is ∙ e))
     | inr n ↦ absurd (no_task t (sym (get_nowhere slots q n) ∙ e))
   ];

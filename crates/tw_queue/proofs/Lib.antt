@@ -7,4 +7,4 @@ pub mod Ranking
 pub mod Rooms
 pub mod Indexing
 pub mod Entries
-pub mod Telling
+pub mod BestTask

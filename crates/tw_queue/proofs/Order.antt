@@ -24,8 +24,8 @@ not_itself x = by (is_lt (rank_cmp x x)) refl
     by true e = not_back x x e
     by false e = e
 
-pub not_behind : (x y z : Rank) → is_lt (rank_cmp x y) ≡ false → is_lt (rank_cmp y z) ≡ false → is_lt (rank_cmp x z) ≡ false
-not_behind x y z h k = weak.chain x y z h k
+pub not_after : (x y z : Rank) → is_lt (rank_cmp x y) ≡ false → is_lt (rank_cmp y z) ≡ false → is_lt (rank_cmp x z) ≡ false
+not_after x y z h k = weak.chain x y z h k
 
 -- a rank that isn't below an upper bound is one
 pub upper_over : (x y : Rank) (ranks : List Rank) → is_lt (rank_cmp x y) ≡ false → IsUpperBound rank_cmp y ranks → IsUpperBound rank_cmp x ranks

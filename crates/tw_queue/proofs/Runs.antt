@@ -14,13 +14,13 @@ use Rattle.tw_queue.specs.declared.rank.Rank.{Rank}
 use Rattle.tw_queue.specs.Ranks.{rank_cmp}
 use Rattle.tw_queue.specs.Lanes.{IsFirst, IsInFront, IsInOrder}
 use Rattle.tw_queue.proofs.Lanes.{each_at, each_push}
-use Rattle.tw_queue.proofs.Order.{not_behind, not_itself}
+use Rattle.tw_queue.proofs.Order.{not_after, not_itself}
 
 -- ---- ranks after a run
 
 -- a rank below the last one is below all
-behind_all : (x : Rank) (ranks : List Rank) (y : Rank) → IsUpperBound rank_cmp x ranks → is_lt (rank_cmp x y) ≡ false → IsUpperBound rank_cmp x (ranks ++ y ∷ [])
-behind_all x ranks y upper low = each_push (λ z. is_lt (rank_cmp x z) ≡ false) ranks y upper low
+after_all : (x : Rank) (ranks : List Rank) (y : Rank) → IsUpperBound rank_cmp x ranks → is_lt (rank_cmp x y) ≡ false → IsUpperBound rank_cmp x (ranks ++ y ∷ [])
+after_all x ranks y upper low = each_push (λ z. is_lt (rank_cmp x z) ≡ false) ranks y upper low
 
 pub in_order_pushed : (ranks : List Rank) (k : ℕ) (last y : Rank) → suc k ≡ length ranks → last ≡ get_or ranks k last → is_lt (rank_cmp last y) ≡ false → IsInOrder ranks → IsInOrder (ranks ++ y ∷ [])
 in_order_pushed [] k last y count at low is = absurd (omega arith)
@@ -29,7 +29,7 @@ in_order_pushed (x ∷ []) (suc k) last y count at low is = absurd (omega arith)
 in_order_pushed (x ∷ z ∷ ranks) zero last y count at low is = absurd (omega arith)
 in_order_pushed (x ∷ z ∷ ranks) (suc k) last y count at low is =
     let over : is_lt (rank_cmp x last) ≡ false = subst (λ w. is_lt (rank_cmp x w) ≡ false) (sym at) (each_at (λ w. is_lt (rank_cmp x w) ≡ false) (z ∷ ranks) k last is.0 (omega arith)) in
-    (behind_all x (z ∷ ranks) y is.0 (not_behind x last y over low), in_order_pushed (z ∷ ranks) k last y (omega arith) at low is.1)
+    (after_all x (z ∷ ranks) y is.0 (not_after x last y over low), in_order_pushed (z ∷ ranks) k last y (omega arith) at low is.1)
 
 -- ---- the first of both
 

@@ -27,15 +27,15 @@ behind_read : (letter n : ℕ) (word : List ℕ) → (letter == letter) ≡ true
 unfolding number_after
 behind_read letter n word same inside (digits, spells, is) = rw (is, same) (number_read 0 255 n digits spells inside)
 
-not_behind : (letter other : ℕ) (word digits : List ℕ) → word ≡ other ∷ digits → (other == letter) ≡ false → number_after letter word ≡ None
+not_after : (letter other : ℕ) (word digits : List ℕ) → word ≡ other ∷ digits → (other == letter) ≡ false → number_after letter word ≡ None
 unfolding number_after
-not_behind letter other word digits is apart = rw (is, apart) refl
+not_after letter other word digits is apart = rw (is, apart) refl
 
 actor_read : (actor : Actor) (word : List ℕ) → IsByte (number_in_kind actor) → SpellsPart (actor_part actor) word → actor_in word ≡ Some actor
 unfolding actor_in
 actor_read (Engine n) word inside spells = rw (behind_read 101 n word refl inside spells) refl
-actor_read (Server n) word inside spells = rw (not_behind 101 115 word spells.0 spells.2 refl, behind_read 115 n word refl inside spells) refl
-actor_read (Worker n) word inside spells = rw (not_behind 101 119 word spells.0 spells.2 refl, not_behind 115 119 word spells.0 spells.2 refl, behind_read 119 n word refl inside spells) refl
+actor_read (Server n) word inside spells = rw (not_after 101 115 word spells.0 spells.2 refl, behind_read 115 n word refl inside spells) refl
+actor_read (Worker n) word inside spells = rw (not_after 101 119 word spells.0 spells.2 refl, not_after 115 119 word spells.0 spells.2 refl, behind_read 119 n word refl inside spells) refl
 
 parameter_read : (parameter : ℕ) (word : List ℕ) → SpellsPart (Parameter parameter) word → parameter_in word ≡ Some parameter
 unfolding parameter_in

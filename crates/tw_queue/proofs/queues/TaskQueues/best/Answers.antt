@@ -7,7 +7,7 @@ use Rattle.tw_queue.specs.Index.{ranks_of}
 use Rattle.tw_queue.specs.Indexed.{tasks_in}
 use Rattle.tw_queue.specs.Slots.{slot_at}
 use Rattle.tw_queue.proofs.Entries.{seen}
-use Rattle.tw_queue.proofs.Telling.{index_none, index_tells, handed_best}
+use Rattle.tw_queue.proofs.BestTask.{index_none, index_finds, handed_best}
 use Rattle.tw_queue.proofs.queues.TaskQueues.best.Goals as goal
 
 pub returns-in_err-rank : goal.returns-in_err-rank
@@ -19,8 +19,8 @@ returns-in_err-rank c =
 pub unreachable-requires : goal.unreachable-requires
 unreachable-requires c =
     let slots = c.self.inside.tasks.slots in
-    let told = index_tells (slot_at slots) (ranks_of c.self.inside.index) c.self.invariant (tasks_in slots) (seen slots c.self.invariant.apart) c.args.actor c.in_ok-rank.rank c.in_ok-rank.ensures in
-    let there = told.there in
+    let found_best = index_finds (slot_at slots) (ranks_of c.self.inside.index) c.self.invariant (tasks_in slots) (seen slots c.self.invariant.apart) c.args.actor c.in_ok-rank.rank c.in_ok-rank.ensures in
+    let there = found_best.there in
     let value = c.get.ensures in
     let none : option_copied c.get.result ≡ None = ap option_copied c.in_default.is in
     cc
@@ -28,9 +28,9 @@ unreachable-requires c =
 pub returns : goal.returns
 returns c =
     let slots = c.self.inside.tasks.slots in
-    let told = index_tells (slot_at slots) (ranks_of c.self.inside.index) c.self.invariant (tasks_in slots) (seen slots c.self.invariant.apart) c.args.actor c.in_ok-rank.rank c.in_ok-rank.ensures in
-    let there = told.there in
+    let found_best = index_finds (slot_at slots) (ranks_of c.self.inside.index) c.self.invariant (tasks_in slots) (seen slots c.self.invariant.apart) c.args.actor c.in_ok-rank.rank c.in_ok-rank.ensures in
+    let there = found_best.there in
     let value = c.in-Some.ensures in
-    let same : c.in-Some.waiting.now ≡ told.waiting = cc in
-    ap (λ w. Some w.task) same ∙ sym (handed_best (slot_at slots) (tasks_in slots) c.args.actor c.in_ok-rank.rank told)
+    let same : c.in-Some.waiting.now ≡ found_best.waiting = cc in
+    ap (λ w. Some w.task) same ∙ sym (handed_best (slot_at slots) (tasks_in slots) c.args.actor c.in_ok-rank.rank found_best)
     ∙ ap (λ q. option_map handed_out (best c.args.actor q.tasks)) c.self.view_is

@@ -8,7 +8,7 @@ use Rattle.tw_queue.specs.Queues.{handed_out, room_for, without}
 use Rattle.tw_queue.proofs.Entries.{seen, tasks_gone, updated}
 use Rattle.tw_queue.proofs.Indexing.{taken_index}
 use Rattle.tw_queue.proofs.Rooms.{room_still}
-use Rattle.tw_queue.proofs.Telling.{index_none, index_tells, handed_best}
+use Rattle.tw_queue.proofs.BestTask.{index_none, index_finds, handed_best}
 use Rattle.tw_queue.proofs.queues.TaskQueues.take.Goals as goal
 
 pub returns-in_err-rank-clause-taken : goal.returns-in_err-rank-clause-taken
@@ -33,8 +33,8 @@ returns-in_err-rank-clause-room c = λ kind target all.
 pub take-task-requires : goal.take-task-requires
 take-task-requires c =
     let slots = c.self.inside.tasks.slots in
-    let told = index_tells (slot_at slots) (ranks_of c.self.inside.index) c.self.invariant (tasks_in slots) (seen slots c.self.invariant.apart) c.args.actor c.in_ok-rank.rank c.in_ok-rank.ensures.best in
-    subst IsSome (sym told.there) refl
+    let found_best = index_finds (slot_at slots) (ranks_of c.self.inside.index) c.self.invariant (tasks_in slots) (seen slots c.self.invariant.apart) c.args.actor c.in_ok-rank.rank c.in_ok-rank.ensures.best in
+    subst IsSome (sym found_best.there) refl
 
 pub invariant_of-self-2 : goal.invariant_of-self-2
 invariant_of-self-2 c =
@@ -48,11 +48,11 @@ invariant_of-self-2 c =
 pub returns-clause-taken : goal.returns-clause-taken
 returns-clause-taken c =
     let slots = c.self.inside.tasks.slots in
-    let told = index_tells (slot_at slots) (ranks_of c.self.inside.index) c.self.invariant (tasks_in slots) (seen slots c.self.invariant.apart) c.args.actor c.in_ok-rank.rank c.in_ok-rank.ensures.best in
-    let there = told.there in
+    let found_best = index_finds (slot_at slots) (ranks_of c.self.inside.index) c.self.invariant (tasks_in slots) (seen slots c.self.invariant.apart) c.args.actor c.in_ok-rank.rank c.in_ok-rank.ensures.best in
+    let there = found_best.there in
     let value = c.take-task.ensures.taken in
-    let same : c.take-task.result ≡ told.waiting = cc in
-    ap (λ w. Some w.task) same ∙ sym (handed_best (slot_at slots) (tasks_in slots) c.args.actor c.in_ok-rank.rank told)
+    let same : c.take-task.result ≡ found_best.waiting = cc in
+    ap (λ w. Some w.task) same ∙ sym (handed_best (slot_at slots) (tasks_in slots) c.args.actor c.in_ok-rank.rank found_best)
     ∙ ap (λ q. option_map handed_out (best c.args.actor q.tasks)) c.self.view_is
 
 pub returns-clause-rest : goal.returns-clause-rest
@@ -60,9 +60,9 @@ returns-clause-rest c =
     let old = c.self.inside.tasks.slots in
     let new = c.take-task.new.self.slots in
     let rank = c.in_ok-rank.rank in
-    let told = index_tells (slot_at old) (ranks_of c.self.inside.index) c.self.invariant (tasks_in old) (seen old c.self.invariant.apart) c.args.actor rank c.in_ok-rank.ensures.best in
+    let found_best = index_finds (slot_at old) (ranks_of c.self.inside.index) c.self.invariant (tasks_in old) (seen old c.self.invariant.apart) c.args.actor rank c.in_ok-rank.ensures.best in
     subst (λ q. tasks_in new ≡ without (best c.args.actor q.tasks) q.tasks) c.self.view_is
-    (tasks_gone rank.slot told.waiting old new c.self.invariant.apart told.there c.take-task.ensures.rest ∙ ap (λ o. without o (tasks_in old)) (sym told.best_is))
+    (tasks_gone rank.slot found_best.waiting old new c.self.invariant.apart found_best.there c.take-task.ensures.rest ∙ ap (λ o. without o (tasks_in old)) (sym found_best.best_is))
 
 pub returns-clause-room : goal.returns-clause-room
 returns-clause-room c = λ kind target all.

@@ -25,10 +25,10 @@ use Rattle.tw_queue.proofs.Bests.{IsAhead, best_is, best_none}
 use Rattle.tw_types.proofs.Elements.{all_at, contains_none}
 use Rattle.tw_types.proofs.Numbers.{nat_itself, nat_same}
 use Rattle.tw_queue.proofs.Indexing.{Entries}
-use Rattle.tw_queue.proofs.Entries.{AreSeen, Stands}
+use Rattle.tw_queue.proofs.Entries.{AreSeen, HasEntry}
 
 -- the entry of the best rank is the best task's
-pub record Tells (actor : Actor) (entry : Entries) (tasks : TasksOf Arg) (rank : Rank) : Type 0 where
+pub record IsBestTask (actor : Actor) (entry : Entries) (tasks : TasksOf Arg) (rank : Rank) : Type 0 where
   pub waiting : Waiting
   pub there : entry rank.slot ≡ Some waiting
   pub best_is : best actor tasks ≡ Some (waiting.task.no, task_in waiting)
@@ -70,28 +70,28 @@ module _ (entry : Entries) (ranks : Ranking) (is : IsIndex entry ranks) (tasks :
         nobody q v (inl c) = contains_none (rank_of q v) (subst (λ xs. Contains xs (rank_of q v)) empty.0 c)
         nobody q v (inr c) = contains_none (rank_of q v) (subst (λ xs. Contains xs (rank_of q v)) empty.1 c)
 
-        by : (q : ℕ) (other : TaskOf Arg) (b : Bool) → is_eligible actor other ≡ b → (s : Stands q entry) × (task_in s.waiting ≡ other) → is_eligible actor other ≡ false
+        by : (q : ℕ) (other : TaskOf Arg) (b : Bool) → is_eligible actor other ≡ b → (s : HasEntry q entry) × (task_in s.waiting ≡ other) → is_eligible actor other ≡ false
         by q other false e found = e
         by q other true e found = absurd (nobody found.0.slot found.0.waiting (candidate found.0.slot found.0.waiting found.0.there (ap (is_eligible actor) found.1 ∙ e)))
 
-    tells : (rank : Rank) → IsBest number (ranks kind) (Some rank) → Tells actor entry tasks rank
-    tells rank first = by (entry rank.slot) refl (is.sound kind first.0 rank first.2)
+    finds : (rank : Rank) → IsBest number (ranks kind) (Some rank) → IsBestTask actor entry tasks rank
+    finds rank first = by (entry rank.slot) refl (is.sound kind first.0 rank first.2)
       where
-        behind : (v : Waiting) (q : ℕ) → Contains (ranks kind 16) (rank_of q v) ⊎ Contains (ranks kind number) (rank_of q v) → is_lt (rank_cmp rank (rank_of q v)) ≡ false
-        behind v q (inl c) = all_at (λ y. is_lt (rank_cmp rank y) ≡ false) (ranks kind 16) (rank_of q v) first.3.0 c
-        behind v q (inr c) = all_at (λ y. is_lt (rank_cmp rank y) ≡ false) (ranks kind number) (rank_of q v) first.3.1 c
+        not_better : (v : Waiting) (q : ℕ) → Contains (ranks kind 16) (rank_of q v) ⊎ Contains (ranks kind number) (rank_of q v) → is_lt (rank_cmp rank (rank_of q v)) ≡ false
+        not_better v q (inl c) = all_at (λ y. is_lt (rank_cmp rank y) ≡ false) (ranks kind 16) (rank_of q v) first.3.0 c
+        not_better v q (inr c) = all_at (λ y. is_lt (rank_cmp rank y) ≡ false) (ranks kind number) (rank_of q v) first.3.1 c
 
-        ahead : (w : Waiting) → w.priority ≡ rank.priority → w.task.no ≡ rank.number → (q : ℕ) (other : TaskOf Arg) → is_eligible actor other ≡ true → (s : Stands q entry) × (task_in s.waiting ≡ other) → IsAhead (w.task.no, task_in w) (q, other)
+        ahead : (w : Waiting) → w.priority ≡ rank.priority → w.task.no ≡ rank.number → (q : ℕ) (other : TaskOf Arg) → is_eligible actor other ≡ true → (s : HasEntry q entry) × (task_in s.waiting ≡ other) → IsAhead (w.task.no, task_in w) (q, other)
         ahead w same named q other eligible found =
             let v = found.0.waiting in
-            let low = behind v found.0.slot (candidate found.0.slot v found.0.there (ap (is_eligible actor) found.1 ∙ eligible)) in
+            let low = not_better v found.0.slot (candidate found.0.slot v found.0.there (ap (is_eligible actor) found.1 ∙ eligible)) in
             let low_number : is_lt (ordering_then (int_cmp rank.priority v.priority) (nat_cmp v.task.no rank.number)) ≡ false = but_for_slots (int_cmp rank.priority v.priority) (nat_cmp v.task.no rank.number) (nat_cmp found.0.slot rank.slot) low in
             subst (λ t. is_lt (ordering_then (int_cmp w.priority t.priority) (nat_cmp q w.task.no)) ≡ false) found.1
             (subst (λ n. is_lt (ordering_then (int_cmp w.priority v.priority) (nat_cmp n w.task.no)) ≡ false) found.0.number_is
             (subst (λ n. is_lt (ordering_then (int_cmp w.priority v.priority) (nat_cmp v.task.no n)) ≡ false) (sym named)
             (subst (λ p. is_lt (ordering_then (int_cmp p v.priority) (nat_cmp v.task.no rank.number)) ≡ false) (sym same) low_number)))
 
-        by : (o : Option Waiting) → entry rank.slot ≡ o → IsEntryAt kind first.0 rank o → Tells actor entry tasks rank
+        by : (o : Option Waiting) → entry rank.slot ≡ o → IsEntryAt kind first.0 rank o → IsBestTask actor entry tasks rank
         by None e at = absurd at
         by (Some w) e at =
             let target = is.targets rank.slot w e in
@@ -122,10 +122,10 @@ module _ (entry : Entries) (ranks : Ranking) (is : IsIndex entry ranks) (tasks :
 
   -- ---- for each actor
 
-  pub index_tells : (actor : Actor) (rank : Rank) → IsRankBest actor ranks (Some rank) → Tells actor entry tasks rank
-  index_tells (Engine number) rank first = tells (Engine number) Control number (engine_takes number) refl refl rank first
-  index_tells (Server number) rank first = cc
-  index_tells (Worker number) rank first = tells (Worker number) Leaf number (worker_takes number) refl refl rank first
+  pub index_finds : (actor : Actor) (rank : Rank) → IsRankBest actor ranks (Some rank) → IsBestTask actor entry tasks rank
+  index_finds (Engine number) rank first = finds (Engine number) Control number (engine_takes number) refl refl rank first
+  index_finds (Server number) rank first = cc
+  index_finds (Worker number) rank first = finds (Worker number) Leaf number (worker_takes number) refl refl rank first
 
   pub index_none : (actor : Actor) → IsRankBest actor ranks None → best actor tasks ≡ None
   index_none (Engine number) empty = none_eligible (Engine number) Control number (engine_takes number) refl refl empty
@@ -135,6 +135,6 @@ module _ (entry : Entries) (ranks : Ranking) (is : IsIndex entry ranks) (tasks :
 -- ---- the task that is taken
 
 -- the task of the best rank is handed out
-pub handed_best : (entry : Entries) (tasks : TasksOf Arg) (actor : Actor) (rank : Rank) → (t : Tells actor entry tasks rank)
+pub handed_best : (entry : Entries) (tasks : TasksOf Arg) (actor : Actor) (rank : Rank) → (t : IsBestTask actor entry tasks rank)
     → option_map handed_out (best actor tasks) ≡ Some t.waiting.task
 handed_best entry tasks actor rank t = ap (option_map handed_out) t.best_is
