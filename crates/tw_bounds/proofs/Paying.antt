@@ -288,7 +288,7 @@ module _ (program : List Procedure) (typings : Typings) (is : IsProgram program)
 
     -- Call
     call_paid : (a : Actor) → IfWent (call_event program a s) (Paid (Call a))
-    call_paid a = if_both (running_instr_of program a s) (λ at stands. by at (is_running_at program a s at stands) at.instr refl)
+    call_paid a = if_both (running_instr_of program a s) (λ at fits_place. by at (is_running_at program a s at fits_place) at.instr refl)
       where
         by : (at : RunningInstr) → IsRunningAt program a s at → (i : Instr) → at.instr ≡ i → IfWent (call_by program s a at i) (Paid (Call a))
         by at here (instr.Local i) e = record { is = tt }
@@ -339,10 +339,10 @@ module _ (program : List Procedure) (typings : Typings) (is : IsProgram program)
     -- End
     end_paid : (a : Actor) → IfWent (end_event program a s) (Paid (End a))
     end_paid a =
-        if_both (running_instr_of program a s) (λ at stands.
+        if_both (running_instr_of program a s) (λ at fits_place.
         if_only (is_ret at.instr) (λ ret.
         if_then (outcome_of (must (list_all is_none at.frame.rights) RightLeft)) (λ _.
-        let here = is_running_at program a s at stands in
+        let here = is_running_at program a s at fits_place in
         let fit = fits_there a at.frame at.procedure here.frame here.procedure in
         let frames = sum_apart actor_cmp actor_cmp_total actor_cmp-IsAntisymmetric (frame_owes program weights bounds) s.frames a at.frame here.frame in
         let x = owes_is at.frame at.procedure here.procedure in

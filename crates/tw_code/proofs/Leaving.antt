@@ -83,7 +83,7 @@ module _ (program : List Procedure) (actor : Actor) (s : State) {P : State → T
       → ((at : RunningInstr) (action : Action) (call : Called) → IsRunningAt program actor s at → put_called program at.procedure.kind (context_of s at.frame) action ≡ Ok call
       → P (with_frame (with_task s call.task) actor (gone_after at.frame call.rights)))
       → IfWent (call_event program actor s) P
-  call_leaves on_data rule put = if_both (running_instr_of program actor s) (λ at stands. by at (is_running_at program actor s at stands) at.instr)
+  call_leaves on_data rule put = if_both (running_instr_of program actor s) (λ at fits_place. by at (is_running_at program actor s at fits_place) at.instr)
     where
       by : (at : RunningInstr) → IsRunningAt program actor s at → (i : Instr) → IfWent (call_by program s actor at i) P
       by at here (instr.Local i) = record { is = tt }

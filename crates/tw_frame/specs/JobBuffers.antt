@@ -9,7 +9,7 @@ use Rattle.tw_frame.specs.declared.job_buffer.JobOutcome.{JobOutcome}
 use Rattle.tw_frame.specs.declared.job_buffer.JobBuffer.{JobBuffer}
 use Rattle.tw_frame.specs.declared.job.RunOutcome.{RunOutcome}
 use Rattle.tw_frame.specs.declared.job.RunOutcome.TheVariants as went
-use Rattle.tw_frame.specs.Jobs.{AreTwice, DoneView, DraftView, IsDone, JobView, MayStand, position_of}
+use Rattle.tw_frame.specs.Jobs.{AreTwice, DoneView, DraftView, IsDone, JobView, MayBeAt, position_of}
 
 -- ---- work done
 
@@ -75,7 +75,7 @@ IsThere (Some job_buffer) = Unit {0}
 -- holds if there is a job whose task may run from its position
 abbrev pub MayRun : Option JobBuffer → Type 0
 MayRun None = ⊥
-MayRun (Some job_buffer) = MayStand job_buffer.lent.program.program job_buffer.lent.procedure job_buffer.lent.position
+MayRun (Some job_buffer) = MayBeAt job_buffer.lent.program.program job_buffer.lent.procedure job_buffer.lent.position
 
 -- holds if there is a job that was run
 abbrev pub WasRun : Option JobBuffer → Type 0

@@ -6,7 +6,7 @@ ghost use Rattle.tw_types.specs.ValueOrder.{named};
 ghost use Rattle.tw_code.specs.machine.Position.{at_goal, at_next_place, with_value};
 ghost use Rattle.tw_rights.specs.Filed.{filed, rights_in};
 ghost use Rattle.tw_frame.specs.Drafts.{MaySet, StartsAsMachine};
-ghost use Rattle.tw_frame.specs.Jobs.{AreOf, MayStand, bare_frame, draft_of, job_of, position_of};
+ghost use Rattle.tw_frame.specs.Jobs.{AreOf, MayBeAt, bare_frame, draft_of, job_of, position_of};
 
 use crate::context::Context;
 use crate::draft::Draft;
@@ -153,7 +153,7 @@ impl<'a> Frame<'a> {
         requires program { draft.program ≡ self.old.program }
         requires procedure { draft.procedure ≡ self.old.procedure }
         requires values { draft.values ≡ self.old.position.values }
-        requires stands { MayStand self.old.program.program self.old.procedure self.old.position }
+        requires fits_place { MayBeAt self.old.program.program self.old.procedure self.old.position }
         ensures lent { result ≡ job_of self.new }
         ensures kept { self.new ≡ record self.old { event_no = event_no } }
     {

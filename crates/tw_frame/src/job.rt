@@ -7,7 +7,7 @@ ghost use Rattle.tw_types.specs.declared.value.Value.TheVariants as value;
 ghost use Rattle.tw_code.specs.machine.Position.{with_value};
 ghost use Rattle.tw_frame.specs.Drafts.{MaySet};
 ghost use Rattle.tw_frame.specs.JobBuffers.{IsRun, IsRunOf, done_of};
-ghost use Rattle.tw_frame.specs.Jobs.{AreOf, IsDone, IsJob, MayStand, position_of};
+ghost use Rattle.tw_frame.specs.Jobs.{AreOf, IsDone, IsJob, MayBeAt, position_of};
 
 use crate::context::Context;
 use crate::job_buffer::JobBuffer;
@@ -133,7 +133,7 @@ impl<'a> JobState<'a> {
         after: &mut Context<'a>,
         again: &mut Context<'a>,
     ) -> RunOutcome
-        requires { MayStand self.now.program.program self.now.procedure self.now.position }
+        requires { MayBeAt self.now.program.program self.now.procedure self.now.position }
         ensures { IsRun self.now.program.program self.now.procedure self.now.position after.new again.new result }
     {
         run_in(alloc, self.verified, self.procedure, &self.at, after, again)

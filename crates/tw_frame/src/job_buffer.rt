@@ -2,7 +2,7 @@
 
 ghost use Rattle.std.specs.Prelude.{◌≡◌, Some, false, true};
 ghost use Rattle.tw_frame.specs.JobBuffers.{IsRunOf, outcome_of};
-ghost use Rattle.tw_frame.specs.Jobs.{MayStand, position_of};
+ghost use Rattle.tw_frame.specs.Jobs.{MayBeAt, position_of};
 
 use crate::context::Context;
 use crate::job::{JobState, RunOutcome};
@@ -59,7 +59,7 @@ impl<'a> JobBuffer<'a> {
     /// Runs the task in a copy of its context, and copies the resulting context once more.
     #[inline(always)]
     pub(crate) fn run(&mut self, alloc: Global)
-        requires { MayStand self.old.lent.program.program self.old.lent.procedure self.old.lent.position }
+        requires { MayBeAt self.old.lent.program.program self.old.lent.procedure self.old.lent.position }
         ensures lent { self.new.lent ≡ self.old.lent }
         ensures run { IsRunOf self.new }
     {

@@ -19,7 +19,7 @@ use Rattle.tw_budget.proofs.FrameTheorems.{below_budget}
 use Rattle.tw_code.specs.accepting.Walk.{IsBudget}
 use Rattle.tw_code.specs.format.Program.{IsProgram}
 use Rattle.tw_soundness.specs.NoTrap.{AreRight}
-use Rattle.tw_soundness.specs.AtPlace.{Accepts, Stands}
+use Rattle.tw_soundness.specs.AtPlace.{Accepts, IsAtPosition}
 use Rattle.tw_soundness.proofs.Safe.{accepts}
 use Rattle.tw_frame.specs.Banks.{HasText}
 use Rattle.tw_frame.specs.Jobs.{DoneView, IsDone, JobView}
@@ -87,9 +87,9 @@ no_text code types place plain true stops = absurd (plain stops.texts)
 brief_job : (job : JobView) (b : IsBrief job) (after : Position) (steps : ℕ) (short : Bool) → IsDone job.program.program job.procedure job.position after steps short → (steps ≤ few_steps) × (short ≡ false)
 brief_job job b after steps short d =
     let same : d.p ≡ b.p = same_Some d.p b.p (sym d.here ∙ b.here) in
-    let stands : Stands b.p steps after = subst (λ (q : Procedure). Stands q steps after) same d.reached.stands in
+    let fits_place : IsAtPosition b.p steps after = subst (λ (q : Procedure). IsAtPosition q steps after) same d.reached.fits_place in
     let stops : StopsAt short b.p.code b.p.registers after.place = subst (λ (q : Procedure). StopsAt short q.code q.registers after.place) same d.stops in
-    let below = below_budget (flows b.p.code) b.accepts.sound b.budget steps after.place after.loops (stands.within b.budget b.is_budget) in
+    let below = below_budget (flows b.p.code) b.accepts.sound b.budget steps after.place after.loops (fits_place.within b.budget b.is_budget) in
     (omega (arith, below, b.few), no_text b.p.code b.p.registers after.place b.plain short stops)
 
 pub few_here : (job : JobView) (done : DoneView) → RunsHere job → done.before ≡ job → IsDone done.before.program.program done.before.procedure done.before.position done.after done.steps done.short

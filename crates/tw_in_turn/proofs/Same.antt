@@ -100,7 +100,7 @@ abbrev Either : Turn → Turn → List Event → List Event → Type 0
 Either a b xs ys = BothSame a b xs ys ⊎ TwoNotices a b xs ys
 
 refused_not : (a : Turn) (given : Option DoneView) → Stands a → a ≡ NoMemory given → ⊥
-refused_not a given stands is = subst Stands is stands
+refused_not a given fits_place is = subst Stands is fits_place
 
 module _ (p : PoolView) (a b : Turn) (xs ys : List Event) (sa : Stands a) (sb : Stands b) where
   lends_same : (actor : Actor) (es : List Event) → Lends p actor es a xs → Lends p actor es b ys → BothSame a b xs ys

@@ -34,9 +34,9 @@ use Rattle.tw_soundness.proofs.Safe.{opened_held}
 use Rattle.tw_verify.specs.Typed.{TypedProgram, typings_of}
 use Rattle.tw_frame.specs.Jobs.{DoneView, FrameView, JobView, bare_frame, job_of}
 use Rattle.tw_pool_state.specs.Coming.{come, lent_as}
-use Rattle.tw_pool_state.specs.Events.{Goes, IsLent, IsOwed, IsSmall, Makes, MakesBehind, StandsAt, with_done}
+use Rattle.tw_pool_state.specs.Events.{Goes, IsLent, IsOwed, IsSmall, Makes, MakesAfter, IsAtInstr, with_done}
 use Rattle.tw_pool_state.specs.Fits.{AreParts}
-use Rattle.tw_pool_state.specs.Memory.{EventTakes, InstrTakes, StandsAtTaker}
+use Rattle.tw_pool_state.specs.Memory.{EventTakes, InstrTakes, IsAtAllocating}
 use Rattle.tw_pool_state.specs.Parts.{state_of}
 use Rattle.tw_pool_state.specs.declared.parts.Parts.{Parts}
 use Rattle.tw_pool_state.proofs.Goings.{lent_parts, lent_state}
@@ -214,8 +214,8 @@ module _ (verified : TypedProgram) (inputs : List Input) (layout : ActorCounts) 
       by None at = let no : None ≡ Some i = sym (ap (option_and_then (λ (p : Procedure). slice_get p.code done.after.place)) at) ∙ e_now in cc
       by (Some q) at = record { q = q; there_is = at; is = sym (ap (option_and_then (λ (p : Procedure). slice_get p.code done.after.place)) at) ∙ e_now }
 
-  pub stands : (o : Option Event) → HasCome o → (i : Instr) → instr_after w.program.program done ≡ Some i → StandsAt old actor done i
-  stands o c i e =
+  pub fits_place : (o : Option Event) → HasCome o → (i : Instr) → instr_after w.program.program done ≡ Some i → IsAtInstr old actor done i
+  fits_place o c i e =
       let it = is_behind i e in
       record {
         layout = layout;
@@ -236,7 +236,7 @@ module _ (verified : TypedProgram) (inputs : List Input) (layout : ActorCounts) 
       let at : AreAt verified inputs layout (told.events ++ steps_of actor done) came = subst (λ es. AreAt verified inputs layout (told.events ++ es) came) c.is c.at in
       let here_is : instr_here verified.program (bare_frame (come its.0 done)) ≡ Some i =
       ap (λ (j : JobView). option_and_then (λ (p : Procedure). slice_get p.code done.after.place) (slice_get verified.program j.procedure)) (sym its.1.own) ∙ subst (λ (x : PoolView). instr_after x.program.program done ≡ Some i) (sym seen) e in
-      let stands : StandsAtTaker verified.program (state_of came at.notices) actor = record {
+      let fits_place : IsAtAllocating verified.program (state_of came at.notices) actor = record {
         frame = bare_frame (come its.0 done);
         runs = get_mapped bare_frame came.seats actor ∙ ap (option_map bare_frame) (get_own (come its.0 done) old.seats actor);
         here = i;
@@ -246,7 +246,7 @@ module _ (verified : TypedProgram) (inputs : List Input) (layout : ActorCounts) 
       record {
         state = state_of came at.notices;
         has_state = subst (λ (x : PoolView). HasState (with_events x (steps_of actor done)) (state_of came at.notices)) seen at.replays;
-        takes = subst (λ (x : PoolView). EventTakes x.program.program (state_of came at.notices) (Call actor)) seen stands;
+        takes = subst (λ (x : PoolView). EventTakes x.program.program (state_of came at.notices) (Call actor)) seen fits_place;
       }
 
   -- ---- with the steps alone
@@ -262,7 +262,7 @@ module _ (verified : TypedProgram) (inputs : List Input) (layout : ActorCounts) 
 
   -- ---- with one more event after them
 
-  module _ (e : Event) (is_own : actor_of e ≡ actor) (o : Option Event) (c : HasCome o) (new : Parts) (makes : MakesBehind e old actor done new) where
+  module _ (e : Event) (is_own : actor_of e ≡ actor) (o : Option Event) (c : HasCome o) (new : Parts) (makes : MakesAfter e old actor done new) where
     goes : Goes verified layout e came c.at.notices new
     goes = subst (λ (v : TypedProgram). Makes v layout e came new) its.1.program (makes layout its.0 owed_now) c.at.notices c.at.parts
 
@@ -285,7 +285,7 @@ module _ (verified : TypedProgram) (inputs : List Input) (layout : ActorCounts) 
     by_two = then_by actor (steps_of actor done) e (steps_by actor done) is_own
 
   -- the task has ended
-  pub kept_ended : (o : Option Event) (c : HasCome o) (new : Parts) (makes : MakesBehind (End actor) old actor done new) → length (told.events ++ option_to_list o) < told.limit
+  pub kept_ended : (o : Option Event) (c : HasCome o) (new : Parts) (makes : MakesAfter (End actor) old actor done new) → length (told.events ++ option_to_list o) < told.limit
       → IsKept verified inputs layout told.limit (told.events ++ (steps_of actor done ++ End actor ∷ [])) new
   kept_ended o c new makes less = record {
     given = h.given;
@@ -365,7 +365,7 @@ module _ (verified : TypedProgram) (inputs : List Input) (layout : ActorCounts) 
 
   -- after the steps and a call
   module _ (o : Option Event) (c : HasCome o) (less : length (told.events ++ option_to_list o) < told.limit) (t p : HistoryView) (one : t ≡ record told { events = told.events ++ option_to_list o }) (two : p ≡ record t { events = t.events ++ Call actor ∷ [] })
-      (event_no : ℕ) (number : event_no ≡ length (events_of actor (told.events ++ (steps_of actor done ++ Call actor ∷ [])))) (new : Parts) (makes : MakesBehind (Call actor) old actor done new) (job : JobView) (lent : IsLent new actor event_no job) where
+      (event_no : ℕ) (number : event_no ≡ length (events_of actor (told.events ++ (steps_of actor done ++ Call actor ∷ [])))) (new : Parts) (makes : MakesAfter (Call actor) old actor done new) (job : JobView) (lent : IsLent new actor event_no job) where
     abbrev es : List Event
     es = steps_of actor done ++ Call actor ∷ []
 

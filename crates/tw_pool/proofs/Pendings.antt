@@ -69,7 +69,7 @@ waits_are (stage ∷ stages) (Write right ∷ args) = by (is_waiting stage) (wai
 
 -- a right is one to write exactly where its parameter says so
 read_mode : (places : Places) (p : Param) (right : Right) → ArgStands places (right_of p) (Read right) → is_write p.mode ≡ false
-read_mode places p right stands = by p.mode stands
+read_mode places p right fits_place = by p.mode fits_place
   where
     by : (m : Mode) → ArgStands places (if is_val m then None else Some (record { mode = m; ty = p.ty })) (Read right) → is_write m ≡ false
     by mode.Val s = absurd s
@@ -78,7 +78,7 @@ read_mode places p right stands = by p.mode stands
     by mode.Write s = s.0
 
 write_mode : (places : Places) (p : Param) (right : Right) → ArgStands places (right_of p) (Write right) → is_write p.mode ≡ true
-write_mode places p right stands = by p.mode stands
+write_mode places p right fits_place = by p.mode fits_place
   where
     by : (m : Mode) → ArgStands places (if is_val m then None else Some (record { mode = m; ty = p.ty })) (Write right) → is_write m ≡ true
     by mode.Val s = absurd s

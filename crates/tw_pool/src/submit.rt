@@ -8,7 +8,7 @@ ghost use Rattle.tw_code.specs.machine.Due.{event_of};
 ghost use Rattle.tw_code.specs.machine.Machine.{is_ret, local_of};
 ghost use Rattle.tw_frame.specs.Jobs.{FrameView, bare_frame};
 ghost use Rattle.tw_pool_state.specs.Coming.{come};
-ghost use Rattle.tw_pool_state.specs.Events.{IsLent, IsOwed, MakesBehind, StandsAt, Untouched};
+ghost use Rattle.tw_pool_state.specs.Events.{IsLent, IsOwed, MakesAfter, IsAtInstr, Untouched};
 ghost use Rattle.tw_pool_state.specs.Memory.{InstrTakes};
 ghost use Rattle.tw_pool.specs.declared.answer.Closing.TheVariants.{Limit};
 ghost use Rattle.tw_pool.specs.declared.answer.Turn.TheVariants as answer;
@@ -40,10 +40,10 @@ fn call_by<'a>(
     instr: &Instr,
     done: Done<'a>,
 ) -> Result<Job<'a>, Done<'a>>
-    requires stands { StandsAt parts.old actor done instr.now }
+    requires fits_place { IsAtInstr parts.old actor done instr.now }
     requires not_local { local_of instr.now ≡ None }
     requires not_last { is_ret instr.now ≡ false }
-    ensures called { OnOk result (MakesBehind (CallBy actor) parts.old actor done.entry parts.new) }
+    ensures called { OnOk result (MakesAfter (CallBy actor) parts.old actor done.entry parts.new) }
     ensures lent { IfOk result (λ job. IsLent parts.new actor event_no job) }
     ensures refused { OnErr result (Untouched parts.old parts.new) }
     ensures back { IfErr result (λ back. back ≡ done.entry) }

@@ -1,14 +1,14 @@
 -- The result of an instruction on data, by cases.
 use Rattle.std.proofs.Common.{◌≡◌, ℕ, Ok, Err, Result}
-use Rattle.tw_pool_state.proofs.PartNames.{DoneView, FrameView, IfErr, IfOk, IsLentAnswer, IsLentBehind, IsRefused, JobView, OnErr, OnOk, Served}
+use Rattle.tw_pool_state.proofs.PartNames.{DoneView, FrameView, IfErr, IfOk, IsLentAnswer, IsLentAfter, IsRefused, JobView, OnErr, OnOk, Served}
 use Rattle.tw_code.specs.declared.instr.DataInstr.{DataInstr}
 
 module _ (d : DataInstr) (old new : Served) (f g : FrameView) (event_no : ℕ) (done : DoneView) where
-  pub when_done : (P : Type 0) (r : Result JobView DoneView) → IsLentAnswer d old new f g event_no done r → ((job : JobView) → IsLentBehind d old new f g event_no done job → P) → OnOk r P
+  pub when_done : (P : Type 0) (r : Result JobView DoneView) → IsLentAnswer d old new f g event_no done r → ((job : JobView) → IsLentAfter d old new f g event_no done job → P) → OnOk r P
   when_done P (Ok job) a next = next job a
   when_done P (Err back) a next = tt
 
-  pub when_lent : (P : JobView → Type 0) (r : Result JobView DoneView) → IsLentAnswer d old new f g event_no done r → ((job : JobView) → IsLentBehind d old new f g event_no done job → P job) → IfOk r P
+  pub when_lent : (P : JobView → Type 0) (r : Result JobView DoneView) → IsLentAnswer d old new f g event_no done r → ((job : JobView) → IsLentAfter d old new f g event_no done job → P job) → IfOk r P
   when_lent P (Ok job) a next = next job a
   when_lent P (Err back) a next = tt
 

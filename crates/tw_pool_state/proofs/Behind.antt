@@ -1,6 +1,6 @@
 -- RULE and PUT: the requirements on their parts, if a task is at one after a job.
 use Rattle.std.proofs.Common.{map as each, ◌≡◌, ◌≤◌, ◌<◌, ◌+◌, ◌^◌, ◌∙◌, ℕ, List, Option, Some, None, IsSome, sym, ap, subst, length, slice_get, arith}
-use Rattle.tw_pool_state.proofs.PartNames.{Action, Actor, DoneView, FrameView, HasSeat, Held, IsInstr, IsOwed, IsProcedure, IsProgram, MayStand, Param, Parts, Procedure, StandsAt, Value, at_next_place, bare_frame, come, context_of, get, job_of, named_values, same_Some, state_of, with_done}
+use Rattle.tw_pool_state.proofs.PartNames.{Action, Actor, DoneView, FrameView, HasSeat, Held, IsInstr, IsOwed, IsProcedure, IsProgram, MayBeAt, Param, Parts, Procedure, IsAtInstr, Value, at_next_place, bare_frame, come, context_of, get, job_of, named_values, same_Some, state_of, with_done}
 use Rattle.tw_rights.specs.Bundled.{Bundled, bundled}
 use Rattle.tw_queue.specs.Queues as queues
 use Rattle.tw_code.specs.declared.instr.Instr.{Instr}
@@ -15,7 +15,7 @@ use Rattle.tw_pool_state.proofs.Seating.{get_own}
 pub so_valued : (values : List Value) (params wanted : List Param) → params ≡ wanted → (named : List ℕ) (vals : List Value) → each Some vals ≡ named_values values params named → each Some vals ≡ named_values values wanted named
 so_valued values params wanted p named vals is = is ∙ ap (λ ps. named_values values ps named) p
 
-module _ (old : Parts) (actor : Actor) (done : DoneView) (instr : Instr) (s : StandsAt old actor done instr) where
+module _ (old : Parts) (actor : Actor) (done : DoneView) (instr : Instr) (s : IsAtInstr old actor done instr) where
   abbrev pub there : Parts
   there = with_done old actor s.f done
 
@@ -36,10 +36,10 @@ module _ (old : Parts) (actor : Actor) (done : DoneView) (instr : Instr) (s : St
     pub few : length params ≤ 8
     few = let low = few_params done.before.program.program s.parts.runnable.is action.procedure u.procedure u.is in omega (arith, low, ap length params_is)
 
-    pub sits_ready : (vals : List Value) → each Some vals ≡ named_values done.after.values params action.args → MayStand s.f.program.program s.f.procedure (at_next_place done.after)
+    pub sits_ready : (vals : List Value) → each Some vals ≡ named_values done.after.values params action.args → MayBeAt s.f.program.program s.f.procedure (at_next_place done.after)
         → (x : FrameView) × (get old.seats actor ≡ Some x) × (done.before ≡ job_of x) × (x.spent + done.steps < 2 ^ 63) × (done.after.place < 2 ^ 63) × IsSome (bundled x.held params registers vals)
-        × MayStand x.program.program x.procedure (at_next_place done.after)
-    sits_ready vals are stands = (
+        × MayBeAt x.program.program x.procedure (at_next_place done.after)
+    sits_ready vals are fits_place = (
       s.f,
       s.owed.sits,
       s.owed.own,
@@ -47,13 +47,13 @@ module _ (old : Parts) (actor : Actor) (done : DoneView) (instr : Instr) (s : St
       place_there,
       subst (λ ps. IsSome (bundled s.f.held ps registers vals)) (sym params_is) (subst (λ rs. IsSome (bundled s.f.held u.procedure.params rs vals)) (sym registers_is)
           (may_bundle done.before.program s.layout there s.notices s.parts actor (come s.f done) s.q action runs_there u vals (so_valued done.after.values params u.procedure.params params_is action.args vals are))),
-      stands,
+      fits_place,
     )
 
 -- ---- when it was done
 
 -- arguments taken after a job, for any frame to which the job belongs
-module _ (old : Parts) (actor : Actor) (done : DoneView) (instr : Instr) (s : StandsAt old actor done instr) (f : FrameView) (owed : IsOwed old actor f done) where
+module _ (old : Parts) (actor : Actor) (done : DoneView) (instr : Instr) (s : IsAtInstr old actor done instr) (f : FrameView) (owed : IsOwed old actor f done) where
   same_frame : s.f ≡ f
   same_frame = same_Some s.f f (sym s.owed.sits ∙ owed.sits)
 

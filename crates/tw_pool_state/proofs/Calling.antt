@@ -174,7 +174,7 @@ module _ (verified : TypedProgram) (layout : ActorCounts) (old : Parts) (notices
       place = let inside = slice_get_within p.code f.position.place (instr.Data d) at in let few = own_code.code.0.1 in omega (arith, inside, few);
       spent = small.spent actor (bare_frame f) there;
     };
-    stands = λ store g o.
+    fits_place = λ store g o.
         let new : Parts = record old { store = store; seats = insert old.seats actor g } in
         let c = called new g o refl refl refl refl refl in
         may_stand verified layout new c.left c.parts actor g (get_own old.seats actor g);

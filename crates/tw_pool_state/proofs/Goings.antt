@@ -1,14 +1,14 @@
 -- A task moves on by local steps, and its next job is issued: on the parts.
 use Rattle.std.proofs.Common.{◌≡◌, ◌<◌, ◌+◌, ◌∙◌, ℕ, false, List, Some, refl, sym, ap, subst, slice_get, arith, nat_eq}
-use Rattle.tw_pool_state.proofs.PartNames.{Actor, ActorCounts, AreParts, FrameFits, Goes, IsLent, IsOwed, IsReached, Local, Notices, Parts, Procedure, Seated, Stand, State, TypedProgram, Went, actor_cmp-IsAntisymmetric, actor_cmp_total, come, get, insert, insert_mapped, kinds_in, lent_as, mapped, nat_tests, stands_there, state_of, steps_leave, typings_of, with_done, with_frame}
+use Rattle.tw_pool_state.proofs.PartNames.{Actor, ActorCounts, AreParts, FrameFits, Goes, IsLent, IsOwed, IsReached, Local, Notices, Parts, Procedure, Seated, Stand, State, TypedProgram, Went, actor_cmp-IsAntisymmetric, actor_cmp_total, come, get, insert, insert_mapped, kinds_in, lent_as, mapped, nat_tests, position_there, state_of, steps_leave, typings_of, with_done, with_frame}
 use Rattle.tw_types.specs.declared.event.Event.{Event}
 use Rattle.tw_types.proofs.Outcomes.{same_went}
 use Rattle.tw_code.specs.machine.History.{actor_of}
 use Rattle.tw_code.specs.machine.Machine.{step, local_steps}
 use Rattle.tw_code.specs.machine.State.{Frame}
 use Rattle.tw_soundness.proofs.Safe.{kept_by}
-use Rattle.tw_frame.specs.Jobs.{DoneView, FrameView, IsDone, JobView, MayStand, bare_frame, job_of}
-use Rattle.tw_frame.proofs.Lending.{stands_fresh}
+use Rattle.tw_frame.specs.Jobs.{DoneView, FrameView, IsDone, JobView, MayBeAt, bare_frame, job_of}
+use Rattle.tw_frame.proofs.Lending.{fresh_position}
 use Rattle.tw_pool_state.proofs.Fitting.{seen, stand_seated}
 use Rattle.tw_pool_state.proofs.Law.{goes_to, held}
 use Rattle.tw_pool_state.proofs.Seating.{again, get_other, get_own, same_seat}
@@ -71,16 +71,16 @@ module _ (verified : TypedProgram) (layout : ActorCounts) (old : Parts) (notices
   in_frames = seen bare_frame old.seats actor (Some f) runs
 
   -- it may run from there
-  pub may_stand : MayStand f.program.program f.procedure f.position
+  pub may_stand : MayBeAt f.program.program f.procedure f.position
   may_stand p here =
       let fits = h.stand.frames actor f runs in
-      stands_fresh p f.spent f.position
-      (stands_there verified.program (typings_of verified) h.runnable.is h.runnable.right (state_of old notices) (held verified layout old notices h) actor (bare_frame f) in_frames p
+      fresh_position p f.spent f.position
+      (position_there verified.program (typings_of verified) h.runnable.is h.runnable.right (state_of old notices) (held verified layout old notices h) actor (bare_frame f) in_frames p
       (ap (λ (v : TypedProgram). slice_get v.program f.procedure) (sym fits.program) ∙ here))
 
   -- and where an event leads it
-  pub stands_then : (event : Event) (t : State) → step verified.program layout event (state_of old notices) ≡ Went t → (g : Frame) → get t.frames actor ≡ Some g → MayStand verified.program g.procedure g.position
-  stands_then event t goes g now p here = stands_fresh p g.spent g.position (stands_there verified.program (typings_of verified) h.runnable.is h.runnable.right t
+  pub position_then : (event : Event) (t : State) → step verified.program layout event (state_of old notices) ≡ Went t → (g : Frame) → get t.frames actor ≡ Some g → MayBeAt verified.program g.procedure g.position
+  position_then event t goes g now p here = fresh_position p g.spent g.position (position_there verified.program (typings_of verified) h.runnable.is h.runnable.right t
       (kept_by verified.program (typings_of verified) layout event (state_of old notices) t h.runnable.is h.runnable.right (held verified layout old notices h) goes) actor g now p here)
 
 -- the number under which it is issued isn't in the machine's state

@@ -50,7 +50,7 @@ pub record Left (places : Places) (p : Param) (register : ℕ) (held : List (Opt
   pub arg : Arg
   pub goes : file.bundled_one held p.mode register values ≡ Some (record { arg = arg; file = set held register None; values = values })
   pub bare_is : bare_arg arg ≡ RightArg id
-  pub stands : ArgStands places (right_of p) arg
+  pub fits_place : ArgStands places (right_of p) arg
 
 leaves : (places : Places) (p : Param) (register : ℕ) (held : List (Option Held)) (values : List Value) (h : Held) → is_val p.mode ≡ false → slice_index_or held register None ≡ Some h → Suits p.mode (Some h) → IsPlaced places (Some h)
     → Left places p register held values (id_of h)
@@ -60,7 +60,7 @@ leaves places p register held values h no_value is suits placed = by p.mode refl
     typed m e f = ap (λ k. if is_val k then None else Some (record { mode = k; ty = p.ty })) e ∙ ap (λ b. if b then None else Some (record { mode = m; ty = p.ty })) f
 
     one : (m : Mode) → p.mode ≡ m → (arg : Arg) (id : ℕ) → file.bundled_one held m register values ≡ Some (record { arg = arg; file = set held register None; values = values }) → bare_arg arg ≡ RightArg id → ArgStands places (Some (record { mode = m; ty = p.ty })) arg → is_val m ≡ false → Left places p register held values id
-    one m e arg id goes b stands f = record { arg = arg; goes = ap (λ k. file.bundled_one held k register values) e ∙ goes; bare_is = b; stands = subst (λ o. ArgStands places o arg) (sym (typed m e f)) stands }
+    one m e arg id goes b fits_place f = record { arg = arg; goes = ap (λ k. file.bundled_one held k register values) e ∙ goes; bare_is = b; fits_place = subst (λ o. ArgStands places o arg) (sym (typed m e f)) fits_place }
 
     by : (m : Mode) → p.mode ≡ m → (h : Held) → slice_index_or held register None ≡ Some h → Suits m (Some h) → IsPlaced places (Some h) → Left places p register held values (id_of h)
     by mode.Val e h is suits placed = let no : false ≡ true = sym no_value ∙ ap is_val e in cc
@@ -112,7 +112,7 @@ module _ (places : Places) (p : Param) (params : List Param) (register : ℕ) (r
     goes = ap (option_and_then (λ (one : file.BundledOne). option_map (file.with_arg one.arg) (file.bundled one.file params registers one.values))) l.goes ∙ ap (option_map (file.with_arg l.arg)) o.goes;
     args = ap (λ a. a ∷ each bare_arg o.over.args) l.bare_is ∙ ap (λ xs. RightArg (id_of h) ∷ xs) o.args;
     rights = o.rights;
-    stand = (l.stands, o.stand);
+    stand = (l.fits_place, o.stand);
     placed = o.placed;
     gone = o.gone ∙ ap (λ b. without_held (if b then held else set held register None) params registers) (sym is);
   }

@@ -1,12 +1,12 @@
 -- RULE: on the parts.
 use Rattle.std.proofs.Common.{map as each, ◌≡◌, ◌+◌, ◌∙◌, List, Option, Some, refl, sym, ap, subst, slice_get}
-use Rattle.tw_pool_state.proofs.PartNames.{Action, Actor, ActorCounts, AreParts, Arg, Call, Completed, FrameFits, FrameView, Goes, Held, MayStand, Notices, Parts, Procedure, Right, RuleOf, Stand, TypedProgram, Value, Went, actor_cmp-IsAntisymmetric, actor_cmp_total, at_next_place, bare_frame, bare_rule, bare_task, context_of, get, gone_after, gone_on, insert, insert_mapped, mapped, named_values, nat_cmp-IsAntisymmetric, nat_cmp_total, new_rule, number_in_kind, state_of, typed_after, typings_of, with_frame, with_rule}
+use Rattle.tw_pool_state.proofs.PartNames.{Action, Actor, ActorCounts, AreParts, Arg, Call, Completed, FrameFits, FrameView, Goes, Held, MayBeAt, Notices, Parts, Procedure, Right, RuleOf, Stand, TypedProgram, Value, Went, actor_cmp-IsAntisymmetric, actor_cmp_total, at_next_place, bare_frame, bare_rule, bare_task, context_of, get, gone_after, gone_on, insert, insert_mapped, mapped, named_values, nat_cmp-IsAntisymmetric, nat_cmp_total, new_rule, number_in_kind, state_of, typed_after, typings_of, with_frame, with_rule}
 use Rattle.tw_rights.specs.Bundled.{bundled}
 use Rattle.tw_code.specs.declared.instr.Instr.TheVariants as instr
 use Rattle.tw_code.specs.machine.Machine.{step}
 use Rattle.tw_rules.specs.Table as table
 use Rattle.tw_pool_state.proofs.Fitting.{seen, stand_ruled, stand_seated}
-use Rattle.tw_pool_state.proofs.Goings.{stands_then}
+use Rattle.tw_pool_state.proofs.Goings.{position_then}
 use Rattle.tw_pool_state.proofs.Handovers.{args_stand, bare_args, fits_behind, frame_is}
 use Rattle.tw_pool_state.proofs.Law.{goes_to}
 use Rattle.tw_pool_state.proofs.Naming.{IsNamed, rules}
@@ -26,9 +26,9 @@ module _ (verified : TypedProgram) (layout : ActorCounts) (old : Parts) (notices
       rw (t, here, at, g) refl
 
   -- it may run from the place after it
-  pub rule_stands : MayStand f.program.program f.procedure (at_next_place f.position)
-  rule_stands = subst (λ (v : TypedProgram). MayStand v.program f.procedure (at_next_place f.position)) (sym (h.stand.frames actor f runs).program)
-      (stands_then verified layout old notices h actor f runs (Call actor) _ rule_steps (gone_after (bare_frame f) rule_named.given.rights) (get_own (mapped bare_frame old.seats) actor (gone_after (bare_frame f) rule_named.given.rights)))
+  pub rule_stands : MayBeAt f.program.program f.procedure (at_next_place f.position)
+  rule_stands = subst (λ (v : TypedProgram). MayBeAt v.program f.procedure (at_next_place f.position)) (sym (h.stand.frames actor f runs).program)
+      (position_then verified layout old notices h actor f runs (Call actor) _ rule_steps (gone_after (bare_frame f) rule_named.given.rights) (get_own (mapped bare_frame old.seats) actor (gone_after (bare_frame f) rule_named.given.rights)))
 
   module _ (vals : List Value) (are : each Some vals ≡ named_values f.position.values rule_named.procedure.params action.args)
       (args : List Arg) (file : List (Option Held)) (over : bundled f.held rule_named.procedure.params action.args vals ≡ Some (record { args = args; file = file })) where

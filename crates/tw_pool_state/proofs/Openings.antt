@@ -71,8 +71,8 @@ module _ (verified : TypedProgram) (inputs : List Input) (layout : ActorCounts) 
   queues_are : p.store.queues ≡ replicate layout.servers []
   queues_are = ap (λ (s : Served). s.queues) waits.store ∙ made.queues
 
-  stands : Stand verified p.store.places p.seats p.tasks.tasks p.rules.rules p.outputs
-  stands =
+  fits_place : Stand verified p.store.places p.seats p.tasks.tasks p.rules.rules p.outputs
+  fits_place =
       let s = waits.store in
       let seats = waits.seats in
       let tasks = waits.tasks in
@@ -93,7 +93,7 @@ module _ (verified : TypedProgram) (inputs : List Input) (layout : ActorCounts) 
       law = reached_is given;
       queued = subst (λ qs. AreQueued qs set.empty) (sym queues_are) (none_queued layout.servers);
       servers = ap length queues_are ∙ length-replicate layout.servers [];
-      stand = stands;
+      stand = fits_place;
     };
     nobody = waits.seats;
   }

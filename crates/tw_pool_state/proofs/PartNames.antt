@@ -53,14 +53,14 @@ pub use Rattle.tw_rights.specs.declared.arg.Arg.{Arg}
 pub use Rattle.tw_rights.specs.declared.arg.Arg.TheVariants.{Read, Val, Write}
 pub use Rattle.tw_rights.specs.declared.held.Held.{Held}
 pub use Rattle.tw_frame.specs.Drafts.{MaySet, MayStart, StartsAsMachine, started}
-pub use Rattle.tw_frame.specs.Jobs.{DoneView, DraftView, FrameView, JobView, MayStand, bare_frame, draft_of, job_of}
+pub use Rattle.tw_frame.specs.Jobs.{DoneView, DraftView, FrameView, JobView, MayBeAt, bare_frame, draft_of, job_of}
 pub use Rattle.tw_soundness.proofs.Conditions.{copy_read_asks, copy_write_asks, drop_read_asks, drop_write_asks, get_asks, insert_asks, look_asks, new_asks, size_asks, store_asks, subscript_asks}
-pub use Rattle.tw_soundness.proofs.Running.{asked_at, stands_there, steps_leave, typed_after, typed_at_start}
+pub use Rattle.tw_soundness.proofs.Running.{asked_at, position_there, steps_leave, typed_after, typed_at_start}
 pub use Rattle.tw_soundness.proofs.Values.{AllYes, passed, yes_after}
 pub use Rattle.tw_pool_state.specs.Coming.{Begins, BeginsOrNone, begun, come, gone_on, lent_as}
 pub use Rattle.tw_pool_state.specs.Copies.{named_values}
-pub use Rattle.tw_pool_state.specs.Data.{HasRoom, IsAnswer, IsDone, IsLentAnswer, IsLentBehind, IsLive, IsRefused, AreNotified, MayDo, sees}
-pub use Rattle.tw_pool_state.specs.Events.{Goes, IsLent, IsOwed, IsSmall, Makes, MakesBehind, StandsAt, Untouched, with_done}
+pub use Rattle.tw_pool_state.specs.Data.{HasRoom, IsAnswer, IsDone, IsLentAnswer, IsLentAfter, IsLive, IsRefused, AreNotified, MayDo, sees}
+pub use Rattle.tw_pool_state.specs.Events.{Goes, IsLent, IsOwed, IsSmall, Makes, MakesAfter, IsAtInstr, Untouched, with_done}
 pub use Rattle.tw_pool_state.specs.Fits.{AreAt, AreParts, ArePlaced, ArgStands, ArgsStand, FrameFits, IsAt, IsPlaced, IsReached, Stand, kinds_in, right_in}
 pub use Rattle.tw_pool_state.specs.Memory.{AsksOpen, HasThatMany, IsAbsent, IsTextAt, TakesMemory}
 pub use Rattle.tw_pool_state.specs.Notes.{AreApart, AreQueued, is_among, is_queued, queue_at}

@@ -24,27 +24,27 @@ pub record Reads (places : Places) (args : List Arg) (k : ℕ) : Type 0 where
   pub here : IsAt places right
 
 closed_reads : (places : Places) (p : Param) (arg : Arg) → is_closed_mode p.mode ≡ true → ArgStands places (right_of p) arg → (right : Right) × (arg ≡ Read right) × IsAt places right
-closed_reads places p arg closed stands = by p.mode arg closed stands
+closed_reads places p arg closed fits_place = by p.mode arg closed fits_place
   where
     by : (m : Mode) (arg : Arg) → is_closed_mode m ≡ true → ArgStands places (if is_val m then None else Some (record { mode = m; ty = p.ty })) arg → (right : Right) × (arg ≡ Read right) × IsAt places right
-    by mode.Val arg closed stands = cc
-    by mode.Closed (Val x) closed stands = absurd stands
-    by mode.Closed (Read right) closed stands = (right, refl, stands.1)
-    by mode.Closed (Write right) closed stands = let no = stands.0 in cc
-    by mode.Ref arg closed stands = cc
-    by mode.Write arg closed stands = cc
+    by mode.Val arg closed fits_place = cc
+    by mode.Closed (Val x) closed fits_place = absurd fits_place
+    by mode.Closed (Read right) closed fits_place = (right, refl, fits_place.1)
+    by mode.Closed (Write right) closed fits_place = let no = fits_place.0 in cc
+    by mode.Ref arg closed fits_place = cc
+    by mode.Write arg closed fits_place = cc
 
 pub asked_reads : (s : Store) (places : Places) (params : List Param) (stages : List Stage) (args : List Arg) (k : ℕ) → RuleArgsFit s params stages (map bare_arg args) → ArgsStand places params args → slice_get stages k ≡ Some Unasked → Reads places args k
-asked_reads s places [] [] args k fit stands at = cc
-asked_reads s places [] (stage ∷ stages) args k fit stands at = absurd fit
-asked_reads s places (p ∷ params) [] args k fit stands at = absurd fit
-asked_reads s places (p ∷ params) (stage ∷ stages) [] k fit stands at = absurd fit
-asked_reads s places (p ∷ params) (stage ∷ stages) (arg ∷ args) zero fit stands at =
+asked_reads s places [] [] args k fit fits_place at = cc
+asked_reads s places [] (stage ∷ stages) args k fit fits_place at = absurd fit
+asked_reads s places (p ∷ params) [] args k fit fits_place at = absurd fit
+asked_reads s places (p ∷ params) (stage ∷ stages) [] k fit fits_place at = absurd fit
+asked_reads s places (p ∷ params) (stage ∷ stages) (arg ∷ args) zero fit fits_place at =
     let closed : is_closed_mode p.mode ≡ true = sym fit.0 ∙ ap is_asked_for (same_Some stage Unasked at) in
-    let it = closed_reads places p arg closed stands.0 in
+    let it = closed_reads places p arg closed fits_place.0 in
     record { right = it.0; there = ap Some it.1; here = it.2 }
-asked_reads s places (p ∷ params) (stage ∷ stages) (arg ∷ args) (suc k) fit stands at =
-    let it = asked_reads s places params stages args k fit.2 stands.1 at in
+asked_reads s places (p ∷ params) (stage ∷ stages) (arg ∷ args) (suc k) fit fits_place at =
+    let it = asked_reads s places params stages args k fit.2 fits_place.1 at in
     record { right = it.right; there = it.there; here = it.here }
 
 -- ---- the next ask of an engine

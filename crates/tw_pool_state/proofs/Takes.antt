@@ -1,6 +1,6 @@
 -- An actor takes a task: on the parts.
 use Rattle.std.proofs.Common.{map as each, ◌≡◌, ◌-◌, ℕ, zero, suc, true, List, [], ◌∷◌, ◌++◌, Option, Some, None, Result, Ok, Err, refl, sym, ap, subst, ◌∙◌, slice_get, option_map, length, replicate, option_to_list}
-use Rattle.tw_pool_state.proofs.PartNames.{Actor, ActorCounts, AreParts, ArePlaced, Arg, ArgStands, ArgsStand, Begins, Cause, FrameFits, FrameView, Goes, JobView, MayStand, MayStart, Notices, Param, Parts, Places, Procedure, Read, Right, RightType, Seated, Stand, StartsAsMachine, Take, TaskOf, TasksOf, Trap, TypedProgram, Val, Value, Went, Write, actor_cmp-IsAntisymmetric, actor_cmp_total, bare_arg, bare_file, bare_frame, bare_rule, bare_task, best, entry_by, first_rights, frame_of, get, insert, insert_mapped, is_in, is_write, kinds_in, mapped, nat_cmp-IsAntisymmetric, nat_cmp_total, params_in, remove, remove_mapped, right_of, rights_given, started, state_of, typed_at_start, typings_of, with_frame}
+use Rattle.tw_pool_state.proofs.PartNames.{Actor, ActorCounts, AreParts, ArePlaced, Arg, ArgStands, ArgsStand, Begins, Cause, FrameFits, FrameView, Goes, JobView, MayBeAt, MayStart, Notices, Param, Parts, Places, Procedure, Read, Right, RightType, Seated, Stand, StartsAsMachine, Take, TaskOf, TasksOf, Trap, TypedProgram, Val, Value, Went, Write, actor_cmp-IsAntisymmetric, actor_cmp_total, bare_arg, bare_file, bare_frame, bare_rule, bare_task, best, entry_by, first_rights, frame_of, get, insert, insert_mapped, is_in, is_write, kinds_in, mapped, nat_cmp-IsAntisymmetric, nat_cmp_total, params_in, remove, remove_mapped, right_of, rights_given, started, state_of, typed_at_start, typings_of, with_frame}
 use Rattle.tw_types.proofs.Best.{best_waits}
 use Rattle.tw_code.specs.machine.Machine.{step}
 use Rattle.tw_soundness.proofs.Safe.{safe}
@@ -107,15 +107,15 @@ module _ (verified : TypedProgram) (layout : ActorCounts) (old : Parts) (notices
     unfolding step
     goes = let n = none in let d = bare_due in let b = begins in rw (there, n, d, b) refl
 
-    stands : ArgsStand old.store.places procedure.0.params e.1.args
-    stands = subst (λ ps. ArgsStand old.store.places ps e.1.args) (ap params_in procedure.1) (h.stand.tasks e.0 e.1 waits)
+    fits_place : ArgsStand old.store.places procedure.0.params e.1.args
+    fits_place = subst (λ ps. ArgsStand old.store.places ps e.1.args) (ap params_in procedure.1) (h.stand.tasks e.0 e.1 waits)
 
     fits : (event_no : ℕ) → FrameFits verified old.store.places actor (record begun { event_no = event_no })
     fits event_no = record {
       program = refl;
       own = refl;
-      placed = placed_given old.store.places procedure.0.params e.1.args (16 - length (rights_in e.1.args)) stands;
-      kinds = first_each writes (rights_in e.1.args) ∙ ap first_rights (kinds_given old.store.places procedure.0.params e.1.args stands)
+      placed = placed_given old.store.places procedure.0.params e.1.args (16 - length (rights_in e.1.args)) fits_place;
+      kinds = first_each writes (rights_in e.1.args) ∙ ap first_rights (kinds_given old.store.places procedure.0.params e.1.args fits_place)
           ∙ sym (first_each (λ (t : RightType). is_write t.mode) (rights_given procedure.0.params))
           ∙ ap kinds_in (sym (typed_at_start verified.program (typings_of verified) h.runnable.is h.runnable.right e.1.procedure procedure.0 procedure.1));
     }
@@ -144,7 +144,7 @@ module _ (verified : TypedProgram) (layout : ActorCounts) (old : Parts) (notices
           stand_is = rw (store, seats, tasks, rules, outputs) (stand_seated verified old.store.places old.seats (remove old.tasks.tasks e.0) old.rules.rules old.outputs without_it actor (record begun { event_no = event_no }) (fits event_no))
 
     -- it may run from there
-    pub begun_stands : MayStand verified.program e.1.procedure begun.position
+    pub begun_stands : MayBeAt verified.program e.1.procedure begun.position
     begun_stands = let g = takes 0 next refl refl refl refl refl refl in may_stand verified layout next g.left g.parts actor begun (get_own old.seats actor begun)
       where
         next : Parts

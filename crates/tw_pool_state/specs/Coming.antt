@@ -12,7 +12,7 @@ use Rattle.tw_code.specs.declared.procedure.Procedure.{Procedure}
 use Rattle.tw_code.specs.machine.Position.{at_next_place}
 use Rattle.tw_verify.specs.Typed.{TypedProgram}
 use Rattle.tw_frame.specs.Drafts.{StartsAsMachine, started}
-use Rattle.tw_frame.specs.Jobs.{DoneView, FrameView, JobView, MayStand, bare_frame, job_of}
+use Rattle.tw_frame.specs.Jobs.{DoneView, FrameView, JobView, MayBeAt, bare_frame, job_of}
 use Rattle.tw_pool_state.specs.Seats.{Seated}
 
 -- ---- it starts
@@ -33,7 +33,7 @@ begun verified actor event_no e values = record {
 -- holds if the actor's best task may run from its start
 abbrev pub MayBegin : TypedProgram → Actor → TasksOf Arg → Type 0
 MayBegin verified actor waiting = (e : ℕ × TaskOf Arg) (values : List Value) → best actor waiting ≡ Some e → ((p : Procedure) → slice_get verified.program e.1.procedure ≡ Some p → started e.1.args p.registers ≡ Ok values)
-    → StartsAsMachine verified.program e.0 e.1.procedure e.1.args values (bare_frame (begun verified actor 0 e values)) → MayStand verified.program e.1.procedure (begun verified actor 0 e values).position
+    → StartsAsMachine verified.program e.0 e.1.procedure e.1.args values (bare_frame (begun verified actor 0 e values)) → MayBeAt verified.program e.1.procedure (begun verified actor 0 e values).position
 
 -- the best task starts like the machine's, with its start values, and is issued under this number
 pub record Begins (verified : TypedProgram) (actor : Actor) (event_no : ℕ) (old : Seated) (waiting : TasksOf Arg) (new : Seated) (left : TasksOf Arg) (job : JobView) : Type 0 where

@@ -23,7 +23,7 @@ use Rattle.tw_code.specs.format.Program.{IsDataInstr}
 use Rattle.tw_code.specs.machine.Data.{Context, data_instr}
 use Rattle.tw_code.specs.machine.Rights.{Typing}
 use Rattle.tw_soundness.proofs.Values.{AllYes}
-use Rattle.tw_frame.specs.Jobs.{DoneView, DraftView, FrameView, JobView, MayStand, draft_of, job_of}
+use Rattle.tw_frame.specs.Jobs.{DoneView, DraftView, FrameView, JobView, MayBeAt, draft_of, job_of}
 use Rattle.tw_pool_state.specs.Coming.{come, lent_as}
 use Rattle.tw_pool_state.specs.Fits.{ArePlaced, IsAt, kinds_in, right_in}
 use Rattle.tw_pool_state.specs.Memory.{TakesMemory}
@@ -88,7 +88,7 @@ pub record MayDo (d : DataInstr) (s : Served) (f : FrameView) : Type 0 where
   pub typed : IsTypedFor d f
   pub store : IsTypedStore s.store
   pub room : HasRoom s f
-  pub stands : (new : Served) (g : FrameView) → IsDone d s new f g → MayStand g.program.program g.procedure g.position
+  pub fits_place : (new : Served) (g : FrameView) → IsDone d s new f g → MayBeAt g.program.program g.procedure g.position
 
 -- ---- without an allocation
 
@@ -109,7 +109,7 @@ TakesNone (on_data.DropWrite right) = ⊥
 -- ---- after a job
 
 -- it was executed after the job, and the draft is of the values then
-pub record IsDoneBehind (d : DataInstr) (old new : Served) (f g : FrameView) (done : DoneView) (draft : DraftView) : Type 0 where
+pub record IsDoneAfter (d : DataInstr) (old new : Served) (f g : FrameView) (done : DoneView) (draft : DraftView) : Type 0 where
   pub is_done : IsDone d old new (come f done) g
   pub is_draft : draft ≡ draft_of g
 
@@ -121,18 +121,18 @@ pub record IsRefused (d : DataInstr) (old new : Served) (f g : FrameView) (done 
   pub is_back : back ≡ done
 
 abbrev pub IsAnswer : DataInstr → Served → Served → FrameView → FrameView → DoneView → Result DraftView DoneView → Type 0
-IsAnswer d old new f g done (Ok draft) = IsDoneBehind d old new f g done draft
+IsAnswer d old new f g done (Ok draft) = IsDoneAfter d old new f g done draft
 IsAnswer d old new f g done (Err back) = IsRefused d old new f g done back
 
 -- ---- and issued then
 
 -- it was executed after the job, and the task's next job is issued under this number
-pub record IsLentBehind (d : DataInstr) (old new : Served) (f g : FrameView) (event_no : ℕ) (done : DoneView) (job : JobView) : Type 0 where
+pub record IsLentAfter (d : DataInstr) (old new : Served) (f g : FrameView) (event_no : ℕ) (done : DoneView) (job : JobView) : Type 0 where
   pub at : FrameView
   pub is_done : IsDone d old new (come f done) at
   pub is_lent : g ≡ lent_as event_no at
   pub is_job : job ≡ job_of g
 
 abbrev pub IsLentAnswer : DataInstr → Served → Served → FrameView → FrameView → ℕ → DoneView → Result JobView DoneView → Type 0
-IsLentAnswer d old new f g event_no done (Ok job) = IsLentBehind d old new f g event_no done job
+IsLentAnswer d old new f g event_no done (Ok job) = IsLentAfter d old new f g event_no done job
 IsLentAnswer d old new f g event_no done (Err back) = IsRefused d old new f g done back

@@ -67,7 +67,7 @@ abbrev pub IsSmall : State → Type 0
 IsSmall s = AreBelow (2 ^ 62) s
 
 -- the actor's task is at this instruction after the job, in parts of a pool
-pub record StandsAt (p : Parts) (actor : Actor) (done : DoneView) (instr : Instr) : Type 0 where
+pub record IsAtInstr (p : Parts) (actor : Actor) (done : DoneView) (instr : Instr) : Type 0 where
   pub layout : ActorCounts
   pub notices : Notices
   pub f : FrameView
@@ -79,8 +79,8 @@ pub record StandsAt (p : Parts) (actor : Actor) (done : DoneView) (instr : Instr
   pub behind : slice_get q.code done.after.place ≡ Some instr
 
 -- holds if the event succeeds from there
-abbrev pub MakesBehind : Event → Parts → Actor → DoneView → Parts → Type 0
-MakesBehind event old actor done new = (layout : ActorCounts) (f : FrameView) → IsOwed old actor f done → Makes done.before.program layout event (with_done old actor f done) new
+abbrev pub MakesAfter : Event → Parts → Actor → DoneView → Parts → Type 0
+MakesAfter event old actor done new = (layout : ActorCounts) (f : FrameView) → IsOwed old actor f done → Makes done.before.program layout event (with_done old actor f done) new
 
 -- ---- jobs
 

@@ -80,7 +80,7 @@ pub record TakesTexts {A : Type 0} (program : List Procedure) (due : Option (ℕ
   pub texts : HasTexts program e.1.procedure
 
 -- the actor's task is at an instruction that may allocate
-pub record StandsAtTaker (program : List Procedure) (s : State) (actor : Actor) : Type 0 where
+pub record IsAtAllocating (program : List Procedure) (s : State) (actor : Actor) : Type 0 where
   pub frame : Frame
   pub runs : get s.frames actor ≡ Some frame
   pub here : Instr
@@ -101,7 +101,7 @@ pub record AsksOpen (s : State) (number parameter : ℕ) : Type 0 where
 abbrev pub EventTakes : List Procedure → State → Event → Type 0
 EventTakes program s (event.Take actor) = TakesTexts program (best actor s.tasks)
 EventTakes program s (event.Local actor steps) = ⊥
-EventTakes program s (event.Call actor) = StandsAtTaker program s actor
+EventTakes program s (event.Call actor) = IsAtAllocating program s actor
 EventTakes program s (event.End actor) = ⊥
 EventTakes program s (event.Ask engine rule parameter) = AsksOpen s rule parameter
 EventTakes program s (event.Deliver server datum rule parameter) = ⊥

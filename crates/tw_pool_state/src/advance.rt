@@ -33,7 +33,7 @@ impl<'a> Parts<'a> {
 
     /// Completes the job of the actor's task, and issues the next one. `event_no` is the number of its actor's events.
     pub fn advance(&mut self, actor: Actor, event_no: u64, done: Done<'a>) -> Job<'a>
-        requires stands { (layout : ActorCounts) × (notices : Notices) × (f : FrameView) × AreParts done.before.program layout self.old notices
+        requires fits_place { (layout : ActorCounts) × (notices : Notices) × (f : FrameView) × AreParts done.before.program layout self.old notices
             × IsSmall (state_of self.old notices) × IsOwed self.old actor f done }
         ensures came { (f : FrameView) → IsOwed self.old actor f done.entry → self.new ≡ with_done self.old actor (lent_as event_no f) done.entry }
         ensures lent { IsLent self.new actor event_no result }

@@ -7,7 +7,7 @@ ghost use Rattle.tw_frame.specs.Jobs.{FrameView, draft_of, job_of};
 ghost use Rattle.tw_pool_state.specs.Coming.{come};
 ghost use Rattle.tw_pool_state.specs.Data.{IsAnswer, IsDone, IsLentAnswer, MayDo, TakesNone};
 ghost use Rattle.tw_pool_state.specs.Memory.{TakesMemory};
-ghost use Rattle.tw_pool_state.specs.Events.{IsLent, IsOwed, MakesBehind, StandsAt, Untouched};
+ghost use Rattle.tw_pool_state.specs.Events.{IsLent, IsOwed, MakesAfter, IsAtInstr, Untouched};
 
 mod containers;
 pub(crate) mod results;
@@ -133,8 +133,8 @@ impl<'a> Parts<'a> {
         instr: &DataInstr,
         done: Done<'a>,
     ) -> Result<Job<'a>, Done<'a>>
-        requires stands { StandsAt self.old actor done (instr_is.Data instr.now) }
-        ensures called { OnOk result (MakesBehind (event.Call actor) self.old actor done.entry self.new) }
+        requires fits_place { IsAtInstr self.old actor done (instr_is.Data instr.now) }
+        ensures called { OnOk result (MakesAfter (event.Call actor) self.old actor done.entry self.new) }
         ensures lent { IfOk result (λ job. IsLent self.new actor event_no job) }
         ensures refused { OnErr result (Untouched self.old self.new) }
         ensures back { IfErr result (λ back. back ≡ done.entry) }

@@ -2,7 +2,7 @@
 
 ghost use Rattle.tw_types.specs.declared.event.Event.TheVariants as event;
 ghost use Rattle.tw_code.specs.declared.instr.Instr.TheVariants as instr;
-ghost use Rattle.tw_pool_state.specs.Events.{MakesBehind, StandsAt};
+ghost use Rattle.tw_pool_state.specs.Events.{MakesAfter, IsAtInstr};
 
 use crate::parts::Parts;
 use std::alloc::Global;
@@ -12,8 +12,8 @@ use tw_types::Actor;
 impl<'a> Parts<'a> {
     /// Ends the actor's task, which is at RET after the job of `done`.
     pub fn end(&mut self, alloc: Global, actor: Actor, done: Done<'a>)
-        requires stands { StandsAt self.old actor done instr.Ret }
-        ensures { MakesBehind (event.End actor) self.old actor done.entry self.new }
+        requires fits_place { IsAtInstr self.old actor done instr.Ret }
+        ensures { MakesAfter (event.End actor) self.old actor done.entry self.new }
     {
         self.seats.end(alloc, actor, done);
     }

@@ -3,7 +3,7 @@
 ghost use Rattle.std.specs.Prelude.{◌≡◌, IfErr, IfOk, OnOk, OnErr};
 ghost use Rattle.tw_types.specs.declared.event.Event.TheVariants as event;
 ghost use Rattle.tw_code.specs.declared.instr.Instr.TheVariants as instr;
-ghost use Rattle.tw_pool_state.specs.Events.{IsLent, MakesBehind, StandsAt, Untouched};
+ghost use Rattle.tw_pool_state.specs.Events.{IsLent, MakesAfter, IsAtInstr, Untouched};
 
 use crate::operands::action_operands;
 use crate::parts::Parts;
@@ -24,8 +24,8 @@ impl<'a> Parts<'a> {
         action: &Action,
         done: Done<'a>,
     ) -> Result<Job<'a>, Done<'a>>
-        requires stands { StandsAt self.old actor done (instr.Rule action.now) }
-        ensures rule { OnOk result (MakesBehind (event.Call actor) self.old actor done.entry self.new) }
+        requires fits_place { IsAtInstr self.old actor done (instr.Rule action.now) }
+        ensures rule { OnOk result (MakesAfter (event.Call actor) self.old actor done.entry self.new) }
         ensures lent { IfOk result (λ job. IsLent self.new actor event_no job) }
         ensures refused { OnErr result (Untouched self.old self.new) }
         ensures back { IfErr result (λ back. back ≡ done.entry) }

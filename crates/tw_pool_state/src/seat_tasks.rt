@@ -6,7 +6,7 @@ ghost use Rattle.tw_code.specs.machine.Position.{at_next_place};
 ghost use Rattle.tw_rights.specs.declared.held.Held.{Held};
 ghost use Rattle.tw_rights.specs.Bundled.{bundled};
 ghost use Rattle.tw_rights.specs.Roomy.{IsRoom};
-ghost use Rattle.tw_frame.specs.Jobs.{FrameView, MayStand, job_of};
+ghost use Rattle.tw_frame.specs.Jobs.{FrameView, MayBeAt, job_of};
 ghost use Rattle.tw_pool_state.specs.Coming.{come, gone_on, lent_as};
 ghost use Rattle.tw_pool_state.specs.Data.{IsLentAnswer, MayDo};
 
@@ -103,7 +103,7 @@ impl<'a> SeatTasks<'a> {
         requires few { length params.now ≤ 8 }
         requires room { IsRoom (length params.now) room }
         requires sits { (f : FrameView) × (slice_index_or self.old.frames.items seat None ≡ Some f) × (done.before ≡ job_of f) × (f.spent + done.steps < 2 ^ 63)
-            × (done.after.place < 2 ^ 63) × IsSome (bundled f.held params.now args.now vals.items) × MayStand f.program.program f.procedure (at_next_place done.after) }
+            × (done.after.place < 2 ^ 63) × IsSome (bundled f.held params.now args.now vals.items) × MayBeAt f.program.program f.procedure (at_next_place done.after) }
         ensures { (f : FrameView) → slice_index_or self.old.frames.items seat None ≡ Some f → (file : List (Option Held))
             × (bundled f.held params.now args.now vals.items ≡ Some (record { args = result.0; file = file }))
             × (self.new.frames.items ≡ slice_set self.old.frames.items seat (Some (lent_as event_no (gone_on (come f done.entry) file))))

@@ -11,7 +11,7 @@ ghost use Rattle.tw_types.specs.Task.{TaskOf, best};
 ghost use Rattle.tw_rights.specs.declared.arg.Arg.{Arg};
 ghost use Rattle.tw_frame.specs.Drafts.{MayStart};
 ghost use Rattle.tw_code.specs.machine.Position.{at_next_place};
-ghost use Rattle.tw_frame.specs.Jobs.{FrameView, MayStand, job_of};
+ghost use Rattle.tw_frame.specs.Jobs.{FrameView, MayBeAt, job_of};
 ghost use Rattle.tw_pool_state.specs.Seats.{HasSeat};
 ghost use Rattle.tw_pool_state.specs.Coming.{IsBegun, MayBegin, come, gone_on, lent_as};
 ghost use Rattle.tw_pool_state.specs.Data.{IsLentAnswer, MayDo};
@@ -167,7 +167,7 @@ impl<'a> Seats<'a> {
         requires seat { HasSeat actor }
         requires empty { get self.old actor ≡ None }
         requires may { (e : ℕ × TaskOf Arg) → best actor tasks.old.tasks ≡ Some e → MayStart verified.now.program e.1.procedure e.1.args }
-        requires stands { MayBegin verified.now actor tasks.old.tasks }
+        requires fits_place { MayBegin verified.now actor tasks.old.tasks }
         ensures begun { IsBegun verified.now actor event_no self.old tasks.old.tasks self.new tasks.new.tasks result }
         ensures memory { OnErr result (TakesTexts verified.now.program (best actor tasks.old.tasks)) }
     {
@@ -234,7 +234,7 @@ impl<'a> Seats<'a> {
         requires room { IsRoom (length asked.callee.now.params) room }
         requires sits { (f : FrameView) × (get self.old actor ≡ Some f) × (done.before ≡ job_of f) × (f.spent + done.steps < 2 ^ 63)
             × (done.after.place < 2 ^ 63) × IsSome (bundled f.held asked.callee.now.params args.now asked.vals.items)
-            × MayStand f.program.program f.procedure (at_next_place done.after) }
+            × MayBeAt f.program.program f.procedure (at_next_place done.after) }
         ensures { (f : FrameView) → get self.old actor ≡ Some f → (file : List (Option Held))
             × (bundled f.held asked.entry.callee.now.params args.now asked.entry.vals.items ≡ Some (record { args = result.0; file = file }))
             × (self.new ≡ insert self.old actor (lent_as event_no (gone_on (come f done.entry) file))) × (result.1 ≡ job_of (lent_as event_no (gone_on (come f done.entry) file))) }

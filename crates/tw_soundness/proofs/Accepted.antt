@@ -1,6 +1,6 @@
 -- Consequences of acceptance for a running task: its instruction is executed, and the task continues.
 use Rattle.std.proofs.Common.{◌≡◌, ℕ, zero, suc, ◌<◌, ◌≤◌, true, List, [], ◌∷◌, ◌++◌, length, slice_get, get_or, Option, Some, None, refl, sym, ap, subst, ◌∙◌, arith}
-use Rattle.tw_soundness.proofs.MachineNames.{Accepts, Actor, AllByRecursion, Completed, DataInstr, Frame, Instr, IsDataInstr, IsHeld, IsInstr, Param, Procedure, RightType, Stands, State, Typing, Typings, asks, asks_at, asks_data, at_next_place, context_of, data_instr, flow_of, flows, get, is_none, is_ret, leb-true, length-map, list_all, local_steps, option_to_list, right_of, rights_given, same_Some, slice_get-get_or, slice_get_within, typing_of, value_types, values_fit}
+use Rattle.tw_soundness.proofs.MachineNames.{Accepts, Actor, AllByRecursion, Completed, DataInstr, Frame, Instr, IsDataInstr, IsHeld, IsInstr, Param, Procedure, RightType, IsAtPosition, State, Typing, Typings, asks, asks_at, asks_data, at_next_place, context_of, data_instr, flow_of, flows, get, is_none, is_ret, leb-true, length-map, list_all, local_steps, option_to_list, right_of, rights_given, same_Some, slice_get-get_or, slice_get_within, typing_of, value_types, values_fit}
 use Rattle.tw_code.specs.declared.flow.Flow.TheVariants.{Straight}
 use Rattle.tw_code.specs.declared.instr.Action.{Action}
 use Rattle.tw_code.specs.declared.instr.Instr.TheVariants as instr
@@ -8,7 +8,7 @@ use Rattle.tw_budget.proofs.FrameTheorems.{starts_within}
 use Rattle.tw_soundness.proofs.AllEvents.{Accepted, Known}
 use Rattle.tw_soundness.proofs.DataLeaves.{data_leaves}
 use Rattle.tw_soundness.proofs.Long.{typings_long}
-use Rattle.tw_soundness.proofs.Moving.{asked, inside, instr_there, stands_on, steps_keep, typing_on}
+use Rattle.tw_soundness.proofs.Moving.{asked, inside, instr_there, position_next, steps_keep, typing_on}
 use Rattle.tw_soundness.proofs.Registers.{Settles}
 use Rattle.tw_soundness.proofs.Steps.{Goes, keeps_mapped, goes_mapped}
 use Rattle.tw_soundness.proofs.TaskEvents.{Starts, fits_of, other_reads, other_writes}
@@ -61,8 +61,8 @@ module _ (program : List Procedure) (typings : Typings) (accepts : (k : ℕ) (p 
     acc : Accepts program (typings f.procedure) p
     acc = accepts f.procedure p here
 
-    pub stands : Stands p f.spent f.position
-    stands = record {
+    pub fits_place : IsAtPosition p f.spent f.position
+    fits_place = record {
       values = held.types.values a f p is here;
       begun = held.budgets.begun a f p is here;
       within = λ budget most. held.budgets.within a f p budget is here most;
@@ -70,27 +70,27 @@ module _ (program : List Procedure) (typings : Typings) (accepts : (k : ℕ) (p 
 
     long : length (typing_of typings f) ≡ 16
     long =
-        let there = slice_get-get_or (typings f.procedure) f.position.place [] (omega (arith, inside program (typings f.procedure) p acc f.spent f.position stands, acc.typed.long)) in
+        let there = slice_get-get_or (typings f.procedure) f.position.place [] (omega (arith, inside program (typings f.procedure) p acc f.spent f.position fits_place, acc.typed.long)) in
         typings_long program p (typings f.procedure) acc.typed (omega (arith, rights_few p.params, acc.limits.params.0.1)) f.position.place (typing_of typings f) there
 
     module _ (i : Instr) (at : slice_get p.code f.position.place ≡ Some i) where
       straight : Moves p.registers Straight f.position (at_next_place f.position)
-      straight = record { way = Completed; goes_on = refl; values = stands.values }
+      straight = record { way = Completed; goes_on = refl; values = fits_place.values }
 
       behind_rule : (action : Action) → i ≡ instr.Rule action → GoesAfter program typings s held a f is p here action
       behind_rule action e =
           let own : slice_get p.code f.position.place ≡ Some (instr.Rule action) = at ∙ ap Some e in
           record {
-            stands = stands_on program (typings f.procedure) p acc f.spent f.position (at_next_place f.position) (instr.Rule action) stands own straight;
-            next = typing_on program (typings f.procedure) p acc f.spent f.position (at_next_place f.position) (instr.Rule action) stands own straight;
+            fits_place = position_next program (typings f.procedure) p acc f.spent f.position (at_next_place f.position) (instr.Rule action) fits_place own straight;
+            next = typing_on program (typings f.procedure) p acc f.spent f.position (at_next_place f.position) (instr.Rule action) fits_place own straight;
           }
 
       behind_put : (action : Action) → i ≡ instr.Put action → GoesAfter program typings s held a f is p here action
       behind_put action e =
           let own : slice_get p.code f.position.place ≡ Some (instr.Put action) = at ∙ ap Some e in
           record {
-            stands = stands_on program (typings f.procedure) p acc f.spent f.position (at_next_place f.position) (instr.Put action) stands own straight;
-            next = typing_on program (typings f.procedure) p acc f.spent f.position (at_next_place f.position) (instr.Put action) stands own straight;
+            fits_place = position_next program (typings f.procedure) p acc f.spent f.position (at_next_place f.position) (instr.Put action) fits_place own straight;
+            next = typing_on program (typings f.procedure) p acc f.spent f.position (at_next_place f.position) (instr.Put action) fits_place own straight;
           }
 
       by_data : (d : DataInstr) → i ≡ instr.Data d → Goes (data_instr d (context_of s f)) (LeftSo program typings s held a f is p here)
@@ -99,11 +99,11 @@ module _ (program : List Procedure) (typings : Typings) (accepts : (k : ℕ) (p 
           let operands : IsDataInstr d = all_found IsInstr p.code f.position.place (instr.Data d) acc.limits.code.1 own in
           let met : AllYes (asks_data p.registers d (typing_of typings f)) = asked program (typings f.procedure) p acc f.position.place (instr.Data d) own in
           goes_mapped (data_instr d (context_of s f)) _ _
-          (data_leaves p (typing_of typings f) (context_of s f) (other_reads program typings s a) (other_writes program typings s a) (fits_of program typings s held a f is) stands.values long d operands met)
+          (data_leaves p (typing_of typings f) (context_of s f) (other_reads program typings s a) (other_writes program typings s a) (fits_of program typings s held a f is) fits_place.values long d operands met)
           (λ c left. record {
-            stands = stands_on program (typings f.procedure) p acc f.spent f.position c.position (instr.Data d) stands own left.moves;
+            fits_place = position_next program (typings f.procedure) p acc f.spent f.position c.position (instr.Data d) fits_place own left.moves;
             settles = subst (λ (t : Typing). Settles t (context_of s f) (other_reads program typings s a) (other_writes program typings s a) c)
-                (sym (typing_on program (typings f.procedure) p acc f.spent f.position c.position (instr.Data d) stands own left.moves)) left.settles;
+                (sym (typing_on program (typings f.procedure) p acc f.spent f.position c.position (instr.Data d) fits_place own left.moves)) left.settles;
           })
 
       met : AllYes (asks program p i (typing_of typings f))
@@ -117,8 +117,8 @@ module _ (program : List Procedure) (typings : Typings) (accepts : (k : ℕ) (p 
         at = at;
         turn = record { met = met; by_data = by_data; behind_rule = behind_rule; behind_put = behind_put };
         stops = λ e. stops i e met;
-        local = λ n. keeps_mapped (local_steps n p.code f.position) _ _ (steps_keep program (typings f.procedure) p acc n (typing_of typings f) f.spent f.position (record { stands = stands; typing_there = refl }))
-            (λ to left. (left.stands, left.typing_there));
+        local = λ n. keeps_mapped (local_steps n p.code f.position) _ _ (steps_keep program (typings f.procedure) p acc n (typing_of typings f) f.spent f.position (record { fits_place = fits_place; typing_there = refl }))
+            (λ to left. (left.fits_place, left.typing_there));
       }
         where
           stops : (i : Instr) → is_ret i ≡ true → AllYes (asks program p i (typing_of typings f)) → list_all is_none (typing_of typings f) ≡ true
@@ -133,7 +133,7 @@ module _ (program : List Procedure) (typings : Typings) (accepts : (k : ℕ) (p 
     where
       by : (p : Procedure) → slice_get program f.procedure ≡ Some p → Known program typings s held a f is
       by p here =
-          let i = instr_there program (typings f.procedure) p (accepts f.procedure p here) p.code f.position.place (inside program (typings f.procedure) p (accepts f.procedure p here) f.spent f.position (stands s held a f is p here)) in
+          let i = instr_there program (typings f.procedure) p (accepts f.procedure p here) p.code f.position.place (inside program (typings f.procedure) p (accepts f.procedure p here) f.spent f.position (fits_place s held a f is p here)) in
           known_at s held a f is p here i.0 i.1
 
   pub accepted : Accepted program typings

@@ -1,6 +1,6 @@
 -- Any single event keeps the invariant, and doesn't trap; so do runs from the opening.
 use Rattle.std.proofs.Common.{◌≡◌, ℕ, ◌+◌, ◌==◌, Bool, true, false, not, List, [], ◌∷◌, slice_get, Option, Some, None, is_none, refl, sym, ap, subst, arith}
-use Rattle.tw_soundness.proofs.MachineNames.{◌>>◌, Actor, ActorCounts, Event, Frame, Instr, IsHeld, NotEnabled, Outcome, Position, Procedure, RightLeft, Rights, RightsFit, Stands, State, Store, Typing, Typings, Went, actor_cmp, actor_cmp-IsAntisymmetric, actor_cmp_total, balanced_same, before_removal, frame_reads, frame_writes, get, list_all, must, only_if, outcome_of, over, read_by, remove, typing_at, typing_of, with_frame, write_by}
+use Rattle.tw_soundness.proofs.MachineNames.{◌>>◌, Actor, ActorCounts, Event, Frame, Instr, IsHeld, NotEnabled, Outcome, Position, Procedure, RightLeft, Rights, RightsFit, IsAtPosition, State, Store, Typing, Typings, Went, actor_cmp, actor_cmp-IsAntisymmetric, actor_cmp_total, balanced_same, before_removal, frame_reads, frame_writes, get, list_all, must, only_if, outcome_of, over, read_by, remove, typing_at, typing_of, with_frame, write_by}
 use Rattle.tw_types.specs.declared.event.Event.TheVariants.{Take, Local, Call, End, Ask, Deliver, Release}
 use Rattle.tw_code.specs.machine.Machine.{local_event, call_event, end_event, step, run, local_steps, is_ret}
 use Rattle.tw_soundness.proofs.Framed.{types_framed, budgets_framed}
@@ -34,17 +34,17 @@ module _ (program : List Procedure) (typings : Typings) where
     pub at : slice_get procedure.code f.position.place ≡ Some instr
     pub turn : Turn program typings s held a f is procedure here instr
     pub stops : is_ret instr ≡ true → list_all is_none (typing_of typings f) ≡ true
-    pub local : (n : ℕ) → Keeps (local_steps n procedure.code f.position) (λ at. Stands procedure (f.spent + n) at × (typing_at typings f.procedure at.place ≡ typing_of typings f))
+    pub local : (n : ℕ) → Keeps (local_steps n procedure.code f.position) (λ at. IsAtPosition procedure (f.spent + n) at × (typing_at typings f.procedure at.place ≡ typing_of typings f))
 
   pub record Accepted : Type 1 where
     pub starts : (k : ℕ) (p : Procedure) → slice_get program k ≡ Some p → Starts program typings k p
     pub known : (s : State) (held : IsHeld program typings s) (a : Actor) (f : Frame) (is : get s.frames a ≡ Some f) → Known s held a f is
 
   module _ (s : State) (held : IsHeld program typings s) (a : Actor) (f : Frame) (is : get s.frames a ≡ Some f) (k : Known s held a f is) where
-    moved_held : (n : ℕ) (to : Position) → Stands k.procedure (f.spent + n) to → typing_at typings f.procedure to.place ≡ typing_of typings f → IsHeld program typings (with_frame s a (record f { position = to; spent = f.spent + n }))
-    moved_held n to stands same = record {
+    moved_held : (n : ℕ) (to : Position) → IsAtPosition k.procedure (f.spent + n) to → typing_at typings f.procedure to.place ≡ typing_of typings f → IsHeld program typings (with_frame s a (record f { position = to; spent = f.spent + n }))
+    moved_held n to fits_place same = record {
       numbers = record { tasks = held.numbers.tasks; rules = held.numbers.rules };
-      types = types_framed program typings s a (record f { position = to; spent = f.spent + n }) k.procedure k.here stands (subst (λ (t : Typing). RightsFit s.store t f.rights) (sym same) (held.types.rights a f is)) held.types;
+      types = types_framed program typings s a (record f { position = to; spent = f.spent + n }) k.procedure k.here fits_place (subst (λ (t : Typing). RightsFit s.store t f.rights) (sym same) (held.types.rights a f is)) held.types;
       counts = record {
         writers = held.counts.writers;
         balanced = balanced_same s.store.live _ _ _ _ held.counts.balanced (λ d.
@@ -55,7 +55,7 @@ module _ (program : List Procedure) (typings : Typings) where
             (omega arith, omega arith));
       };
       notices = held.notices;
-      budgets = budgets_framed program typings s a (record f { position = to; spent = f.spent + n }) k.procedure k.here stands held.budgets;
+      budgets = budgets_framed program typings s a (record f { position = to; spent = f.spent + n }) k.procedure k.here fits_place held.budgets;
     }
 
     local_on : (n : ℕ) (b : Bool) → not (n == 0) ≡ b → Keeps (local_event program a n s) (IsHeld program typings)

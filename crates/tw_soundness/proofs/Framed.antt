@@ -1,6 +1,6 @@
 -- Putting a task, a rule or a frame into a state.
 use Rattle.std.proofs.Common.{◌≡◌, ℕ, ◌+◌, List, slice_get, Some, None, sym, ap, subst, ◌∙◌, arith, inl, inr, nat_cmp}
-use Rattle.tw_soundness.proofs.MachineNames.{Actor, AreBegun, ArgsFit, BudgetsHeld, CountsHeld, Frame, IsBudget, NumbersHeld, Procedure, RightsFit, Rule, RuleArgsFit, Stands, State, Task, TypesHeld, Typings, ValuesFit, actor_cmp, actor_cmp-IsAntisymmetric, actor_cmp_total, balanced_same, before_removal, flows, frame_reads, frame_writes, get, nat_cmp-IsAntisymmetric, nat_cmp_total, put_or_before, remove, rule_reads, rule_writes, same_Some, task_reads, task_writes, typing_of, with_frame, with_rule, with_task}
+use Rattle.tw_soundness.proofs.MachineNames.{Actor, AreBegun, ArgsFit, BudgetsHeld, CountsHeld, Frame, IsBudget, NumbersHeld, Procedure, RightsFit, Rule, RuleArgsFit, IsAtPosition, State, Task, TypesHeld, Typings, ValuesFit, actor_cmp, actor_cmp-IsAntisymmetric, actor_cmp_total, balanced_same, before_removal, flows, frame_reads, frame_writes, get, nat_cmp-IsAntisymmetric, nat_cmp_total, put_or_before, remove, rule_reads, rule_writes, same_Some, task_reads, task_writes, typing_of, with_frame, with_rule, with_task}
 use Rattle.tw_budget.specs.Frames.{IsWithinBudget}
 use Rattle.tw_soundness.proofs.Sums.{sum_apart, sum_new, sum_replaced}
 
@@ -87,7 +87,7 @@ module _ (program : List Procedure) (typings : Typings) where
 
   -- ---- a frame
 
-  module _ (s : State) (a : Actor) (f : Frame) (p : Procedure) (here : slice_get program f.procedure ≡ Some p) (stands : Stands p f.spent f.position) where
+  module _ (s : State) (a : Actor) (f : Frame) (p : Procedure) (here : slice_get program f.procedure ≡ Some p) (fits_place : IsAtPosition p f.spent f.position) where
     same : (g : Frame) (q : Procedure) → f ≡ g → slice_get program g.procedure ≡ Some q → p ≡ q
     same g q e there = same_Some p q (sym here ∙ ap (λ (z : Frame). slice_get program z.procedure) e ∙ there)
 
@@ -103,7 +103,7 @@ module _ (program : List Procedure) (typings : Typings) where
       };
       store = h.store;
       values = λ b g q at there. elim (put_or_before actor_cmp_total actor_cmp-IsAntisymmetric s.frames a f b g at) [
-        | inl e ↦ subst (λ (z : Frame). ValuesFit q.registers z.position.values) e.1 (subst (λ (u : Procedure). ValuesFit u.registers f.position.values) (same g q e.1 there) stands.values)
+        | inl e ↦ subst (λ (z : Frame). ValuesFit q.registers z.position.values) e.1 (subst (λ (u : Procedure). ValuesFit u.registers f.position.values) (same g q e.1 there) fits_place.values)
         | inr old ↦ h.values b g q old there
       ];
       rights = λ b g at. elim (put_or_before actor_cmp_total actor_cmp-IsAntisymmetric s.frames a f b g at) [
@@ -117,13 +117,13 @@ module _ (program : List Procedure) (typings : Typings) where
     pub budgets_framed : BudgetsHeld program s → BudgetsHeld program (with_frame s a f)
     budgets_framed h = record {
       begun = λ b g q at there. elim (put_or_before actor_cmp_total actor_cmp-IsAntisymmetric s.frames a f b g at) [
-        | inl e ↦ subst (λ (z : Frame). AreBegun (flows q.code) z.position.loops) e.1 (subst (λ (u : Procedure). AreBegun (flows u.code) f.position.loops) (same g q e.1 there) stands.begun)
+        | inl e ↦ subst (λ (z : Frame). AreBegun (flows q.code) z.position.loops) e.1 (subst (λ (u : Procedure). AreBegun (flows u.code) f.position.loops) (same g q e.1 there) fits_place.begun)
         | inr old ↦ h.begun b g q old there
       ];
       within = λ b g q budget at there most. elim (put_or_before actor_cmp_total actor_cmp-IsAntisymmetric s.frames a f b g at) [
         | inl e ↦
             subst (λ (z : Frame). IsWithinBudget (flows q.code) budget z.spent z.position.place z.position.loops) e.1
-            (subst (λ (u : Procedure). IsBudget (flows u.code) budget → IsWithinBudget (flows u.code) budget f.spent f.position.place f.position.loops) (same g q e.1 there) (stands.within budget) most)
+            (subst (λ (u : Procedure). IsBudget (flows u.code) budget → IsWithinBudget (flows u.code) budget f.spent f.position.place f.position.loops) (same g q e.1 there) (fits_place.within budget) most)
         | inr old ↦ h.within b g q budget old there most
       ];
     }

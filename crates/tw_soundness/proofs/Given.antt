@@ -86,8 +86,8 @@ module _ (waits : Bool) (s : Store) (declared : List Scalar) (values : List Valu
   right_goes : (p : Param) (params : List Param) (r : ℕ) (registers : List ℕ) (typing : Typing) (rights : Rights) (q : RightType) → is_val p.mode ≡ false → right_fits_param waits p q ≡ true → (f : Found s rights typing r q)
       → Goes (handed_over values (slice_set rights r None) params registers) (GivenSo waits s params (slice_set typing r None) (slice_set rights r None) (without_args params registers (slice_set typing r None)))
       → Goes (right_then values rights params registers r) (GivenSo waits s (p ∷ params) typing rights (without_args params registers (slice_set typing r None)))
-  right_goes p params r registers typing rights q e stands f rest =
-      let both = and_parts (suits_mode waits p.mode q) (same_type q.ty p.ty) stands in
+  right_goes p params r registers typing rights q e fits_place f rest =
+      let both = and_parts (suits_mode waits p.mode q) (same_type q.ty p.ty) fits_place in
       let some : right_of p ≡ Some (record { mode = p.mode; ty = p.ty }) = ap (λ b. if b then None else Some (record { mode = p.mode; ty = p.ty })) e in
       let kind : is_write q.mode ≡ is_write p.mode = suits_write waits p.mode q both.0 in
       goes (held rights r) _ _ f.id (ap (λ o. ok_or (option_flatten o) EmptyRegister) f.register)

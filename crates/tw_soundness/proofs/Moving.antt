@@ -1,6 +1,6 @@
 -- Where a task continues: in the loops that it has begun, within its budget, and with the typing of the place.
 use Rattle.std.proofs.Common.{◌≡◌, ℕ, zero, suc, ◌+◌, ◌<◌, ◌==◌, ◌⊎◌, inl, inr, List, [], ◌∷◌, length, slice_get, get_or, Some, None, refl, sym, ap, subst, ◌∙◌, arith, if◌then◌else◌}
-use Rattle.tw_soundness.proofs.MachineNames.{Accepts, AreBegun, Completed, Cursor, DataInstr, Instr, Loop, NotEnabled, Outcome, Position, Procedure, Skipped, Stands, Typing, after, asks, asks_at, asks_params, data_flow, flow_of, flows, length-map, local_flow, local_of, local_step, local_steps, moved, onward, option_and_then, option_map, outcome_of, same_Some, slice_get-get_or, slice_get-map, slice_get_within, turned}
+use Rattle.tw_soundness.proofs.MachineNames.{Accepts, AreBegun, Completed, Cursor, DataInstr, Instr, Loop, NotEnabled, Outcome, Position, Procedure, Skipped, IsAtPosition, Typing, after, asks, asks_at, asks_params, data_flow, flow_of, flows, length-map, local_flow, local_of, local_step, local_steps, moved, onward, option_and_then, option_map, outcome_of, same_Some, slice_get-get_or, slice_get-map, slice_get_within, turned}
 use Rattle.tw_code.specs.declared.flow.Flow.{Flow}
 use Rattle.tw_code.specs.declared.flow.Flow.TheVariants.{Straight, Branch, Jump, Begin, Close, Stop}
 use Rattle.tw_code.specs.declared.flow.Way.{Way}
@@ -96,7 +96,7 @@ module _ (program : List Procedure) (typings : List Typing) (p : Procedure) (acc
   flow_there place i here = slice_get-map flow_of p.code place ∙ ap (option_map flow_of) here
 
   -- its place is in the code
-  pub inside : (spent : ℕ) (at : Position) → Stands p spent at → at.place < length p.code
+  pub inside : (spent : ℕ) (at : Position) → IsAtPosition p spent at → at.place < length p.code
   inside spent at s = let w = (s.within accepts.budget.0 accepts.budget.1).inside in omega (arith, w, length-map p.code flow_of)
 
   typing_there : (place : ℕ) → place < length p.code → slice_get typings place ≡ Some (get_or typings place [])
@@ -114,13 +114,13 @@ module _ (program : List Procedure) (typings : List Typing) (p : Procedure) (acc
       (all_yes (asks_at program p place i (get_or typings place [])) (accepts.typed.asks place i (get_or typings place []) here (typing_there place (slice_get_within p.code place i here))))
 
   -- an END has a loop
-  pub has_loop : (spent : ℕ) (at : Position) (i : Instr) → Stands p spent at → slice_get p.code at.place ≡ Some i → flow_of i ≡ Close → HasLoop at
+  pub has_loop : (spent : ℕ) (at : Position) (i : Instr) → IsAtPosition p spent at → slice_get p.code at.place ≡ Some i → flow_of i ≡ Close → HasLoop at
   has_loop spent at i s here closes =
       end_goes_on (flows p.code) at.place at.loops (s.within accepts.budget.0 accepts.budget.1).fits (flow_there at.place i here ∙ ap Some closes)
 
   -- after a move a task has a right position, one instruction later
-  pub stands_on : (spent : ℕ) (at to : Position) (i : Instr) → Stands p spent at → slice_get p.code at.place ≡ Some i → Moves p.registers (flow_of i) at to → Stands p (spent + 1) to
-  stands_on spent at to i s here m =
+  pub position_next : (spent : ℕ) (at to : Position) (i : Instr) → IsAtPosition p spent at → slice_get p.code at.place ≡ Some i → Moves p.registers (flow_of i) at to → IsAtPosition p (spent + 1) to
+  position_next spent at to i s here m =
       let cursor : Cursor = record { place = to.place; loops = to.loops } in
       record {
         values = m.values;
@@ -134,11 +134,11 @@ module _ (program : List Procedure) (typings : List Typing) (p : Procedure) (acc
   end_there code place inner outer f at = f.2 ∙ sym f.1 ∙ close_end code place at
 
   -- and the typing there is the one that the instruction leaves
-  pub typing_on : (spent : ℕ) (at to : Position) (i : Instr) → Stands p spent at → slice_get p.code at.place ≡ Some i → (m : Moves p.registers (flow_of i) at to) → get_or typings to.place [] ≡ after program m.way i (get_or typings at.place [])
+  pub typing_on : (spent : ℕ) (at to : Position) (i : Instr) → IsAtPosition p spent at → slice_get p.code at.place ≡ Some i → (m : Moves p.registers (flow_of i) at to) → get_or typings to.place [] ≡ after program m.way i (get_or typings at.place [])
   typing_on spent at to i s here m = by (forward_or_back at.place (flow_of i) at.loops m.way (record { place = to.place; loops = to.loops }) m.goes_on)
     where
       left : slice_get typings to.place ≡ Some (get_or typings to.place [])
-      left = typing_there to.place (inside (spent + 1) to (stands_on spent at to i s here m))
+      left = typing_there to.place (inside (spent + 1) to (position_next spent at to i s here m))
 
       held : slice_get typings at.place ≡ Some (get_or typings at.place [])
       held = typing_there at.place (inside spent at s)
@@ -157,13 +157,13 @@ module _ (program : List Procedure) (typings : List Typing) (p : Procedure) (acc
 
   -- they leave the typing as it is
   pub record IsLeftBy (typing : Typing) (spent : ℕ) (to : Position) : Type 0 where
-    pub stands : Stands p spent to
+    pub fits_place : IsAtPosition p spent to
     pub typing_there : get_or typings to.place [] ≡ typing
 
   moved_on : (typing : Typing) (spent : ℕ) (at to : Position) (i : LocalInstr) → IsLeftBy typing spent at → slice_get p.code at.place ≡ Some (instr.Local i) → Moves p.registers (local_flow i) at to → IsLeftBy typing (spent + 1) to
   moved_on typing spent at to i l here m = record {
-    stands = stands_on spent at to (instr.Local i) l.stands here m;
-    typing_there = typing_on spent at to (instr.Local i) l.stands here m ∙ l.typing_there;
+    fits_place = position_next spent at to (instr.Local i) l.fits_place here m;
+    typing_there = typing_on spent at to (instr.Local i) l.fits_place here m ∙ l.typing_there;
   }
 
   at_local : (at : Position) (i : LocalInstr) → slice_get p.code at.place ≡ Some (instr.Local i) → local_step p.code at ≡ outcome_of (local_instr i at)
@@ -177,12 +177,12 @@ module _ (program : List Procedure) (typings : List Typing) (p : Procedure) (acc
   step_goes typing spent at i l here =
       subst (λ (o : Outcome Position). Happens o (IsLeftBy typing (spent + 1))) (sym (at_local at i here))
       (goes_happens (local_instr i at) (Moves p.registers (local_flow i) at) (IsLeftBy typing (spent + 1))
-      (local_moves p.registers at l.stands.values i (asked at.place (instr.Local i) here) (has_loop spent at (instr.Local i) l.stands here))
+      (local_moves p.registers at l.fits_place.values i (asked at.place (instr.Local i) here) (has_loop spent at (instr.Local i) l.fits_place here))
       (λ to m. moved_on typing spent at to i l here m))
 
   step_keeps : (typing : Typing) (spent : ℕ) (at : Position) → IsLeftBy typing spent at → Keeps (local_step p.code at) (IsLeftBy typing (spent + 1))
   step_keeps typing spent at l =
-      let i = instr_there p.code at.place (inside spent at l.stands) in
+      let i = instr_there p.code at.place (inside spent at l.fits_place) in
       by i.0 i.1
     where
       by : (i : Instr) → slice_get p.code at.place ≡ Some i → Keeps (local_step p.code at) (IsLeftBy typing (spent + 1))

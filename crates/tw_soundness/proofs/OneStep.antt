@@ -5,7 +5,7 @@ use Rattle.tw_code.specs.declared.instr.Instr.TheVariants as instr
 use Rattle.tw_code.specs.declared.instr.LocalInstr.{LocalInstr}
 use Rattle.tw_code.specs.machine.Machine.{RunningInstr, call_by, call_event, end_event, is_ret, local_event, local_of, local_step, local_steps, running_instr_of, step}
 use Rattle.tw_budget.proofs.FrameTheorems.{below_budget}
-use Rattle.tw_soundness.proofs.Accepted.{known, stands}
+use Rattle.tw_soundness.proofs.Accepted.{known, fits_place}
 use Rattle.tw_soundness.proofs.AllEvents.{Known, all_empty}
 use Rattle.tw_soundness.proofs.Called.{called_goes, put_goes}
 use Rattle.tw_soundness.proofs.Moving.{at_other, step_goes}
@@ -28,13 +28,13 @@ module _ (program : List Procedure) (typings : Typings) (accepts : (k : ℕ) (p 
     acc : Accepts program (typings f.procedure) k.procedure
     acc = accepts f.procedure k.procedure k.here
 
-    abbrev standing : RunningInstr
-    standing = record { frame = f; procedure = k.procedure; instr = k.instr }
+    abbrev running_instr : RunningInstr
+    running_instr = record { frame = f; procedure = k.procedure; instr = k.instr }
 
-    call_is : call_event program a s ≡ call_by program s a standing k.instr
+    call_is : call_event program a s ≡ call_by program s a running_instr k.instr
     call_is = ap (λ (o : Outcome RunningInstr). o >>= λ at. call_by program s a at at.instr) running_instr_is
       where
-        running_instr_is : running_instr_of program a s ≡ Went standing
+        running_instr_is : running_instr_of program a s ≡ Went running_instr
         running_instr_is = rw (is, k.here, k.at) refl
 
     abbrev ended : Instr → Outcome State
@@ -56,18 +56,18 @@ module _ (program : List Procedure) (typings : Typings) (accepts : (k : ℕ) (p 
     local_goes i e = subst GivesState (sym local_is)
         (first_gives (local_step k.procedure.code f.position) (λ at. with_frame s a (record f { position = at; spent = f.spent + 1 })) _ (local_steps 0 k.procedure.code) (λ at. refl)
         (step_goes program (typings f.procedure) k.procedure acc (typing_of typings f) f.spent f.position i
-        (record { stands = stands program typings accepts s held a f is k.procedure k.here; typing_there = refl }) (k.at ∙ ap Some e)))
+        (record { fits_place = fits_place program typings accepts s held a f is k.procedure k.here; typing_there = refl }) (k.at ∙ ap Some e)))
 
-    call_goes : (i : Instr) → k.instr ≡ i → GivesState (call_by program s a standing i) → GivesState (call_event program a s)
-    call_goes i e g = subst GivesState (sym (call_is ∙ ap (call_by program s a standing) e)) g
+    call_goes : (i : Instr) → k.instr ≡ i → GivesState (call_by program s a running_instr i) → GivesState (call_event program a s)
+    call_goes i e g = subst GivesState (sym (call_is ∙ ap (call_by program s a running_instr) e)) g
 
-    call_waits : (i : Instr) → k.instr ≡ i → call_by program s a standing i ≡ NotEnabled → call_event program a s ≡ NotEnabled
-    call_waits i e waits = call_is ∙ ap (call_by program s a standing) e ∙ waits
+    call_waits : (i : Instr) → k.instr ≡ i → call_by program s a running_instr i ≡ NotEnabled → call_event program a s ≡ NotEnabled
+    call_waits i e waits = call_is ∙ ap (call_by program s a running_instr) e ∙ waits
 
     end_waits : is_ret k.instr ≡ false → end_event program a s ≡ NotEnabled
     end_waits e = end_is ∙ ap (λ b. only_if b >> (outcome_of (must (list_all is_none f.rights) RightLeft) >> Went (record s { frames = remove s.frames a }))) e
 
-    by_call : (i : Instr) → k.instr ≡ i → local_of i ≡ None → is_ret i ≡ false → GivesState (call_by program s a standing i) → ExactlyOne (local_event program a 1 s) (call_event program a s) (end_event program a s)
+    by_call : (i : Instr) → k.instr ≡ i → local_of i ≡ None → is_ret i ≡ false → GivesState (call_by program s a running_instr i) → ExactlyOne (local_event program a 1 s) (call_event program a s) (end_event program a s)
     by_call i e none no_ret g = inr (inl (record { goes = call_goes i e g; second_waits = local_waits (ap local_of e ∙ none); third_waits = end_waits (ap is_ret e ∙ no_ret) }))
 
     -- exactly one of the three is next
@@ -101,5 +101,5 @@ module _ (program : List Procedure) (typings : Typings) (accepts : (k : ℕ) (p 
         k.procedure,
         k.here,
         λ budget most. below_budget (flows k.procedure.code) (accepts f.procedure k.procedure k.here).sound budget f.spent f.position.place f.position.loops
-            ((stands program typings accepts s held a f is k.procedure k.here).within budget most),
+            ((fits_place program typings accepts s held a f is k.procedure k.here).within budget most),
       )

@@ -1,6 +1,6 @@
 -- Consequences of typings of rights for the code and for a running task: checks, results, and the content of its registers.
 use Rattle.std.proofs.Common.{[], ◌≡◌, ℕ, ◌+◌, ◌<◌, true, List, length, slice_get, Option, Some, None, refl, sym, ap, subst, ◌∙◌, arith}
-use Rattle.tw_soundness.proofs.MachineNames.{Accepts, Actor, AreRight, Completed, Datum, Frame, Instr, IsHeld, IsProgram, Position, Procedure, RightType, Rights, RightsFit, Skipped, Stands, State, Typing, Typings, Went, after, asks, context_of, flow_of, flows, get, goal_of, is_closed, is_closed_mode, length-map, local_steps, onward, option_flatten, option_map, right_at, same_Some, slice_get-get_or, slice_get-map, slice_get_within, start_typing, typing_at, typing_of}
+use Rattle.tw_soundness.proofs.MachineNames.{Accepts, Actor, AreRight, Completed, Datum, Frame, Instr, IsHeld, IsProgram, Position, Procedure, RightType, Rights, RightsFit, Skipped, IsAtPosition, State, Typing, Typings, Went, after, asks, context_of, flow_of, flows, get, goal_of, is_closed, is_closed_mode, length-map, local_steps, onward, option_flatten, option_map, right_at, same_Some, slice_get-get_or, slice_get-map, slice_get_within, start_typing, typing_at, typing_of}
 use Rattle.tw_code.specs.declared.flow.Flow.{Flow}
 use Rattle.tw_code.specs.declared.flow.Flow.TheVariants.{Straight, Branch, Jump, Begin, Close, Stop}
 use Rattle.tw_code.specs.declared.flow.Way.{Way}
@@ -83,16 +83,16 @@ module _ (program : List Procedure) (typings : Typings) (is : IsProgram program)
       own = accepts program typings is are f.procedure p here
 
       -- it is in loops that it has begun, within its budget, with values of the declared types
-      pub stands_there : Stands p f.spent f.position
-      stands_there = acceptance.stands program typings (accepts program typings is are) s held a f runs p here
+      pub position_there : IsAtPosition p f.spent f.position
+      position_there = acceptance.fits_place program typings (accepts program typings is are) s held a f runs p here
 
       module _ (n : ℕ) (to : Position) (went : local_steps n p.code f.position ≡ Went to) where
         left_by : IsLeftBy program (typings f.procedure) p own (typing_of typings f) (f.spent + n) to
-        left_by = keeps_went (local_steps n p.code f.position) _ to (steps_keep program (typings f.procedure) p own n (typing_of typings f) f.spent f.position (record { stands = stands_there; typing_there = refl })) went
+        left_by = keeps_went (local_steps n p.code f.position) _ to (steps_keep program (typings f.procedure) p own n (typing_of typings f) f.spent f.position (record { fits_place = position_there; typing_there = refl })) went
 
         -- after local steps it has a right position again
-        pub steps_stand : Stands p (f.spent + n) to
-        steps_stand = left_by.stands
+        pub steps_position : IsAtPosition p (f.spent + n) to
+        steps_position = left_by.fits_place
 
         -- and they leave what the registers hold, through jumps and loops
         pub steps_leave : typing_at typings f.procedure to.place ≡ typing_of typings f

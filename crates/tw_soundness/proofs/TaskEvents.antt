@@ -1,6 +1,6 @@
 -- RULE, PUT and Take keep the invariant, and never trap.
 use Rattle.std.proofs.Common.{◌≡◌, ℕ, ◌+◌, ◌≤◌, Bool, true, false, ◌&&◌, List, [], map, length, slice_get, is_none, Option, Some, None, refl, sym, ap, subst, ◌∙◌, arith}
-use Rattle.tw_soundness.proofs.MachineNames.{◌>>=◌, Actor, ActorCounts, Called, Frame, IsBudget, IsHeld, Ok, Procedure, RightsFit, Rule, RuleArgsFit, RunningInstr, Stands, State, Task, Typing, Typings, Went, actor_cmp, actor_cmp-IsAntisymmetric, actor_cmp_total, and_parts, asks_action, at_next_place, balanced_same, best, called, context_of, count_of, first_rights, first_stage, flows, frame_of, frame_reads, frame_writes, get, gone_after, ids_in, is_in, new_rule, number_in_kind, outcome_of, over, params_in, params_of, put_called, put_event, read_by, remove, rule_event, rule_reads, rule_writes, start_typing, take_event, task_reads, task_writes, total, typing_at, typing_of, value_types, values_fit, values_in, with_frame, with_rule, with_task, without_args, write_by}
+use Rattle.tw_soundness.proofs.MachineNames.{◌>>=◌, Actor, ActorCounts, Called, Frame, IsBudget, IsHeld, Ok, Procedure, RightsFit, Rule, RuleArgsFit, RunningInstr, IsAtPosition, State, Task, Typing, Typings, Went, actor_cmp, actor_cmp-IsAntisymmetric, actor_cmp_total, and_parts, asks_action, at_next_place, balanced_same, best, called, context_of, count_of, first_rights, first_stage, flows, frame_of, frame_reads, frame_writes, get, gone_after, ids_in, is_in, new_rule, number_in_kind, outcome_of, over, params_in, params_of, put_called, put_event, read_by, remove, rule_event, rule_reads, rule_writes, start_typing, take_event, task_reads, task_writes, total, typing_at, typing_of, value_types, values_fit, values_in, with_frame, with_rule, with_task, without_args, write_by}
 use Rattle.tw_code.specs.declared.instr.Action.{Action}
 use Rattle.tw_budget.specs.Frames.{IsWithinBudget}
 use Rattle.tw_soundness.proofs.Over.{over_params}
@@ -54,8 +54,8 @@ module _ (program : List Procedure) (typings : Typings) where
         rights = held.types.rights a f is;
       }
 
-      -- its position before RULE or PUT; `stands_on` and `typing_on` give the position and typing after it
-      module _ (p : Procedure) (here : slice_get program f.procedure ≡ Some p) (action : Action) (stands : Stands p (f.spent + 1) (at_next_place f.position))
+      -- its position before RULE or PUT; `position_next` and `typing_on` give the position and typing after it
+      module _ (p : Procedure) (here : slice_get program f.procedure ≡ Some p) (action : Action) (fits_place : IsAtPosition p (f.spent + 1) (at_next_place f.position))
           (next : typing_at typings f.procedure (f.position.place + 1) ≡ without_args (params_of program action.procedure) action.args (typing_of typings f)) where
         module _ (waits : Bool) (call : Called) (so : CalledSo program p (context_of s f) (typing_of typings f) (other_reads s a) (other_writes s a) action (fits_of) (held.types.values a f p is here) waits call) where
           abbrev behind : Frame
@@ -91,11 +91,11 @@ module _ (program : List Procedure) (typings : Typings) where
             let numbers = numbers_tasked program typings s call.task held.numbers in
             record {
               numbers = record { tasks = numbers.tasks; rules = numbers.rules };
-              types = types_framed program typings (with_task s call.task) a (gone_after f call.rights) p here stands (fit_behind false call so)
+              types = types_framed program typings (with_task s call.task) a (gone_after f call.rights) p here fits_place (fit_behind false call so)
                   (types_tasked program typings s call.task so.callee (of_callee false call so) (put_fit s.store so.callee.params call.task.args so.so.args) held.types);
               counts = counts_put program typings s a f (gone_after f call.rights) is call.task fresh_task (λ d. (given_reads false call so d, given_writes false call so d)) held.counts;
               notices = held.notices;
-              budgets = budgets_framed program typings (with_task s call.task) a (gone_after f call.rights) p here stands (record { begun = held.budgets.begun; within = held.budgets.within });
+              budgets = budgets_framed program typings (with_task s call.task) a (gone_after f call.rights) p here fits_place (record { begun = held.budgets.begun; within = held.budgets.within });
             }
 
         pub put_goes_on : (at : RunningInstr) → at.frame ≡ f → at.procedure ≡ p → AllYes (asks_action false program p action (typing_of typings f)) → Keeps (put_event program s a at action) (IsHeld program typings)
@@ -112,12 +112,12 @@ module _ (program : List Procedure) (typings : Typings) where
             let numbers = numbers_ruled program typings s rule held.numbers in
             record {
               numbers = record { tasks = numbers.tasks; rules = numbers.rules };
-              types = types_framed program typings (with_rule s rule) a (gone_after f call.rights) p here stands (fit_behind true call so)
+              types = types_framed program typings (with_rule s rule) a (gone_after f call.rights) p here fits_place (fit_behind true call so)
                   (types_ruled program typings s rule so.callee (of_callee true call so)
                   (subst (λ ps. RuleArgsFit s.store so.callee.params (map (λ q. first_stage q.mode) ps) call.task.args) (sym so.params) (rule_fit s.store so.callee.params call.task.args so.so.args)) held.types);
               counts = counts_rule program typings s a f (gone_after f call.rights) is rule fresh_rule (λ d. (given_reads true call so d, given_writes true call so d)) held.counts;
               notices = named_new s.store.live s.notices s.rules held.notices s.next_rule rule fresh_rule (first_waits call.params);
-              budgets = budgets_framed program typings (with_rule s rule) a (gone_after f call.rights) p here stands (record { begun = held.budgets.begun; within = held.budgets.within });
+              budgets = budgets_framed program typings (with_rule s rule) a (gone_after f call.rights) p here fits_place (record { begun = held.budgets.begun; within = held.budgets.within });
             }
 
         pub rule_goes_on : (at : RunningInstr) → at.frame ≡ f → at.procedure ≡ p → AllYes (asks_action true program p action (typing_of typings f)) → Keeps (rule_event program s a at action) (IsHeld program typings)
@@ -148,11 +148,11 @@ module _ (program : List Procedure) (typings : Typings) where
         let all = filled_fits (value_types p.params) p.registers (values_in t.args) (args_values s.store p.params t.args fit) first.few first.fit in
         let f₁ : Frame = record { task = number; procedure = t.procedure; position = record { place = 0; values = all.0; loops = [] }; rights = first_rights (ids_in t.args); spent = 0 } in
         let goes : frame_of program number t ≡ Ok f₁ = rw (here.1, all.1) refl in
-        let stands : Stands p 0 (record { place = 0; values = all.0; loops = [] }) = record { values = all.2; begun = tt; within = first.within } in
+        let fits_place : IsAtPosition p 0 (record { place = 0; values = all.0; loops = [] }) = record { values = all.2; begun = tt; within = first.within } in
         let numbers = numbers_untasked program typings s number held.numbers in
         ok_keeps (frame_of program number t) (λ frame. Went (with_frame (record s { tasks = remove s.tasks number }) a frame)) (IsHeld program typings) f₁ goes (record {
           numbers = record { tasks = numbers.tasks; rules = numbers.rules };
-          types = types_framed program typings (record s { tasks = remove s.tasks number }) a f₁ p here.1 stands
+          types = types_framed program typings (record s { tasks = remove s.tasks number }) a f₁ p here.1 fits_place
               (subst (λ (t₁ : Typing). RightsFit s.store t₁ (first_rights (ids_in t.args))) (sym first.typing) (start_fits s.store p.params t.args fit))
               (types_untasked program typings s number held.types);
           counts = counts_took program typings s a number t f₁ free waits (λ d. (
@@ -160,7 +160,7 @@ module _ (program : List Procedure) (typings : Typings) where
             ap (λ (t₁ : Typing). over (write_by d) t₁ (first_rights (ids_in t.args))) first.typing ∙ over_start (write_by d) (λ o. refl) s.store p.params t.args fit ∙ ap (λ (o : Option Procedure). over_params (write_by d) (params_in o) t.args) (sym here.1),
           )) held.counts;
           notices = held.notices;
-          budgets = budgets_framed program typings (record s { tasks = remove s.tasks number }) a f₁ p here.1 stands (record { begun = held.budgets.begun; within = held.budgets.within });
+          budgets = budgets_framed program typings (record s { tasks = remove s.tasks number }) a f₁ p here.1 fits_place (record { begun = held.budgets.begun; within = held.budgets.within });
         })
 
     pub take_keeps : (layout : ActorCounts) (a : Actor) → Keeps (take_event program layout a s) (IsHeld program typings)

@@ -5,7 +5,7 @@ use Rattle.tw_code.specs.declared.instr.Instr.TheVariants as instr
 use Rattle.tw_budget.proofs.FrameTheorems.{below_budget}
 use Rattle.tw_soundness.proofs.Accepted as acceptance
 use Rattle.tw_soundness.proofs.Conditions.{goes_ok}
-use Rattle.tw_soundness.proofs.Running.{steps_stand}
+use Rattle.tw_soundness.proofs.Running.{steps_position}
 use Rattle.tw_soundness.proofs.Safe.{accepts}
 
 module _ (program : List Procedure) (typings : Typings) (is : IsProgram program) (are : AreRight program typings) (s : State) (held : IsHeld program typings s) where
@@ -24,6 +24,6 @@ module _ (program : List Procedure) (typings : Typings) (is : IsProgram program)
     few_steps n to went =
         let acc = accepts program typings is are f.procedure p here in
         let budget = (are.accepted.each f.procedure p here).budget in
-        let stands = steps_stand program typings is are s held a f runs p here n to went in
-        let below = below_budget (flows p.code) acc.sound budget.0 (f.spent + n) to.place to.loops (stands.within budget.0 budget.1) in
+        let fits_place = steps_position program typings is are s held a f runs p here n to went in
+        let below = below_budget (flows p.code) acc.sound budget.0 (f.spent + n) to.place to.loops (fits_place.within budget.0 budget.1) in
         omega (arith, below, budget.2)

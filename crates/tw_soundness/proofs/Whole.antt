@@ -1,6 +1,6 @@
 -- The three events of a running task keep the invariant, and never trap, if its step is one that the typing allows.
 use Rattle.std.proofs.Common.{◌≡◌, ℕ, ◌+◌, ◌<◌, true, List, slice_get, Some, refl, sym, ap, subst, ◌∙◌, arith}
-use Rattle.tw_soundness.proofs.MachineNames.{◌>>=◌, Actor, Cause, Context, CountsHeld, DataInstr, Datum, Err, Frame, Instr, IsHeld, Ok, Outcome, Procedure, Result, RightType, Scalar, RunningInstr, Stands, State, TypesHeld, Typing, Typings, Went, actor_cmp, actor_cmp-IsAntisymmetric, actor_cmp_total, after_context, asks, asks_data, at_next_place, balanced_same, call_by, call_event, context_of, data_instr, frame_reads, frame_writes, get, insert, is_write, ok_of, option_flatten, outcome_of, params_of, right_at, same_Some, running_instr_of, total, typing_at, typing_of, without_args, writes}
+use Rattle.tw_soundness.proofs.MachineNames.{◌>>=◌, Actor, Cause, Context, CountsHeld, DataInstr, Datum, Err, Frame, Instr, IsHeld, Ok, Outcome, Procedure, Result, RightType, Scalar, RunningInstr, IsAtPosition, State, TypesHeld, Typing, Typings, Went, actor_cmp, actor_cmp-IsAntisymmetric, actor_cmp_total, after_context, asks, asks_data, at_next_place, balanced_same, call_by, call_event, context_of, data_instr, frame_reads, frame_writes, get, insert, is_write, ok_of, option_flatten, outcome_of, params_of, right_at, same_Some, running_instr_of, total, typing_at, typing_of, without_args, writes}
 use Rattle.tw_code.specs.declared.instr.DataInstr.TheVariants as on_data
 use Rattle.tw_code.specs.declared.instr.Action.{Action}
 use Rattle.tw_code.specs.declared.instr.Instr.TheVariants as instr
@@ -45,12 +45,12 @@ has_writer registers c typing r w fits (on_data.DropWrite right) met = tt
 module _ (program : List Procedure) (typings : Typings) (s : State) (held : IsHeld program typings s) (a : Actor) (f : Frame) (is : get s.frames a ≡ Some f) (p : Procedure) (here : slice_get program f.procedure ≡ Some p) where
   -- the result of an instruction on data: the task's position is right, and the rest fits the typing there
   pub record LeftSo (c : Context) : Type 0 where
-    pub stands : Stands p (f.spent + 1) c.position
+    pub fits_place : IsAtPosition p (f.spent + 1) c.position
     pub settles : Settles (typing_at typings f.procedure c.position.place) (context_of s f) (other_reads program typings s a) (other_writes program typings s a) c
 
   -- where a task continues after a RULE or PUT, which are straight
   pub record GoesAfter (action : Action) : Type 0 where
-    pub stands : Stands p (f.spent + 1) (at_next_place f.position)
+    pub fits_place : IsAtPosition p (f.spent + 1) (at_next_place f.position)
     pub next : typing_at typings f.procedure (f.position.place + 1) ≡ without_args (params_of program action.procedure) action.args (typing_of typings f)
 
   -- its instruction's turn
@@ -75,7 +75,7 @@ module _ (program : List Procedure) (typings : Typings) (s : State) (held : IsHe
     }
 
     types_left : TypesHeld program typings (after_context s a f c)
-    types_left = types_framed program typings (record s { store = c.store; notices = c.notices }) a next_frame p here l.stands l.settles.fits.rights types_stored
+    types_left = types_framed program typings (record s { store = c.store; notices = c.notices }) a next_frame p here l.fits_place l.settles.fits.rights types_stored
 
     counts_left : CountsHeld program typings (after_context s a f c)
     counts_left = record {
@@ -97,7 +97,7 @@ module _ (program : List Procedure) (typings : Typings) (s : State) (held : IsHe
           (data_named s.rules (context_of s f) held.notices (λ d w. wanted_is_there program typings s held.types held.counts d w) held.types.store i
           (has_writer p.registers (context_of s f) (typing_of typings f) (other_reads program typings s a) (other_writes program typings s a) (fits_of program typings s held a f is) i met)) e
           (λ d w. wanted_is_there program typings (after_context s a f c) types_left counts_left d w);
-      budgets = budgets_framed program typings (record s { store = c.store; notices = c.notices }) a next_frame p here l.stands (record { begun = held.budgets.begun; within = held.budgets.within });
+      budgets = budgets_framed program typings (record s { store = c.store; notices = c.notices }) a next_frame p here l.fits_place (record { begun = held.budgets.begun; within = held.budgets.within });
     }
 
   keeps_data : (i : DataInstr) (o : Result Context Cause) → data_instr i (context_of s f) ≡ o → AllYes (asks_data p.registers i (typing_of typings f)) → Goes o LeftSo → Keeps (outcome_of o >>= λ c. Went (after_context s a f c)) (IsHeld program typings)
@@ -113,6 +113,6 @@ module _ (program : List Procedure) (typings : Typings) (s : State) (held : IsHe
       by : (i : Instr) → Turn i → Keeps (call_by program s a (record { frame = f; procedure = p; instr = i }) i) (IsHeld program typings)
       by (instr.Local j) t = tt
       by (instr.Data d) t = keeps_data d (data_instr d (context_of s f)) refl t.met (t.by_data d refl)
-      by (instr.Rule action) t = rule_goes_on program typings s held a f is p here action (t.behind_rule action refl).stands (t.behind_rule action refl).next (record { frame = f; procedure = p; instr = instr.Rule action }) refl refl t.met
-      by (instr.Put action) t = put_goes_on program typings s held a f is p here action (t.behind_put action refl).stands (t.behind_put action refl).next (record { frame = f; procedure = p; instr = instr.Put action }) refl refl t.met
+      by (instr.Rule action) t = rule_goes_on program typings s held a f is p here action (t.behind_rule action refl).fits_place (t.behind_rule action refl).next (record { frame = f; procedure = p; instr = instr.Rule action }) refl refl t.met
+      by (instr.Put action) t = put_goes_on program typings s held a f is p here action (t.behind_put action refl).fits_place (t.behind_put action refl).next (record { frame = f; procedure = p; instr = instr.Put action }) refl refl t.met
       by instr.Ret t = tt

@@ -19,7 +19,7 @@ pub record Accepts (program : List Procedure) (typings : List Typing) (p : Proce
   pub limits : IsProcedure p
 
 -- the values are of the registers' types, the loops were begun here, and the budget suffices for the rest
-pub record Stands (p : Procedure) (spent : ℕ) (at : Position) : Type 0 where
+pub record IsAtPosition (p : Procedure) (spent : ℕ) (at : Position) : Type 0 where
   pub values : ValuesFit p.registers at.values
   pub begun : AreBegun (flows p.code) at.loops
   pub within : (budget : ℕ) → IsBudget (flows p.code) budget → IsWithinBudget (flows p.code) budget spent at.place at.loops

@@ -50,7 +50,7 @@ module _ (program : List Procedure) (actor : Actor) (s : State) where
   more_of made other t same h = record { task = h.task ∙ ap (λ (o : Option Dependency). s.next_task + tasks_in o) (sym same); rule = h.rule ∙ ap (λ (o : Option Dependency). s.next_rule + rules_in o) (sym same) }
 
   call_more : IfWent (call_event program actor s) (AreMore s (made_in program s (get s.frames actor)))
-  call_more = if_both (running_instr_of program actor s) (λ at stands. by at (is_running_at program actor s at stands) at.instr refl)
+  call_more = if_both (running_instr_of program actor s) (λ at fits_place. by at (is_running_at program actor s at fits_place) at.instr refl)
     where
       by : (at : RunningInstr) → IsRunningAt program actor s at → (i : Instr) → at.instr ≡ i → IfWent (call_by program s actor at i) (AreMore s (made_in program s (get s.frames actor)))
       by at here (instr.Local i) is = record { is = tt }

@@ -6,7 +6,7 @@ use Rattle.tw_frame.specs.declared.context.Context.{Context}
 use Rattle.tw_frame.specs.Banks.{HasText}
 use Rattle.tw_frame.specs.Jobs.{position_of}
 use Rattle.tw_frame.specs.Ready.{IsReached}
-use Rattle.tw_frame.specs.Positions.{standing}
+use Rattle.tw_frame.specs.Positions.{position_at}
 use Rattle.tw_frame.proofs.Lending.{done_before, done_run, known, ready, short_before, there}
 use Rattle.tw_frame.proofs.Running.{is_below}
 use Rattle.tw_frame.proofs.job.run_in.Goals as goal
@@ -51,10 +51,10 @@ run_from-loop_exit-requires-clause-typed c =
     let k = known c.args.verified.now c.args.procedure c.args.at.now.registers.types (position_of c.args.at.now) c.requires c.procedure_of-p.result.now c.procedure_of-p.ensures.is c.procedure_of-p.ensures.accepted in
     ap (λ (x : Context). x.registers.types) c.in-Ok.ensures.copy ∙ k.typed
 
-pub run_from-loop_exit-requires-clause-stands : goal.run_from-loop_exit-requires-clause-stands
-run_from-loop_exit-requires-clause-stands c =
+pub run_from-loop_exit-requires-clause-fits_place : goal.run_from-loop_exit-requires-clause-fits_place
+run_from-loop_exit-requires-clause-fits_place c =
     let k = known c.args.verified.now c.args.procedure c.args.at.now.registers.types (position_of c.args.at.now) c.requires c.procedure_of-p.result.now c.procedure_of-p.ensures.is c.procedure_of-p.ensures.accepted in
-    rw c.in-Ok.ensures.copy k.stands
+    rw c.in-Ok.ensures.copy k.fits_place
 
 pub returns-in_default-copy_from : goal.returns-in_default-copy_from
 returns-in_default-copy_from c =
@@ -65,9 +65,9 @@ returns-in_default-copy_from c =
 pub returns : goal.returns
 returns c =
     let k = known c.args.verified.now c.args.procedure c.args.at.now.registers.types (position_of c.args.at.now) c.requires c.procedure_of-p.result.now c.procedure_of-p.ensures.is c.procedure_of-p.ensures.accepted in
-    let came : Position = standing c.run_from-loop_exit.result.place c.run_from-loop_exit.new.registers c.run_from-loop_exit.new.loops in
+    let came : Position = position_at c.run_from-loop_exit.result.place c.run_from-loop_exit.new.registers c.run_from-loop_exit.new.loops in
     let reached : IsReached c.procedure_of-p.result.now (position_of c.args.at.now) c.run_from-loop_exit.result.steps came =
-    subst (λ (x : Context). IsReached c.procedure_of-p.result.now (standing c.args.at.now.place x.registers x.loops) c.run_from-loop_exit.result.steps came) c.in-Ok.ensures.copy c.run_from-loop_exit.ensures.reached in
+    subst (λ (x : Context). IsReached c.procedure_of-p.result.now (position_at c.args.at.now.place x.registers x.loops) c.run_from-loop_exit.result.steps came) c.in-Ok.ensures.copy c.run_from-loop_exit.ensures.reached in
     let below = is_below c.procedure_of-p.result.now c.quick.result.now c.budget.result (ready c.args.verified.now c.args.procedure c.args.at.now.registers.types (position_of c.args.at.now) c.procedure_of-p.result.now k c.from-procedure.result c.from-procedure.ensures c.quick.result.now c.budget.result c.quick.ensures c.budget.ensures.is) (position_of c.args.at.now) c.run_from-loop_exit.result.steps came reached in (
       record {
         p = c.procedure_of-p.result.now;

@@ -12,8 +12,8 @@ event_of-event-requires c = record { owed = hand.owed_some _ _ _ c.self.inside.s
 pub count_after-event_no-requires : goal.count_after-event_no-requires
 count_after-event_no-requires c = record { place = hand.has_seat _ _ _ c.self.inside.stopped c.self.inside.history c.self.inside.parts c.self.invariant c.args.self.now c.self.view_is c.args.actor c.requires.actor c.requires.room c.args.done c.requires.owed; few = omega (arith, c.self.invariant.within, c.self.invariant.few) }
 
-pub call_by-requires-clause-stands : goal.call_by-requires-clause-stands
-call_by-requires-clause-stands c = hand.stands _ _ _ c.self.inside.stopped c.self.inside.history c.self.inside.parts c.self.invariant c.args.self.now c.self.view_is c.args.actor c.requires.actor c.requires.room c.args.done c.requires.owed c.event_of-event.result (hand.has_come _ _ _ c.self.inside.stopped c.self.inside.history c.self.inside.parts c.self.invariant c.args.self.now c.self.view_is c.args.actor c.requires.actor c.requires.room c.args.done c.requires.owed c.steps-steps.ensures.done.few c.event_of-event.result c.event_of-event.ensures) c.args.instr.now c.requires.behind
+pub call_by-requires-clause-fits_place : goal.call_by-requires-clause-fits_place
+call_by-requires-clause-fits_place c = hand.fits_place _ _ _ c.self.inside.stopped c.self.inside.history c.self.inside.parts c.self.invariant c.args.self.now c.self.view_is c.args.actor c.requires.actor c.requires.room c.args.done c.requires.owed c.event_of-event.result (hand.has_come _ _ _ c.self.inside.stopped c.self.inside.history c.self.inside.parts c.self.invariant c.args.self.now c.self.view_is c.args.actor c.requires.actor c.requires.room c.args.done c.requires.owed c.steps-steps.ensures.done.few c.event_of-event.result c.event_of-event.ensures) c.args.instr.now c.requires.behind
 
 pub invariant_of-self : goal.invariant_of-self
 invariant_of-self c = free.kept_still _ _ _ c.self.inside.stopped c.self.inside.history c.self.inside.parts c.self.invariant c.args.self.now c.self.view_is c.call_by.new.parts c.in-Err.ensures.refused

@@ -1,5 +1,5 @@
 use Rattle.std.proofs.Common.{◌≡◌, ◌∙◌, refl, sym, ap, subst}
-use Rattle.tw_pool_state.proofs.PartNames.{Call, FrameView, IsLent, IsOwed, JobView, Makes, MakesBehind, Parts, TakesMemory, Untouched, come, insert, job_of, same_Some, with_done}
+use Rattle.tw_pool_state.proofs.PartNames.{Call, FrameView, IsLent, IsOwed, JobView, Makes, MakesAfter, Parts, TakesMemory, Untouched, come, insert, job_of, same_Some, with_done}
 use Rattle.tw_pool_state.proofs.Answering.{when_back, when_done, when_lent, when_refused}
 use Rattle.tw_pool_state.proofs.Calling.{called, may_do}
 use Rattle.tw_pool_state.proofs.Goings.{is_lent, lent_goes}
@@ -9,13 +9,13 @@ use Rattle.tw_pool_state.proofs.parts.Parts.call_data.Goals as goal
 
 pub exec_data-requires-clause-seat : goal.exec_data-requires-clause-seat
 exec_data-requires-clause-seat c =
-    let s = c.requires.stands in
+    let s = c.requires.fits_place in
     let done = c.args.done in
     runner_has_seat done.before.program s.layout (with_done c.args.self.now c.args.actor s.f done) s.notices s.parts c.args.actor (come s.f done) (get_own c.args.self.now.seats c.args.actor (come s.f done))
 
 pub exec_data-requires-clause-sits : goal.exec_data-requires-clause-sits
 exec_data-requires-clause-sits c =
-    let s = c.requires.stands in
+    let s = c.requires.fits_place in
     let done = c.args.done in (
       s.f,
       s.owed.sits,
@@ -25,12 +25,12 @@ exec_data-requires-clause-sits c =
 
 pub returns-clause-called : goal.returns-clause-called
 returns-clause-called c =
-    let s = c.requires.stands in
+    let s = c.requires.fits_place in
     let done = c.args.done in
     let old = c.args.self.now in
     let e = c.exec_data.ensures s.f s.owed.sits in
     let new : Parts = record old { store = c.exec_data.new.store; seats = c.exec_data.new.self } in
-    when_done c.args.instr.now old.store c.exec_data.new.store s.f e.0 c.args.event_no done (MakesBehind (Call c.args.actor) old c.args.actor done new) c.exec_data.result e.2 (λ job l. λ layout f owed.
+    when_done c.args.instr.now old.store c.exec_data.new.store s.f e.0 c.args.event_no done (MakesAfter (Call c.args.actor) old c.args.actor done new) c.exec_data.result e.2 (λ job l. λ layout f owed.
     let same : s.f ≡ f = same_Some s.f f (sym s.owed.sits ∙ owed.sits) in
     subst (λ (x : FrameView). Makes done.before.program layout (Call c.args.actor) (with_done old c.args.actor x done) new) same (λ notices h.
     lent_goes new old.seats c.args.actor l.at c.args.event_no (e.1 ∙ ap (insert old.seats c.args.actor) l.is_lent) done.before.program layout (Call c.args.actor) refl (with_done old c.args.actor s.f done) notices
@@ -39,14 +39,14 @@ returns-clause-called c =
 
 pub returns-clause-lent : goal.returns-clause-lent
 returns-clause-lent c =
-    let s = c.requires.stands in
+    let s = c.requires.fits_place in
     let e = c.exec_data.ensures s.f s.owed.sits in
     when_lent c.args.instr.now c.args.self.now.store c.exec_data.new.store s.f e.0 c.args.event_no c.args.done (λ (job : JobView). IsLent _ c.args.actor c.args.event_no job) c.exec_data.result e.2 (λ job l.
     is_lent _ c.args.self.now.seats c.args.actor l.at c.args.event_no (e.1 ∙ ap (insert c.args.self.now.seats c.args.actor) l.is_lent) job (l.is_job ∙ ap job_of l.is_lent))
 
 pub returns-clause-refused : goal.returns-clause-refused
 returns-clause-refused c =
-    let s = c.requires.stands in
+    let s = c.requires.fits_place in
     let e = c.exec_data.ensures s.f s.owed.sits in
     when_refused c.args.instr.now c.args.self.now.store c.exec_data.new.store s.f e.0 c.args.event_no c.args.done (Untouched c.args.self.now _) c.exec_data.result e.2 (λ back r. record {
       store = r.store;
@@ -60,13 +60,13 @@ returns-clause-refused c =
 
 pub returns-clause-back : goal.returns-clause-back
 returns-clause-back c =
-    let s = c.requires.stands in
+    let s = c.requires.fits_place in
     let e = c.exec_data.ensures s.f s.owed.sits in
     when_back c.args.instr.now c.args.self.now.store c.exec_data.new.store s.f e.0 c.args.event_no c.args.done c.exec_data.result e.2
 
 pub returns-clause-memory : goal.returns-clause-memory
 returns-clause-memory c =
-    let s = c.requires.stands in
+    let s = c.requires.fits_place in
     let e = c.exec_data.ensures s.f s.owed.sits in
     when_refused c.args.instr.now c.args.self.now.store c.exec_data.new.store s.f e.0 c.args.event_no c.args.done ((f : FrameView) → IsOwed c.args.self.now c.args.actor f c.args.done → TakesMemory c.args.instr.now c.args.self.now.store (come f c.args.done)) c.exec_data.result e.2 (λ back r. λ f owed.
     subst (λ (x : FrameView). TakesMemory c.args.instr.now c.args.self.now.store (come x c.args.done)) (same_Some s.f f (sym s.owed.sits ∙ owed.sits)) r.memory)

@@ -8,7 +8,7 @@ use Rattle.tw_pool_state.proofs.parts.Parts.end.Goals as goal
 
 pub end-requires : goal.end-requires
 end-requires c =
-    let s = c.requires.stands in
+    let s = c.requires.fits_place in
     let done = c.args.done in
     record {
       seat = runner_has_seat done.before.program s.layout (with_done c.args.self.now c.args.actor s.f done) s.notices s.parts c.args.actor (come s.f done) (get_own c.args.self.now.seats c.args.actor (come s.f done));
@@ -17,7 +17,7 @@ end-requires c =
 
 pub returns : goal.returns
 returns c = λ layout f owed notices h.
-    let s = c.requires.stands in
+    let s = c.requires.fits_place in
     let done = c.args.done in
     let old = c.args.self.now in
     let same : s.f ≡ f = same_Some s.f f (sym s.owed.sits ∙ owed.sits) in

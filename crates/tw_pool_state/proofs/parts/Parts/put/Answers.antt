@@ -12,57 +12,57 @@ use Rattle.tw_pool_state.proofs.parts.Parts.put.Goals as goal
 
 pub action_operands-requires-clause-suits : goal.action_operands-requires-clause-suits
 action_operands-requires-clause-suits c =
-    let s = c.requires.stands in
-    let u = put_named c.args.done.before.program s.layout (there c.args.self.now c.args.actor c.args.done (instr.Put c.args.action.now) c.requires.stands) s.notices s.parts c.args.actor (come s.f c.args.done) s.q c.args.action.now (runs_there c.args.self.now c.args.actor c.args.done (instr.Put c.args.action.now) c.requires.stands) s.here s.behind in
+    let s = c.requires.fits_place in
+    let u = put_named c.args.done.before.program s.layout (there c.args.self.now c.args.actor c.args.done (instr.Put c.args.action.now) c.requires.fits_place) s.notices s.parts c.args.actor (come s.f c.args.done) s.q c.args.action.now (runs_there c.args.self.now c.args.actor c.args.done (instr.Put c.args.action.now) c.requires.fits_place) s.here s.behind in
     (u.procedure, u.is, u.long, u.values)
 
 pub action_operands-requires-clause-priority : goal.action_operands-requires-clause-priority
 action_operands-requires-clause-priority c =
-    let s = c.requires.stands in
-    let u = put_named c.args.done.before.program s.layout (there c.args.self.now c.args.actor c.args.done (instr.Put c.args.action.now) c.requires.stands) s.notices s.parts c.args.actor (come s.f c.args.done) s.q c.args.action.now (runs_there c.args.self.now c.args.actor c.args.done (instr.Put c.args.action.now) c.requires.stands) s.here s.behind in
+    let s = c.requires.fits_place in
+    let u = put_named c.args.done.before.program s.layout (there c.args.self.now c.args.actor c.args.done (instr.Put c.args.action.now) c.requires.fits_place) s.notices s.parts c.args.actor (come s.f c.args.done) s.q c.args.action.now (runs_there c.args.self.now c.args.actor c.args.done (instr.Put c.args.action.now) c.requires.fits_place) s.here s.behind in
     (u.priority, u.priority_is)
 
 pub reserve-requires : goal.reserve-requires
 reserve-requires c =
-    let s = c.requires.stands in
+    let s = c.requires.fits_place in
     in_queue c.args.action.now.target (operands c.args.done.before.program.program s.parts.runnable.is s.f.procedure s.q s.here c.args.done.after.place (instr.Put c.args.action.now) s.behind).1.1.1.0
 
 pub take_args-args-requires-clause-seat : goal.take_args-args-requires-clause-seat
-take_args-args-requires-clause-seat c = seat_there c.args.self.now c.args.actor c.args.done (instr.Put c.args.action.now) c.requires.stands
+take_args-args-requires-clause-seat c = seat_there c.args.self.now c.args.actor c.args.done (instr.Put c.args.action.now) c.requires.fits_place
 
 pub take_args-args-requires-clause-few : goal.take_args-args-requires-clause-few
 take_args-args-requires-clause-few c =
-    let s = c.requires.stands in
-    let u = put_named c.args.done.before.program s.layout (there c.args.self.now c.args.actor c.args.done (instr.Put c.args.action.now) c.requires.stands) s.notices s.parts c.args.actor (come s.f c.args.done) s.q c.args.action.now (runs_there c.args.self.now c.args.actor c.args.done (instr.Put c.args.action.now) c.requires.stands) s.here s.behind in
+    let s = c.requires.fits_place in
+    let u = put_named c.args.done.before.program s.layout (there c.args.self.now c.args.actor c.args.done (instr.Put c.args.action.now) c.requires.fits_place) s.notices s.parts c.args.actor (come s.f c.args.done) s.q c.args.action.now (runs_there c.args.self.now c.args.actor c.args.done (instr.Put c.args.action.now) c.requires.fits_place) s.here s.behind in
     let params = params_of_callee c.args.done.before.program.program c.args.action.now.procedure c.in-Ok.asked.callee.now c.in-Ok.ensures.callee u.procedure u.is in
-    few c.args.self.now c.args.actor c.args.done (instr.Put c.args.action.now) c.requires.stands c.args.action.now u c.in-Ok.asked.callee.now.params params c.as_slice-registers.result.now c.as_slice-registers.ensures
+    few c.args.self.now c.args.actor c.args.done (instr.Put c.args.action.now) c.requires.fits_place c.args.action.now u c.in-Ok.asked.callee.now.params params c.as_slice-registers.result.now c.as_slice-registers.ensures
 
 pub take_args-args-requires-clause-sits : goal.take_args-args-requires-clause-sits
 take_args-args-requires-clause-sits c =
-    let s = c.requires.stands in
-    let u = put_named c.args.done.before.program s.layout (there c.args.self.now c.args.actor c.args.done (instr.Put c.args.action.now) c.requires.stands) s.notices s.parts c.args.actor (come s.f c.args.done) s.q c.args.action.now (runs_there c.args.self.now c.args.actor c.args.done (instr.Put c.args.action.now) c.requires.stands) s.here s.behind in
+    let s = c.requires.fits_place in
+    let u = put_named c.args.done.before.program s.layout (there c.args.self.now c.args.actor c.args.done (instr.Put c.args.action.now) c.requires.fits_place) s.notices s.parts c.args.actor (come s.f c.args.done) s.q c.args.action.now (runs_there c.args.self.now c.args.actor c.args.done (instr.Put c.args.action.now) c.requires.fits_place) s.here s.behind in
     let params = params_of_callee c.args.done.before.program.program c.args.action.now.procedure c.in-Ok.asked.callee.now c.in-Ok.ensures.callee u.procedure u.is in
-    sits_ready c.args.self.now c.args.actor c.args.done (instr.Put c.args.action.now) c.requires.stands c.args.action.now u c.in-Ok.asked.callee.now.params params c.as_slice-registers.result.now c.as_slice-registers.ensures c.in-Ok.asked.vals.items c.in-Ok.ensures.values
-    (put_stands c.args.done.before.program s.layout (there c.args.self.now c.args.actor c.args.done (instr.Put c.args.action.now) c.requires.stands) s.notices s.parts c.args.actor (come s.f c.args.done) s.q c.args.action.now (runs_there c.args.self.now c.args.actor c.args.done (instr.Put c.args.action.now) c.requires.stands) s.here s.behind)
+    sits_ready c.args.self.now c.args.actor c.args.done (instr.Put c.args.action.now) c.requires.fits_place c.args.action.now u c.in-Ok.asked.callee.now.params params c.as_slice-registers.result.now c.as_slice-registers.ensures c.in-Ok.asked.vals.items c.in-Ok.ensures.values
+    (put_stands c.args.done.before.program s.layout (there c.args.self.now c.args.actor c.args.done (instr.Put c.args.action.now) c.requires.fits_place) s.notices s.parts c.args.actor (come s.f c.args.done) s.q c.args.action.now (runs_there c.args.self.now c.args.actor c.args.done (instr.Put c.args.action.now) c.requires.fits_place) s.here s.behind)
 
 pub put-requires-clause-new : goal.put-requires-clause-new
 put-requires-clause-new c =
-    let s = c.requires.stands in
-    ap (λ ts. get ts c.new.result) c.in-Ok-reserve.ensures.same ∙ ap (get c.args.self.now.tasks.tasks) c.new.ensures ∙ fresh c.args.done.before.program s.layout (there c.args.self.now c.args.actor c.args.done (instr.Put c.args.action.now) c.requires.stands) s.notices s.parts
+    let s = c.requires.fits_place in
+    ap (λ ts. get ts c.new.result) c.in-Ok-reserve.ensures.same ∙ ap (get c.args.self.now.tasks.tasks) c.new.ensures ∙ fresh c.args.done.before.program s.layout (there c.args.self.now c.args.actor c.args.done (instr.Put c.args.action.now) c.requires.fits_place) s.notices s.parts
 
 pub put-requires-clause-target : goal.put-requires-clause-target
 put-requires-clause-target c =
-    let s = c.requires.stands in
+    let s = c.requires.fits_place in
     in_queue c.args.action.now.target (operands c.args.done.before.program.program s.parts.runnable.is s.f.procedure s.q s.here c.args.done.after.place (instr.Put c.args.action.now) s.behind).1.1.1.0
 
 pub returns-clause-put : goal.returns-clause-put
 returns-clause-put c = λ layout f owed notices h.
     let old = c.args.self.now in
-    let s = c.requires.stands in
+    let s = c.requires.fits_place in
     let program = c.args.done.before.program in
     let action = c.args.action.now in
-    let here = here_too c.args.self.now c.args.actor c.args.done (instr.Put c.args.action.now) c.requires.stands f owed in
-    let runs = runs_too c.args.self.now c.args.actor c.args.done (instr.Put c.args.action.now) c.requires.stands f owed in
+    let here = here_too c.args.self.now c.args.actor c.args.done (instr.Put c.args.action.now) c.requires.fits_place f owed in
+    let runs = runs_too c.args.self.now c.args.actor c.args.done (instr.Put c.args.action.now) c.requires.fits_place f owed in
     let u = put_named program layout (with_done old c.args.actor f c.args.done) notices h c.args.actor (come f c.args.done) s.q action runs here s.behind in
     let params = params_of_callee c.args.done.before.program.program c.args.action.now.procedure c.in-Ok.asked.callee.now c.in-Ok.ensures.callee u.procedure u.is in
     let over = c.take_args-args.ensures f owed.sits in
@@ -83,6 +83,6 @@ returns-clause-put c = λ layout f owed notices h.
 
 pub returns-clause-lent : goal.returns-clause-lent
 returns-clause-lent c =
-    let s = c.requires.stands in
+    let s = c.requires.fits_place in
     let over = c.take_args-args.ensures s.f s.owed.sits in
     is_lent _ c.args.self.now.seats c.args.actor (gone_on (come s.f c.args.done) over.0) c.args.event_no over.2 _ over.3

@@ -15,67 +15,67 @@ use Rattle.tw_pool_state.proofs.parts.Parts.rule.Goals as goal
 
 pub action_operands-requires-clause-suits : goal.action_operands-requires-clause-suits
 action_operands-requires-clause-suits c =
-    let s = c.requires.stands in
-    let u = rule_named c.args.done.before.program s.layout (there c.args.self.now c.args.actor c.args.done (instr.Rule c.args.action.now) c.requires.stands) s.notices s.parts c.args.actor (come s.f c.args.done) s.q c.args.action.now (runs_there c.args.self.now c.args.actor c.args.done (instr.Rule c.args.action.now) c.requires.stands) s.here s.behind in
+    let s = c.requires.fits_place in
+    let u = rule_named c.args.done.before.program s.layout (there c.args.self.now c.args.actor c.args.done (instr.Rule c.args.action.now) c.requires.fits_place) s.notices s.parts c.args.actor (come s.f c.args.done) s.q c.args.action.now (runs_there c.args.self.now c.args.actor c.args.done (instr.Rule c.args.action.now) c.requires.fits_place) s.here s.behind in
     (u.procedure, u.is, u.long, u.values)
 
 pub action_operands-requires-clause-priority : goal.action_operands-requires-clause-priority
 action_operands-requires-clause-priority c =
-    let s = c.requires.stands in
-    let u = rule_named c.args.done.before.program s.layout (there c.args.self.now c.args.actor c.args.done (instr.Rule c.args.action.now) c.requires.stands) s.notices s.parts c.args.actor (come s.f c.args.done) s.q c.args.action.now (runs_there c.args.self.now c.args.actor c.args.done (instr.Rule c.args.action.now) c.requires.stands) s.here s.behind in
+    let s = c.requires.fits_place in
+    let u = rule_named c.args.done.before.program s.layout (there c.args.self.now c.args.actor c.args.done (instr.Rule c.args.action.now) c.requires.fits_place) s.notices s.parts c.args.actor (come s.f c.args.done) s.q c.args.action.now (runs_there c.args.self.now c.args.actor c.args.done (instr.Rule c.args.action.now) c.requires.fits_place) s.here s.behind in
     (u.priority, u.priority_is)
 
 pub take_args-args-requires-clause-seat : goal.take_args-args-requires-clause-seat
-take_args-args-requires-clause-seat c = seat_there c.args.self.now c.args.actor c.args.done (instr.Rule c.args.action.now) c.requires.stands
+take_args-args-requires-clause-seat c = seat_there c.args.self.now c.args.actor c.args.done (instr.Rule c.args.action.now) c.requires.fits_place
 
 pub take_args-args-requires-clause-few : goal.take_args-args-requires-clause-few
 take_args-args-requires-clause-few c =
-    let s = c.requires.stands in
-    let u = rule_named c.args.done.before.program s.layout (there c.args.self.now c.args.actor c.args.done (instr.Rule c.args.action.now) c.requires.stands) s.notices s.parts c.args.actor (come s.f c.args.done) s.q c.args.action.now (runs_there c.args.self.now c.args.actor c.args.done (instr.Rule c.args.action.now) c.requires.stands) s.here s.behind in
+    let s = c.requires.fits_place in
+    let u = rule_named c.args.done.before.program s.layout (there c.args.self.now c.args.actor c.args.done (instr.Rule c.args.action.now) c.requires.fits_place) s.notices s.parts c.args.actor (come s.f c.args.done) s.q c.args.action.now (runs_there c.args.self.now c.args.actor c.args.done (instr.Rule c.args.action.now) c.requires.fits_place) s.here s.behind in
     let params = params_of_callee c.args.done.before.program.program c.args.action.now.procedure c.in-Ok.asked.callee.now c.in-Ok.ensures.callee u.procedure u.is in
-    few c.args.self.now c.args.actor c.args.done (instr.Rule c.args.action.now) c.requires.stands c.args.action.now u c.in-Ok.asked.callee.now.params params c.as_slice-registers.result.now c.as_slice-registers.ensures
+    few c.args.self.now c.args.actor c.args.done (instr.Rule c.args.action.now) c.requires.fits_place c.args.action.now u c.in-Ok.asked.callee.now.params params c.as_slice-registers.result.now c.as_slice-registers.ensures
 
 pub take_args-args-requires-clause-sits : goal.take_args-args-requires-clause-sits
 take_args-args-requires-clause-sits c =
-    let s = c.requires.stands in
-    let u = rule_named c.args.done.before.program s.layout (there c.args.self.now c.args.actor c.args.done (instr.Rule c.args.action.now) c.requires.stands) s.notices s.parts c.args.actor (come s.f c.args.done) s.q c.args.action.now (runs_there c.args.self.now c.args.actor c.args.done (instr.Rule c.args.action.now) c.requires.stands) s.here s.behind in
+    let s = c.requires.fits_place in
+    let u = rule_named c.args.done.before.program s.layout (there c.args.self.now c.args.actor c.args.done (instr.Rule c.args.action.now) c.requires.fits_place) s.notices s.parts c.args.actor (come s.f c.args.done) s.q c.args.action.now (runs_there c.args.self.now c.args.actor c.args.done (instr.Rule c.args.action.now) c.requires.fits_place) s.here s.behind in
     let params = params_of_callee c.args.done.before.program.program c.args.action.now.procedure c.in-Ok.asked.callee.now c.in-Ok.ensures.callee u.procedure u.is in
-    sits_ready c.args.self.now c.args.actor c.args.done (instr.Rule c.args.action.now) c.requires.stands c.args.action.now u c.in-Ok.asked.callee.now.params params c.as_slice-registers.result.now c.as_slice-registers.ensures c.in-Ok.asked.vals.items c.in-Ok.ensures.values
-    (rule_stands c.args.done.before.program s.layout (there c.args.self.now c.args.actor c.args.done (instr.Rule c.args.action.now) c.requires.stands) s.notices s.parts c.args.actor (come s.f c.args.done) s.q c.args.action.now (runs_there c.args.self.now c.args.actor c.args.done (instr.Rule c.args.action.now) c.requires.stands) s.here s.behind)
+    sits_ready c.args.self.now c.args.actor c.args.done (instr.Rule c.args.action.now) c.requires.fits_place c.args.action.now u c.in-Ok.asked.callee.now.params params c.as_slice-registers.result.now c.as_slice-registers.ensures c.in-Ok.asked.vals.items c.in-Ok.ensures.values
+    (rule_stands c.args.done.before.program s.layout (there c.args.self.now c.args.actor c.args.done (instr.Rule c.args.action.now) c.requires.fits_place) s.notices s.parts c.args.actor (come s.f c.args.done) s.q c.args.action.now (runs_there c.args.self.now c.args.actor c.args.done (instr.Rule c.args.action.now) c.requires.fits_place) s.here s.behind)
 
 pub reserve-requires : goal.reserve-requires
 reserve-requires c =
-    let s = c.requires.stands in
-    let u = rule_named c.args.done.before.program s.layout (there c.args.self.now c.args.actor c.args.done (instr.Rule c.args.action.now) c.requires.stands) s.notices s.parts c.args.actor (come s.f c.args.done) s.q c.args.action.now (runs_there c.args.self.now c.args.actor c.args.done (instr.Rule c.args.action.now) c.requires.stands) s.here s.behind in
-    engine_low c.args.done.before.program s.layout (there c.args.self.now c.args.actor c.args.done (instr.Rule c.args.action.now) c.requires.stands) s.notices s.parts c.args.actor (come s.f c.args.done) s.q (runs_there c.args.self.now c.args.actor c.args.done (instr.Rule c.args.action.now) c.requires.stands) s.here u.control c.number-engine.result c.number-engine.ensures
+    let s = c.requires.fits_place in
+    let u = rule_named c.args.done.before.program s.layout (there c.args.self.now c.args.actor c.args.done (instr.Rule c.args.action.now) c.requires.fits_place) s.notices s.parts c.args.actor (come s.f c.args.done) s.q c.args.action.now (runs_there c.args.self.now c.args.actor c.args.done (instr.Rule c.args.action.now) c.requires.fits_place) s.here s.behind in
+    engine_low c.args.done.before.program s.layout (there c.args.self.now c.args.actor c.args.done (instr.Rule c.args.action.now) c.requires.fits_place) s.notices s.parts c.args.actor (come s.f c.args.done) s.q (runs_there c.args.self.now c.args.actor c.args.done (instr.Rule c.args.action.now) c.requires.fits_place) s.here u.control c.number-engine.result c.number-engine.ensures
 
 pub add-requires-clause-engine : goal.add-requires-clause-engine
 add-requires-clause-engine c =
-    let s = c.requires.stands in
-    let u = rule_named c.args.done.before.program s.layout (there c.args.self.now c.args.actor c.args.done (instr.Rule c.args.action.now) c.requires.stands) s.notices s.parts c.args.actor (come s.f c.args.done) s.q c.args.action.now (runs_there c.args.self.now c.args.actor c.args.done (instr.Rule c.args.action.now) c.requires.stands) s.here s.behind in
-    engine_low c.args.done.before.program s.layout (there c.args.self.now c.args.actor c.args.done (instr.Rule c.args.action.now) c.requires.stands) s.notices s.parts c.args.actor (come s.f c.args.done) s.q (runs_there c.args.self.now c.args.actor c.args.done (instr.Rule c.args.action.now) c.requires.stands) s.here u.control c.number-engine.result c.number-engine.ensures
+    let s = c.requires.fits_place in
+    let u = rule_named c.args.done.before.program s.layout (there c.args.self.now c.args.actor c.args.done (instr.Rule c.args.action.now) c.requires.fits_place) s.notices s.parts c.args.actor (come s.f c.args.done) s.q c.args.action.now (runs_there c.args.self.now c.args.actor c.args.done (instr.Rule c.args.action.now) c.requires.fits_place) s.here s.behind in
+    engine_low c.args.done.before.program s.layout (there c.args.self.now c.args.actor c.args.done (instr.Rule c.args.action.now) c.requires.fits_place) s.notices s.parts c.args.actor (come s.f c.args.done) s.q (runs_there c.args.self.now c.args.actor c.args.done (instr.Rule c.args.action.now) c.requires.fits_place) s.here u.control c.number-engine.result c.number-engine.ensures
 
 pub add-requires-clause-few : goal.add-requires-clause-few
 add-requires-clause-few c =
-    let s = c.requires.stands in
-    let u = rule_named c.args.done.before.program s.layout (there c.args.self.now c.args.actor c.args.done (instr.Rule c.args.action.now) c.requires.stands) s.notices s.parts c.args.actor (come s.f c.args.done) s.q c.args.action.now (runs_there c.args.self.now c.args.actor c.args.done (instr.Rule c.args.action.now) c.requires.stands) s.here s.behind in
+    let s = c.requires.fits_place in
+    let u = rule_named c.args.done.before.program s.layout (there c.args.self.now c.args.actor c.args.done (instr.Rule c.args.action.now) c.requires.fits_place) s.notices s.parts c.args.actor (come s.f c.args.done) s.q c.args.action.now (runs_there c.args.self.now c.args.actor c.args.done (instr.Rule c.args.action.now) c.requires.fits_place) s.here s.behind in
     let params = params_of_callee c.args.done.before.program.program c.args.action.now.procedure c.in-Ok.asked.callee.now c.in-Ok.ensures.callee u.procedure u.is in
-    few c.args.self.now c.args.actor c.args.done (instr.Rule c.args.action.now) c.requires.stands c.args.action.now u c.as_slice-params.result.now (c.as_slice-params.ensures ∙ params) c.as_slice-registers.result.now c.as_slice-registers.ensures
+    few c.args.self.now c.args.actor c.args.done (instr.Rule c.args.action.now) c.requires.fits_place c.args.action.now u c.as_slice-params.result.now (c.as_slice-params.ensures ∙ params) c.as_slice-registers.result.now c.as_slice-registers.ensures
 
 pub add-requires-clause-args : goal.add-requires-clause-args
 add-requires-clause-args c =
-    let s = c.requires.stands in
+    let s = c.requires.fits_place in
     let over = c.take_args-args.ensures s.f s.owed.sits in
     bundled_suit s.f.held c.as_slice-params.result.now c.as_slice-registers.result.now c.in-Ok.asked.vals.items _ (ap (λ ps. bundled s.f.held ps c.as_slice-registers.result.now c.in-Ok.asked.vals.items) c.as_slice-params.ensures ∙ over.1)
 
 pub returns-clause-rule : goal.returns-clause-rule
 returns-clause-rule c = λ layout f owed notices h.
     let old = c.args.self.now in
-    let s = c.requires.stands in
+    let s = c.requires.fits_place in
     let program = c.args.done.before.program in
     let action = c.args.action.now in
-    let here = here_too c.args.self.now c.args.actor c.args.done (instr.Rule c.args.action.now) c.requires.stands f owed in
-    let runs = runs_too c.args.self.now c.args.actor c.args.done (instr.Rule c.args.action.now) c.requires.stands f owed in
+    let here = here_too c.args.self.now c.args.actor c.args.done (instr.Rule c.args.action.now) c.requires.fits_place f owed in
+    let runs = runs_too c.args.self.now c.args.actor c.args.done (instr.Rule c.args.action.now) c.requires.fits_place f owed in
     let u = rule_named program layout (with_done old c.args.actor f c.args.done) notices h c.args.actor (come f c.args.done) s.q action runs here s.behind in
     let params = params_of_callee c.args.done.before.program.program c.args.action.now.procedure c.in-Ok.asked.callee.now c.in-Ok.ensures.callee u.procedure u.is in
     let over = c.take_args-args.ensures f owed.sits in
@@ -97,6 +97,6 @@ returns-clause-rule c = λ layout f owed notices h.
 
 pub returns-clause-lent : goal.returns-clause-lent
 returns-clause-lent c =
-    let s = c.requires.stands in
+    let s = c.requires.fits_place in
     let over = c.take_args-args.ensures s.f s.owed.sits in
     is_lent _ c.args.self.now.seats c.args.actor (gone_on (come s.f c.args.done) over.0) c.args.event_no over.2 _ over.3

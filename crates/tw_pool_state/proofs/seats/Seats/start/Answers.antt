@@ -1,5 +1,5 @@
 use Rattle.std.proofs.Common.{◌≡◌, ◌<◌, ◌∙◌, ℕ, List, Some, None, Ok, [], arith, ap, cond, count_by, get_or, is_some, length, length-set, option_map, refl, set, slice_get, subst, sym}
-use Rattle.tw_pool_state.proofs.PartNames.{Actor, AreKept, Arg, FrameView, MayStand, Procedure, StartsAsMachine, TaskOf, TypedProgram, Value, bare_frame, begun, get, insert, job_of, lent_as, same_Some, seat_of, seated, started}
+use Rattle.tw_pool_state.proofs.PartNames.{Actor, AreKept, Arg, FrameView, MayBeAt, Procedure, StartsAsMachine, TaskOf, TypedProgram, Value, bare_frame, begun, get, insert, job_of, lent_as, same_Some, seat_of, seated, started}
 use Rattle.std.specs.declared.option.Option.{Option}
 use Rattle.tw_rights.specs.Filed.{filed, rights_in}
 use Rattle.tw_rights.specs.declared.task.Task.{Task}
@@ -30,8 +30,8 @@ module _ (verified : TypedProgram) (actor : Actor) (e : ℕ × TaskOf Arg) (x : 
     machine_so h = subst (λ (t : Task). StartsAsMachine verified.program t.no t.procedure t.args own (bare_frame (begun_so verified t actor own))) (sym same)
         (subst (λ (g : FrameView). StartsAsMachine verified.program x.no x.procedure x.args own (bare_frame g)) is h)
 
-    stands_so : MayStand verified.program e.1.procedure (begun verified actor 0 e own).position → MayStand f.program.program f.procedure f.position
-    stands_so h = subst (λ (g : FrameView). MayStand g.program.program g.procedure g.position) (sym is_begun) h
+    position_so : MayBeAt verified.program e.1.procedure (begun verified actor 0 e own).position → MayBeAt f.program.program f.procedure f.position
+    position_so h = subst (λ (g : FrameView). MayBeAt g.program.program g.procedure g.position) (sym is_begun) h
 
 pub take_buffers-requires-clause-inside : goal.take_buffers-requires-clause-inside
 take_buffers-requires-clause-inside c = omega (arith, c.place-number.ensures.is, low_seat c.args.actor c.requires.seat, c.self.invariant.0.many, as_many c.self.inside.seat_tasks.frames.items c.self.inside.frame_buffers.items c.self.invariant.1)
@@ -53,13 +53,13 @@ invariant_of-self c = (
 pub seat-requires-clause-empty : goal.seat-requires-clause-empty
 seat-requires-clause-empty c = ap (λ k. get_or c.self.inside.seat_tasks.frames.items k None) c.place-number.ensures.is ∙ sym (get_seated c.self.inside.seat_tasks.frames.items c.args.actor c.requires.seat) ∙ ap (λ m. get m c.args.actor) c.self.view_is ∙ c.requires.empty
 
-pub lend-job-requires-clause-stands : goal.lend-job-requires-clause-stands
-lend-job-requires-clause-stands c =
+pub lend-job-requires-clause-fits_place : goal.lend-job-requires-clause-fits_place
+lend-job-requires-clause-fits_place c =
     let e = handed _ c.in-Some.best.now c.in-Some.ensures in
     let same : handed_out e.0 ≡ c.in-Some-take.task = same_Some (handed_out e.0) c.in-Some-take.task (sym (ap (option_map handed_out) e.1) ∙ sym c.take.ensures.taken ∙ c.in-Some-take.is) in
     let verified = c.args.verified.now in let own = c.in-Ok.start.values in
-    stands_so verified c.args.actor e.0 c.in-Some-take.task same own c.start-frame.result.0 c.start-frame.ensures.is
-    (c.requires.stands e.0 own e.1 (starts_so verified c.args.actor e.0 c.in-Some.best.now e.2 own c.in-Ok.ensures.started) (machine_so verified c.args.actor e.0 c.in-Some-take.task same own c.start-frame.result.0 c.start-frame.ensures.is c.start-frame.ensures.machine))
+    position_so verified c.args.actor e.0 c.in-Some-take.task same own c.start-frame.result.0 c.start-frame.ensures.is
+    (c.requires.fits_place e.0 own e.1 (starts_so verified c.args.actor e.0 c.in-Some.best.now e.2 own c.in-Ok.ensures.started) (machine_so verified c.args.actor e.0 c.in-Some-take.task same own c.start-frame.result.0 c.start-frame.ensures.is c.start-frame.ensures.machine))
 
 pub invariant_of-self-2 : goal.invariant_of-self-2
 invariant_of-self-2 c =
