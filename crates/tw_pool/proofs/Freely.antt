@@ -274,7 +274,7 @@ module _ (verified : TypedProgram) (inputs : List Input) (layout : ActorCounts) 
     after_here = subst (λ (x : PoolView). HasState (with_events x es) after) seen kept.replays
 
     fits : FrameFits verified new.store.places actor f
-    fits = kept.parts.stand.frames actor f sits
+    fits = kept.parts.rights_fit.frames actor f sits
 
     is_lent : lent_to (with_events w es) after actor ≡ Some (job_of f)
     is_lent =

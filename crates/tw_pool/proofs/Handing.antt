@@ -125,7 +125,7 @@ module _ (verified : TypedProgram) (inputs : List Input) (layout : ActorCounts) 
           let none : None ≡ Some done.before = sym (ap (option_map job_by) (get_mapped bare_frame old.seats actor ∙ ap (option_map bare_frame) e)) ∙ lent_now in cc
       by (Some f) e =
           let same : job_by (bare_frame f) ≡ done.before = same_Some _ _ (sym (ap (option_map job_by) (get_mapped bare_frame old.seats actor ∙ ap (option_map bare_frame) e)) ∙ lent_now) in
-          let fits = h.parts.stand.frames actor f e in
+          let fits = h.parts.rights_fit.frames actor f e in
           let number = h.lent actor f e in
           let job_is : job_by (bare_frame f) ≡ job_of f = λ i. record { program = sym fits.program i; task = f.task; procedure = f.procedure; actor = sym fits.own i; event_no = sym number i; position = f.position } in
           (f, record { sits = e; own = sym same ∙ job_is; program = ap (λ (j : JobView). j.program) (sym same) })

@@ -131,7 +131,7 @@ module _ (verified : TypedProgram) (inputs : List Input) (layout : ActorCounts) 
       law = subst (IsReached verified.program layout) (sym same_state) h.parts.law;
       queued = rw (u.store.queues) h.parts.queued;
       servers = ap length u.store.queues ∙ h.parts.servers;
-      stand = rw (u.store.places, u.seats, u.tasks, u.rules, u.outputs) h.parts.stand;
+      rights_fit = rw (u.store.places, u.seats, u.tasks, u.rules, u.outputs) h.parts.rights_fit;
     }
 
     -- nothing was touched

@@ -26,7 +26,7 @@ use Rattle.tw_code.specs.declared.procedure.Procedure.{Procedure}
 use Rattle.tw_code.specs.machine.Arguments.{params_of}
 use Rattle.tw_code.specs.machine.Pending.{pending_of, waited_for, written_by}
 use Rattle.tw_code.specs.machine.Rights.{right_of}
-use Rattle.tw_pool_state.specs.Fits.{ArgStands, ArgsStand}
+use Rattle.tw_pool_state.specs.Fits.{ArgMatches, ArgsMatch}
 use Rattle.tw_pool.specs.Pendings.{pending_with_data, waited_at, waits_in, written_at}
 
 -- ---- one argument more
@@ -68,48 +68,48 @@ waits_are (stage ∷ stages) (Write right ∷ args) = by (is_waiting stage) (wai
     by false rest = rest
 
 -- a right is one to write exactly where its parameter says so
-read_mode : (places : Places) (p : Param) (right : Right) → ArgStands places (right_of p) (Read right) → is_write p.mode ≡ false
+read_mode : (places : Places) (p : Param) (right : Right) → ArgMatches places (right_of p) (Read right) → is_write p.mode ≡ false
 read_mode places p right fits_place = by p.mode fits_place
   where
-    by : (m : Mode) → ArgStands places (if is_val m then None else Some (record { mode = m; ty = p.ty })) (Read right) → is_write m ≡ false
+    by : (m : Mode) → ArgMatches places (if is_val m then None else Some (record { mode = m; ty = p.ty })) (Read right) → is_write m ≡ false
     by mode.Val s = absurd s
     by mode.Closed s = refl
     by mode.Ref s = refl
     by mode.Write s = s.0
 
-write_mode : (places : Places) (p : Param) (right : Right) → ArgStands places (right_of p) (Write right) → is_write p.mode ≡ true
+write_mode : (places : Places) (p : Param) (right : Right) → ArgMatches places (right_of p) (Write right) → is_write p.mode ≡ true
 write_mode places p right fits_place = by p.mode fits_place
   where
-    by : (m : Mode) → ArgStands places (if is_val m then None else Some (record { mode = m; ty = p.ty })) (Write right) → is_write m ≡ true
+    by : (m : Mode) → ArgMatches places (if is_val m then None else Some (record { mode = m; ty = p.ty })) (Write right) → is_write m ≡ true
     by mode.Val s = absurd s
     by mode.Closed s = s.0
     by mode.Ref s = s.0
     by mode.Write s = refl
 
-writes_are : (places : Places) (params : List Param) (args : List Arg) → ArgsStand places params args → flat_map written_at (map erased_arg args) ≡ written_by params (map bare_arg args)
-writes_are places [] [] stand = refl
-writes_are places [] (arg ∷ args) stand = absurd stand
-writes_are places (p ∷ params) [] stand = absurd stand
-writes_are places (p ∷ params) (Val value ∷ args) stand = writes_are places params args stand.1
-writes_are places (p ∷ params) (Read right ∷ args) stand =
-    writes_are places params args stand.1 ∙ ap (λ (b : Bool). cond b (right.id ∷ written_by params (map bare_arg args)) (written_by params (map bare_arg args))) (sym (read_mode places p right stand.0))
-writes_are places (p ∷ params) (Write right ∷ args) stand =
-    ap (λ (ids : List ℕ). right.id ∷ ids) (writes_are places params args stand.1)
-    ∙ ap (λ (b : Bool). cond b (right.id ∷ written_by params (map bare_arg args)) (written_by params (map bare_arg args))) (sym (write_mode places p right stand.0))
+writes_are : (places : Places) (params : List Param) (args : List Arg) → ArgsMatch places params args → flat_map written_at (map erased_arg args) ≡ written_by params (map bare_arg args)
+writes_are places [] [] rights_fit = refl
+writes_are places [] (arg ∷ args) rights_fit = absurd rights_fit
+writes_are places (p ∷ params) [] rights_fit = absurd rights_fit
+writes_are places (p ∷ params) (Val value ∷ args) rights_fit = writes_are places params args rights_fit.1
+writes_are places (p ∷ params) (Read right ∷ args) rights_fit =
+    writes_are places params args rights_fit.1 ∙ ap (λ (b : Bool). cond b (right.id ∷ written_by params (map bare_arg args)) (written_by params (map bare_arg args))) (sym (read_mode places p right rights_fit.0))
+writes_are places (p ∷ params) (Write right ∷ args) rights_fit =
+    ap (λ (ids : List ℕ). right.id ∷ ids) (writes_are places params args rights_fit.1)
+    ∙ ap (λ (b : Bool). cond b (right.id ∷ written_by params (map bare_arg args)) (written_by params (map bare_arg args))) (sym (write_mode places p right rights_fit.0))
 
-one_is : (program : List Procedure) (places : Places) (e : ℕ × RuleOf Arg) → ArgsStand places (params_of program e.1.procedure) e.1.args → pending_with_data (erasure e) ≡ pending_of program (entry_by bare_rule e)
-one_is program places e stand = λ i. record { number = e.0; waits = waits_are e.1.stages e.1.args i; writes = writes_are places (params_of program e.1.procedure) e.1.args stand i }
+one_is : (program : List Procedure) (places : Places) (e : ℕ × RuleOf Arg) → ArgsMatch places (params_of program e.1.procedure) e.1.args → pending_with_data (erasure e) ≡ pending_of program (entry_by bare_rule e)
+one_is program places e rights_fit = λ i. record { number = e.0; waits = waits_are e.1.stages e.1.args i; writes = writes_are places (params_of program e.1.procedure) e.1.args rights_fit i }
 
 -- ---- all of them
 
-all_are : (program : List Procedure) (places : Places) (es : List (ℕ × RuleOf Arg)) → ((e : ℕ × RuleOf Arg) → IsEntry e es → ArgsStand places (params_of program e.1.procedure) e.1.args)
+all_are : (program : List Procedure) (places : Places) (es : List (ℕ × RuleOf Arg)) → ((e : ℕ × RuleOf Arg) → IsEntry e es → ArgsMatch places (params_of program e.1.procedure) e.1.args)
     → map pending_with_data (map erasure es) ≡ map (pending_of program) (map (entry_by bare_rule) es)
-all_are program places [] stand = refl
-all_are program places (e ∷ es) stand =
-    ap (λ (p : Pending). p ∷ map pending_with_data (map erasure es)) (one_is program places e (stand e (inl refl)))
-    ∙ ap (λ (ps : List Pending). pending_of program (entry_by bare_rule e) ∷ ps) (all_are program places es (λ f is. stand f (inr is)))
+all_are program places [] rights_fit = refl
+all_are program places (e ∷ es) rights_fit =
+    ap (λ (p : Pending). p ∷ map pending_with_data (map erasure es)) (one_is program places e (rights_fit e (inl refl)))
+    ∙ ap (λ (ps : List Pending). pending_of program (entry_by bare_rule e) ∷ ps) (all_are program places es (λ f is. rights_fit f (inr is)))
 
-pub pending_is : (program : List Procedure) (places : Places) (rules : RulesOf Arg) → ((number : ℕ) (r : RuleOf Arg) → get rules number ≡ Some r → ArgsStand places (params_of program r.procedure) r.args)
+pub pending_is : (program : List Procedure) (places : Places) (rules : RulesOf Arg) → ((number : ℕ) (r : RuleOf Arg) → get rules number ≡ Some r → ArgsMatch places (params_of program r.procedure) r.args)
     → map pending_with_data (map erasure (entries rules)) ≡ map (pending_of program) (entries (mapped bare_rule rules))
-pending_is program places rules stand =
-    all_are program places (entries rules) (λ e is. stand e.0 e.1 (get_entry nat_cmp nat_cmp_total rules e is)) ∙ ap (map (pending_of program)) (sym (entries_mapped bare_rule rules))
+pending_is program places rules rights_fit =
+    all_are program places (entries rules) (λ e is. rights_fit e.0 e.1 (get_entry nat_cmp nat_cmp_total rules e is)) ∙ ap (map (pending_of program)) (sym (entries_mapped bare_rule rules))

@@ -163,14 +163,14 @@ module _ (verified : TypedProgram) (inputs : List Input) (layout : ActorCounts) 
       -- the issued job
       pub lent_is : lent_to w here actor ≡ Some (job_of f)
       lent_is =
-          let fits = h.parts.stand.frames actor f sits in
+          let fits = h.parts.rights_fit.frames actor f sits in
           let number = h.lent actor f sits in
           subst (λ (x : PoolView). lent_to x here actor ≡ Some (job_of f)) seen
           (ap (option_map job_by) (get_mapped bare_frame old.seats actor ∙ ap (option_map bare_frame) sits)
           ∙ ap Some (λ i. record { program = sym fits.program i; task = f.task; procedure = f.procedure; actor = sym fits.own i; event_no = sym number i; position = f.position }))
 
       pub program_is : w.program ≡ f.program
-      program_is = ap (λ (x : PoolView). x.program) (sym seen) ∙ sym (h.parts.stand.frames actor f sits).program
+      program_is = ap (λ (x : PoolView). x.program) (sym seen) ∙ sym (h.parts.rights_fit.frames actor f sits).program
 
       pub is_owed : (done : DoneView) → done.before ≡ job_of f → IsOwedBy w actor done
       is_owed done own s at = ap (λ t. lent_to w t actor) (only_here s at) ∙ lent_is ∙ ap Some (sym own)

@@ -1,6 +1,6 @@
 -- An instruction on data, as a call on the parts.
 use Rattle.std.proofs.Common.{map as each, ◌≡◌, ◌<◌, ◌+◌, ℕ, List, Some, None, refl, sym, ap, subst, ◌∙◌, slice_get, slice_index_or, length, arith, inl, inr}
-use Rattle.tw_pool_state.proofs.PartNames.{Actor, ActorCounts, AreAt, AreParts, AreQueued, Call, Context, FrameFits, FrameView, Goes, Held, IsAt, IsDone, IsInstr, IsLive, IsProcedure, IsSmall, MayDo, Notices, Ok, Parts, Procedure, Right, Stand, TypedProgram, Went, actor_cmp-IsAntisymmetric, actor_cmp_total, after_context, after_data, asked_at, bare_file, bare_frame, bare_rule, bare_task, data_instr, get, id_of, insert, insert_mapped, kinds_in, length-set, mapped, notice_to, params_of, queued, right_in, sees, server_of, slice_get_within, state_of, typed_after, typings_of, with_notices}
+use Rattle.tw_pool_state.proofs.PartNames.{Actor, ActorCounts, AreAt, AreParts, AreQueued, Call, Context, FrameFits, FrameView, Goes, Held, IsAt, IsDone, IsInstr, IsLive, IsProcedure, IsSmall, MayDo, Notices, Ok, Parts, Procedure, Right, RightsFit, TypedProgram, Went, actor_cmp-IsAntisymmetric, actor_cmp_total, after_context, after_data, asked_at, bare_file, bare_frame, bare_rule, bare_task, data_instr, get, id_of, insert, insert_mapped, kinds_in, length-set, mapped, notice_to, params_of, queued, right_in, sees, server_of, slice_get_within, state_of, typed_after, typings_of, with_notices}
 use Rattle.tw_types.proofs.Parts.{put_or_before}
 use Rattle.tw_code.specs.declared.instr.DataInstr.{DataInstr}
 use Rattle.tw_code.specs.declared.instr.Instr.TheVariants as instr
@@ -12,7 +12,7 @@ use Rattle.tw_soundness.proofs.Live.{output_is_live, register_is_live, rule_is_l
 use Rattle.tw_soundness.proofs.Safe.{kept_by}
 use Rattle.tw_soundness.proofs.Turning.{data_goes}
 use Rattle.tw_pool_state.proofs.Fitting.{seen}
-use Rattle.tw_pool_state.proofs.Goings.{may_stand}
+use Rattle.tw_pool_state.proofs.Goings.{may_be_at}
 use Rattle.tw_pool_state.proofs.Keeping.{all_kept, args_kept, file_kept}
 use Rattle.tw_pool_state.proofs.Law.{goes_to, held}
 use Rattle.tw_pool_state.proofs.Registers.{id_at, placed_at, placed_each, right_id}
@@ -93,10 +93,10 @@ module _ (verified : TypedProgram) (layout : ActorCounts) (old : Parts) (notices
 
     own : FrameFits verified new.store.places actor g
     own = record {
-      program = ap (λ (n : FrameView). n.program) o.rest ∙ (h.stand.frames actor f runs).program;
-      own = ap (λ (n : FrameView). n.actor) o.rest ∙ (h.stand.frames actor f runs).own;
+      program = ap (λ (n : FrameView). n.program) o.rest ∙ (h.rights_fit.frames actor f runs).program;
+      own = ap (λ (n : FrameView). n.actor) o.rest ∙ (h.rights_fit.frames actor f runs).own;
       placed = placed_each new.store.places g.held each_is;
-      kinds = o.kinds p.registers (typing_at (typings_of verified) f.procedure f.position.place) (h.stand.frames actor f runs).kinds
+      kinds = o.kinds p.registers (typing_at (typings_of verified) f.procedure f.position.place) (h.rights_fit.frames actor f runs).kinds
           (asked_at verified.program (typings_of verified) h.runnable.is h.runnable.right f.procedure p here f.position.place (instr.Data d) at) ∙ ap kinds_in (sym typing_is);
     }
       where
@@ -108,7 +108,7 @@ module _ (verified : TypedProgram) (layout : ActorCounts) (old : Parts) (notices
           | inl before ↦
               let old_live = register_is_live verified.program (typings_of verified) (state_of old notices) law actor (bare_frame f) k (id_of x) there (id_at f.held k x before) in
               let new_live = register_is_live verified.program (typings_of verified) (state_of new left) law_new actor (bare_frame g) k (id_of x) new_there (id_at g.held k x now) in
-              kept (right_in x).id (right_in x).place (subst Both (sym (right_id x)) (old_live, new_live)) (placed_at old.store.places f.held k x (h.stand.frames actor f runs).placed before)
+              kept (right_in x).id (right_in x).place (subst Both (sym (right_id x)) (old_live, new_live)) (placed_at old.store.places f.held k x (h.rights_fit.frames actor f runs).placed before)
           | inr is_at ↦ is_at
         ]
 
@@ -116,18 +116,18 @@ module _ (verified : TypedProgram) (layout : ActorCounts) (old : Parts) (notices
         typing_is = ap (λ (n : FrameView). typing_at (typings_of verified) n.procedure g.position.place) o.rest
             ∙ (typed_after verified.program (typings_of verified) h.runnable.is h.runnable.right f.procedure p here f.position.place g.position.place (instr.Data d) o.way at o.onwards).1
 
-    stand_is : Stand verified new.store.places new.seats new.tasks.tasks new.rules.rules new.outputs
-    stand_is = record {
+    fit_is : RightsFit verified new.store.places new.seats new.tasks.tasks new.rules.rules new.outputs
+    fit_is = record {
       frames = λ a x is. elim (put_or_before actor_cmp_total actor_cmp-IsAntisymmetric old.seats actor g a x (ap (λ m. get m a) (sym seats) ∙ is)) as (λ _. FrameFits verified new.store.places a x) [
         | inl same ↦ subst (λ b. FrameFits verified new.store.places b x) (sym same.0) (subst (FrameFits verified new.store.places actor) same.1 own)
         | inr before ↦ record {
-          program = (h.stand.frames a x before).program;
-          own = (h.stand.frames a x before).own;
+          program = (h.rights_fit.frames a x before).program;
+          own = (h.rights_fit.frames a x before).own;
           placed = file_kept old.store.places new.store.places Both kept x.held (λ k id in_it. (
             register_is_live verified.program (typings_of verified) (state_of old notices) law a (bare_frame x) k id (seen bare_frame old.seats a (Some x) before) in_it,
             register_is_live verified.program (typings_of verified) (state_of new left) law_new a (bare_frame x) k id (seen bare_frame new.seats a (Some x) is) in_it,
-          )) (h.stand.frames a x before).placed;
-          kinds = (h.stand.frames a x before).kinds;
+          )) (h.rights_fit.frames a x before).placed;
+          kinds = (h.rights_fit.frames a x before).kinds;
         }
       ];
       tasks = λ n t is.
@@ -135,21 +135,21 @@ module _ (verified : TypedProgram) (layout : ActorCounts) (old : Parts) (notices
           args_kept old.store.places new.store.places Both kept (params_of verified.program t.procedure) t.args (λ k id in_it. (
             task_is_live verified.program (typings_of verified) (state_of old notices) law n (bare_task t) k id (seen bare_task old.tasks.tasks n (Some t) before) in_it,
             task_is_live verified.program (typings_of verified) (state_of new left) law_new n (bare_task t) k id (seen bare_task new.tasks.tasks n (Some t) is) in_it,
-          )) (h.stand.tasks n t before);
+          )) (h.rights_fit.tasks n t before);
       rules = λ n r is.
           let before = ap (λ (rs : _). get rs.rules n) (sym rules) ∙ is in
           args_kept old.store.places new.store.places Both kept (params_of verified.program r.procedure) r.args (λ k id in_it. (
             rule_is_live verified.program (typings_of verified) (state_of old notices) law n (bare_rule r) k id (seen bare_rule old.rules.rules n (Some r) before) in_it,
             rule_is_live verified.program (typings_of verified) (state_of new left) law_new n (bare_rule r) k id (seen bare_rule new.rules.rules n (Some r) is) in_it,
-          )) (h.stand.rules n r before);
+          )) (h.rights_fit.rules n r before);
       outputs = subst (λ rs. AreAt new.store.places rs) (sym outputs) (all_kept old.store.places new.store.places Both kept old.outputs (λ k id in_it. (
         output_is_live verified.program (typings_of verified) (state_of old notices) law k id in_it,
         output_is_live verified.program (typings_of verified) (state_of new left) law_new k id (ap (λ (rs : List Right). slice_get (each (λ (right : Right). right.id) rs) k) outputs ∙ in_it),
-      )) h.stand.outputs);
+      )) h.rights_fit.outputs);
     }
 
     pub called : Goes verified layout (Call actor) old notices new
-    called = goes_to verified layout old notices h (Call actor) new left _ goes same_state queues_are.0 (queues_are.1 ∙ h.servers) stand_is
+    called = goes_to verified layout old notices h (Call actor) new left _ goes same_state queues_are.0 (queues_are.1 ∙ h.servers) fit_is
         (λ other apart. ap (λ m. get m other) seats ∙ get_other old.seats actor g other apart)
 
   pub may_do : IsSmall (state_of old notices) → MayDo d old.store f
@@ -158,11 +158,11 @@ module _ (verified : TypedProgram) (layout : ActorCounts) (old : Parts) (notices
     left = can.0;
     goes = can.1;
     instr = all_found IsInstr p.code f.position.place (instr.Data d) own_code.code.1 at;
-    placed = (h.stand.frames actor f runs).placed;
+    placed = (h.rights_fit.frames actor f runs).placed;
     typed = record {
       registers = p.registers;
       typing = typing_at (typings_of verified) f.procedure f.position.place;
-      kinds = (h.stand.frames actor f runs).kinds;
+      kinds = (h.rights_fit.frames actor f runs).kinds;
       asked = asked_at verified.program (typings_of verified) h.runnable.is h.runnable.right f.procedure p here f.position.place (instr.Data d) at;
     };
     store = law.types.store;
@@ -177,5 +177,5 @@ module _ (verified : TypedProgram) (layout : ActorCounts) (old : Parts) (notices
     fits_place = λ store g o.
         let new : Parts = record old { store = store; seats = insert old.seats actor g } in
         let c = called new g o refl refl refl refl refl in
-        may_stand verified layout new c.left c.parts actor g (get_own old.seats actor g);
+        may_be_at verified layout new c.left c.parts actor g (get_own old.seats actor g);
   }

@@ -1,6 +1,6 @@
 -- A server delivers: on the parts.
 use Rattle.std.proofs.Common.{map, ◌≡◌, ◌<◌, ℕ, true, false, nat_lt, nat_eq, List, ◌∷◌, Some, refl, sym, ap, subst, ◌∙◌, length, set, slice_get, option_map, arith}
-use Rattle.tw_pool_state.proofs.PartNames.{ActorCounts, AreParts, AreQueued, Arg, Deliver, Goes, Notice, Notices, Parts, Procedure, Right, Rule, RuleOf, RulesOf, Stand, State, TypedProgram, Went, at_stage, bare_frame, bare_rule, bare_task, get, insert, insert_mapped, is_settled, length-set, mapped, nat_cmp-IsAntisymmetric, nat_cmp_total, nat_tests, queue_at, server_of, state_of, with_stage}
+use Rattle.tw_pool_state.proofs.PartNames.{ActorCounts, AreParts, AreQueued, Arg, Deliver, Goes, Notice, Notices, Parts, Procedure, Right, Rule, RuleOf, RulesOf, RightsFit, State, TypedProgram, Went, at_stage, bare_frame, bare_rule, bare_task, get, insert, insert_mapped, is_settled, length-set, mapped, nat_cmp-IsAntisymmetric, nat_cmp_total, nat_tests, queue_at, server_of, state_of, with_stage}
 use Rattle.std.specs.FinSet as set_of
 use Rattle.tw_types.specs.declared.stage.Stage.{Stage}
 use Rattle.tw_types.specs.declared.stage.Stage.TheVariants.{Waiting, Ready}
@@ -8,7 +8,7 @@ use Rattle.tw_rules.specs.Table.{stage_at, staged}
 use Rattle.tw_code.specs.machine.Machine.{step}
 use Rattle.tw_soundness.proofs.Asked.{Noted, noted}
 use Rattle.tw_pool_state.proofs.Law.{goes_to, held}
-use Rattle.tw_pool_state.proofs.Fitting.{Behind, behind, stand_staged}
+use Rattle.tw_pool_state.proofs.Fitting.{Behind, behind, fit_staged}
 use Rattle.tw_pool_state.proofs.Notes as notes
 
 -- ---- rules at a stage
@@ -73,11 +73,11 @@ module _ (verified : TypedProgram) (layout : ActorCounts) (old : Parts) (notices
     delivers = goes_to verified layout old notices h (Deliver server n.datum n.rule n.parameter) new left _ came same_state
         (subst (λ qs. AreQueued qs left) (sym queues) (notes.taken old.store.queues notices h.queued server inside n rest is))
         (ap length queues ∙ length-set old.store.queues server rest ∙ h.servers)
-        stand_is (λ actor other. ap (λ m. get m actor) seats)
+        fit_is (λ actor other. ap (λ m. get m actor) seats)
       where
-        staged_stand : Stand verified old.store.places old.seats old.tasks.tasks (staged old.rules.rules n.rule n.parameter Ready) old.outputs
-        staged_stand = subst (λ rs. Stand verified old.store.places old.seats old.tasks.tasks rs old.outputs) (sym (staged_is old.rules.rules n.rule its.x n.parameter Ready its.there))
-            (stand_staged verified old.store.places old.seats old.tasks.tasks old.rules.rules old.outputs h.stand n.rule its.x n.parameter Ready its.there)
+        staged_fit : RightsFit verified old.store.places old.seats old.tasks.tasks (staged old.rules.rules n.rule n.parameter Ready) old.outputs
+        staged_fit = subst (λ rs. RightsFit verified old.store.places old.seats old.tasks.tasks rs old.outputs) (sym (staged_is old.rules.rules n.rule its.x n.parameter Ready its.there))
+            (fit_staged verified old.store.places old.seats old.tasks.tasks old.rules.rules old.outputs h.rights_fit n.rule its.x n.parameter Ready its.there)
 
-        stand_is : Stand verified new.store.places new.seats new.tasks.tasks new.rules.rules new.outputs
-        stand_is = rw (places, seats, tasks, rules, outputs) staged_stand
+        fit_is : RightsFit verified new.store.places new.seats new.tasks.tasks new.rules.rules new.outputs
+        fit_is = rw (places, seats, tasks, rules, outputs) staged_fit

@@ -1,12 +1,12 @@
 -- A task ends: on the parts.
 use Rattle.std.proofs.Common.{map, ◌≡◌, ◌∙◌, Some, true, refl, ap, slice_get, is_none}
-use Rattle.tw_pool_state.proofs.PartNames.{Actor, ActorCounts, AreParts, End, FrameView, Goes, Notices, Parts, Procedure, Right, Stand, TypedProgram, Went, actor_cmp-IsAntisymmetric, actor_cmp_total, asked_at, bare_frame, bare_rule, bare_task, get, mapped, remove, remove_mapped, state_of, typings_of}
+use Rattle.tw_pool_state.proofs.PartNames.{Actor, ActorCounts, AreParts, End, FrameView, Goes, Notices, Parts, Procedure, Right, RightsFit, TypedProgram, Went, actor_cmp-IsAntisymmetric, actor_cmp_total, asked_at, bare_frame, bare_rule, bare_task, get, mapped, remove, remove_mapped, state_of, typings_of}
 use Rattle.std.specs.List.{list_all}
 use Rattle.tw_code.specs.declared.instr.Instr.TheVariants.{Ret}
 use Rattle.tw_code.specs.machine.Holders.{typing_of}
 use Rattle.tw_code.specs.machine.Machine.{step}
 use Rattle.tw_soundness.proofs.AllEvents.{all_empty}
-use Rattle.tw_pool_state.proofs.Fitting.{seen, stand_ended}
+use Rattle.tw_pool_state.proofs.Fitting.{seen, fit_ended}
 use Rattle.tw_pool_state.proofs.Law.{goes_to, held}
 use Rattle.tw_pool_state.proofs.Seating.{get_other_left}
 
@@ -39,8 +39,8 @@ module _ (verified : TypedProgram) (layout : ActorCounts) (old : Parts) (notices
     }
 
     pub ended : Goes verified layout (End actor) old notices new
-    ended = goes_to verified layout old notices h (End actor) new notices _ goes same_state (rw store h.queued) (rw store h.servers) stand_is
+    ended = goes_to verified layout old notices h (End actor) new notices _ goes same_state (rw store h.queued) (rw store h.servers) fit_is
         (λ other apart. ap (λ m. get m other) seats ∙ get_other_left old.seats actor other apart)
       where
-        stand_is : Stand verified new.store.places new.seats new.tasks.tasks new.rules.rules new.outputs
-        stand_is = rw (store, seats, tasks, rules, outputs) (stand_ended verified old.store.places old.seats old.tasks.tasks old.rules.rules old.outputs h.stand actor)
+        fit_is : RightsFit verified new.store.places new.seats new.tasks.tasks new.rules.rules new.outputs
+        fit_is = rw (store, seats, tasks, rules, outputs) (fit_ended verified old.store.places old.seats old.tasks.tasks old.rules.rules old.outputs h.rights_fit actor)

@@ -1,7 +1,7 @@
 -- Rights stay right when one rule, task or frame changes.
 use Rattle.std.proofs.Common.{◌≡◌, ℕ, List, Option, Some, None, refl, sym, ap, subst, ◌∙◌, inl, inr, option_map}
 use Rattle.std.specs.declared.cmp.Ordering.{Ordering}
-use Rattle.tw_pool_state.proofs.PartNames.{Actor, Arg, ArgsStand, FinMap, FrameFits, FrameView, Places, Right, RuleOf, RulesOf, Seated, Stand, TaskOf, TasksOf, TypedProgram, actor_cmp-IsAntisymmetric, actor_cmp_total, at_stage, get, get_mapped, insert, mapped, nat_cmp-IsAntisymmetric, nat_cmp_total, params_of, remove, same_Some, task_from}
+use Rattle.tw_pool_state.proofs.PartNames.{Actor, Arg, ArgsMatch, FinMap, FrameFits, FrameView, Places, Right, RuleOf, RulesOf, Seated, RightsFit, TaskOf, TasksOf, TypedProgram, actor_cmp-IsAntisymmetric, actor_cmp_total, at_stage, get, get_mapped, insert, mapped, nat_cmp-IsAntisymmetric, nat_cmp_total, params_of, remove, same_Some, task_from}
 use Rattle.tw_types.specs.declared.actor.Kind.{Kind}
 use Rattle.tw_types.specs.declared.stage.Stage.{Stage}
 use Rattle.tw_types.proofs.Parts.{put_or_before, before_removal}
@@ -22,25 +22,25 @@ behind {X = X} f m k y e = by (get m k) refl (sym (get_mapped f m k) ∙ e)
 pub seen : {K X Y : Type 0} {R : K → K → Ordering} (f : X → Y) (m : FinMap R X) (k : K) (o : Option X) → get m k ≡ o → get (mapped f m) k ≡ option_map f o
 seen f m k o e = get_mapped f m k ∙ ap (option_map f) e
 
-module _ (verified : TypedProgram) (places : Places) (seats : Seated) (tasks : TasksOf Arg) (rules : RulesOf Arg) (outputs : List Right) (h : Stand verified places seats tasks rules outputs) where
+module _ (verified : TypedProgram) (places : Places) (seats : Seated) (tasks : TasksOf Arg) (rules : RulesOf Arg) (outputs : List Right) (h : RightsFit verified places seats tasks rules outputs) where
   -- a stage changes
-  pub stand_staged : (number : ℕ) (r : RuleOf Arg) (parameter : ℕ) (stage : Stage) → get rules number ≡ Some r → Stand verified places seats tasks (insert rules number (at_stage r parameter stage)) outputs
-  stand_staged number r parameter stage at = record {
+  pub fit_staged : (number : ℕ) (r : RuleOf Arg) (parameter : ℕ) (stage : Stage) → get rules number ≡ Some r → RightsFit verified places seats tasks (insert rules number (at_stage r parameter stage)) outputs
+  fit_staged number r parameter stage at = record {
     frames = h.frames;
     tasks = h.tasks;
-    rules = λ n x there. elim (put_or_before nat_cmp_total nat_cmp-IsAntisymmetric rules number (at_stage r parameter stage) n x there) as (λ _. ArgsStand places (params_of verified.program x.procedure) x.args) [
-      | inl same ↦ subst (λ (y : RuleOf Arg). ArgsStand places (params_of verified.program y.procedure) y.args) same.1 (h.rules number r at)
+    rules = λ n x there. elim (put_or_before nat_cmp_total nat_cmp-IsAntisymmetric rules number (at_stage r parameter stage) n x there) as (λ _. ArgsMatch places (params_of verified.program x.procedure) x.args) [
+      | inl same ↦ subst (λ (y : RuleOf Arg). ArgsMatch places (params_of verified.program y.procedure) y.args) same.1 (h.rules number r at)
       | inr before ↦ h.rules n x before
     ];
     outputs = h.outputs;
   }
 
   -- a rule becomes a task
-  pub stand_released : (number next : ℕ) (r : RuleOf Arg) (kind : Kind) → get rules number ≡ Some r → Stand verified places seats (insert tasks next (task_from kind r)) (remove rules number) outputs
-  stand_released number next r kind at = record {
+  pub fit_released : (number next : ℕ) (r : RuleOf Arg) (kind : Kind) → get rules number ≡ Some r → RightsFit verified places seats (insert tasks next (task_from kind r)) (remove rules number) outputs
+  fit_released number next r kind at = record {
     frames = h.frames;
-    tasks = λ n x there. elim (put_or_before nat_cmp_total nat_cmp-IsAntisymmetric tasks next (task_from kind r) n x there) as (λ _. ArgsStand places (params_of verified.program x.procedure) x.args) [
-      | inl same ↦ subst (λ (t : TaskOf Arg). ArgsStand places (params_of verified.program t.procedure) t.args) same.1 (h.rules number r at)
+    tasks = λ n x there. elim (put_or_before nat_cmp_total nat_cmp-IsAntisymmetric tasks next (task_from kind r) n x there) as (λ _. ArgsMatch places (params_of verified.program x.procedure) x.args) [
+      | inl same ↦ subst (λ (t : TaskOf Arg). ArgsMatch places (params_of verified.program t.procedure) t.args) same.1 (h.rules number r at)
       | inr before ↦ h.tasks n x before
     ];
     rules = λ n x there. h.rules n x (before_removal nat_cmp_total nat_cmp-IsAntisymmetric rules number n x there).1;
@@ -48,11 +48,11 @@ module _ (verified : TypedProgram) (places : Places) (seats : Seated) (tasks : T
   }
 
   -- a task is put
-  pub stand_put : (next : ℕ) (t : TaskOf Arg) → ArgsStand places (params_of verified.program t.procedure) t.args → Stand verified places seats (insert tasks next t) rules outputs
-  stand_put next t args = record {
+  pub fit_put : (next : ℕ) (t : TaskOf Arg) → ArgsMatch places (params_of verified.program t.procedure) t.args → RightsFit verified places seats (insert tasks next t) rules outputs
+  fit_put next t args = record {
     frames = h.frames;
-    tasks = λ n x there. elim (put_or_before nat_cmp_total nat_cmp-IsAntisymmetric tasks next t n x there) as (λ _. ArgsStand places (params_of verified.program x.procedure) x.args) [
-      | inl same ↦ subst (λ (t : TaskOf Arg). ArgsStand places (params_of verified.program t.procedure) t.args) same.1 args
+    tasks = λ n x there. elim (put_or_before nat_cmp_total nat_cmp-IsAntisymmetric tasks next t n x there) as (λ _. ArgsMatch places (params_of verified.program x.procedure) x.args) [
+      | inl same ↦ subst (λ (t : TaskOf Arg). ArgsMatch places (params_of verified.program t.procedure) t.args) same.1 args
       | inr before ↦ h.tasks n x before
     ];
     rules = h.rules;
@@ -60,20 +60,20 @@ module _ (verified : TypedProgram) (places : Places) (seats : Seated) (tasks : T
   }
 
   -- a rule is made
-  pub stand_ruled : (next : ℕ) (r : RuleOf Arg) → ArgsStand places (params_of verified.program r.procedure) r.args → Stand verified places seats tasks (insert rules next r) outputs
-  stand_ruled next r args = record {
+  pub fit_ruled : (next : ℕ) (r : RuleOf Arg) → ArgsMatch places (params_of verified.program r.procedure) r.args → RightsFit verified places seats tasks (insert rules next r) outputs
+  fit_ruled next r args = record {
     frames = h.frames;
     tasks = h.tasks;
-    rules = λ n x there. elim (put_or_before nat_cmp_total nat_cmp-IsAntisymmetric rules next r n x there) as (λ _. ArgsStand places (params_of verified.program x.procedure) x.args) [
-      | inl same ↦ subst (λ (y : RuleOf Arg). ArgsStand places (params_of verified.program y.procedure) y.args) same.1 args
+    rules = λ n x there. elim (put_or_before nat_cmp_total nat_cmp-IsAntisymmetric rules next r n x there) as (λ _. ArgsMatch places (params_of verified.program x.procedure) x.args) [
+      | inl same ↦ subst (λ (y : RuleOf Arg). ArgsMatch places (params_of verified.program y.procedure) y.args) same.1 args
       | inr before ↦ h.rules n x before
     ];
     outputs = h.outputs;
   }
 
   -- a task is taken
-  pub stand_without : (number : ℕ) → Stand verified places seats (remove tasks number) rules outputs
-  stand_without number = record {
+  pub fit_without : (number : ℕ) → RightsFit verified places seats (remove tasks number) rules outputs
+  fit_without number = record {
     frames = h.frames;
     tasks = λ n x there. h.tasks n x (before_removal nat_cmp_total nat_cmp-IsAntisymmetric tasks number n x there).1;
     rules = h.rules;
@@ -81,8 +81,8 @@ module _ (verified : TypedProgram) (places : Places) (seats : Seated) (tasks : T
   }
 
   -- a task starts, or moves on
-  pub stand_seated : (actor : Actor) (f : FrameView) → FrameFits verified places actor f → Stand verified places (insert seats actor f) tasks rules outputs
-  stand_seated actor f fits = record {
+  pub fit_seated : (actor : Actor) (f : FrameView) → FrameFits verified places actor f → RightsFit verified places (insert seats actor f) tasks rules outputs
+  fit_seated actor f fits = record {
     frames = λ a x there. elim (put_or_before actor_cmp_total actor_cmp-IsAntisymmetric seats actor f a x there) as (λ _. FrameFits verified places a x) [
       | inl same ↦ subst (λ b. FrameFits verified places b x) (sym same.0) (subst (FrameFits verified places actor) same.1 fits)
       | inr before ↦ h.frames a x before
@@ -93,8 +93,8 @@ module _ (verified : TypedProgram) (places : Places) (seats : Seated) (tasks : T
   }
 
   -- a task ends
-  pub stand_ended : (actor : Actor) → Stand verified places (remove seats actor) tasks rules outputs
-  stand_ended actor = record {
+  pub fit_ended : (actor : Actor) → RightsFit verified places (remove seats actor) tasks rules outputs
+  fit_ended actor = record {
     frames = λ a x there. h.frames a x (before_removal actor_cmp_total actor_cmp-IsAntisymmetric seats actor a x there).1;
     tasks = h.tasks;
     rules = h.rules;

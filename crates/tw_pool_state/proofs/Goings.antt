@@ -1,6 +1,6 @@
 -- A task moves on by local steps, and its next job is issued: on the parts.
 use Rattle.std.proofs.Common.{◌≡◌, ◌<◌, ◌+◌, ◌∙◌, ℕ, false, List, Some, refl, sym, ap, subst, slice_get, arith, nat_eq}
-use Rattle.tw_pool_state.proofs.PartNames.{Actor, ActorCounts, AreParts, FrameFits, Goes, IsLent, IsOwed, IsReached, Local, Notices, Parts, Procedure, Seated, Stand, State, TypedProgram, Went, actor_cmp-IsAntisymmetric, actor_cmp_total, come, get, insert, insert_mapped, kinds_in, lent_as, mapped, nat_tests, position_there, state_of, steps_leave, typings_of, with_done, with_frame}
+use Rattle.tw_pool_state.proofs.PartNames.{Actor, ActorCounts, AreParts, FrameFits, Goes, IsLent, IsOwed, IsReached, Local, Notices, Parts, Procedure, Seated, RightsFit, State, TypedProgram, Went, actor_cmp-IsAntisymmetric, actor_cmp_total, come, get, insert, insert_mapped, kinds_in, lent_as, mapped, nat_tests, position_there, state_of, steps_leave, typings_of, with_done, with_frame}
 use Rattle.tw_types.specs.declared.event.Event.{Event}
 use Rattle.tw_types.proofs.Outcomes.{same_went}
 use Rattle.tw_code.specs.machine.History.{actor_of}
@@ -9,7 +9,7 @@ use Rattle.tw_code.specs.machine.State.{Frame}
 use Rattle.tw_soundness.proofs.Safe.{kept_by}
 use Rattle.tw_frame.specs.Jobs.{DoneView, FrameView, IsDone, JobView, MayBeAt, bare_frame, job_of}
 use Rattle.tw_frame.proofs.Lending.{fresh_position}
-use Rattle.tw_pool_state.proofs.Fitting.{seen, stand_seated}
+use Rattle.tw_pool_state.proofs.Fitting.{seen, fit_seated}
 use Rattle.tw_pool_state.proofs.Law.{goes_to, held}
 use Rattle.tw_pool_state.proofs.Seating.{again, get_other, get_own, same_seat}
 
@@ -43,7 +43,7 @@ module _ (verified : TypedProgram) (layout : ActorCounts) (old : Parts) (notices
 
   fits : FrameFits verified old.store.places actor (come f done)
   fits =
-      let before = h.stand.frames actor f runs in
+      let before = h.rights_fit.frames actor f runs in
       let same = steps_leave verified.program (typings_of verified) h.runnable.is h.runnable.right (state_of old notices) (held verified layout old notices h) actor (bare_frame f) there way.p way.here done.steps done.after way.steps in
       record { program = before.program; own = before.own; placed = before.placed; kinds = before.kinds ∙ ap kinds_in (sym same) }
 
@@ -52,7 +52,7 @@ module _ (verified : TypedProgram) (layout : ActorCounts) (old : Parts) (notices
 
   pub gone : 0 < done.steps → Goes verified layout (Local actor done.steps) old notices (with_done old actor f done)
   gone some = goes_to verified layout old notices h (Local actor done.steps) (with_done old actor f done) notices _ (goes some) same_state h.queued h.servers
-      (stand_seated verified old.store.places old.seats old.tasks.tasks old.rules.rules old.outputs h.stand actor (come f done) fits)
+      (fit_seated verified old.store.places old.seats old.tasks.tasks old.rules.rules old.outputs h.rights_fit actor (come f done) fits)
       (get_other old.seats actor (come f done))
 
 -- without a step its position doesn't change
@@ -71,9 +71,9 @@ module _ (verified : TypedProgram) (layout : ActorCounts) (old : Parts) (notices
   in_frames = seen bare_frame old.seats actor (Some f) runs
 
   -- it may run from there
-  pub may_stand : MayBeAt f.program.program f.procedure f.position
-  may_stand p here =
-      let fits = h.stand.frames actor f runs in
+  pub may_be_at : MayBeAt f.program.program f.procedure f.position
+  may_be_at p here =
+      let fits = h.rights_fit.frames actor f runs in
       fresh_position p f.spent f.position
       (position_there verified.program (typings_of verified) h.runnable.is h.runnable.right (state_of old notices) (held verified layout old notices h) actor (bare_frame f) in_frames p
       (ap (λ (v : TypedProgram). slice_get v.program f.procedure) (sym fits.program) ∙ here))
@@ -95,7 +95,7 @@ module _ (new : Parts) (seats : Seated) (actor : Actor) (f : FrameView) (event_n
 
   module _ (verified : TypedProgram) (layout : ActorCounts) (notices : Notices) (h : AreParts verified layout unlent notices) where
     before : FrameFits verified new.store.places actor f
-    before = h.stand.frames actor f (get_own seats actor f)
+    before = h.rights_fit.frames actor f (get_own seats actor f)
 
     pub lent_parts : AreParts verified layout new notices
     lent_parts = record {
@@ -103,8 +103,8 @@ module _ (new : Parts) (seats : Seated) (actor : Actor) (f : FrameView) (event_n
       law = subst (IsReached verified.program layout) (sym (lent_state notices)) h.law;
       queued = h.queued;
       servers = h.servers;
-      stand = subst (λ m. Stand verified new.store.places m new.tasks.tasks new.rules.rules new.outputs) (again seats actor f (lent_as event_no f) ∙ sym sits)
-          (stand_seated verified new.store.places (insert seats actor f) new.tasks.tasks new.rules.rules new.outputs h.stand actor (lent_as event_no f) (record { program = before.program; own = before.own; placed = before.placed; kinds = before.kinds }));
+      rights_fit = subst (λ m. RightsFit verified new.store.places m new.tasks.tasks new.rules.rules new.outputs) (again seats actor f (lent_as event_no f) ∙ sym sits)
+          (fit_seated verified new.store.places (insert seats actor f) new.tasks.tasks new.rules.rules new.outputs h.rights_fit actor (lent_as event_no f) (record { program = before.program; own = before.own; placed = before.placed; kinds = before.kinds }));
     }
 
   pub lent_goes : (verified : TypedProgram) (layout : ActorCounts) (event : Event) → actor_of event ≡ actor → (old : Parts) (notices : Notices) → Goes verified layout event old notices unlent → Goes verified layout event old notices new

@@ -1,6 +1,6 @@
 -- RULE and PUT: arguments that leave the machine's registers leave the file, with its rights.
 use Rattle.std.proofs.Common.{map as each, length, arith, ◌≡◌, ℕ, zero, suc, Bool, true, false, if◌then◌else◌, List, [], ◌∷◌, Option, Some, None, Result, Ok, Err, refl, sym, ap, subst, ◌∙◌, slice_get, slice_set, slice_index_or, option_map, set}
-use Rattle.tw_pool_state.proofs.PartNames.{ArePlaced, Arg, ArgStands, ArgsStand, Cause, EmptyRegister, Held, IsPlaced, Mode, Param, Places, RightArg, Value, ValueArg, WrongRegister, bare_arg, bare_file, id_of, is_val, is_write, map-set, ok_or, option_and_then, option_flatten, right_of}
+use Rattle.tw_pool_state.proofs.PartNames.{ArePlaced, Arg, ArgMatches, ArgsMatch, Cause, EmptyRegister, Held, IsPlaced, Mode, Param, Places, RightArg, Value, ValueArg, WrongRegister, bare_arg, bare_file, id_of, is_val, is_write, map-set, ok_or, option_and_then, option_flatten, right_of}
 use Rattle.tw_types.specs.Result.{◌>>=◌}
 use Rattle.tw_types.specs.declared.param.Mode.TheVariants as mode
 use Rattle.tw_rights.specs.declared.arg.Arg.TheVariants as arg
@@ -41,7 +41,7 @@ pub record Handed (places : Places) (params : List Param) (registers : List ℕ)
   pub goes : file.bundled held params registers values ≡ Some over
   pub args : each bare_arg over.args ≡ given.args
   pub rights : bare_file over.file ≡ given.rights
-  pub stand : ArgsStand places params over.args
+  pub rights_fit : ArgsMatch places params over.args
   pub placed : ArePlaced places over.file
   pub gone : over.file ≡ without_held held params registers
 
@@ -50,7 +50,7 @@ pub record Left (places : Places) (p : Param) (register : ℕ) (held : List (Opt
   pub arg : Arg
   pub goes : file.bundled_one held p.mode register values ≡ Some (record { arg = arg; file = set held register None; values = values })
   pub bare_is : bare_arg arg ≡ RightArg id
-  pub fits_place : ArgStands places (right_of p) arg
+  pub fits_place : ArgMatches places (right_of p) arg
 
 leaves : (places : Places) (p : Param) (register : ℕ) (held : List (Option Held)) (values : List Value) (h : Held) → is_val p.mode ≡ false → slice_index_or held register None ≡ Some h → Suits p.mode (Some h) → IsPlaced places (Some h)
     → Left places p register held values (id_of h)
@@ -59,8 +59,8 @@ leaves places p register held values h no_value is suits placed = by p.mode refl
     typed : (m : Mode) → p.mode ≡ m → is_val m ≡ false → right_of p ≡ Some (record { mode = m; ty = p.ty })
     typed m e f = ap (λ k. if is_val k then None else Some (record { mode = k; ty = p.ty })) e ∙ ap (λ b. if b then None else Some (record { mode = m; ty = p.ty })) f
 
-    one : (m : Mode) → p.mode ≡ m → (arg : Arg) (id : ℕ) → file.bundled_one held m register values ≡ Some (record { arg = arg; file = set held register None; values = values }) → bare_arg arg ≡ RightArg id → ArgStands places (Some (record { mode = m; ty = p.ty })) arg → is_val m ≡ false → Left places p register held values id
-    one m e arg id goes b fits_place f = record { arg = arg; goes = ap (λ k. file.bundled_one held k register values) e ∙ goes; bare_is = b; fits_place = subst (λ o. ArgStands places o arg) (sym (typed m e f)) fits_place }
+    one : (m : Mode) → p.mode ≡ m → (arg : Arg) (id : ℕ) → file.bundled_one held m register values ≡ Some (record { arg = arg; file = set held register None; values = values }) → bare_arg arg ≡ RightArg id → ArgMatches places (Some (record { mode = m; ty = p.ty })) arg → is_val m ≡ false → Left places p register held values id
+    one m e arg id goes b fits_place f = record { arg = arg; goes = ap (λ k. file.bundled_one held k register values) e ∙ goes; bare_is = b; fits_place = subst (λ o. ArgMatches places o arg) (sym (typed m e f)) fits_place }
 
     by : (m : Mode) → p.mode ≡ m → (h : Held) → slice_index_or held register None ≡ Some h → Suits m (Some h) → IsPlaced places (Some h) → Left places p register held values (id_of h)
     by mode.Val e h is suits placed = let no : false ≡ true = sym no_value ∙ ap is_val e in cc
@@ -91,7 +91,7 @@ module _ (places : Places) (p : Param) (params : List Param) (register : ℕ) (r
         ap (λ k. option_and_then (λ (one : file.BundledOne). option_map (file.with_arg one.arg) (file.bundled one.file params registers one.values)) (file.bundled_one held k register (x ∷ vals))) m ∙ ap (option_map (file.with_arg (arg.Val x))) g;
     args = ap (λ xs. ValueArg x ∷ xs) h.args;
     rights = h.rights;
-    stand = (subst (λ o. ArgStands places o (arg.Val x)) (sym (none val)) tt, h.stand);
+    rights_fit = (subst (λ o. ArgMatches places o (arg.Val x)) (sym (none val)) tt, h.rights_fit);
     placed = h.placed;
     gone = h.gone ∙ ap (λ b. without_held (if b then held else set held register None) params registers) (sym val);
   }
@@ -112,7 +112,7 @@ module _ (places : Places) (p : Param) (params : List Param) (register : ℕ) (r
     goes = ap (option_and_then (λ (one : file.BundledOne). option_map (file.with_arg one.arg) (file.bundled one.file params registers one.values))) l.goes ∙ ap (option_map (file.with_arg l.arg)) o.goes;
     args = ap (λ a. a ∷ each bare_arg o.over.args) l.bare_is ∙ ap (λ xs. RightArg (id_of h) ∷ xs) o.args;
     rights = o.rights;
-    stand = (l.fits_place, o.stand);
+    rights_fit = (l.fits_place, o.rights_fit);
     placed = o.placed;
     gone = o.gone ∙ ap (λ b. without_held (if b then held else set held register None) params registers) (sym is);
   }
@@ -184,7 +184,7 @@ pub handed : (places : Places) (values : List Value) (held : List (Option Held))
     → Handed places params registers held vals given
 handed places values held [] registers vals given long e suits are placed =
     let same : record { args = []; rights = bare_file held } ≡ given = cc in
-    subst (Handed places [] registers held vals) same (record { over = record { args = []; file = held }; goes = refl; args = refl; rights = refl; stand = tt; placed = placed; gone = refl })
+    subst (Handed places [] registers held vals) same (record { over = record { args = []; file = held }; goes = refl; args = refl; rights = refl; rights_fit = tt; placed = placed; gone = refl })
 handed places values held (p ∷ params) [] vals given long e suits are placed = absurd (omega arith)
 handed places values held (p ∷ params) (register ∷ registers) vals given long e suits are placed =
     either places values p params register registers held given (is_val p.mode) refl vals suits are placed

@@ -1,6 +1,6 @@
 -- RULE and PUT: arguments that leave the frame, and the rest of it.
 use Rattle.std.proofs.Common.{map as each, ◌≡◌, ◌+◌, ◌<◌, ◌≤◌, ◌∙◌, ℕ, List, Option, Some, IsSome, refl, sym, ap, subst, slice_get, length, arith}
-use Rattle.tw_pool_state.proofs.PartNames.{Action, Actor, ActorCounts, AreParts, ArePlaced, Arg, ArgsStand, FrameFits, FrameView, Held, IsProcedure, IsProgram, Notices, Parts, Procedure, TypedProgram, Typing, Value, at_next_place, bare_arg, bare_file, bare_frame, context_of, get, gone_after, gone_on, kinds_in, kinds_of, named_values, params_in, params_of, same_Some, slice_get_within, state_of, typings_of, without_args}
+use Rattle.tw_pool_state.proofs.PartNames.{Action, Actor, ActorCounts, AreParts, ArePlaced, Arg, ArgsMatch, FrameFits, FrameView, Held, IsProcedure, IsProgram, Notices, Parts, Procedure, TypedProgram, Typing, Value, at_next_place, bare_arg, bare_file, bare_frame, context_of, get, gone_after, gone_on, kinds_in, kinds_of, named_values, params_in, params_of, same_Some, slice_get_within, state_of, typings_of, without_args}
 use Rattle.tw_rights.specs.Bundled.{Bundled, bundled}
 use Rattle.tw_code.specs.declared.instr.Instr.{Instr}
 use Rattle.tw_code.specs.machine.Holders.{typing_at}
@@ -25,7 +25,7 @@ module _ (verified : TypedProgram) (layout : ActorCounts) (old : Parts) (notices
     (u : IsNamed verified.program p.kind (context_of (state_of old notices) (bare_frame f)) action f.held)
     (vals : List Value) (are : each Some vals ≡ named_values f.position.values u.procedure.params action.args) where
   fits : FrameFits verified old.store.places actor f
-  fits = h.stand.frames actor f runs
+  fits = h.rights_fit.frames actor f runs
 
   abbrev pub typing : Typing
   typing = typing_at (typings_of verified) f.procedure f.position.place
@@ -48,8 +48,8 @@ module _ (verified : TypedProgram) (layout : ActorCounts) (old : Parts) (notices
         let rights : bare_file file ≡ u.given.rights = ap (λ (o : Bundled). bare_file o.file) (sym same) ∙ all_handed.rights in
         λ i. record { task = f.task; procedure = f.procedure; position = at_next_place f.position; rights = rights i; spent = f.spent + 1 }
 
-    pub args_stand : ArgsStand old.store.places (params_of verified.program action.procedure) args
-    args_stand = subst (λ ps. ArgsStand old.store.places ps args) (sym (ap params_in u.is)) (subst (λ (o : Bundled). ArgsStand old.store.places u.procedure.params o.args) same all_handed.stand)
+    pub args_match : ArgsMatch old.store.places (params_of verified.program action.procedure) args
+    args_match = subst (λ ps. ArgsMatch old.store.places ps args) (sym (ap params_in u.is)) (subst (λ (o : Bundled). ArgsMatch old.store.places u.procedure.params o.args) same all_handed.rights_fit)
 
     pub fits_behind : typing_at (typings_of verified) f.procedure (f.position.place + 1) ≡ without_args (params_of verified.program action.procedure) action.args typing → FrameFits verified old.store.places actor (gone_on f file)
     fits_behind behind = record {

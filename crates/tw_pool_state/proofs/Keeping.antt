@@ -1,6 +1,6 @@
 -- Data that are held before and after an instruction on data are live, so they keep their places, whatever was freed.
 use Rattle.std.proofs.Common.{map as each, ◌≡◌, ℕ, suc, List, [], ◌∷◌, Option, Some, None, refl, ap, slice_get}
-use Rattle.tw_pool_state.proofs.PartNames.{AreAt, ArePlaced, Arg, ArgStands, ArgsStand, Held, Param, Places, Read, Right, RightArg, RightType, Val, Write, bare_arg, bare_file, get, option_flatten, right_of}
+use Rattle.tw_pool_state.proofs.PartNames.{AreAt, ArePlaced, Arg, ArgMatches, ArgsMatch, Held, Param, Places, Read, Right, RightArg, RightType, Val, Write, bare_arg, bare_file, get, option_flatten, right_of}
 use Rattle.tw_rights.specs.declared.held.Held.TheVariants as held
 
 -- every right of these still has its place, if its datum is live
@@ -11,7 +11,7 @@ module _ (places new_places : Places) (Lives : ℕ → Type 0) (stays : (id plac
   file_kept (Some (held.Read right) ∷ file) live h = (stays right.id right.place (live 0 right.id refl) h.0, file_kept file (λ k d at. live (suc k) d at) h.1)
   file_kept (Some (held.Write right) ∷ file) live h = (stays right.id right.place (live 0 right.id refl) h.0, file_kept file (λ k d at. live (suc k) d at) h.1)
 
-  arg_kept : (o : Option RightType) (arg : Arg) → ((d : ℕ) → bare_arg arg ≡ RightArg d → Lives d) → ArgStands places o arg → ArgStands new_places o arg
+  arg_kept : (o : Option RightType) (arg : Arg) → ((d : ℕ) → bare_arg arg ≡ RightArg d → Lives d) → ArgMatches places o arg → ArgMatches new_places o arg
   arg_kept None (Val x) live h = tt
   arg_kept None (Read right) live h = absurd h
   arg_kept None (Write right) live h = absurd h
@@ -19,7 +19,7 @@ module _ (places new_places : Places) (Lives : ℕ → Type 0) (stays : (id plac
   arg_kept (Some t) (Read right) live h = (h.0, stays right.id right.place (live right.id refl) h.1)
   arg_kept (Some t) (Write right) live h = (h.0, stays right.id right.place (live right.id refl) h.1)
 
-  pub args_kept : (params : List Param) (args : List Arg) → ((k d : ℕ) → slice_get (each bare_arg args) k ≡ Some (RightArg d) → Lives d) → ArgsStand places params args → ArgsStand new_places params args
+  pub args_kept : (params : List Param) (args : List Arg) → ((k d : ℕ) → slice_get (each bare_arg args) k ≡ Some (RightArg d) → Lives d) → ArgsMatch places params args → ArgsMatch new_places params args
   args_kept [] [] live h = tt
   args_kept [] (arg ∷ args) live h = absurd h
   args_kept (p ∷ params) [] live h = absurd h

@@ -1,6 +1,6 @@
 -- Main's parameters get their data one after the other: on the parts.
 use Rattle.std.proofs.Common.{map as each, ◌≡◌, ◌<◌, ◌≤◌, ◌+◌, ℕ, zero, suc, true, false, List, [], ◌∷◌, ◌++◌, Some, None, refl, sym, ap, subst, ◌∙◌, arith, cond, length, length-append, slice_get, drop, append_assoc}
-use Rattle.tw_pool_state.proofs.PartNames.{Adds, AreAt, AreBefore, AreForAll, Arg, ArgStands, ArgsStand, IsAt, IsMade, MayAdd, Mode, Opened, OpenedParts, Param, Places, Read, Right, RightArg, Served, Store, Write, added, and_parts, bare_arg, created, empty, empty_store, eq_by_cmp, get, get-insert, insert, is_val, is_write, map-append, nat_cmp, nat_cmp_total, nat_tests, nothing_opened, opened, replicate, right_of, same_Some, with_given, with_input, with_output}
+use Rattle.tw_pool_state.proofs.PartNames.{Adds, AreAt, AreBefore, AreForAll, Arg, ArgMatches, ArgsMatch, IsAt, IsMade, MayAdd, Mode, Opened, OpenedParts, Param, Places, Read, Right, RightArg, Served, Store, Write, added, and_parts, bare_arg, created, empty, empty_store, eq_by_cmp, get, get-insert, insert, is_val, is_write, map-append, nat_cmp, nat_cmp_total, nat_tests, nothing_opened, opened, replicate, right_of, same_Some, with_given, with_input, with_output}
 use Rattle.std.specs.List.{list_all}
 use Rattle.tw_types.specs.declared.input.Input.{Input}
 use Rattle.tw_types.specs.declared.param.Mode.TheVariants as mode
@@ -15,13 +15,13 @@ use Rattle.tw_pool_state.proofs.Keeping.{all_kept, args_kept}
 
 -- ---- one argument, right or id more
 
-pub same_count : (places : Places) (params : List Param) (args : List Arg) → ArgsStand places params args → length args ≡ length params
+pub same_count : (places : Places) (params : List Param) (args : List Arg) → ArgsMatch places params args → length args ≡ length params
 same_count places [] [] h = refl
 same_count places [] (arg ∷ args) h = absurd h
 same_count places (p ∷ params) [] h = absurd h
 same_count places (p ∷ params) (arg ∷ args) h = ap suc (same_count places params args h.1)
 
-args_more : (places : Places) (params : List Param) (args : List Arg) (p : Param) (arg : Arg) → ArgsStand places params args → ArgStands places (right_of p) arg → ArgsStand places (params ++ p ∷ []) (args ++ arg ∷ [])
+args_more : (places : Places) (params : List Param) (args : List Arg) (p : Param) (arg : Arg) → ArgsMatch places params args → ArgMatches places (right_of p) arg → ArgsMatch places (params ++ p ∷ []) (args ++ arg ∷ [])
 args_more places [] [] p arg h one = (one, tt)
 args_more places [] (a ∷ args) p arg h one = absurd h
 args_more places (q ∷ params) [] p arg h one = absurd h
@@ -52,19 +52,19 @@ id_before next (id ∷ ids) (suc k) d h e = id_before next ids k d h.1 e
 
 -- ---- one parameter more
 
-write_stands : (places : Places) (p : Param) (right : Right) → is_write p.mode ≡ true → IsAt places right → ArgStands places (right_of p) (Write right)
-write_stands places p right write here = by p.mode write
+write_fits : (places : Places) (p : Param) (right : Right) → is_write p.mode ≡ true → IsAt places right → ArgMatches places (right_of p) (Write right)
+write_fits places p right write here = by p.mode write
   where
-    by : (m : Mode) → is_write m ≡ true → ArgStands places (cond (is_val m) None (Some (record { mode = m; ty = p.ty }))) (Write right)
+    by : (m : Mode) → is_write m ≡ true → ArgMatches places (cond (is_val m) None (Some (record { mode = m; ty = p.ty }))) (Write right)
     by mode.Val e = cc
     by mode.Closed e = cc
     by mode.Ref e = cc
     by mode.Write e = (refl, here)
 
-read_stands : (places : Places) (p : Param) (right : Right) → is_write p.mode ≡ false → is_val p.mode ≡ false → IsAt places right → ArgStands places (right_of p) (Read right)
-read_stands places p right read right_due here = by p.mode read right_due
+read_fits : (places : Places) (p : Param) (right : Right) → is_write p.mode ≡ false → is_val p.mode ≡ false → IsAt places right → ArgMatches places (right_of p) (Read right)
+read_fits places p right read right_due here = by p.mode read right_due
   where
-    by : (m : Mode) → is_write m ≡ false → is_val m ≡ false → ArgStands places (cond (is_val m) None (Some (record { mode = m; ty = p.ty }))) (Read right)
+    by : (m : Mode) → is_write m ≡ false → is_val m ≡ false → ArgMatches places (cond (is_val m) None (Some (record { mode = m; ty = p.ty }))) (Read right)
     by mode.Val e v = cc
     by mode.Closed e v = (refl, here)
     by mode.Ref e v = (refl, here)
@@ -76,7 +76,7 @@ bare_more args ids arg id same one =
 
 module _ (servers : ℕ) (params : List Param) (o : OpenedParts) (made : Opened) (h : IsMade servers params o made) (p : Param) where
   pub has_place : length params < 8 → length o.args < 8
-  has_place few = omega (arith, few, same_count o.store.places params o.args h.stand)
+  has_place few = omega (arith, few, same_count o.store.places params o.args h.rights_fit)
 
   longer : length (params ++ p ∷ []) ≡ length params + 1
   longer = length-append params (p ∷ [])
@@ -88,9 +88,9 @@ module _ (servers : ℕ) (params : List Param) (o : OpenedParts) (made : Opened)
     kept : (id place : ℕ) → id < made.store.next → get o.store.places id ≡ Some place → get new.places id ≡ Some place
     kept id place low there = stays id (omega (arith, low, next_is)) ∙ there
 
-    args_stand : ArgsStand new.places params o.args
-    args_stand = args_kept o.store.places new.places (λ id. id < made.store.next) kept params o.args
-        (λ k d at. named_before made.store.next made.rights k d h.args_before (ap (λ xs. slice_get xs k) (sym h.args) ∙ at)) h.stand
+    args_match : ArgsMatch new.places params o.args
+    args_match = args_kept o.store.places new.places (λ id. id < made.store.next) kept params o.args
+        (λ k d at. named_before made.store.next made.rights k d h.args_before (ap (λ xs. slice_get xs k) (sym h.args) ∙ at)) h.rights_fit
 
     outputs_at : AreAt new.places o.outputs
     outputs_at = all_kept o.store.places new.places (λ id. id < made.store.next) kept o.outputs
@@ -115,7 +115,7 @@ module _ (servers : ℕ) (params : List Param) (o : OpenedParts) (made : Opened)
         live = made_live o.store new p.ty right read (record { made = store; write = id; read = same; places = places; here = here; quiet = queues; live = h.live });
         args = bare_more o.args made.rights (Write right) made.store.next h.args (ap RightArg id_is);
         outputs = map-append (λ (r : Right). r.id) o.outputs (read ∷ []) ∙ (λ i. h.outputs i ++ (ap (λ (r : Right). r.id) same ∙ id_is) i ∷ []);
-        stand = args_more new.places params o.args p (Write right) (args_stand new elsewhere) (write_stands new.places p right write here);
+        rights_fit = args_more new.places params o.args p (Write right) (args_match new elsewhere) (write_fits new.places p right write here);
         outputs_at = at_more new.places o.outputs read (outputs_at new elsewhere) (subst (λ (r : Right). IsAt new.places r) (sym same) here);
         args_before = before_more (made.store.next + 1) made.rights made.store.next (before_wider made.store.next (made.store.next + 1) made.rights (omega arith) h.args_before) (omega arith);
         outputs_before = before_more (made.store.next + 1) made.outputs made.store.next (before_wider made.store.next (made.store.next + 1) made.outputs (omega arith) h.outputs_before) (omega arith);
@@ -135,7 +135,7 @@ module _ (servers : ℕ) (params : List Param) (o : OpenedParts) (made : Opened)
         live = live;
         args = bare_more o.args made.rights (Read right) made.store.next h.args (ap RightArg (added.first ∙ next_is));
         outputs = h.outputs;
-        stand = args_more new.places params o.args p (Read right) (args_stand new added.stays) (read_stands new.places p right read right_due added.here);
+        rights_fit = args_more new.places params o.args p (Read right) (args_match new added.stays) (read_fits new.places p right read right_due added.here);
         outputs_at = outputs_at new added.stays;
         args_before = before_more after made.rights made.store.next (before_wider made.store.next after made.rights (omega (arith, more.0)) h.args_before) more.0;
         outputs_before = before_wider made.store.next after made.outputs (omega (arith, more.0)) h.outputs_before;
@@ -152,7 +152,7 @@ nothing_made servers o store places queues args outputs = record {
   live = empty_live o.store places;
   args = ap (each bare_arg) args;
   outputs = ap (each (λ (r : Right). r.id)) outputs;
-  stand = subst (ArgsStand o.store.places []) (sym args) tt;
+  rights_fit = subst (ArgsMatch o.store.places []) (sym args) tt;
   outputs_at = subst (AreAt o.store.places) (sym outputs) tt;
   args_before = tt;
   outputs_before = tt;

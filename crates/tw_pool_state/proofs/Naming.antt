@@ -60,7 +60,7 @@ module _ (verified : TypedProgram) (layout : ActorCounts) (old : Parts) (notices
         long = callee.long ∙ ap (λ (q : Procedure). length q.params) same;
         control = control.0;
         suits = subst (λ (q : Procedure). AreSuited f.held q.params action.args) same
-            (suited waits p.registers callee.procedure.params action.args f.held typing (h.stand.frames actor f runs).kinds callee.met);
+            (suited waits p.registers callee.procedure.params action.args f.held typing (h.rights_fit.frames actor f runs).kinds callee.met);
         values = values.0;
         priority = number.0;
         priority_is = number.1;

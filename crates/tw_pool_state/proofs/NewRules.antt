@@ -1,13 +1,13 @@
 -- RULE: on the parts.
 use Rattle.std.proofs.Common.{map as each, ◌≡◌, ◌+◌, ◌∙◌, List, Option, Some, refl, sym, ap, subst, slice_get}
-use Rattle.tw_pool_state.proofs.PartNames.{Action, Actor, ActorCounts, AreParts, Arg, Call, Completed, FrameFits, FrameView, Goes, Held, MayBeAt, Notices, Parts, Procedure, Right, RuleOf, Stand, TypedProgram, Value, Went, actor_cmp-IsAntisymmetric, actor_cmp_total, at_next_place, bare_frame, bare_rule, bare_task, context_of, get, gone_after, gone_on, insert, insert_mapped, mapped, named_values, nat_cmp-IsAntisymmetric, nat_cmp_total, new_rule, number_in_kind, state_of, typed_after, typings_of, with_frame, with_rule}
+use Rattle.tw_pool_state.proofs.PartNames.{Action, Actor, ActorCounts, AreParts, Arg, Call, Completed, FrameFits, FrameView, Goes, Held, MayBeAt, Notices, Parts, Procedure, Right, RuleOf, RightsFit, TypedProgram, Value, Went, actor_cmp-IsAntisymmetric, actor_cmp_total, at_next_place, bare_frame, bare_rule, bare_task, context_of, get, gone_after, gone_on, insert, insert_mapped, mapped, named_values, nat_cmp-IsAntisymmetric, nat_cmp_total, new_rule, number_in_kind, state_of, typed_after, typings_of, with_frame, with_rule}
 use Rattle.tw_rights.specs.Bundled.{bundled}
 use Rattle.tw_code.specs.declared.instr.Instr.TheVariants as instr
 use Rattle.tw_code.specs.machine.Machine.{step}
 use Rattle.tw_rules.specs.Table as table
-use Rattle.tw_pool_state.proofs.Fitting.{seen, stand_ruled, stand_seated}
+use Rattle.tw_pool_state.proofs.Fitting.{seen, fit_ruled, fit_seated}
 use Rattle.tw_pool_state.proofs.Goings.{position_then}
-use Rattle.tw_pool_state.proofs.Handovers.{args_stand, bare_args, fits_behind, frame_is}
+use Rattle.tw_pool_state.proofs.Handovers.{args_match, bare_args, fits_behind, frame_is}
 use Rattle.tw_pool_state.proofs.Law.{goes_to}
 use Rattle.tw_pool_state.proofs.Naming.{IsNamed, rules}
 use Rattle.tw_pool_state.proofs.Seating.{get_other, get_own}
@@ -26,8 +26,8 @@ module _ (verified : TypedProgram) (layout : ActorCounts) (old : Parts) (notices
       rw (t, here, at, g) refl
 
   -- it may run from the place after it
-  pub rule_stands : MayBeAt f.program.program f.procedure (at_next_place f.position)
-  rule_stands = subst (λ (v : TypedProgram). MayBeAt v.program f.procedure (at_next_place f.position)) (sym (h.stand.frames actor f runs).program)
+  pub rule_fits : MayBeAt f.program.program f.procedure (at_next_place f.position)
+  rule_fits = subst (λ (v : TypedProgram). MayBeAt v.program f.procedure (at_next_place f.position)) (sym (h.rights_fit.frames actor f runs).program)
       (position_then verified layout old notices h actor f runs (Call actor) _ rule_steps (gone_after (bare_frame f) rule_named.given.rights) (get_own (mapped bare_frame old.seats) actor (gone_after (bare_frame f) rule_named.given.rights)))
 
   module _ (vals : List Value) (are : each Some vals ≡ named_values f.position.values rule_named.procedure.params action.args)
@@ -61,12 +61,12 @@ module _ (verified : TypedProgram) (layout : ActorCounts) (old : Parts) (notices
       }
 
       pub rule_goes : Goes verified layout (Call actor) old notices new
-      rule_goes = goes_to verified layout old notices h (Call actor) new notices _ goes same_state (rw store h.queued) (rw store h.servers) stand_is
+      rule_goes = goes_to verified layout old notices h (Call actor) new notices _ goes same_state (rw store h.queued) (rw store h.servers) fit_is
           (λ other apart. ap (λ m. get m other) seats ∙ get_other old.seats actor (gone_on f file) other apart)
         where
-          ruled_there : Stand verified old.store.places old.seats old.tasks.tasks (insert old.rules.rules old.rules.next rule) old.outputs
-          ruled_there = stand_ruled verified old.store.places old.seats old.tasks.tasks old.rules.rules old.outputs h.stand old.rules.next rule
-              (args_stand verified layout old notices h actor f p action runs rule_named vals are args file over)
+          ruled_there : RightsFit verified old.store.places old.seats old.tasks.tasks (insert old.rules.rules old.rules.next rule) old.outputs
+          ruled_there = fit_ruled verified old.store.places old.seats old.tasks.tasks old.rules.rules old.outputs h.rights_fit old.rules.next rule
+              (args_match verified layout old notices h actor f p action runs rule_named vals are args file over)
 
-          stand_is : Stand verified new.store.places new.seats new.tasks.tasks new.rules.rules new.outputs
-          stand_is = rw (store, seats, tasks, ruled, outputs) (stand_seated verified old.store.places old.seats old.tasks.tasks (insert old.rules.rules old.rules.next rule) old.outputs ruled_there actor (gone_on f file) fits)
+          fit_is : RightsFit verified new.store.places new.seats new.tasks.tasks new.rules.rules new.outputs
+          fit_is = rw (store, seats, tasks, ruled, outputs) (fit_seated verified old.store.places old.seats old.tasks.tasks (insert old.rules.rules old.rules.next rule) old.outputs ruled_there actor (gone_on f file) fits)

@@ -1,6 +1,6 @@
 -- A program is opened: on the parts.
 use Rattle.std.proofs.Common.{map as each, ◌≡◌, ℕ, pos, zero, suc, false, List, [], ◌∷◌, Some, None, refl, sym, ap, subst, ◌∙◌, length, replicate}
-use Rattle.tw_pool_state.proofs.PartNames.{ActorCounts, AreApart, AreAt, AreQueued, Arg, ArgsStand, IsLayout, IsMade, IsProgram, IsReached, MainWaits, Notice, OpenedParts, Parts, Places, Procedure, Right, Served, Stand, TaskOf, Tasks, TypedProgram, Went, actor_cmp, bare_frame, bare_rule, bare_task, empty_mapped, get-empty, insert, insert_mapped, is_among, length-replicate, mapped, nat_cmp, nat_cmp-IsAntisymmetric, nat_cmp_total, notice_cmp, params_of, queue_at, server_of, state_of, typings_of}
+use Rattle.tw_pool_state.proofs.PartNames.{ActorCounts, AreApart, AreAt, AreQueued, Arg, ArgsMatch, IsLayout, IsMade, IsProgram, IsReached, MainWaits, Notice, OpenedParts, Parts, Places, Procedure, Right, Served, RightsFit, TaskOf, Tasks, TypedProgram, Went, actor_cmp, bare_frame, bare_rule, bare_task, empty_mapped, get-empty, insert, insert_mapped, is_among, length-replicate, mapped, nat_cmp, nat_cmp-IsAntisymmetric, nat_cmp_total, notice_cmp, params_of, queue_at, server_of, state_of, typings_of}
 use Rattle.std.specs.FinMap as fin
 use Rattle.std.specs.FinSet as set
 use Rattle.std.specs.FinSet.{contains-empty}
@@ -12,7 +12,7 @@ use Rattle.tw_code.specs.machine.Machine.{run}
 use Rattle.tw_code.specs.machine.Opening.{main_params, main_task, nothing_opened, opened, opening}
 use Rattle.tw_soundness.specs.NoTrap.{AreRight}
 use Rattle.tw_pool_state.specs.Opening.{IsOpening}
-use Rattle.tw_pool_state.proofs.Fitting.{stand_put}
+use Rattle.tw_pool_state.proofs.Fitting.{fit_put}
 
 -- ---- no notices
 
@@ -37,8 +37,8 @@ main_is : (program : List Procedure) → params_of program 0 ≡ main_params pro
 main_is [] = refl
 main_is (main ∷ others) = refl
 
-nothing_stands : (verified : TypedProgram) (places : Places) (given : List Right) → AreAt places given → Stand verified places fin.empty fin.empty fin.empty given
-nothing_stands verified places given h = record {
+nothing_fits : (verified : TypedProgram) (places : Places) (given : List Right) → AreAt places given → RightsFit verified places fin.empty fin.empty fin.empty given
+nothing_fits verified places given h = record {
   frames = λ actor f there. let none : None ≡ Some f = sym (get-empty actor_cmp actor) ∙ there in cc;
   tasks = λ number t there. let none : None ≡ Some t = sym (get-empty nat_cmp number) ∙ there in cc;
   rules = λ number r there. let none : None ≡ Some r = sym (get-empty nat_cmp number) ∙ there in cc;
@@ -71,15 +71,15 @@ module _ (verified : TypedProgram) (inputs : List Input) (layout : ActorCounts) 
   queues_are : p.store.queues ≡ replicate layout.servers []
   queues_are = ap (λ (s : Served). s.queues) waits.store ∙ made.queues
 
-  fits_place : Stand verified p.store.places p.seats p.tasks.tasks p.rules.rules p.outputs
+  fits_place : RightsFit verified p.store.places p.seats p.tasks.tasks p.rules.rules p.outputs
   fits_place =
       let s = waits.store in
       let seats = waits.seats in
       let tasks = waits.tasks in
       let rules = waits.rules in
       let outputs = waits.outputs in
-      let args : ArgsStand o.store.places (params_of verified.program 0) o.args = subst (λ ps. ArgsStand o.store.places ps o.args) (sym (main_is verified.program)) made.stand in
-      rw (s, seats, tasks, rules, outputs) (stand_put verified o.store.places fin.empty fin.empty fin.empty o.outputs (nothing_stands verified o.store.places o.outputs made.outputs_at) 1 main args)
+      let args : ArgsMatch o.store.places (params_of verified.program 0) o.args = subst (λ ps. ArgsMatch o.store.places ps o.args) (sym (main_is verified.program)) made.rights_fit in
+      rw (s, seats, tasks, rules, outputs) (fit_put verified o.store.places fin.empty fin.empty fin.empty o.outputs (nothing_fits verified o.store.places o.outputs made.outputs_at) 1 main args)
 
   reached_is : AreInputsOf verified.program inputs → IsReached verified.program layout (state_of p set.empty)
   unfolding run
@@ -93,7 +93,7 @@ module _ (verified : TypedProgram) (inputs : List Input) (layout : ActorCounts) 
       law = reached_is given;
       queued = subst (λ qs. AreQueued qs set.empty) (sym queues_are) (none_queued layout.servers);
       servers = ap length queues_are ∙ length-replicate layout.servers [];
-      stand = fits_place;
+      rights_fit = fits_place;
     };
     nobody = waits.seats;
   }

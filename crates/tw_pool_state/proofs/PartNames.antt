@@ -61,7 +61,7 @@ pub use Rattle.tw_pool_state.specs.Coming.{Begins, BeginsOrNone, begun, come, go
 pub use Rattle.tw_pool_state.specs.Copies.{named_values}
 pub use Rattle.tw_pool_state.specs.Data.{HasRoom, IsAnswer, IsDone, IsLentAnswer, IsLentAfter, IsLive, IsRefused, AreNotified, MayDo, sees}
 pub use Rattle.tw_pool_state.specs.Events.{Goes, IsLent, IsOwed, IsSmall, Makes, MakesAfter, IsAtInstr, Untouched, with_done}
-pub use Rattle.tw_pool_state.specs.Fits.{AreAt, AreParts, ArePlaced, ArgStands, ArgsStand, FrameFits, IsAt, IsPlaced, IsReached, Stand, kinds_in, right_in}
+pub use Rattle.tw_pool_state.specs.Fits.{AreAt, AreParts, ArePlaced, ArgMatches, ArgsMatch, FrameFits, IsAt, IsPlaced, IsReached, RightsFit, kinds_in, right_in}
 pub use Rattle.tw_pool_state.specs.Memory.{AsksOpen, HasThatMany, IsAbsent, IsTextAt, TakesMemory}
 pub use Rattle.tw_pool_state.specs.Notes.{AreApart, AreQueued, is_among, is_queued, queue_at}
 pub use Rattle.tw_pool_state.specs.OpenedParts.{Adds, AreBefore, AreForAll, IsMade, MainWaits, MayAdd, OpenedParts}

@@ -1,12 +1,12 @@
 -- PUT: on the parts.
 use Rattle.std.proofs.Common.{map as each, ◌≡◌, ◌+◌, ◌∙◌, List, Option, Some, refl, sym, ap, subst, slice_get}
-use Rattle.tw_pool_state.proofs.PartNames.{Action, Actor, ActorCounts, AreParts, Arg, Call, Completed, FrameFits, FrameView, Goes, Held, MayBeAt, Notices, Parts, Procedure, Right, Stand, TaskOf, TypedProgram, Value, Went, actor_cmp-IsAntisymmetric, actor_cmp_total, at_next_place, bare_frame, bare_rule, bare_task, context_of, get, gone_after, gone_on, insert, insert_mapped, mapped, named_values, nat_cmp-IsAntisymmetric, nat_cmp_total, state_of, typed_after, typings_of, with_frame, with_task}
+use Rattle.tw_pool_state.proofs.PartNames.{Action, Actor, ActorCounts, AreParts, Arg, Call, Completed, FrameFits, FrameView, Goes, Held, MayBeAt, Notices, Parts, Procedure, Right, RightsFit, TaskOf, TypedProgram, Value, Went, actor_cmp-IsAntisymmetric, actor_cmp_total, at_next_place, bare_frame, bare_rule, bare_task, context_of, get, gone_after, gone_on, insert, insert_mapped, mapped, named_values, nat_cmp-IsAntisymmetric, nat_cmp_total, state_of, typed_after, typings_of, with_frame, with_task}
 use Rattle.tw_rights.specs.Bundled.{bundled}
 use Rattle.tw_code.specs.declared.instr.Instr.TheVariants as instr
 use Rattle.tw_code.specs.machine.Machine.{step}
-use Rattle.tw_pool_state.proofs.Fitting.{seen, stand_put, stand_seated}
+use Rattle.tw_pool_state.proofs.Fitting.{seen, fit_put, fit_seated}
 use Rattle.tw_pool_state.proofs.Goings.{position_then}
-use Rattle.tw_pool_state.proofs.Handovers.{args_stand, bare_args, fits_behind, frame_is}
+use Rattle.tw_pool_state.proofs.Handovers.{args_match, bare_args, fits_behind, frame_is}
 use Rattle.tw_pool_state.proofs.Law.{goes_to}
 use Rattle.tw_pool_state.proofs.Naming.{IsNamed, puts}
 use Rattle.tw_pool_state.proofs.Seating.{get_other, get_own}
@@ -25,8 +25,8 @@ module _ (verified : TypedProgram) (layout : ActorCounts) (old : Parts) (notices
       rw (t, here, at, g) refl
 
   -- it may run from the place after it
-  pub put_stands : MayBeAt f.program.program f.procedure (at_next_place f.position)
-  put_stands = subst (λ (v : TypedProgram). MayBeAt v.program f.procedure (at_next_place f.position)) (sym (h.stand.frames actor f runs).program)
+  pub put_fits : MayBeAt f.program.program f.procedure (at_next_place f.position)
+  put_fits = subst (λ (v : TypedProgram). MayBeAt v.program f.procedure (at_next_place f.position)) (sym (h.rights_fit.frames actor f runs).program)
       (position_then verified layout old notices h actor f runs (Call actor) _ put_steps (gone_after (bare_frame f) put_named.given.rights) (get_own (mapped bare_frame old.seats) actor (gone_after (bare_frame f) put_named.given.rights)))
 
   module _ (vals : List Value) (are : each Some vals ≡ named_values f.position.values put_named.procedure.params action.args)
@@ -60,12 +60,12 @@ module _ (verified : TypedProgram) (layout : ActorCounts) (old : Parts) (notices
       }
 
       pub put_goes : Goes verified layout (Call actor) old notices new
-      put_goes = goes_to verified layout old notices h (Call actor) new notices _ goes same_state (rw store h.queued) (rw store h.servers) stand_is
+      put_goes = goes_to verified layout old notices h (Call actor) new notices _ goes same_state (rw store h.queued) (rw store h.servers) fit_is
           (λ other apart. ap (λ m. get m other) seats ∙ get_other old.seats actor (gone_on f file) other apart)
         where
-          put_there : Stand verified old.store.places old.seats (insert old.tasks.tasks old.next_task task) old.rules.rules old.outputs
-          put_there = stand_put verified old.store.places old.seats old.tasks.tasks old.rules.rules old.outputs h.stand old.next_task task
-              (args_stand verified layout old notices h actor f p action runs put_named vals are args file over)
+          put_there : RightsFit verified old.store.places old.seats (insert old.tasks.tasks old.next_task task) old.rules.rules old.outputs
+          put_there = fit_put verified old.store.places old.seats old.tasks.tasks old.rules.rules old.outputs h.rights_fit old.next_task task
+              (args_match verified layout old notices h actor f p action runs put_named vals are args file over)
 
-          stand_is : Stand verified new.store.places new.seats new.tasks.tasks new.rules.rules new.outputs
-          stand_is = rw (store, seats, tasks, rules, outputs) (stand_seated verified old.store.places old.seats (insert old.tasks.tasks old.next_task task) old.rules.rules old.outputs put_there actor (gone_on f file) fits)
+          fit_is : RightsFit verified new.store.places new.seats new.tasks.tasks new.rules.rules new.outputs
+          fit_is = rw (store, seats, tasks, rules, outputs) (fit_seated verified old.store.places old.seats (insert old.tasks.tasks old.next_task task) old.rules.rules old.outputs put_there actor (gone_on f file) fits)

@@ -1,6 +1,6 @@
 -- An engine releases a rule: on the parts.
 use Rattle.std.proofs.Common.{map, ◌≡◌, ◌≤◌, ◌+◌, ℕ, true, Option, Some, None, refl, sym, ap, subst, ◌∙◌, slice_get, option_map, arith}
-use Rattle.tw_pool_state.proofs.PartNames.{ActorCounts, AreParts, Arg, Goes, Notices, Parts, Procedure, Release, Right, Rule, Stand, TaskOf, TypedProgram, Went, bare_arg, bare_frame, bare_rule, bare_task, entries, get, insert, insert_mapped, is_releasable, mapped, nat_cmp-IsAntisymmetric, nat_cmp_total, next_release, remove, remove_mapped, state_of, task_from, with_task}
+use Rattle.tw_pool_state.proofs.PartNames.{ActorCounts, AreParts, Arg, Goes, Notices, Parts, Procedure, Release, Right, Rule, RightsFit, TaskOf, TypedProgram, Went, bare_arg, bare_frame, bare_rule, bare_task, entries, get, insert, insert_mapped, is_releasable, mapped, nat_cmp-IsAntisymmetric, nat_cmp_total, next_release, remove, remove_mapped, state_of, task_from, with_task}
 use Rattle.tw_types.specs.declared.actor.Actor.TheVariants.{Engine}
 use Rattle.tw_types.specs.declared.actor.Kind.{Kind}
 use Rattle.tw_code.specs.machine.Machine.{step}
@@ -8,7 +8,7 @@ use Rattle.tw_code.specs.accepting.Needs.{up_to}
 use Rattle.tw_code.proofs.Placed.{count_of}
 use Rattle.tw_queue.specs.Queues.{IsTarget}
 use Rattle.tw_code.proofs.Found.{IsOwn, MayBeReleased, own_rule_there, release_found}
-use Rattle.tw_pool_state.proofs.Fitting.{Behind, behind, seen, stand_released}
+use Rattle.tw_pool_state.proofs.Fitting.{Behind, behind, seen, fit_released}
 use Rattle.tw_types.proofs.Chosen.{next_release_mapped}
 use Rattle.tw_pool_state.proofs.Law.{goes_to, held, in_layout, target_below}
 
@@ -79,7 +79,7 @@ module _ (verified : TypedProgram) (layout : ActorCounts) (old : Parts) (notices
       }
 
       pub releases : Goes verified layout (Release engine number) old notices new
-      releases = goes_to verified layout old notices h (Release engine number) new notices _ goes same_state (rw store h.queued) (rw store h.servers) stand_is (λ actor other. ap (λ m. get m actor) seats)
+      releases = goes_to verified layout old notices h (Release engine number) new notices _ goes same_state (rw store h.queued) (rw store h.servers) fit_is (λ actor other. ap (λ m. get m actor) seats)
         where
-          stand_is : Stand verified new.store.places new.seats new.tasks.tasks new.rules.rules new.outputs
-          stand_is = rw (store, seats, tasks, rules, outputs) (stand_released verified old.store.places old.seats old.tasks.tasks old.rules.rules old.outputs h.stand number old.next_task its.x kind its.there)
+          fit_is : RightsFit verified new.store.places new.seats new.tasks.tasks new.rules.rules new.outputs
+          fit_is = rw (store, seats, tasks, rules, outputs) (fit_released verified old.store.places old.seats old.tasks.tasks old.rules.rules old.outputs h.rights_fit number old.next_task its.x kind its.there)

@@ -1,6 +1,6 @@
 -- An engine asks: on the parts.
 use Rattle.std.proofs.Common.{map, length, ◌≡◌, ℕ, zero, suc, true, false, if◌then◌else◌, List, [], ◌∷◌, Some, None, refl, sym, ap, subst, ◌∙◌, slice_get, option_map}
-use Rattle.tw_pool_state.proofs.PartNames.{ActorCounts, AreParts, AreQueued, Arg, ArgStands, ArgsStand, Ask, AsksOpen, Datum, Goes, IsAt, Mode, Notices, Param, Parts, Places, Read, Right, RightArg, Rule, Stand, Store, TypedProgram, Val, Went, Write, at_stage, bare_arg, bare_frame, bare_rule, bare_task, closed_by, entries, get, insert, is_closed, is_closed_mode, is_settled, is_val, mapped, next_ask, params_in, params_of, right_of, same_Some, state_of, subscribed, typings_of, with_stage}
+use Rattle.tw_pool_state.proofs.PartNames.{ActorCounts, AreParts, AreQueued, Arg, ArgMatches, ArgsMatch, Ask, AsksOpen, Datum, Goes, IsAt, Mode, Notices, Param, Parts, Places, Read, Right, RightArg, Rule, RightsFit, Store, TypedProgram, Val, Went, Write, at_stage, bare_arg, bare_frame, bare_rule, bare_task, closed_by, entries, get, insert, is_closed, is_closed_mode, is_settled, is_val, mapped, next_ask, params_in, params_of, right_of, same_Some, state_of, subscribed, typings_of, with_stage}
 use Rattle.tw_types.specs.declared.actor.Actor.TheVariants.{Engine}
 use Rattle.tw_types.specs.declared.param.Mode.TheVariants as mode
 use Rattle.tw_types.specs.declared.stage.Stage.{Stage}
@@ -12,7 +12,7 @@ use Rattle.tw_soundness.specs.InOrder.{is_asked_for}
 use Rattle.tw_soundness.specs.Invariant.{IsHeld, RuleArgsFit}
 use Rattle.tw_soundness.proofs.Wanted.{asked_is_there}
 use Rattle.tw_pool_state.proofs.Delivers.{staged_bare, staged_is}
-use Rattle.tw_pool_state.proofs.Fitting.{Behind, behind, seen, stand_staged}
+use Rattle.tw_pool_state.proofs.Fitting.{Behind, behind, seen, fit_staged}
 use Rattle.tw_types.proofs.Chosen.{next_ask_mapped}
 use Rattle.tw_pool_state.proofs.Law.{goes_to, held}
 
@@ -23,10 +23,10 @@ pub record Reads (places : Places) (args : List Arg) (k : ℕ) : Type 0 where
   pub there : slice_get args k ≡ Some (Read right)
   pub here : IsAt places right
 
-closed_reads : (places : Places) (p : Param) (arg : Arg) → is_closed_mode p.mode ≡ true → ArgStands places (right_of p) arg → (right : Right) × (arg ≡ Read right) × IsAt places right
+closed_reads : (places : Places) (p : Param) (arg : Arg) → is_closed_mode p.mode ≡ true → ArgMatches places (right_of p) arg → (right : Right) × (arg ≡ Read right) × IsAt places right
 closed_reads places p arg closed fits_place = by p.mode arg closed fits_place
   where
-    by : (m : Mode) (arg : Arg) → is_closed_mode m ≡ true → ArgStands places (if is_val m then None else Some (record { mode = m; ty = p.ty })) arg → (right : Right) × (arg ≡ Read right) × IsAt places right
+    by : (m : Mode) (arg : Arg) → is_closed_mode m ≡ true → ArgMatches places (if is_val m then None else Some (record { mode = m; ty = p.ty })) arg → (right : Right) × (arg ≡ Read right) × IsAt places right
     by mode.Val arg closed fits_place = cc
     by mode.Closed (Val x) closed fits_place = absurd fits_place
     by mode.Closed (Read right) closed fits_place = (right, refl, fits_place.1)
@@ -34,7 +34,7 @@ closed_reads places p arg closed fits_place = by p.mode arg closed fits_place
     by mode.Ref arg closed fits_place = cc
     by mode.Write arg closed fits_place = cc
 
-pub asked_reads : (s : Store) (places : Places) (params : List Param) (stages : List Stage) (args : List Arg) (k : ℕ) → RuleArgsFit s params stages (map bare_arg args) → ArgsStand places params args → slice_get stages k ≡ Some Unasked → Reads places args k
+pub asked_reads : (s : Store) (places : Places) (params : List Param) (stages : List Stage) (args : List Arg) (k : ℕ) → RuleArgsFit s params stages (map bare_arg args) → ArgsMatch places params args → slice_get stages k ≡ Some Unasked → Reads places args k
 asked_reads s places [] [] args k fit fits_place at = cc
 asked_reads s places [] (stage ∷ stages) args k fit fits_place at = absurd fit
 asked_reads s places (p ∷ params) [] args k fit fits_place at = absurd fit
@@ -74,7 +74,7 @@ module _ (verified : TypedProgram) (layout : ActorCounts) (old : Parts) (notices
       let params : params_of verified.program its.x.procedure ≡ p.0.params = ap (params_of verified.program) same_procedure ∙ ap params_in p.1 in
       asked_reads old.store.store old.store.places p.0.params its.x.stages its.x.args parameter
       (subst (λ (r : Rule). RuleArgsFit old.store.store p.0.params r.stages r.args) (sym its.is) fit)
-      (subst (λ ps. ArgsStand old.store.places ps its.x.args) params (h.stand.rules number its.x its.there))
+      (subst (λ ps. ArgsMatch old.store.places ps its.x.args) params (h.rights_fit.rules number its.x its.there))
       stage_there
 
   pub right_is : right_at old.rules.rules number parameter ≡ Some reads.right
@@ -134,14 +134,14 @@ module _ (verified : TypedProgram) (layout : ActorCounts) (old : Parts) (notices
 
       pub asks : Goes verified layout (Ask engine number parameter) old notices new
       asks = goes_to verified layout old notices h (Ask engine number parameter) new notices _ (goes ∙ ap Went leads) same_state
-          (subst (λ qs. AreQueued qs notices) (sym queues) h.queued) (ap length queues ∙ h.servers) stand_is (λ actor other. ap (λ m. get m actor) seats)
+          (subst (λ qs. AreQueued qs notices) (sym queues) h.queued) (ap length queues ∙ h.servers) fit_is (λ actor other. ap (λ m. get m actor) seats)
         where
-          staged_stand : Stand verified old.store.places old.seats old.tasks.tasks (staged old.rules.rules number parameter stage) old.outputs
-          staged_stand = subst (λ rs. Stand verified old.store.places old.seats old.tasks.tasks rs old.outputs) (sym (staged_is old.rules.rules number its.x parameter stage its.there))
-              (stand_staged verified old.store.places old.seats old.tasks.tasks old.rules.rules old.outputs h.stand number its.x parameter stage its.there)
+          staged_fit : RightsFit verified old.store.places old.seats old.tasks.tasks (staged old.rules.rules number parameter stage) old.outputs
+          staged_fit = subst (λ rs. RightsFit verified old.store.places old.seats old.tasks.tasks rs old.outputs) (sym (staged_is old.rules.rules number its.x parameter stage its.there))
+              (fit_staged verified old.store.places old.seats old.tasks.tasks old.rules.rules old.outputs h.rights_fit number its.x parameter stage its.there)
 
-          stand_is : Stand verified new.store.places new.seats new.tasks.tasks new.rules.rules new.outputs
-          stand_is = rw (places, seats, tasks, rules, outputs) staged_stand
+          fit_is : RightsFit verified new.store.places new.seats new.tasks.tasks new.rules.rules new.outputs
+          fit_is = rw (places, seats, tasks, rules, outputs) staged_fit
 
     -- the results in both cases
     pub closed_leads : closed_by (get old.store.store.live reads.right.id) ≡ true → asked (state_of old notices) number found.rule parameter reads.right.id live.0 ≡ with_stage (record (state_of old notices) { store = old.store.store }) number found.rule parameter Ready

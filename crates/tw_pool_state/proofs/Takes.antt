@@ -1,6 +1,6 @@
 -- An actor takes a task: on the parts.
 use Rattle.std.proofs.Common.{map as each, ◌≡◌, ◌-◌, ℕ, zero, suc, true, List, [], ◌∷◌, ◌++◌, Option, Some, None, Result, Ok, Err, refl, sym, ap, subst, ◌∙◌, slice_get, option_map, length, replicate, option_to_list}
-use Rattle.tw_pool_state.proofs.PartNames.{Actor, ActorCounts, AreParts, ArePlaced, Arg, ArgStands, ArgsStand, Begins, Cause, FrameFits, FrameView, Goes, JobView, MayBeAt, MayStart, Notices, Param, Parts, Places, Procedure, Read, Right, RightType, Seated, Stand, StartsAsMachine, Take, TaskOf, TasksOf, Trap, TypedProgram, Val, Value, Went, Write, actor_cmp-IsAntisymmetric, actor_cmp_total, bare_arg, bare_file, bare_frame, bare_rule, bare_task, best, entry_by, first_rights, frame_of, get, insert, insert_mapped, is_in, is_write, kinds_in, mapped, nat_cmp-IsAntisymmetric, nat_cmp_total, params_in, remove, remove_mapped, right_of, rights_given, started, state_of, typed_at_start, typings_of, with_frame}
+use Rattle.tw_pool_state.proofs.PartNames.{Actor, ActorCounts, AreParts, ArePlaced, Arg, ArgMatches, ArgsMatch, Begins, Cause, FrameFits, FrameView, Goes, JobView, MayBeAt, MayStart, Notices, Param, Parts, Places, Procedure, Read, Right, RightType, Seated, RightsFit, StartsAsMachine, Take, TaskOf, TasksOf, Trap, TypedProgram, Val, Value, Went, Write, actor_cmp-IsAntisymmetric, actor_cmp_total, bare_arg, bare_file, bare_frame, bare_rule, bare_task, best, entry_by, first_rights, frame_of, get, insert, insert_mapped, is_in, is_write, kinds_in, mapped, nat_cmp-IsAntisymmetric, nat_cmp_total, params_in, remove, remove_mapped, right_of, rights_given, started, state_of, typed_at_start, typings_of, with_frame}
 use Rattle.tw_types.proofs.Best.{best_waits}
 use Rattle.tw_code.specs.machine.Machine.{step}
 use Rattle.tw_soundness.proofs.Safe.{safe}
@@ -9,22 +9,22 @@ use Rattle.tw_rights.specs.Filed.{filed, rights_in}
 use Rattle.tw_rights.specs.Kinds.{writes}
 use Rattle.tw_pool_state.specs.Coming.{IsBegun}
 use Rattle.tw_pool_state.specs.Events.{IsTaken}
-use Rattle.tw_pool_state.proofs.Fitting.{seen, stand_seated, stand_without}
+use Rattle.tw_pool_state.proofs.Fitting.{seen, fit_seated, fit_without}
 use Rattle.tw_types.proofs.Chosen.{best_mapped}
 use Rattle.tw_pool_state.proofs.Law.{goes_to, held}
-use Rattle.tw_pool_state.proofs.Goings.{may_stand}
+use Rattle.tw_pool_state.proofs.Goings.{may_be_at}
 use Rattle.tw_pool_state.proofs.Seating.{get_other, get_own}
 use Rattle.tw_soundness.specs.Invariant.{IsHeld}
 
 -- ---- the first registers
 
-kinds_given : (places : Places) (params : List Param) (args : List Arg) → ArgsStand places params args → each writes (rights_in args) ≡ each (λ (t : RightType). is_write t.mode) (rights_given params)
+kinds_given : (places : Places) (params : List Param) (args : List Arg) → ArgsMatch places params args → each writes (rights_in args) ≡ each (λ (t : RightType). is_write t.mode) (rights_given params)
 kinds_given places [] [] h = refl
 kinds_given places [] (arg ∷ args) h = absurd h
 kinds_given places (p ∷ params) [] h = absurd h
 kinds_given places (p ∷ params) (arg ∷ args) h = by (right_of p) arg h.0 (kinds_given places params args h.1)
   where
-    by : (o : Option RightType) (arg : Arg) → ArgStands places o arg → each writes (rights_in args) ≡ each (λ (t : RightType). is_write t.mode) (rights_given params)
+    by : (o : Option RightType) (arg : Arg) → ArgMatches places o arg → each writes (rights_in args) ≡ each (λ (t : RightType). is_write t.mode) (rights_given params)
         → each writes (rights_in (arg ∷ args)) ≡ each (λ (t : RightType). is_write t.mode) (option_to_list o ++ rights_given params)
     by None (Val x) s rest = rest
     by None (Read right) s rest = absurd s
@@ -37,13 +37,13 @@ none_placed : (places : Places) (n : ℕ) → ArePlaced places (replicate n None
 none_placed places zero = tt
 none_placed places (suc n) = (tt, none_placed places n)
 
-placed_given : (places : Places) (params : List Param) (args : List Arg) (n : ℕ) → ArgsStand places params args → ArePlaced places (each Some (rights_in args) ++ replicate n None)
+placed_given : (places : Places) (params : List Param) (args : List Arg) (n : ℕ) → ArgsMatch places params args → ArePlaced places (each Some (rights_in args) ++ replicate n None)
 placed_given places [] [] n h = none_placed places n
 placed_given places [] (arg ∷ args) n h = absurd h
 placed_given places (p ∷ params) [] n h = absurd h
 placed_given places (p ∷ params) (arg ∷ args) n h = by (right_of p) arg h.0 (placed_given places params args n h.1)
   where
-    by : (o : Option RightType) (arg : Arg) → ArgStands places o arg → ArePlaced places (each Some (rights_in args) ++ replicate n None) → ArePlaced places (each Some (rights_in (arg ∷ args)) ++ replicate n None)
+    by : (o : Option RightType) (arg : Arg) → ArgMatches places o arg → ArePlaced places (each Some (rights_in args) ++ replicate n None) → ArePlaced places (each Some (rights_in (arg ∷ args)) ++ replicate n None)
     by None (Val x) s rest = rest
     by None (Read right) s rest = absurd s
     by None (Write right) s rest = absurd s
@@ -107,8 +107,8 @@ module _ (verified : TypedProgram) (layout : ActorCounts) (old : Parts) (notices
     unfolding step
     goes = let n = none in let d = bare_due in let b = begins in rw (there, n, d, b) refl
 
-    fits_place : ArgsStand old.store.places procedure.0.params e.1.args
-    fits_place = subst (λ ps. ArgsStand old.store.places ps e.1.args) (ap params_in procedure.1) (h.stand.tasks e.0 e.1 waits)
+    fits_place : ArgsMatch old.store.places procedure.0.params e.1.args
+    fits_place = subst (λ ps. ArgsMatch old.store.places ps e.1.args) (ap params_in procedure.1) (h.rights_fit.tasks e.0 e.1 waits)
 
     fits : (event_no : ℕ) → FrameFits verified old.store.places actor (record begun { event_no = event_no })
     fits event_no = record {
@@ -134,18 +134,18 @@ module _ (verified : TypedProgram) (layout : ActorCounts) (old : Parts) (notices
       }
 
       pub takes : Goes verified layout (Take actor) old notices new
-      takes = goes_to verified layout old notices h (Take actor) new notices _ goes same_state (rw store h.queued) (rw store h.servers) stand_is
+      takes = goes_to verified layout old notices h (Take actor) new notices _ goes same_state (rw store h.queued) (rw store h.servers) fit_is
           (λ other apart. ap (λ m. get m other) seats ∙ get_other old.seats actor (record begun { event_no = event_no }) other apart)
         where
-          without_it : Stand verified old.store.places old.seats (remove old.tasks.tasks e.0) old.rules.rules old.outputs
-          without_it = stand_without verified old.store.places old.seats old.tasks.tasks old.rules.rules old.outputs h.stand e.0
+          without_it : RightsFit verified old.store.places old.seats (remove old.tasks.tasks e.0) old.rules.rules old.outputs
+          without_it = fit_without verified old.store.places old.seats old.tasks.tasks old.rules.rules old.outputs h.rights_fit e.0
 
-          stand_is : Stand verified new.store.places new.seats new.tasks.tasks new.rules.rules new.outputs
-          stand_is = rw (store, seats, tasks, rules, outputs) (stand_seated verified old.store.places old.seats (remove old.tasks.tasks e.0) old.rules.rules old.outputs without_it actor (record begun { event_no = event_no }) (fits event_no))
+          fit_is : RightsFit verified new.store.places new.seats new.tasks.tasks new.rules.rules new.outputs
+          fit_is = rw (store, seats, tasks, rules, outputs) (fit_seated verified old.store.places old.seats (remove old.tasks.tasks e.0) old.rules.rules old.outputs without_it actor (record begun { event_no = event_no }) (fits event_no))
 
     -- it may run from there
-    pub begun_stands : MayBeAt verified.program e.1.procedure begun.position
-    begun_stands = let g = takes 0 next refl refl refl refl refl refl in may_stand verified layout next g.left g.parts actor begun (get_own old.seats actor begun)
+    pub begun_fits : MayBeAt verified.program e.1.procedure begun.position
+    begun_fits = let g = takes 0 next refl refl refl refl refl refl in may_be_at verified layout next g.left g.parts actor begun (get_own old.seats actor begun)
       where
         next : Parts
         next = record old { tasks = record old.tasks { tasks = remove old.tasks.tasks e.0 }; seats = insert old.seats actor begun }

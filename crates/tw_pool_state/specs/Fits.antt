@@ -66,20 +66,20 @@ kinds_in typing = each (option_map (λ right. is_write right.mode)) typing
 -- ---- arguments
 
 -- holds for a value if the parameter is one, and else for a right of the parameter's kind that has its datum's place
-abbrev pub ArgStands : Places → Option RightType → Arg → Type 0
-ArgStands places None (arg.Val value) = Unit {0}
-ArgStands places None (arg.Read right) = ⊥
-ArgStands places None (arg.Write right) = ⊥
-ArgStands places (Some t) (arg.Val value) = ⊥
-ArgStands places (Some t) (arg.Read right) = (is_write t.mode ≡ false) × IsAt places right
-ArgStands places (Some t) (arg.Write right) = (is_write t.mode ≡ true) × IsAt places right
+abbrev pub ArgMatches : Places → Option RightType → Arg → Type 0
+ArgMatches places None (arg.Val value) = Unit {0}
+ArgMatches places None (arg.Read right) = ⊥
+ArgMatches places None (arg.Write right) = ⊥
+ArgMatches places (Some t) (arg.Val value) = ⊥
+ArgMatches places (Some t) (arg.Read right) = (is_write t.mode ≡ false) × IsAt places right
+ArgMatches places (Some t) (arg.Write right) = (is_write t.mode ≡ true) × IsAt places right
 
 -- holds if each parameter has one
-abbrev pub ArgsStand : Places → List Param → List Arg → Type 0
-ArgsStand places [] [] = Unit {0}
-ArgsStand places [] (arg ∷ args) = ⊥
-ArgsStand places (p ∷ params) [] = ⊥
-ArgsStand places (p ∷ params) (arg ∷ args) = ArgStands places (right_of p) arg × ArgsStand places params args
+abbrev pub ArgsMatch : Places → List Param → List Arg → Type 0
+ArgsMatch places [] [] = Unit {0}
+ArgsMatch places [] (arg ∷ args) = ⊥
+ArgsMatch places (p ∷ params) [] = ⊥
+ArgsMatch places (p ∷ params) (arg ∷ args) = ArgMatches places (right_of p) arg × ArgsMatch places params args
 
 -- ---- all rights
 
@@ -90,10 +90,10 @@ pub record FrameFits (verified : TypedProgram) (places : Places) (actor : Actor)
   pub placed : ArePlaced places f.held
   pub kinds : kinds_of f.held ≡ kinds_in (typing_at (typings_of verified) f.procedure f.position.place)
 
-pub record Stand (verified : TypedProgram) (places : Places) (seats : Seated) (waiting : TasksOf Arg) (pending : RulesOf Arg) (given : List Right) : Type 0 where
+pub record RightsFit (verified : TypedProgram) (places : Places) (seats : Seated) (waiting : TasksOf Arg) (pending : RulesOf Arg) (given : List Right) : Type 0 where
   pub frames : (actor : Actor) (f : FrameView) → get seats actor ≡ Some f → FrameFits verified places actor f
-  pub tasks : (number : ℕ) (t : TaskOf Arg) → get waiting number ≡ Some t → ArgsStand places (params_of verified.program t.procedure) t.args
-  pub rules : (number : ℕ) (r : RuleOf Arg) → get pending number ≡ Some r → ArgsStand places (params_of verified.program r.procedure) r.args
+  pub tasks : (number : ℕ) (t : TaskOf Arg) → get waiting number ≡ Some t → ArgsMatch places (params_of verified.program t.procedure) t.args
+  pub rules : (number : ℕ) (r : RuleOf Arg) → get pending number ≡ Some r → ArgsMatch places (params_of verified.program r.procedure) r.args
   pub outputs : AreAt places given
 
 -- ---- all parts
@@ -118,4 +118,4 @@ pub record AreParts (verified : TypedProgram) (layout : ActorCounts) (p : Parts)
   pub law : IsReached verified.program layout (state_of p notices)
   pub queued : AreQueued p.store.queues notices
   pub servers : length p.store.queues ≡ layout.servers
-  pub stand : Stand verified p.store.places p.seats p.tasks.tasks p.rules.rules p.outputs
+  pub rights_fit : RightsFit verified p.store.places p.seats p.tasks.tasks p.rules.rules p.outputs

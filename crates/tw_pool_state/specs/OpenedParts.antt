@@ -13,7 +13,7 @@ use Rattle.tw_store.specs.Served.{Served}
 use Rattle.tw_code.specs.accepting.MainShape.{is_main_param}
 use Rattle.tw_code.specs.machine.Inputs.{are_inputs_of, input_params}
 use Rattle.tw_code.specs.machine.Opening.{Opened}
-use Rattle.tw_pool_state.specs.Fits.{AreAt, ArgsStand}
+use Rattle.tw_pool_state.specs.Fits.{AreAt, ArgsMatch}
 use Rattle.tw_pool_state.specs.Givens.{AreAllLive}
 use Rattle.tw_pool_state.specs.Seats.{Seated}
 use Rattle.tw_pool_state.specs.declared.parts.Parts.{Parts}
@@ -34,7 +34,7 @@ pub record IsMade (servers : ℕ) (params : List Param) (o : OpenedParts) (made 
   pub live : AreAllLive o.store
   pub args : each bare_arg o.args ≡ each RightArg made.rights
   pub outputs : each (λ right. right.id) o.outputs ≡ made.outputs
-  pub stand : ArgsStand o.store.places params o.args
+  pub rights_fit : ArgsMatch o.store.places params o.args
   pub outputs_at : AreAt o.store.places o.outputs
   pub args_before : AreBefore made.store.next made.rights
   pub outputs_before : AreBefore made.store.next made.outputs

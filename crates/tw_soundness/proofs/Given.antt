@@ -16,21 +16,21 @@ pub record FitsParam (waits : Bool) (s : Store) (p : Param) (id : ℕ) : Type 0 
   pub ty : right.ty ≡ p.ty
   pub holds : Holds s right id
 
-abbrev pub ArgStands : Bool → Store → Param → Bool → Arg → Type 0
-ArgStands waits s p true (ValueArg x) = scalar_of x ≡ p.ty.scalar
-ArgStands waits s p true (RightArg id) = ⊥
-ArgStands waits s p false (ValueArg x) = ⊥
-ArgStands waits s p false (RightArg id) = FitsParam waits s p id
+abbrev pub ArgMatches : Bool → Store → Param → Bool → Arg → Type 0
+ArgMatches waits s p true (ValueArg x) = scalar_of x ≡ p.ty.scalar
+ArgMatches waits s p true (RightArg id) = ⊥
+ArgMatches waits s p false (ValueArg x) = ⊥
+ArgMatches waits s p false (RightArg id) = FitsParam waits s p id
 
-abbrev pub ArgsStand : Bool → Store → List Param → List Arg → Type 0
-ArgsStand waits s [] [] = Unit {0}
-ArgsStand waits s [] (arg ∷ args) = ⊥
-ArgsStand waits s (p ∷ params) [] = ⊥
-ArgsStand waits s (p ∷ params) (arg ∷ args) = ArgStands waits s p (is_val p.mode) arg × ArgsStand waits s params args
+abbrev pub ArgsMatch : Bool → Store → List Param → List Arg → Type 0
+ArgsMatch waits s [] [] = Unit {0}
+ArgsMatch waits s [] (arg ∷ args) = ⊥
+ArgsMatch waits s (p ∷ params) [] = ⊥
+ArgsMatch waits s (p ∷ params) (arg ∷ args) = ArgMatches waits s p (is_val p.mode) arg × ArgsMatch waits s params args
 
 -- the arguments into which the registers' rights were moved
 pub record GivenSo (waits : Bool) (s : Store) (params : List Param) (typing : Typing) (rights : Rights) (left : Typing) (given : HandedOver) : Type 0 where
-  pub args : ArgsStand waits s params given.args
+  pub args : ArgsMatch waits s params given.args
   pub rights_left : RightsFit s left given.rights
   pub reads : (d : ℕ) → over (read_by d) typing rights ≡ over (read_by d) left given.rights + over_params (read_by d) params given.args
   pub writes : (d : ℕ) → over (write_by d) typing rights ≡ over (write_by d) left given.rights + over_params (write_by d) params given.args
@@ -77,7 +77,7 @@ module _ (waits : Bool) (s : Store) (declared : List Scalar) (values : List Valu
       let none : right_of p ≡ None = ap (λ b. if b then None else Some (record { mode = p.mode; ty = p.ty })) e in
       goes (ok_or (slice_get values r) WrongRegister) _ _ x.0 (ap (λ o. ok_or o WrongRegister) x.1)
       (goes_more (handed_over values rights params registers) _ _ _ rest (λ others so. record {
-        args = (subst (λ b. ArgStands waits s p b (ValueArg x.0)) (sym e) x.2, so.args);
+        args = (subst (λ b. ArgMatches waits s p b (ValueArg x.0)) (sym e) x.2, so.args);
         rights_left = so.rights_left;
         reads = λ d. let z : read_by d (right_of p) None ≡ 0 = ap (λ o. read_by d o None) none in let h = so.reads d in omega arith;
         writes = λ d. let z : write_by d (right_of p) None ≡ 0 = ap (λ o. write_by d o None) none in let h = so.writes d in omega arith;
@@ -92,7 +92,7 @@ module _ (waits : Bool) (s : Store) (declared : List Scalar) (values : List Valu
       let kind : is_write q.mode ≡ is_write p.mode = suits_write waits p.mode q both.0 in
       goes (held rights r) _ _ f.id (ap (λ o. ok_or (option_flatten o) EmptyRegister) f.register)
       (goes_more (handed_over values (slice_set rights r None) params registers) _ _ _ rest (λ others so. record {
-        args = (subst (λ b. ArgStands waits s p b (RightArg f.id)) (sym e) (record { right = q; suits = both.0; ty = same_types q.ty p.ty both.1; holds = f.holds }), so.args);
+        args = (subst (λ b. ArgMatches waits s p b (RightArg f.id)) (sym e) (record { right = q; suits = both.0; ty = same_types q.ty p.ty both.1; holds = f.holds }), so.args);
         rights_left = so.rights_left;
         reads = λ d.
             let z : read_by d (right_of p) (Some f.id) ≡ read_by d (Some q) (Some f.id) = ap (λ o. read_by d o (Some f.id)) some ∙ ap (λ b. if b then 0 else hits d f.id) (sym kind) in
@@ -149,13 +149,13 @@ module _ (waits : Bool) (s : Store) (declared : List Scalar) (values : List Valu
 -- ---- the checks of their data
 
 -- C2: what somebody holds is live
-pub all_live : (waits : Bool) (s : Store) (params : List Param) (args : List Arg) → ArgsStand waits s params args
+pub all_live : (waits : Bool) (s : Store) (params : List Param) (args : List Arg) → ArgsMatch waits s params args
     → ((d : ℕ) → 0 < over_params (read_by d) params args + over_params (write_by d) params args → (x : Datum) × (get s.live d ≡ Some x)) → all_pass is_live s.live params args ≡ true
 all_live waits s [] args h held = refl
 all_live waits s (p ∷ params) [] h held = refl
 all_live waits s (p ∷ params) (ValueArg x ∷ args) h held = all_live waits s params args h.1 (λ d some. held d (omega arith))
 all_live waits s (p ∷ params) (RightArg id ∷ args) h held = elim (cases_Bool (is_val p.mode)) [
-  | inl e ↦ absurd (subst (λ b. ArgStands waits s p b (RightArg id)) e h.0)
+  | inl e ↦ absurd (subst (λ b. ArgMatches waits s p b (RightArg id)) e h.0)
   | inr e ↦
       let some : right_of p ≡ Some (record { mode = p.mode; ty = p.ty }) = ap (λ b. if b then None else Some (record { mode = p.mode; ty = p.ty })) e in
       let both : read_by id (right_of p) (Some id) + write_by id (right_of p) (Some id) ≡ 1 = ap (λ o. read_by id o (Some id) + write_by id o (Some id)) some ∙ either (is_write p.mode) in
@@ -169,13 +169,13 @@ all_live waits s (p ∷ params) (RightArg id ∷ args) h held = elim (cases_Bool
     either false = let one = hits_same id in omega arith
 
 -- C6: it is of its right's type
-pub all_typed : (waits : Bool) (s : Store) (params : List Param) (args : List Arg) → ArgsStand waits s params args → all_pass is_of_type s.live params args ≡ true
+pub all_typed : (waits : Bool) (s : Store) (params : List Param) (args : List Arg) → ArgsMatch waits s params args → all_pass is_of_type s.live params args ≡ true
 all_typed waits s [] args h = refl
 all_typed waits s (p ∷ params) [] h = refl
 all_typed waits s (p ∷ params) (ValueArg x ∷ args) h = all_typed waits s params args h.1
 all_typed waits s (p ∷ params) (RightArg id ∷ args) h = elim (cases_Bool (is_val p.mode)) [
-  | inl e ↦ absurd (subst (λ b. ArgStands waits s p b (RightArg id)) e h.0)
-  | inr e ↦ and_from (is_of_type p (get s.live id)) (all_pass is_of_type s.live params args) (one (subst (λ b. ArgStands waits s p b (RightArg id)) e h.0) (get s.live id) refl) (all_typed waits s params args h.1)
+  | inl e ↦ absurd (subst (λ b. ArgMatches waits s p b (RightArg id)) e h.0)
+  | inr e ↦ and_from (is_of_type p (get s.live id)) (all_pass is_of_type s.live params args) (one (subst (λ b. ArgMatches waits s p b (RightArg id)) e h.0) (get s.live id) refl) (all_typed waits s params args h.1)
 ]
   where
     one : FitsParam waits s p id → (o : Option Datum) → get s.live id ≡ o → is_of_type p o ≡ true
@@ -183,13 +183,13 @@ all_typed waits s (p ∷ params) (RightArg id ∷ args) h = elim (cases_Bool (is
     one f (Some x) at = ap (λ (u : NestedScalar). same_type u p.ty) (f.holds.ty x at ∙ f.ty) ∙ type_itself p.ty
 
 -- C10: what PUT gives for a `closed` parameter is closed
-pub all_closed : (s : Store) (params : List Param) (args : List Arg) → ArgsStand false s params args → all_pass is_closed_if_asked s.live params args ≡ true
+pub all_closed : (s : Store) (params : List Param) (args : List Arg) → ArgsMatch false s params args → all_pass is_closed_if_asked s.live params args ≡ true
 all_closed s [] args h = refl
 all_closed s (p ∷ params) [] h = refl
 all_closed s (p ∷ params) (ValueArg x ∷ args) h = all_closed s params args h.1
 all_closed s (p ∷ params) (RightArg id ∷ args) h = elim (cases_Bool (is_val p.mode)) [
-  | inl e ↦ absurd (subst (λ b. ArgStands false s p b (RightArg id)) e h.0)
-  | inr e ↦ and_from (is_closed_if_asked p (get s.live id)) (all_pass is_closed_if_asked s.live params args) (one (subst (λ b. ArgStands false s p b (RightArg id)) e h.0) (get s.live id) refl) (all_closed s params args h.1)
+  | inl e ↦ absurd (subst (λ b. ArgMatches false s p b (RightArg id)) e h.0)
+  | inr e ↦ and_from (is_closed_if_asked p (get s.live id)) (all_pass is_closed_if_asked s.live params args) (one (subst (λ b. ArgMatches false s p b (RightArg id)) e h.0) (get s.live id) refl) (all_closed s params args h.1)
 ]
   where
     one : FitsParam false s p id → (o : Option Datum) → get s.live id ≡ o → is_closed_if_asked p o ≡ true
@@ -218,20 +218,20 @@ holds_as waits s p id mode f to now = record {
     by Write c suits = cc
 
 -- a task's
-pub put_fit : (s : Store) (params : List Param) (args : List Arg) → ArgsStand false s params args → ArgsFit s params args
+pub put_fit : (s : Store) (params : List Param) (args : List Arg) → ArgsMatch false s params args → ArgsFit s params args
 put_fit s [] [] h = tt
 put_fit s [] (arg ∷ args) h = absurd h
 put_fit s (p ∷ params) [] h = absurd h
 put_fit s (p ∷ params) (arg ∷ args) h = (one (is_val p.mode) arg h.0, put_fit s params args h.1)
   where
-    one : (b : Bool) (arg : Arg) → ArgStands false s p b arg → ArgFits s p (if b then None else Some (record { mode = p.mode; ty = p.ty })) arg
+    one : (b : Bool) (arg : Arg) → ArgMatches false s p b arg → ArgFits s p (if b then None else Some (record { mode = p.mode; ty = p.ty })) arg
     one true (ValueArg x) f = f
     one true (RightArg id) f = absurd f
     one false (ValueArg x) f = absurd f
     one false (RightArg id) f = holds_as false s p id p.mode f (λ c. c) (λ _. refl)
 
 -- a rule's: `closed` ones are plain reads
-pub rule_fit : (s : Store) (params : List Param) (args : List Arg) → ArgsStand true s params args → RuleArgsFit s params (map (λ q. first_stage q.mode) params) args
+pub rule_fit : (s : Store) (params : List Param) (args : List Arg) → ArgsMatch true s params args → RuleArgsFit s params (map (λ q. first_stage q.mode) params) args
 rule_fit s [] [] h = tt
 rule_fit s [] (arg ∷ args) h = absurd h
 rule_fit s (p ∷ params) [] h = absurd h
@@ -243,19 +243,19 @@ rule_fit s (p ∷ params) (arg ∷ args) h = (asked p.mode, one arg h.0, rule_fi
     asked Ref = refl
     asked Write = refl
 
-    as_read : (b : Bool) (arg : Arg) → ArgStands true s p b arg → ArgFits s p (if b then None else Some (record { mode = Ref; ty = p.ty })) arg
+    as_read : (b : Bool) (arg : Arg) → ArgMatches true s p b arg → ArgFits s p (if b then None else Some (record { mode = Ref; ty = p.ty })) arg
     as_read true (ValueArg x) f = f
     as_read true (RightArg id) f = absurd f
     as_read false (ValueArg x) f = absurd f
     as_read false (RightArg id) f = holds_as true s p id Ref f (λ c. cc) (λ c. cc)
 
-    as_it_is : (b : Bool) (arg : Arg) → is_closed_mode p.mode ≡ false → ArgStands true s p b arg → ArgFits s p (if b then None else Some (record { mode = p.mode; ty = p.ty })) arg
+    as_it_is : (b : Bool) (arg : Arg) → is_closed_mode p.mode ≡ false → ArgMatches true s p b arg → ArgFits s p (if b then None else Some (record { mode = p.mode; ty = p.ty })) arg
     as_it_is true (ValueArg x) open_mode f = f
     as_it_is true (RightArg id) open_mode f = absurd f
     as_it_is false (ValueArg x) open_mode f = absurd f
     as_it_is false (RightArg id) open_mode f = holds_as true s p id p.mode f (λ c. c) (λ c. let z : false ≡ true = sym open_mode ∙ c in cc)
 
-    one : (arg : Arg) → ArgStands true s p (is_val p.mode) arg → ArgFits s p (right_until (first_stage p.mode) p) arg
+    one : (arg : Arg) → ArgMatches true s p (is_val p.mode) arg → ArgFits s p (right_until (first_stage p.mode) p) arg
     one arg f = elim (cases_Bool (is_closed_mode p.mode)) [
       | inl c ↦ subst (λ b. ArgFits s p (right_until (if b then Unasked else Free) p) arg) (sym c) (as_read (is_val p.mode) arg f)
       | inr o ↦ subst (λ b. ArgFits s p (right_until (if b then Unasked else Free) p) arg) (sym o) (as_it_is (is_val p.mode) arg o f)

@@ -23,7 +23,7 @@ returns-clause-left c = record {
     outputs = c.shut-remains.ensures.outputs;
     pending = ap (map pending_with_data) c.shut-remains.ensures.pending
         ∙ subst (λ (p : PoolView). map pending_with_data (map erasure (entries c.self.inside.parts.rules.rules)) ≡ map (pending_of p.program.program) (entries (mapped bare_rule c.self.inside.parts.rules.rules))) c.self.view_is
-        (pending_is c.self.inside.verified.now.program c.self.inside.parts.store.places c.self.inside.parts.rules.rules c.self.invariant.parts.stand.rules);
+        (pending_is c.self.inside.verified.now.program c.self.inside.parts.store.places c.self.inside.parts.rules.rules c.self.invariant.parts.rights_fit.rules);
   };
   closing = c.closing-closing.ensures _ (turning.at_here _ _ _ c.self.inside.stopped c.self.inside.history c.self.inside.parts c.self.invariant c.args.self c.self.view_is);
   events = ap (λ (p : PoolView). p.history) c.self.view_is;

@@ -4,7 +4,7 @@ use Rattle.tw_pool_state.proofs.PartNames.{Call, come, get, gone_on, insert, wit
 use Rattle.tw_code.specs.declared.instr.Instr.TheVariants as instr
 use Rattle.tw_pool_state.proofs.Behind.{few, here_too, in_queue, kind_of_callee, operands, params_of_callee, runs_there, runs_too, seat_there, sits_ready, so_bundled, so_valued, there}
 use Rattle.tw_pool_state.proofs.Goings.{is_lent, lent_goes}
-use Rattle.tw_pool_state.proofs.Puts.{put_goes, put_named, put_stands}
+use Rattle.tw_pool_state.proofs.Puts.{put_goes, put_named, put_fits}
 use Rattle.tw_pool_state.proofs.Releases.{fresh}
 use Rattle.tw_pool_state.proofs.Seating.{again}
 use Rattle.tw_pool_state.proofs.ValueRegisters.{ok_ints}
@@ -43,7 +43,7 @@ take_args-args-requires-clause-sits c =
     let u = put_named c.args.done.before.program s.layout (there c.args.self.now c.args.actor c.args.done (instr.Put c.args.action.now) c.requires.fits_place) s.notices s.parts c.args.actor (come s.f c.args.done) s.q c.args.action.now (runs_there c.args.self.now c.args.actor c.args.done (instr.Put c.args.action.now) c.requires.fits_place) s.here s.behind in
     let params = params_of_callee c.args.done.before.program.program c.args.action.now.procedure c.in-Ok.asked.callee.now c.in-Ok.ensures.callee u.procedure u.is in
     sits_ready c.args.self.now c.args.actor c.args.done (instr.Put c.args.action.now) c.requires.fits_place c.args.action.now u c.in-Ok.asked.callee.now.params params c.as_slice-registers.result.now c.as_slice-registers.ensures c.in-Ok.asked.vals.items c.in-Ok.ensures.values
-    (put_stands c.args.done.before.program s.layout (there c.args.self.now c.args.actor c.args.done (instr.Put c.args.action.now) c.requires.fits_place) s.notices s.parts c.args.actor (come s.f c.args.done) s.q c.args.action.now (runs_there c.args.self.now c.args.actor c.args.done (instr.Put c.args.action.now) c.requires.fits_place) s.here s.behind)
+    (put_fits c.args.done.before.program s.layout (there c.args.self.now c.args.actor c.args.done (instr.Put c.args.action.now) c.requires.fits_place) s.notices s.parts c.args.actor (come s.f c.args.done) s.q c.args.action.now (runs_there c.args.self.now c.args.actor c.args.done (instr.Put c.args.action.now) c.requires.fits_place) s.here s.behind)
 
 pub put-requires-clause-new : goal.put-requires-clause-new
 put-requires-clause-new c =

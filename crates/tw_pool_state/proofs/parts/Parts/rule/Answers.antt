@@ -8,7 +8,7 @@ use Rattle.tw_rules.proofs.Fitting.{bundled_suit}
 use Rattle.tw_pool_state.proofs.Behind.{few, here_too, params_of_callee, runs_there, runs_too, seat_there, sits_ready, so_bundled, so_valued, there}
 use Rattle.tw_pool_state.proofs.Goings.{is_lent, lent_goes}
 use Rattle.tw_pool_state.proofs.Law.{engine_low}
-use Rattle.tw_pool_state.proofs.NewRules.{rule, rule_goes, rule_named, rule_stands}
+use Rattle.tw_pool_state.proofs.NewRules.{rule, rule_goes, rule_named, rule_fits}
 use Rattle.tw_pool_state.proofs.Seating.{again}
 use Rattle.tw_pool_state.proofs.ValueRegisters.{ok_ints}
 use Rattle.tw_pool_state.proofs.parts.Parts.rule.Goals as goal
@@ -41,7 +41,7 @@ take_args-args-requires-clause-sits c =
     let u = rule_named c.args.done.before.program s.layout (there c.args.self.now c.args.actor c.args.done (instr.Rule c.args.action.now) c.requires.fits_place) s.notices s.parts c.args.actor (come s.f c.args.done) s.q c.args.action.now (runs_there c.args.self.now c.args.actor c.args.done (instr.Rule c.args.action.now) c.requires.fits_place) s.here s.behind in
     let params = params_of_callee c.args.done.before.program.program c.args.action.now.procedure c.in-Ok.asked.callee.now c.in-Ok.ensures.callee u.procedure u.is in
     sits_ready c.args.self.now c.args.actor c.args.done (instr.Rule c.args.action.now) c.requires.fits_place c.args.action.now u c.in-Ok.asked.callee.now.params params c.as_slice-registers.result.now c.as_slice-registers.ensures c.in-Ok.asked.vals.items c.in-Ok.ensures.values
-    (rule_stands c.args.done.before.program s.layout (there c.args.self.now c.args.actor c.args.done (instr.Rule c.args.action.now) c.requires.fits_place) s.notices s.parts c.args.actor (come s.f c.args.done) s.q c.args.action.now (runs_there c.args.self.now c.args.actor c.args.done (instr.Rule c.args.action.now) c.requires.fits_place) s.here s.behind)
+    (rule_fits c.args.done.before.program s.layout (there c.args.self.now c.args.actor c.args.done (instr.Rule c.args.action.now) c.requires.fits_place) s.notices s.parts c.args.actor (come s.f c.args.done) s.q c.args.action.now (runs_there c.args.self.now c.args.actor c.args.done (instr.Rule c.args.action.now) c.requires.fits_place) s.here s.behind)
 
 pub reserve-requires : goal.reserve-requires
 reserve-requires c =

@@ -2,14 +2,14 @@ use Rattle.std.proofs.Common.{◌∙◌, refl, ap}
 use Rattle.tw_store.proofs.Here.{unchanged}
 use Rattle.tw_pool_state.proofs.PartNames.{begun, get}
 use Rattle.tw_pool_state.proofs.Seating.{get_own}
-use Rattle.tw_pool_state.proofs.Takes.{begun_stands, may_start, taken, takes}
+use Rattle.tw_pool_state.proofs.Takes.{begun_fits, may_start, taken, takes}
 use Rattle.tw_pool_state.proofs.parts.Parts.take.Goals as goal
 
 pub start-requires-clause-may : goal.start-requires-clause-may
 start-requires-clause-may c = λ e due. let p = c.requires.parts in may_start c.args.verified.now p.0 c.args.self.now p.1 p.2 c.args.actor p.3 c.requires.free e due
 
 pub start-requires-clause-fits_place : goal.start-requires-clause-fits_place
-start-requires-clause-fits_place c = λ e values due starts machine. let p = c.requires.parts in begun_stands c.args.verified.now p.0 c.args.self.now p.1 p.2 c.args.actor p.3 c.requires.free e due values starts machine
+start-requires-clause-fits_place c = λ e values due starts machine. let p = c.requires.parts in begun_fits c.args.verified.now p.0 c.args.self.now p.1 p.2 c.args.actor p.3 c.requires.free e due values starts machine
 
 pub returns-clause-taken : goal.returns-clause-taken
 returns-clause-taken c =
