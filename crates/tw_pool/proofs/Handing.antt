@@ -226,7 +226,7 @@ module _ (verified : TypedProgram) (inputs : List Input) (layout : ActorCounts) 
         small = small_of (told.events ++ option_to_list o) came c.at (within_one o);
         q = it.q;
         here = ap (λ (v : TypedProgram). slice_get v.program its.0.procedure) its.1.program ∙ ap (λ (j : JobView). slice_get verified.program j.procedure) (sym its.1.own) ∙ it.there_is;
-        behind = it.is;
+        following_is = it.is;
       }
 
   -- if the instruction there may allocate

@@ -44,8 +44,8 @@ module _ (actor : Actor) where
       by true is = rw is none
       by false is = rw is (one (Local actor done.steps) refl)
 
-  behind : (done : DoneView) (e : Event) → actor_of e ≡ actor → AreOwn actor (steps_of actor done ++ e ∷ [])
-  behind done e is = by (done.steps == 0) refl
+  own_after : (done : DoneView) (e : Event) → actor_of e ≡ actor → AreOwn actor (steps_of actor done ++ e ∷ [])
+  own_after done e is = by (done.steps == 0) refl
     where
       by : (b : Bool) → (done.steps == 0) ≡ b → AreOwn actor (steps_of actor done ++ e ∷ [])
       by true zero_is = rw zero_is (one e is)
@@ -99,7 +99,7 @@ module _ (p : PoolView) (s : State) (actor : Actor) (answer : Turn) (events : Li
     where
       by : (events ≡ []) ⊎ (events ≡ steps_of actor done ++ event_of actor (instr_after p.program.program done) ∷ []) → AreOwn actor events
       by (inl is) = none_then is
-      by (inr is) = subst (AreOwn actor) (sym is) (behind actor done (event_of actor (instr_after p.program.program done)) (whose_behind actor (instr_after p.program.program done)))
+      by (inr is) = subst (AreOwn actor) (sym is) (own_after actor done (event_of actor (instr_after p.program.program done)) (whose_behind actor (instr_after p.program.program done)))
 
   free : GoesFree p s actor answer events → AreOwn actor events
   free (inl l) = by (made p actor None [] l.0 answer events l.2)

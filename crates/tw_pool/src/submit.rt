@@ -133,7 +133,7 @@ impl<'a> Pool<'a> {
         requires room { length self.old.history < self.old.limit }
         requires owed { IsOwedBy self.old actor done }
         requires fits { is_last self.old done ≡ false }
-        requires behind { instr_after self.old.program.program done ≡ Some instr.now }
+        requires following_is { instr_after self.old.program.program done ≡ Some instr.now }
         requires not_local { local_of instr.now ≡ None }
         requires not_last { is_ret instr.now ≡ false }
         ensures { IsTurnBy (λ s. OrNoMemory self.old (Some done.entry) (steps_of actor done.entry) (CallBy actor) (Lends self.old actor (steps_of actor done.entry ++ CallBy actor ∷ []))) self.old result self.new }
@@ -156,7 +156,7 @@ impl<'a> Pool<'a> {
         requires room { length self.old.history < self.old.limit }
         requires owed { IsOwedBy self.old actor done }
         requires fits { is_last self.old done ≡ false }
-        requires behind { instr_after self.old.program.program done ≡ Some instr_is.Ret }
+        requires following_is { instr_after self.old.program.program done ≡ Some instr_is.Ret }
         ensures { IsTurnBy (λ s. Answers answer.Ended (steps_of actor done.entry ++ EndBy actor ∷ [])) self.old result self.new }
     {
         let _steps = done.steps();

@@ -80,15 +80,15 @@ module _ (old new : Served) (id : ℕ) (f : Datum → Datum) (x : Datum) (here :
   left_replaced left y is held none = record {
     store = store;
     places = λ k. at k (get new.store.live k) refl;
-    queues = left.queues ∙ ap (λ ns. queued id ns old.queues) (told ∙ none) ∙ queued_none id old.queues;
+    queues = left.queues ∙ ap (λ ns. queued id ns old.queues) (notified ∙ none) ∙ queued_none id old.queues;
     live = left.places.leaves;
   }
     where
       after : store_after old.store id f ≡ with_datum old.store id (subscribers_cleared (f x))
       after = rw here refl
 
-      told : notices_after old.store id f ≡ notices_of id (f x)
-      told = rw here refl
+      notified : notices_after old.store id f ≡ notices_of id (f x)
+      notified = rw here refl
 
       kept : with_datum old.store id y ≡ replaced old.store id y
       kept = rw held refl
@@ -164,8 +164,8 @@ module _ (s a : Served) (v : Value) (w r : Right) (h : IsMade s a (scalar_type (
   pub scalar_allowed : may_store v (get a.store.live w.id) ≡ Ok tt
   scalar_allowed = ap (may_store v) (made_at s a (scalar_type (scalar_of v)) w r h) ∙ scalar_may v
 
-  pub scalar_told : HasNoticeRoom a w.id
-  scalar_told = rw (made_at s a (scalar_type (scalar_of v)) w r h) (omega arith)
+  pub scalar_notified : HasNoticeRoom a w.id
+  scalar_notified = rw (made_at s a (scalar_type (scalar_of v)) w r h) (omega arith)
 
   pub scalar_added : (b : Served) → IsLeft a b w.id (set_to v) → IsAdded (added s.store (closed_scalar v)) s b r
   scalar_added b left =

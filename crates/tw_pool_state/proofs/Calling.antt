@@ -17,7 +17,7 @@ use Rattle.tw_pool_state.proofs.Keeping.{all_kept, args_kept, file_kept}
 use Rattle.tw_pool_state.proofs.Law.{goes_to, held}
 use Rattle.tw_pool_state.proofs.Registers.{id_at, placed_at, placed_each, right_id}
 use Rattle.tw_pool_state.proofs.Seating.{get_other, get_own}
-use Rattle.tw_pool_state.proofs.Telling.{told}
+use Rattle.tw_pool_state.proofs.Notifying.{notified}
 
 module _ (verified : TypedProgram) (layout : ActorCounts) (old : Parts) (notices : Notices) (h : AreParts verified layout old notices)
     (actor : Actor) (f : FrameView) (p : Procedure) (d : DataInstr) (runs : get old.seats actor ≡ Some f) (here : slice_get verified.program f.procedure ≡ Some p) (at : slice_get p.code f.position.place ≡ Some (instr.Data d)) where
@@ -69,12 +69,12 @@ module _ (verified : TypedProgram) (layout : ActorCounts) (old : Parts) (notices
     some = omega (arith, h.servers, h.runnable.counts.some_server)
 
     queues_are : AreQueued new.store.queues left × (length new.store.queues ≡ length old.store.queues)
-    queues_are = elim o.told as (λ _. AreQueued new.store.queues left × (length new.store.queues ≡ length old.store.queues)) [
+    queues_are = elim o.notified as (λ _. AreQueued new.store.queues left × (length new.store.queues ≡ length old.store.queues)) [
       | inl none ↦ (subst (λ qs. AreQueued qs left) (sym none.1) (subst (λ more. AreQueued old.store.queues (with_notices notices more)) (sym none.0) h.queued), ap length none.1)
       | inr all ↦
           let id = all.0 in let x = all.1 in
           let q : AreQueued (queued id (each (notice_to id) x.subscribers) old.store.queues) (with_notices notices (each (notice_to id) x.subscribers)) =
-          told old.store.store.live notices (mapped bare_rule old.rules.rules) law.notices id x all.2 old.store.queues h.queued some (inside id) in (
+          notified old.store.store.live notices (mapped bare_rule old.rules.rules) law.notices id x all.2 old.store.queues h.queued some (inside id) in (
             subst (λ qs. AreQueued qs left) (sym all.4) (subst (λ more. AreQueued (queued id more old.store.queues) (with_notices notices more)) (sym all.3) q),
             ap length all.4 ∙ length-set old.store.queues (server_of (length old.store.queues) id) _,
           )

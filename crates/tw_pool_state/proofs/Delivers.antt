@@ -8,7 +8,7 @@ use Rattle.tw_rules.specs.Table.{stage_at, staged}
 use Rattle.tw_code.specs.machine.Machine.{step}
 use Rattle.tw_soundness.proofs.Asked.{Noted, noted}
 use Rattle.tw_pool_state.proofs.Law.{goes_to, held}
-use Rattle.tw_pool_state.proofs.Fitting.{Behind, behind, fit_staged}
+use Rattle.tw_pool_state.proofs.Fitting.{IsImage, image_of, fit_staged}
 use Rattle.tw_pool_state.proofs.Notes as notes
 
 -- ---- rules at a stage
@@ -33,8 +33,8 @@ module _ (verified : TypedProgram) (layout : ActorCounts) (old : Parts) (notices
   pub known : Noted (mapped bare_rule old.rules.rules) n
   known = noted old.store.store.live notices (mapped bare_rule old.rules.rules) n (held verified layout old notices h).notices (notes.has old.store.queues notices h.queued server inside n rest is)
 
-  pub its : Behind bare_rule old.rules.rules n.rule known.rule
-  its = behind bare_rule old.rules.rules n.rule known.rule known.is
+  pub its : IsImage bare_rule old.rules.rules n.rule known.rule
+  its = image_of bare_rule old.rules.rules n.rule known.rule known.is
 
   -- the parameter isn't settled
   pub may_mark : option_map is_settled (stage_at old.rules.rules n.rule n.parameter) ≡ Some false

@@ -4,7 +4,7 @@ use Rattle.tw_soundness.proofs.DataLeft.{read_no_write}
 use Rattle.tw_rights.specs.declared.held.Held.TheVariants as held
 use Rattle.tw_code.specs.declared.instr.DataInstr.TheVariants as on_data
 use Rattle.std.proofs.Common.{◌≡◌, ◌∙◌, ◌+◌, ℕ, true, false, [], None, Some, refl, sym, ap, inl, slice_index_or, slice_set}
-use Rattle.tw_pool_state.proofs.Left.{emptied_done, left_stays, left_told, same_ok}
+use Rattle.tw_pool_state.proofs.Left.{emptied_done, left_stays, left_notified, same_ok}
 use Rattle.tw_pool_state.proofs.Registers.{its_id, kind_passed, placed_at}
 
 -- ---- a write right
@@ -41,7 +41,7 @@ module _ (datum : ℕ) (s : Served) (f : FrameView) (m : MayDo (on_data.DropWrit
           ∙ (λ i. record { store = sym left.store i; notices = with_notices ns (notices_after s.store right.id one_write_less); rights = slice_set (bare_file f.held) datum None; position = at_next_place f.position })
 
       pub write_dropped_done : (g : FrameView) → g ≡ record f { position = at_next_place f.position; held = slice_set f.held datum None; spent = f.spent + 1 } → IsDone (on_data.DropWrite datum) s new f g
-      write_dropped_done = emptied_done (on_data.DropWrite datum) s new f (notices_after s.store right.id one_write_less) (left_told s new right.id one_write_less left drop_write_live.0 drop_write_live.1 refl)
+      write_dropped_done = emptied_done (on_data.DropWrite datum) s new f (notices_after s.store right.id one_write_less) (left_notified s new right.id one_write_less left drop_write_live.0 drop_write_live.1 refl)
           (left_stays s new right.id one_write_less left) datum drop_write_goes refl (λ typing. refl)
 
 -- ---- a read right

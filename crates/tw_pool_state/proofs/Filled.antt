@@ -178,8 +178,8 @@ module _ (s : Served) (ty : NestedScalar) (es : List (Subscript × Value)) (now 
     pub close_allowed : may_drop_write (get now.store.live r.id) ≡ Ok tt
     close_allowed = ap may_drop_write (fill_at ∙ ap (λ t. Some (container t 1 (numbered (s.store.next + 1) es))) is) ∙ closing_may by inside (numbered (s.store.next + 1) es)
 
-    pub close_told : HasNoticeRoom now r.id
-    close_told = rw fill_at (omega arith)
+    pub close_notified : HasNoticeRoom now r.id
+    close_notified = rw fill_at (omega arith)
 
     pub closed : (b : Served) → IsLeft now b r.id one_write_less → IsAdded (with_container s.store by inside es) s b r
     closed b left =

@@ -7,15 +7,15 @@ use Rattle.tw_types.specs.declared.stage.Stage.{Stage}
 use Rattle.tw_types.proofs.Parts.{put_or_before, before_removal}
 
 -- all other entries after an entry changes
-pub record Behind {K X Y : Type 0} {R : K → K → Ordering} (f : X → Y) (m : FinMap R X) (k : K) (y : Y) : Type 0 where
+pub record IsImage {K X Y : Type 0} {R : K → K → Ordering} (f : X → Y) (m : FinMap R X) (k : K) (y : Y) : Type 0 where
   pub x : X
   pub there : get m k ≡ Some x
   pub is : f x ≡ y
 
-pub behind : {K X Y : Type 0} {R : K → K → Ordering} (f : X → Y) (m : FinMap R X) (k : K) (y : Y) → get (mapped f m) k ≡ Some y → Behind f m k y
-behind {X = X} f m k y e = by (get m k) refl (sym (get_mapped f m k) ∙ e)
+pub image_of : {K X Y : Type 0} {R : K → K → Ordering} (f : X → Y) (m : FinMap R X) (k : K) (y : Y) → get (mapped f m) k ≡ Some y → IsImage f m k y
+image_of {X = X} f m k y e = by (get m k) refl (sym (get_mapped f m k) ∙ e)
   where
-    by : (o : Option X) → get m k ≡ o → option_map f (get m k) ≡ Some y → Behind f m k y
+    by : (o : Option X) → get m k ≡ o → option_map f (get m k) ≡ Some y → IsImage f m k y
     by None at h = let none : None ≡ Some y = sym (ap (option_map f) at) ∙ h in cc
     by (Some x) at h = record { x = x; there = at; is = same_Some (f x) y (sym (ap (option_map f) at) ∙ h) }
 

@@ -51,11 +51,11 @@ module _ (verified : TypedProgram) (layout : ActorCounts) (old : Parts) (notices
     pub args_match : ArgsMatch old.store.places (params_of verified.program action.procedure) args
     args_match = subst (λ ps. ArgsMatch old.store.places ps args) (sym (ap params_in u.is)) (subst (λ (o : Bundled). ArgsMatch old.store.places u.procedure.params o.args) same all_handed.rights_fit)
 
-    pub fits_behind : typing_at (typings_of verified) f.procedure (f.position.place + 1) ≡ without_args (params_of verified.program action.procedure) action.args typing → FrameFits verified old.store.places actor (gone_on f file)
-    fits_behind behind = record {
+    pub fits_after : typing_at (typings_of verified) f.procedure (f.position.place + 1) ≡ without_args (params_of verified.program action.procedure) action.args typing → FrameFits verified old.store.places actor (gone_on f file)
+    fits_after following_is = record {
       program = fits.program;
       own = fits.own;
       placed = subst (λ (o : Bundled). ArePlaced old.store.places o.file) same all_handed.placed;
       kinds = ap (λ (o : Bundled). kinds_of o.file) (sym same) ∙ ap kinds_of all_handed.gone ∙ kinds_left u.procedure.params action.args f.held typing fits.kinds
-          ∙ ap (λ ps. kinds_in (without_args ps action.args typing)) (sym (ap params_in u.is)) ∙ ap kinds_in (sym behind);
+          ∙ ap (λ ps. kinds_in (without_args ps action.args typing)) (sym (ap params_in u.is)) ∙ ap kinds_in (sym following_is);
     }

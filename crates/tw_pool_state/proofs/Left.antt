@@ -12,7 +12,7 @@ same_ok a b e = cc
 
 -- ---- the three ways
 
-module _ (d : DataInstr) (old new : Served) (f : FrameView) (more : List Notice) (told : AreNotified old new more)
+module _ (d : DataInstr) (old new : Served) (f : FrameView) (more : List Notice) (notified : AreNotified old new more)
     (stays : (id place : ℕ) → IsLive old id → IsLive new id → get old.places id ≡ Some place → get new.places id ≡ Some place) where
   module _ (register : ℕ) (goes : (ns : Notices) (k : Context) → data_instr d (sees old ns f) ≡ Ok k
       → k ≡ record { store = new.store; notices = with_notices ns more; rights = slice_set (bare_file f.held) register None; position = at_next_place f.position })
@@ -24,7 +24,7 @@ module _ (d : DataInstr) (old new : Served) (f : FrameView) (more : List Notice)
     emptied_is = record {
       more = more;
       goes = λ ns k e. goes ns k e ∙ (λ i. record { store = new.store; notices = with_notices ns more; rights = sym (map-set (option_map id_of) f.held register None) i; position = at_next_place f.position });
-      told = told;
+      notified = notified;
       stays = stays;
       own = λ k h there. elim (set_own f.held register k None h there) as (λ _. (slice_index_or f.held k None ≡ Some h) ⊎ IsAt new.places (right_in h)) [
         | inl before ↦ inl before
@@ -50,7 +50,7 @@ module _ (d : DataInstr) (old new : Served) (f : FrameView) (more : List Notice)
     filled_is = record {
       more = more;
       goes = λ ns k e. goes ns k e ∙ (λ i. record { store = new.store; notices = with_notices ns more; rights = sym (map-set (option_map id_of) f.held register (Some h)) i; position = at_next_place f.position });
-      told = told;
+      notified = notified;
       stays = stays;
       own = λ k x there. elim (set_own f.held register k (Some h) x there) as (λ _. (slice_index_or f.held k None ≡ Some x) ⊎ IsAt new.places (right_in x)) [
         | inl before ↦ inl before
@@ -75,7 +75,7 @@ module _ (d : DataInstr) (old new : Served) (f : FrameView) (more : List Notice)
     moved_is = record {
       more = more;
       goes = goes;
-      told = told;
+      notified = notified;
       stays = stays;
       own = λ k h there. inl there;
       way = way;
@@ -95,19 +95,19 @@ queued_none (q ∷ queues) zero = ap (λ p. p ∷ queues) (append-nil q)
 queued_none (q ∷ queues) (suc k) = ap (λ qs. q ∷ qs) (queued_none queues k)
 
 module _ (old new : Served) (id : ℕ) (change : Datum → Datum) (left : IsLeft old new id change) (x : Datum) (live : get old.store.live id ≡ Some x) (same : (change x).subscribers ≡ x.subscribers) where
-  told_is : notices_after old.store id change ≡ notices_of id (change x)
-  told_is = rw live refl
+  notified_is : notices_after old.store id change ≡ notices_of id (change x)
+  notified_is = rw live refl
 
-  pub left_told : AreNotified old new (notices_after old.store id change)
-  left_told = by (is_closed (change x)) refl
+  pub left_notified : AreNotified old new (notices_after old.store id change)
+  left_notified = by (is_closed (change x)) refl
     where
       by : (b : Bool) → is_closed (change x) ≡ b → AreNotified old new (notices_after old.store id change)
       by true e =
           let named : notices_of id (change x) ≡ each (notice_to id) x.subscribers = ap (λ b. if b then each (notice_to id) (change x).subscribers else []) e ∙ ap (each (notice_to id)) same in
-          inr (id, x, live, told_is ∙ named, left.queues)
+          inr (id, x, live, notified_is ∙ named, left.queues)
       by false e =
           let none : notices_of id (change x) ≡ [] = ap (λ b. if b then each (notice_to id) (change x).subscribers else []) e in
-          inl (told_is ∙ none, left.queues ∙ ap (λ ns. queued id ns old.queues) (told_is ∙ none) ∙ queued_none old.queues _)
+          inl (notified_is ∙ none, left.queues ∙ ap (λ ns. queued id ns old.queues) (notified_is ∙ none) ∙ queued_none old.queues _)
 
 -- if nothing is freed, all data keep their places
 pub now_stays : (old new : Served) → new.places ≡ old.places → (id place : ℕ) → IsLive old id → IsLive new id → get old.places id ≡ Some place → get new.places id ≡ Some place

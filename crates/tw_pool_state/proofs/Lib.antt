@@ -14,7 +14,7 @@ mod Handing
 mod Kinding
 mod Naming
 mod Handovers
-mod Behind
+mod AfterJob
 mod Puts
 mod NewRules
 mod Quieting
@@ -29,7 +29,7 @@ pub mod Drops
 pub mod Inserts
 pub mod Looks
 pub mod Sizes
-pub mod Telling
+pub mod Notifying
 pub mod Keeping
 pub mod Calling
 pub mod Answering

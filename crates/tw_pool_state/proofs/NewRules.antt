@@ -7,7 +7,7 @@ use Rattle.tw_code.specs.machine.Machine.{step}
 use Rattle.tw_rules.specs.Table as table
 use Rattle.tw_pool_state.proofs.Fitting.{seen, fit_ruled, fit_seated}
 use Rattle.tw_pool_state.proofs.Goings.{position_then}
-use Rattle.tw_pool_state.proofs.Handovers.{args_match, bare_args, fits_behind, frame_is}
+use Rattle.tw_pool_state.proofs.Handovers.{args_match, bare_args, fits_after, frame_is}
 use Rattle.tw_pool_state.proofs.Law.{goes_to}
 use Rattle.tw_pool_state.proofs.Naming.{IsNamed, rules}
 use Rattle.tw_pool_state.proofs.Seating.{get_other, get_own}
@@ -44,7 +44,7 @@ module _ (verified : TypedProgram) (layout : ActorCounts) (old : Parts) (notices
         ∙ ap (λ k. Went (with_frame (with_rule (state_of old notices) (bare_rule rule)) actor k)) (sym (frame_is verified layout old notices h actor f p action runs rule_named vals are args file over))
 
     fits : FrameFits verified old.store.places actor (gone_on f file)
-    fits = fits_behind verified layout old notices h actor f p action runs rule_named vals are args file over
+    fits = fits_after verified layout old notices h actor f p action runs rule_named vals are args file over
         (typed_after verified.program (typings_of verified) h.runnable.is h.runnable.right f.procedure p here f.position.place (f.position.place + 1) (instr.Rule action) Completed at refl).1
 
     module _ (new : Parts) (ruled : new.rules.rules ≡ insert old.rules.rules old.rules.next rule) (next_rule : new.rules.next ≡ old.rules.next + 1) (seats : new.seats ≡ insert old.seats actor (gone_on f file)) (store : new.store ≡ old.store) (tasks : new.tasks ≡ old.tasks) (next_task : new.next_task ≡ old.next_task) (outputs : new.outputs ≡ old.outputs) where

@@ -55,7 +55,7 @@ module _ (write read : ℕ) (ty : NestedScalar) (s : Served) (f : FrameView) (m 
     made_is = record {
       more = [];
       goes = goes;
-      told = inl (refl, quiet);
+      notified = inl (refl, quiet);
       stays = λ d place was now there. other d place (m.store.fresh d was.0 was.1) there;
       own = own_is;
       way = Completed;

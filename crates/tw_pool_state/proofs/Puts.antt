@@ -6,7 +6,7 @@ use Rattle.tw_code.specs.declared.instr.Instr.TheVariants as instr
 use Rattle.tw_code.specs.machine.Machine.{step}
 use Rattle.tw_pool_state.proofs.Fitting.{seen, fit_put, fit_seated}
 use Rattle.tw_pool_state.proofs.Goings.{position_then}
-use Rattle.tw_pool_state.proofs.Handovers.{args_match, bare_args, fits_behind, frame_is}
+use Rattle.tw_pool_state.proofs.Handovers.{args_match, bare_args, fits_after, frame_is}
 use Rattle.tw_pool_state.proofs.Law.{goes_to}
 use Rattle.tw_pool_state.proofs.Naming.{IsNamed, puts}
 use Rattle.tw_pool_state.proofs.Seating.{get_other, get_own}
@@ -43,7 +43,7 @@ module _ (verified : TypedProgram) (layout : ActorCounts) (old : Parts) (notices
         ∙ ap (λ k. Went (with_frame (with_task (state_of old notices) (bare_task task)) actor k)) (sym (frame_is verified layout old notices h actor f p action runs put_named vals are args file over))
 
     fits : FrameFits verified old.store.places actor (gone_on f file)
-    fits = fits_behind verified layout old notices h actor f p action runs put_named vals are args file over
+    fits = fits_after verified layout old notices h actor f p action runs put_named vals are args file over
         (typed_after verified.program (typings_of verified) h.runnable.is h.runnable.right f.procedure p here f.position.place (f.position.place + 1) (instr.Put action) Completed at refl).1
 
     module _ (new : Parts) (tasks : new.tasks.tasks ≡ insert old.tasks.tasks old.next_task task) (next_task : new.next_task ≡ old.next_task + 1) (seats : new.seats ≡ insert old.seats actor (gone_on f file)) (store : new.store ≡ old.store) (rules : new.rules ≡ old.rules) (outputs : new.outputs ≡ old.outputs) where

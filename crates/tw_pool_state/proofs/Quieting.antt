@@ -12,7 +12,7 @@ use Rattle.tw_types.proofs.NoticeOrder.{notice_cmp_total, notice_cmp-IsAntisymme
 use Rattle.tw_types.proofs.Totals.{IsEntry, get_entry}
 use Rattle.tw_code.specs.machine.Ending.{ending, has_idle_rules, is_quiet}
 use Rattle.tw_code.proofs.Found.{any_entry, ask_found, ask_there, release_found, release_there}
-use Rattle.tw_pool_state.proofs.Fitting.{behind}
+use Rattle.tw_pool_state.proofs.Fitting.{image_of}
 use Rattle.tw_types.proofs.Chosen.{next_ask_mapped, next_release_mapped}
 use Rattle.tw_pool_state.proofs.Notes.{first_of, has, none_of}
 
@@ -33,7 +33,7 @@ AreOfEngines engines rules = (number : ℕ) (r : RuleOf Arg) → get rules numbe
 module _ (engines : ℕ) (rules : RulesOf Arg) (below : AreOfEngines engines rules) where
   entry_below : (e : ℕ × Rule) → IsEntry e (entries (mapped bare_rule rules)) → e.1.engine < engines
   entry_below e i =
-      let b = behind bare_rule rules e.0 e.1 (get_entry nat_cmp nat_cmp_total (mapped bare_rule rules) e i) in
+      let b = image_of bare_rule rules e.0 e.1 (get_entry nat_cmp nat_cmp_total (mapped bare_rule rules) e i) in
       subst (λ (r : Rule). r.engine < engines) b.is (below e.0 b.x b.there)
 
   pub unasking : ((engine : ℕ) → engine < engines → next_ask engine rules ≡ None) → list_any has_unasked (map.values (mapped bare_rule rules)) ≡ false
@@ -118,8 +118,8 @@ module _ (p : Parts) (notices : Notices) where
       by true t = rw t refl
       by false t = refl
 
-  told_so : (n : ℕ) → (n ≡ 0 → ⊥) → (a b c : Bool) → (a && (b && ((n == 0) && c))) ≡ false
-  told_so n some a b c = let no : (n == 0) ≡ false = test (n == 0) refl in rw no (by a b)
+  notified_so : (n : ℕ) → (n ≡ 0 → ⊥) → (a b c : Bool) → (a && (b && ((n == 0) && c))) ≡ false
+  notified_so n some a b c = let no : (n == 0) ≡ false = test (n == 0) refl in rw no (by a b)
     where
       test : (t : Bool) → (n == 0) ≡ t → t ≡ false
       test true e = absurd (some (eqb-true n 0 e))
@@ -130,12 +130,12 @@ module _ (p : Parts) (notices : Notices) where
       by true false = refl
       by false b = refl
 
-  pub telling : AreQueued p.store.queues notices → (server : ℕ) (n : Notice) → slice_get (queue_at p.store.queues server) 0 ≡ Some n → is_quiet (state_of p notices) ≡ false
-  telling q server n first =
+  pub first_notice : AreQueued p.store.queues notices → (server : ℕ) (n : Notice) → slice_get (queue_at p.store.queues server) 0 ≡ Some n → is_quiet (state_of p notices) ≡ false
+  first_notice q server n first =
       let is = first_of (queue_at p.store.queues server) n first in
       let inside = within p.store.queues server n first in
       let there = has p.store.queues notices q server inside n is.rest is.is in
-      told_so (set_of.len notices) (λ none. let no : false ≡ true = sym (ap (λ (s : Notices). set_of.contains s n) (set_of.empty_of_len notices none) ∙ set_of.contains-empty notice_cmp n) ∙ there in cc)
+      notified_so (set_of.len notices) (λ none. let no : false ≡ true = sym (ap (λ (s : Notices). set_of.contains s n) (set_of.empty_of_len notices none) ∙ set_of.contains-empty notice_cmp n) ∙ there in cc)
       (map.len (mapped bare_frame p.seats) == 0) (map.len (mapped bare_task p.tasks.tasks) == 0) (has_idle_rules (state_of p notices))
     where
       within : (queues : List (List Notice)) (k : ℕ) (n : Notice) → slice_get (queue_at queues k) 0 ≡ Some n → k < length queues

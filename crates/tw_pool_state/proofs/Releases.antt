@@ -8,7 +8,7 @@ use Rattle.tw_code.specs.accepting.Needs.{up_to}
 use Rattle.tw_code.proofs.Placed.{count_of}
 use Rattle.tw_queue.specs.Queues.{IsTarget}
 use Rattle.tw_code.proofs.Found.{IsOwn, MayBeReleased, own_rule_there, release_found}
-use Rattle.tw_pool_state.proofs.Fitting.{Behind, behind, seen, fit_released}
+use Rattle.tw_pool_state.proofs.Fitting.{IsImage, image_of, seen, fit_released}
 use Rattle.tw_types.proofs.Chosen.{next_release_mapped}
 use Rattle.tw_pool_state.proofs.Law.{goes_to, held, in_layout, target_below}
 
@@ -28,8 +28,8 @@ module _ (verified : TypedProgram) (layout : ActorCounts) (old : Parts) (notices
   pub pending : get (mapped bare_rule old.rules.rules) number ≡ Some found.rule
   pending = own_rule_there engine MayBeReleased number (mapped bare_rule old.rules.rules) found
 
-  pub its : Behind bare_rule old.rules.rules number found.rule
-  its = behind bare_rule old.rules.rules number found.rule pending
+  pub its : IsImage bare_rule old.rules.rules number found.rule
+  its = image_of bare_rule old.rules.rules number found.rule pending
 
   pub releasable : option_map is_releasable (get old.rules.rules number) ≡ Some true
   releasable = ap (option_map is_releasable) its.there ∙ ap Some (ap (λ (r : Rule). is_releasable r) its.is ∙ found.has)

@@ -12,7 +12,7 @@ use Rattle.tw_soundness.specs.InOrder.{is_asked_for}
 use Rattle.tw_soundness.specs.Invariant.{IsHeld, RuleArgsFit}
 use Rattle.tw_soundness.proofs.Wanted.{asked_is_there}
 use Rattle.tw_pool_state.proofs.Delivers.{staged_bare, staged_is}
-use Rattle.tw_pool_state.proofs.Fitting.{Behind, behind, seen, fit_staged}
+use Rattle.tw_pool_state.proofs.Fitting.{IsImage, image_of, seen, fit_staged}
 use Rattle.tw_types.proofs.Chosen.{next_ask_mapped}
 use Rattle.tw_pool_state.proofs.Law.{goes_to, held}
 
@@ -60,8 +60,8 @@ module _ (verified : TypedProgram) (layout : ActorCounts) (old : Parts) (notices
   pub pending : get (mapped bare_rule old.rules.rules) number ≡ Some found.rule
   pending = own_rule_there engine (IsUnaskedAt parameter) number (mapped bare_rule old.rules.rules) found
 
-  pub its : Behind bare_rule old.rules.rules number found.rule
-  its = behind bare_rule old.rules.rules number found.rule pending
+  pub its : IsImage bare_rule old.rules.rules number found.rule
+  its = image_of bare_rule old.rules.rules number found.rule pending
 
   stage_there : slice_get its.x.stages parameter ≡ Some Unasked
   stage_there = ap (λ (r : Rule). slice_get r.stages parameter) its.is ∙ found.has

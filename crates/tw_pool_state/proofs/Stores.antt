@@ -3,7 +3,7 @@ use Rattle.tw_pool_state.proofs.PartNames.{Context, Datum, EmptyRegister, FrameV
 use Rattle.tw_rights.specs.declared.held.Held.TheVariants as held
 use Rattle.tw_code.specs.declared.instr.DataInstr.TheVariants as on_data
 use Rattle.std.proofs.Common.{◌≡◌, ◌∙◌, ◌<◌, ◌+◌, ℕ, true, None, Some, refl, sym, ap, slice_get, slice_index_or, slice_set, length}
-use Rattle.tw_pool_state.proofs.Left.{emptied_done, left_stays, left_told, same_ok}
+use Rattle.tw_pool_state.proofs.Left.{emptied_done, left_stays, left_notified, same_ok}
 use Rattle.tw_pool_state.proofs.Registers.{its_id, kind_passed, placed_at}
 
 module _ (datum from : ℕ) (s : Served) (f : FrameView) (m : MayDo (on_data.Store datum from) s f) where
@@ -47,5 +47,5 @@ module _ (datum from : ℕ) (s : Served) (f : FrameView) (m : MayDo (on_data.Sto
             ∙ (λ i. record { store = sym left.store i; notices = with_notices ns (notices_after s.store right.id (set_to value)); rights = slice_set (bare_file f.held) datum None; position = at_next_place f.position })
 
         pub stored_done : (g : FrameView) → g ≡ record f { position = at_next_place f.position; held = slice_set f.held datum None; spent = f.spent + 1 } → IsDone (on_data.Store datum from) s new f g
-        stored_done = emptied_done (on_data.Store datum from) s new f (notices_after s.store right.id (set_to value)) (left_told s new right.id (set_to value) left live.0 live.1 refl)
+        stored_done = emptied_done (on_data.Store datum from) s new f (notices_after s.store right.id (set_to value)) (left_notified s new right.id (set_to value) left live.0 live.1 refl)
             (left_stays s new right.id (set_to value) left) datum goes refl (λ typing. refl)

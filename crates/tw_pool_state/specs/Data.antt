@@ -64,7 +64,7 @@ AreNotified old new more = ((more ≡ []) × (new.queues ≡ old.queues))
 pub record IsDone (d : DataInstr) (old new : Served) (f g : FrameView) : Type 0 where
   pub more : List Notice
   pub goes : (ns : Notices) (left : Context) → data_instr d (sees old ns f) ≡ Ok left → left ≡ sees new (with_notices ns more) g
-  pub told : AreNotified old new more
+  pub notified : AreNotified old new more
   -- data that stay live keep their places
   pub stays : (id place : ℕ) → IsLive old id → IsLive new id → get old.places id ≡ Some place → get new.places id ≡ Some place
   -- each right of the task was its own, or has its datum's place now

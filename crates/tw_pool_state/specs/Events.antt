@@ -76,7 +76,7 @@ pub record IsAtInstr (p : Parts) (actor : Actor) (done : DoneView) (instr : Inst
   pub small : IsSmall (state_of (with_done p actor f done) notices)
   pub q : Procedure
   pub here : slice_get done.before.program.program f.procedure ≡ Some q
-  pub behind : slice_get q.code done.after.place ≡ Some instr
+  pub following_is : slice_get q.code done.after.place ≡ Some instr
 
 -- holds if the event succeeds from there
 abbrev pub MakesAfter : Event → Parts → Actor → DoneView → Parts → Type 0

@@ -1,6 +1,6 @@
 use Rattle.tw_pool_state.proofs.Adding.{IsMade, made_added, made_live}
 use Rattle.tw_code.proofs.Givens.{given_type}
-use Rattle.tw_pool_state.proofs.Filled.{close_allowed, close_told, closed_on, fill_before, fill_begun, index_absent, index_all, index_element, index_key_short, index_more, index_room, index_value_short}
+use Rattle.tw_pool_state.proofs.Filled.{close_allowed, close_notified, closed_on, fill_before, fill_begun, index_absent, index_all, index_element, index_key_short, index_more, index_room, index_value_short}
 use Rattle.tw_types.specs.Given.{members_by}
 use Rattle.tw_pool_state.proofs.input_data.add_container.Goals as goal
 
@@ -42,7 +42,7 @@ drop_write-requires-clause-allowed g c =
 pub unreachable-requires : goal.unreachable-requires
 unreachable-requires g c =
     let type = given_type c.args.ty g.K.AsValue.scalar g.V.AsValue.scalar (members_by g.K.AsValue.value g.V.AsValue.value c.args.members.now) c.requires.fits in
-    let refused = c.in-Err.ensures.reserved (close_told c.args.store.now c.args.ty _ c.loop-subscript.store c.in_ok-write.write c.loop-subscript.invariant g.K.AsValue.scalar g.V.AsValue.scalar type) in
+    let refused = c.in-Err.ensures.reserved (close_notified c.args.store.now c.args.ty _ c.loop-subscript.store c.in_ok-write.write c.loop-subscript.invariant g.K.AsValue.scalar g.V.AsValue.scalar type) in
     cc
 
 pub returns-clause-added : goal.returns-clause-added

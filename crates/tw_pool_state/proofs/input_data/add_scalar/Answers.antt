@@ -1,6 +1,6 @@
 use Rattle.std.proofs.Common.{◌∙◌, ap}
 use Rattle.tw_pool_state.proofs.PartNames.{created, scalar_of, scalar_type}
-use Rattle.tw_pool_state.proofs.Adding.{IsMade, scalar_added, scalar_allowed, scalar_told}
+use Rattle.tw_pool_state.proofs.Adding.{IsMade, scalar_added, scalar_allowed, scalar_notified}
 use Rattle.tw_pool_state.proofs.input_data.add_scalar.Goals as goal
 
 pub store-requires-clause-allowed : goal.store-requires-clause-allowed
@@ -29,7 +29,7 @@ unreachable-requires c =
       quiet = e.quiet;
       live = c.requires.live;
     } in
-    let refused = c.in-Err.ensures.reserved (scalar_told c.args.store.now c.create.new.self c.args.value c.in_ok-write.write c.in_ok-write.read made) in
+    let refused = c.in-Err.ensures.reserved (scalar_notified c.args.store.now c.create.new.self c.args.value c.in_ok-write.write c.in_ok-write.read made) in
     cc
 
 pub returns-clause-added : goal.returns-clause-added

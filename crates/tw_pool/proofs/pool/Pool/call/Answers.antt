@@ -13,14 +13,14 @@ pub count_after-event_no-requires : goal.count_after-event_no-requires
 count_after-event_no-requires c = record { place = hand.has_seat _ _ _ c.self.inside.stopped c.self.inside.history c.self.inside.parts c.self.invariant c.args.self.now c.self.view_is c.args.actor c.requires.actor c.requires.room c.args.done c.requires.owed; few = omega (arith, c.self.invariant.within, c.self.invariant.few) }
 
 pub call_by-requires-clause-fits_place : goal.call_by-requires-clause-fits_place
-call_by-requires-clause-fits_place c = hand.fits_place _ _ _ c.self.inside.stopped c.self.inside.history c.self.inside.parts c.self.invariant c.args.self.now c.self.view_is c.args.actor c.requires.actor c.requires.room c.args.done c.requires.owed c.event_of-event.result (hand.has_come _ _ _ c.self.inside.stopped c.self.inside.history c.self.inside.parts c.self.invariant c.args.self.now c.self.view_is c.args.actor c.requires.actor c.requires.room c.args.done c.requires.owed c.steps-steps.ensures.done.few c.event_of-event.result c.event_of-event.ensures) c.args.instr.now c.requires.behind
+call_by-requires-clause-fits_place c = hand.fits_place _ _ _ c.self.inside.stopped c.self.inside.history c.self.inside.parts c.self.invariant c.args.self.now c.self.view_is c.args.actor c.requires.actor c.requires.room c.args.done c.requires.owed c.event_of-event.result (hand.has_come _ _ _ c.self.inside.stopped c.self.inside.history c.self.inside.parts c.self.invariant c.args.self.now c.self.view_is c.args.actor c.requires.actor c.requires.room c.args.done c.requires.owed c.steps-steps.ensures.done.few c.event_of-event.result c.event_of-event.ensures) c.args.instr.now c.requires.following_is
 
 pub invariant_of-self : goal.invariant_of-self
 invariant_of-self c = free.kept_still _ _ _ c.self.inside.stopped c.self.inside.history c.self.inside.parts c.self.invariant c.args.self.now c.self.view_is c.call_by.new.parts c.in-Err.ensures.refused
 
 pub returns-in-Err : goal.returns-in-Err
 returns-in-Err c =
-    free.line_still _ _ _ c.self.inside.stopped c.self.inside.history c.self.inside.parts c.self.invariant c.args.self.now c.self.view_is (λ s. OrNoMemory c.args.self.now (Some c.args.done) (steps_of c.args.actor c.args.done) (Call c.args.actor) (Lends c.args.self.now c.args.actor ((steps_of c.args.actor c.args.done) ++ Call c.args.actor ∷ []))) (answer.NoMemory (Some c.in-Err.done)) (inr (hand.wanted _ _ _ c.self.inside.stopped c.self.inside.history c.self.inside.parts c.self.invariant c.args.self.now c.self.view_is c.args.actor c.requires.actor c.requires.room c.args.done c.requires.owed c.event_of-event.result (hand.has_come _ _ _ c.self.inside.stopped c.self.inside.history c.self.inside.parts c.self.invariant c.args.self.now c.self.view_is c.args.actor c.requires.actor c.requires.room c.args.done c.requires.owed c.steps-steps.ensures.done.few c.event_of-event.result c.event_of-event.ensures) c.args.instr.now c.requires.behind c.in-Err.ensures.memory, (ap (λ x. answer.NoMemory (Some x)) c.in-Err.ensures.back, refl)))
+    free.line_still _ _ _ c.self.inside.stopped c.self.inside.history c.self.inside.parts c.self.invariant c.args.self.now c.self.view_is (λ s. OrNoMemory c.args.self.now (Some c.args.done) (steps_of c.args.actor c.args.done) (Call c.args.actor) (Lends c.args.self.now c.args.actor ((steps_of c.args.actor c.args.done) ++ Call c.args.actor ∷ []))) (answer.NoMemory (Some c.in-Err.done)) (inr (hand.wanted _ _ _ c.self.inside.stopped c.self.inside.history c.self.inside.parts c.self.invariant c.args.self.now c.self.view_is c.args.actor c.requires.actor c.requires.room c.args.done c.requires.owed c.event_of-event.result (hand.has_come _ _ _ c.self.inside.stopped c.self.inside.history c.self.inside.parts c.self.invariant c.args.self.now c.self.view_is c.args.actor c.requires.actor c.requires.room c.args.done c.requires.owed c.steps-steps.ensures.done.few c.event_of-event.result c.event_of-event.ensures) c.args.instr.now c.requires.following_is c.in-Err.ensures.memory, (ap (λ x. answer.NoMemory (Some x)) c.in-Err.ensures.back, refl)))
 
 pub invariant_of-self-2 : goal.invariant_of-self-2
 invariant_of-self-2 c = hand.kept_called _ _ _ c.self.inside.stopped c.self.inside.history c.self.inside.parts c.self.invariant c.args.self.now c.self.view_is c.args.actor c.requires.actor c.requires.room c.args.done c.requires.owed c.event_of-event.result (hand.has_come _ _ _ c.self.inside.stopped c.self.inside.history c.self.inside.parts c.self.invariant c.args.self.now c.self.view_is c.args.actor c.requires.actor c.requires.room c.args.done c.requires.owed c.steps-steps.ensures.done.few c.event_of-event.result c.event_of-event.ensures) (hand.room_two _ _ _ c.self.inside.stopped c.self.inside.history c.self.inside.parts c.self.invariant c.args.self.now c.self.view_is c.args.actor c.requires.actor c.requires.room c.args.done c.requires.owed c.requires.fits c.event_of-event.result c.event_of-event.ensures) c.record_event.new.history c.push.new.self c.record_event.ensures c.push.ensures c.count_after-event_no.result c.count_after-event_no.ensures c.call_by.new.parts c.in-Ok.ensures.called c.in-Ok.job c.in-Ok.ensures.lent

@@ -33,12 +33,12 @@ returns-in-Closed-clause-asked c = (
   sym c.in-Some.ensures.ask,
   λ verified layout notices h.
       let old = c.args.self.now in
-      let told = subst (λ a. IsAsking {E = AllocError} old.store c.asked_right-right.result.now.id (record { rule = c.in-Some.next.0; parameter = c.in-Some.next.1 }) (Ok a) c.ask.new.self) c.in-Closed.is c.in-Ok.ensures in
+      let notified = subst (λ a. IsAsking {E = AllocError} old.store c.asked_right-right.result.now.id (record { rule = c.in-Some.next.0; parameter = c.in-Some.next.1 }) (Ok a) c.ask.new.self) c.in-Closed.is c.in-Ok.ensures in
       let same : (reads verified layout old notices h c.args.engine c.in-Some.next.0 c.in-Some.next.1 (sym c.in-Some.ensures.ask)).right ≡ c.asked_right-right.result.now = same_Some _ _ (sym (right_is verified layout old notices h c.args.engine c.in-Some.next.0 c.in-Some.next.1 (sym c.in-Some.ensures.ask)) ∙ c.asked_right-right.ensures) in
       let same_id = ap (λ (r : Right). r.id) same in
       asks verified layout old notices h c.args.engine c.in-Some.next.0 c.in-Some.next.1 (sym c.in-Some.ensures.ask) c.requires.free _ Ready old.store.store
-      (closed_leads verified layout old notices h c.args.engine c.in-Some.next.0 c.in-Some.next.1 (sym c.in-Some.ensures.ask) c.requires.free (rw same_id told.0))
-      told.1.store told.1.places told.1.queues
+      (closed_leads verified layout old notices h c.args.engine c.in-Some.next.0 c.in-Some.next.1 (sym c.in-Some.ensures.ask) c.requires.free (rw same_id notified.0))
+      notified.1.store notified.1.places notified.1.queues
       c.mark_ready.ensures.rules c.mark_ready.ensures.next refl refl refl refl,
 )
 
@@ -47,12 +47,12 @@ returns-in-Noted-clause-asked c = (
   sym c.in-Some.ensures.ask,
   λ verified layout notices h.
       let old = c.args.self.now in
-      let told = subst (λ a. IsAsking {E = AllocError} old.store c.asked_right-right.result.now.id (record { rule = c.in-Some.next.0; parameter = c.in-Some.next.1 }) (Ok a) c.ask.new.self) c.in-Noted.is c.in-Ok.ensures in
+      let notified = subst (λ a. IsAsking {E = AllocError} old.store c.asked_right-right.result.now.id (record { rule = c.in-Some.next.0; parameter = c.in-Some.next.1 }) (Ok a) c.ask.new.self) c.in-Noted.is c.in-Ok.ensures in
       let same : (reads verified layout old notices h c.args.engine c.in-Some.next.0 c.in-Some.next.1 (sym c.in-Some.ensures.ask)).right ≡ c.asked_right-right.result.now = same_Some _ _ (sym (right_is verified layout old notices h c.args.engine c.in-Some.next.0 c.in-Some.next.1 (sym c.in-Some.ensures.ask)) ∙ c.asked_right-right.ensures) in
       let same_id = ap (λ (r : Right). r.id) same in
       asks verified layout old notices h c.args.engine c.in-Some.next.0 c.in-Some.next.1 (sym c.in-Some.ensures.ask) c.requires.free _ Waiting _
-      (open_leads verified layout old notices h c.args.engine c.in-Some.next.0 c.in-Some.next.1 (sym c.in-Some.ensures.ask) c.requires.free (rw same_id told.0))
-      (rw same_id told.1.store) told.1.places told.1.queues
+      (open_leads verified layout old notices h c.args.engine c.in-Some.next.0 c.in-Some.next.1 (sym c.in-Some.ensures.ask) c.requires.free (rw same_id notified.0))
+      (rw same_id notified.1.store) notified.1.places notified.1.queues
       c.mark_asked.ensures.rules c.mark_asked.ensures.next refl refl refl refl,
 )
 

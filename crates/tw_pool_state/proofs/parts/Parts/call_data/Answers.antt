@@ -20,7 +20,7 @@ exec_data-requires-clause-sits c =
       s.f,
       s.owed.sits,
       s.owed.own,
-      may_do done.before.program s.layout (with_done c.args.self.now c.args.actor s.f done) s.notices s.parts c.args.actor (come s.f done) s.q c.args.instr.now (get_own c.args.self.now.seats c.args.actor (come s.f done)) s.here s.behind s.small,
+      may_do done.before.program s.layout (with_done c.args.self.now c.args.actor s.f done) s.notices s.parts c.args.actor (come s.f done) s.q c.args.instr.now (get_own c.args.self.now.seats c.args.actor (come s.f done)) s.here s.following_is s.small,
     )
 
 pub returns-clause-called : goal.returns-clause-called
@@ -34,7 +34,7 @@ returns-clause-called c =
     let same : s.f ≡ f = same_Some s.f f (sym s.owed.sits ∙ owed.sits) in
     subst (λ (x : FrameView). Makes done.before.program layout (Call c.args.actor) (with_done old c.args.actor x done) new) same (λ notices h.
     lent_goes new old.seats c.args.actor l.at c.args.event_no (e.1 ∙ ap (insert old.seats c.args.actor) l.is_lent) done.before.program layout (Call c.args.actor) refl (with_done old c.args.actor s.f done) notices
-    (called done.before.program layout (with_done old c.args.actor s.f done) notices h c.args.actor (come s.f done) s.q c.args.instr.now (get_own old.seats c.args.actor (come s.f done)) s.here s.behind
+    (called done.before.program layout (with_done old c.args.actor s.f done) notices h c.args.actor (come s.f done) s.q c.args.instr.now (get_own old.seats c.args.actor (come s.f done)) s.here s.following_is
     (record new { seats = insert old.seats c.args.actor l.at }) l.at l.is_done (sym (again old.seats c.args.actor (come s.f done) l.at)) refl refl refl refl)))
 
 pub returns-clause-lent : goal.returns-clause-lent

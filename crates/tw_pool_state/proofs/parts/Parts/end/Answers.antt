@@ -22,6 +22,6 @@ returns c = λ layout f owed notices h.
     let old = c.args.self.now in
     let same : s.f ≡ f = same_Some s.f f (sym s.owed.sits ∙ owed.sits) in
     ended done.before.program layout (with_done old c.args.actor f done) notices h c.args.actor (come f done) s.q (get_own old.seats c.args.actor (come f done))
-    (ap (λ (g : FrameView). slice_get done.before.program.program g.procedure) (sym same) ∙ s.here) s.behind _
+    (ap (λ (g : FrameView). slice_get done.before.program.program g.procedure) (sym same) ∙ s.here) s.following_is _
     (c.end.ensures ∙ sym (remove_insert actor_cmp_total actor_cmp-IsAntisymmetric old.seats c.args.actor (come f done)))
     refl refl refl refl refl

@@ -3,7 +3,7 @@ use Rattle.tw_pool_state.proofs.PartNames.{MatchBool, bare_rule, nat_tests, next
 use Rattle.std.specs.FinMap as map
 use Rattle.tw_pool_state.proofs.Fitting.{seen}
 use Rattle.tw_pool_state.proofs.Law.{in_layout}
-use Rattle.tw_pool_state.proofs.Quieting.{quiet_or, running, telling, waiting}
+use Rattle.tw_pool_state.proofs.Quieting.{quiet_or, running, first_notice, waiting}
 use Rattle.tw_pool_state.proofs.parts.Parts.is_quiet.Goals as goal
 
 pub returns-then-running-ne0 : goal.returns-then-running-ne0
@@ -19,7 +19,7 @@ returns-then-len-ne0 c = λ verified notices h.
 pub returns-then-has_notice : goal.returns-then-has_notice
 returns-then-has_notice c = λ verified notices h.
     let n = c.if-has_notice.ensures in
-    sym (telling c.args.self.now notices h.queued n.0 n.1 n.2)
+    sym (first_notice c.args.self.now notices h.queued n.0 n.1 n.2)
 
 pub returns : goal.returns
 returns c = λ verified notices h.

@@ -29,7 +29,7 @@ module _ (old : Parts) (actor : Actor) (done : DoneView) (instr : Instr) (s : Is
   spent_there = let few = s.small.spent actor (bare_frame (come s.f done)) (seen bare_frame there.seats actor (Some (come s.f done)) runs_there) in omega (arith, few)
 
   place_there : done.after.place < 2 ^ 63
-  place_there = let low = low_place done.before.program.program s.parts.runnable.is s.f.procedure s.q s.here done.after.place instr s.behind in omega (arith, low)
+  place_there = let low = low_place done.before.program.program s.parts.runnable.is s.f.procedure s.q s.here done.after.place instr s.following_is in omega (arith, low)
 
   module _ (action : Action) (u : IsNamed done.before.program.program s.q.kind (context_of (state_of there s.notices) (bare_frame (come s.f done))) action s.f.held)
       (params : List Param) (params_is : params ≡ u.procedure.params) (registers : List ℕ) (registers_is : registers ≡ action.args) where

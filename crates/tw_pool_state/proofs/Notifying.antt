@@ -40,13 +40,13 @@ apart_append (x ∷ xs) ys p q off = (
 
 -- ---- the set
 
-told_contains : (ns : Notices) (more : List Notice) (m : Notice) → set_of.contains (with_notices ns more) m ≡ (set_of.contains ns m || is_among m more)
-told_contains ns [] m = by (set_of.contains ns m)
+notified_contains : (ns : Notices) (more : List Notice) (m : Notice) → set_of.contains (with_notices ns more) m ≡ (set_of.contains ns m || is_among m more)
+notified_contains ns [] m = by (set_of.contains ns m)
   where
     by : (b : Bool) → b ≡ (b || false)
     by true = refl
     by false = refl
-told_contains ns (n ∷ more) m = told_contains (set_of.insert ns n) more m ∙ ap (λ b. b || is_among m more) (set_of.contains-insert notice_cmp_total ns n m) ∙ turn (eq_by_cmp notice_cmp m n) (set_of.contains ns m) (is_among m more)
+notified_contains ns (n ∷ more) m = notified_contains (set_of.insert ns n) more m ∙ ap (λ b. b || is_among m more) (set_of.contains-insert notice_cmp_total ns n m) ∙ turn (eq_by_cmp notice_cmp m n) (set_of.contains ns m) (is_among m more)
   where
     turn : (a b c : Bool) → ((a || b) || c) ≡ (b || (a || c))
     turn true true c = refl
@@ -75,9 +75,9 @@ is_named id (x ∷ xs) m e = by (eq_by_cmp notice_cmp m (notice_to id x)) refl (
         omega (arith, one)
     by false same others e = omega (arith, others e)
 
-apart_told : (id : ℕ) (xs : List Subscriber) → ((r p : ℕ) → times_among r p xs ≤ 1) → AreApart (each (notice_to id) xs)
-apart_told id [] few = tt
-apart_told id (x ∷ xs) few = (once (is_among (notice_to id x) (each (notice_to id) xs)) refl, apart_told id xs (λ r p. omega (arith, few r p)))
+apart_notified : (id : ℕ) (xs : List Subscriber) → ((r p : ℕ) → times_among r p xs ≤ 1) → AreApart (each (notice_to id) xs)
+apart_notified id [] few = tt
+apart_notified id (x ∷ xs) few = (once (is_among (notice_to id x) (each (notice_to id) xs)) refl, apart_notified id xs (λ r p. omega (arith, few r p)))
   where
     once : (b : Bool) → is_among (notice_to id x) (each (notice_to id) xs) ≡ b → is_among (notice_to id x) (each (notice_to id) xs) ≡ false
     once true e =
@@ -118,9 +118,9 @@ module _ (live : Data) (ns : Notices) (rules : Rules) (h : AreNamed live ns rule
     abbrev server : ℕ
     server = server_of (length queues) id
 
-    pub told : server < length queues → AreQueued (queued id more queues) (with_notices ns more)
-    told inside = record {
-      all = λ m. told_contains ns more m ∙ at m ∙ ap (λ k. is_among m (queue_at (queued id more queues) (server_of k m.datum))) (sym long);
+    pub notified : server < length queues → AreQueued (queued id more queues) (with_notices ns more)
+    notified inside = record {
+      all = λ m. notified_contains ns more m ∙ at m ∙ ap (λ k. is_among m (queue_at (queued id more queues) (server_of k m.datum))) (sym long);
       own = λ k m there. ap (λ l. server_of l m.datum) long ∙ own_at k m there;
       apart = λ k. apart_at k;
     }
@@ -167,6 +167,6 @@ module _ (live : Data) (ns : Notices) (rules : Rules) (h : AreNamed live ns rule
 
         apart_at : (k : ℕ) → AreApart (queue_at (queued id more queues) k)
         apart_at k = elim (cases_eq k server) as (λ _. AreApart (queue_at (queued id more queues) k)) [
-          | inl same ↦ subst AreApart (sym (ap (queue_at (queued id more queues)) same ∙ here)) (apart_append (queue_at queues server) more (q.apart server) (apart_told id x.subscribers few) fresh)
+          | inl same ↦ subst AreApart (sym (ap (queue_at (queued id more queues)) same ∙ here)) (apart_append (queue_at queues server) more (q.apart server) (apart_notified id x.subscribers few) fresh)
           | inr apart ↦ subst AreApart (sym (other k apart)) (q.apart k)
         ]
