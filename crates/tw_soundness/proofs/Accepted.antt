@@ -77,16 +77,16 @@ module _ (program : List Procedure) (typings : Typings) (accepts : (k : ℕ) (p 
       straight : Moves p.registers Straight f.position (at_next_place f.position)
       straight = record { way = Completed; goes_on = refl; values = fits_place.values }
 
-      behind_rule : (action : Action) → i ≡ instr.Rule action → GoesAfter program typings s held a f is p here action
-      behind_rule action e =
+      after_rule : (action : Action) → i ≡ instr.Rule action → GoesAfter program typings s held a f is p here action
+      after_rule action e =
           let own : slice_get p.code f.position.place ≡ Some (instr.Rule action) = at ∙ ap Some e in
           record {
             fits_place = position_next program (typings f.procedure) p acc f.spent f.position (at_next_place f.position) (instr.Rule action) fits_place own straight;
             next = typing_on program (typings f.procedure) p acc f.spent f.position (at_next_place f.position) (instr.Rule action) fits_place own straight;
           }
 
-      behind_put : (action : Action) → i ≡ instr.Put action → GoesAfter program typings s held a f is p here action
-      behind_put action e =
+      after_put : (action : Action) → i ≡ instr.Put action → GoesAfter program typings s held a f is p here action
+      after_put action e =
           let own : slice_get p.code f.position.place ≡ Some (instr.Put action) = at ∙ ap Some e in
           record {
             fits_place = position_next program (typings f.procedure) p acc f.spent f.position (at_next_place f.position) (instr.Put action) fits_place own straight;
@@ -115,7 +115,7 @@ module _ (program : List Procedure) (typings : Typings) (accepts : (k : ℕ) (p 
         here = here;
         instr = i;
         at = at;
-        turn = record { met = met; by_data = by_data; behind_rule = behind_rule; behind_put = behind_put };
+        turn = record { met = met; by_data = by_data; after_rule = after_rule; after_put = after_put };
         stops = λ e. stops i e met;
         local = λ n. keeps_mapped (local_steps n p.code f.position) _ _ (steps_keep program (typings f.procedure) p acc n (typing_of typings f) f.spent f.position (record { fits_place = fits_place; typing_there = refl }))
             (λ to left. (left.fits_place, left.typing_there));

@@ -49,15 +49,15 @@ module _ (p : Procedure) (typing : Typing) (c : Context) (r w : ℕ → ℕ) (fi
 
   -- ---- a write is dropped, and the container may close or be freed
 
-  told_aged : (x y : Datum) → Aged x y → Aged x (subscribers_cleared y)
-  told_aged x y a = by (is_closed y) refl
+  notified_aged : (x y : Datum) → Aged x y → Aged x (subscribers_cleared y)
+  notified_aged x y a = by (is_closed y) refl
     where
       by : (b : Bool) → is_closed y ≡ b → Aged x (subscribers_cleared y)
       by true e = rw e (record { ty = a.ty; members = a.members; closed = λ t. e; content = a.content; writers = a.writers })
       by false e = rw e a
 
-  told_counts : (y : Datum) → ((subscribers_cleared y).reads ≡ y.reads) × ((subscribers_cleared y).writes ≡ y.writes)
-  told_counts y = by (is_closed y) refl
+  notified_counts : (y : Datum) → ((subscribers_cleared y).reads ≡ y.reads) × ((subscribers_cleared y).writes ≡ y.writes)
+  notified_counts y = by (is_closed y) refl
     where
       by : (b : Bool) → is_closed y ≡ b → ((subscribers_cleared y).reads ≡ y.reads) × ((subscribers_cleared y).writes ≡ y.writes)
       by true e = rw e (refl, refl)
@@ -82,7 +82,7 @@ module _ (p : Procedure) (typing : Typing) (c : Context) (r w : ℕ → ℕ) (fi
       let one = hits_same h.id in
       let r_id = sum_r h.id in
       let w_id = sum_w h.id in
-      let t = told_counts (one_write_less h.x) in
+      let t = notified_counts (one_write_less h.x) in
       let live : (store_after c.store h.id one_write_less).live ≡ settled c.store.live h.id (subscribers_cleared (one_write_less h.x)) = rw h.live refl in
       let next : (store_after c.store h.id one_write_less).next ≡ c.store.next = rw h.live refl in
       goes (held c.rights d) _ _ h.id (ap (λ o. ok_or (option_flatten o) EmptyRegister) h.register)
@@ -90,7 +90,7 @@ module _ (p : Procedure) (typing : Typing) (c : Context) (r w : ℕ → ℕ) (fi
       (record {
         moves = record { way = Completed; goes_on = refl; values = values };
         settles = aged_context typing (slice_set typing d None) c _ r w h.id h.x (subscribers_cleared (one_write_less h.x)) fits h.live
-            (told_aged h.x (one_write_less h.x) (less_aged h.x deep_x (fits.store.contents h.id h.x h.live)))
+            (notified_aged h.x (one_write_less h.x) (less_aged h.x deep_x (fits.store.contents h.id h.x h.live)))
             (λ e ne. (let s = sum_r e in omega arith, let no_hit = hits_other e h.id (λ z. ne (sym z)) in let s = sum_w e in omega arith))
             (omega (arith, h.reads, t.0)) (omega (arith, h.writes, t.1)) live next (rights_set c.store typing c.rights d None None fits.rights tt);
       }))
@@ -125,7 +125,7 @@ module _ (p : Procedure) (typing : Typing) (c : Context) (r w : ℕ → ℕ) (fi
       let same : same_scalar (scalar_of x) h.x.ty.scalar ≡ true = ap (λ (u : Scalar). same_scalar u h.x.ty.scalar) of_x ∙ scalar_itself h.x.ty.scalar in
       let kept : (h.x.writes == 0) ≡ false = ne_eqb h.x.writes 0 (λ z. omega (arith, unset.1)) in
       let is_un : is_unset h.x.content ≡ true = ap is_unset unset.0 in
-      let t = told_counts (set_to x h.x) in
+      let t = notified_counts (set_to x h.x) in
       let live : (store_after c.store h.id (set_to x)).live ≡ settled c.store.live h.id (subscribers_cleared (set_to x h.x)) = rw h.live refl in
       let next : (store_after c.store h.id (set_to x)).next ≡ c.store.next = rw h.live refl in
       let here : datum_at c d ≡ Some h.x = ap (λ o. option_and_then (get c.store.live) (option_flatten o)) h.register ∙ h.live in
@@ -137,7 +137,7 @@ module _ (p : Procedure) (typing : Typing) (c : Context) (r w : ℕ → ℕ) (fi
       (record {
         moves = record { way = Completed; goes_on = refl; values = values };
         settles = aged_context typing (slice_set typing d None) c _ r w h.id h.x (subscribers_cleared (set_to x h.x)) fits h.live
-            (told_aged h.x (set_to x h.x) (record { ty = refl; members = ap members_of (sym unset.0); closed = λ z. refl; content = λ z. (x_scalar, of_x); writers = λ z. omega (arith, unset.1) }))
+            (notified_aged h.x (set_to x h.x) (record { ty = refl; members = ap members_of (sym unset.0); closed = λ z. refl; content = λ z. (x_scalar, of_x); writers = λ z. omega (arith, unset.1) }))
             (λ e ne. (let s = sum_r e in omega arith, let no_hit = hits_other e h.id (λ z. ne (sym z)) in let s = sum_w e in omega arith))
             (omega (arith, h.reads, t.0)) (omega (arith, h.writes, t.1)) live next (rights_set c.store typing c.rights d None None fits.rights tt);
       }))))

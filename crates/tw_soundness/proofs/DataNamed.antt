@@ -6,7 +6,7 @@ use Rattle.tw_types.specs.declared.data_type.Scalar.TheVariants as scalar
 use Rattle.tw_code.specs.declared.instr.DataInstr.TheVariants as on_data
 use Rattle.tw_soundness.specs.Noticed.{AreNamed}
 use Rattle.tw_code.proofs.Losing.{IsKept, put_kept, settled_kept, within_kept}
-use Rattle.tw_soundness.proofs.Named.{Wanted, IsFrom, named_follows, named_told}
+use Rattle.tw_soundness.proofs.Named.{Wanted, IsFrom, named_follows, named_notified}
 
 -- ---- one datum
 
@@ -83,8 +83,8 @@ module _ (rules : Rules) where
         → k.store ≡ store_after c.store id f → k.notices ≡ with_notices c.notices (notices_after c.store id f) → StaysNamed k
     left_stays id f x k is same closed store_is notices_are stays =
         let live_is : k.store.live ≡ settled c.store.live id (subscribers_cleared (f x)) = ap (λ (s : Store). s.live) store_is ∙ left_is in
-        let told_named = named_told c.store.live c.notices rules id x (f x) h is same closed in
-        let done = named_follows (insert c.store.live id (subscribers_cleared (f x))) (settled c.store.live id (subscribers_cleared (f x))) (with_notices c.notices (notices_of id (f x))) rules told_named (record {
+        let notified_named = named_notified c.store.live c.notices rules id x (f x) h is same closed in
+        let done = named_follows (insert c.store.live id (subscribers_cleared (f x))) (settled c.store.live id (subscribers_cleared (f x))) (with_notices c.notices (notices_of id (f x))) rules notified_named (record {
           from = λ d y e. kept_from (get (insert c.store.live id (subscribers_cleared (f x))) d) y (settled_kept c.store.live id (subscribers_cleared (f x)) d y e);
           was = λ d w. elim (cases_eq d id) [
             | inl e ↦ (subscribers_cleared (f x), ap (get (insert c.store.live id (subscribers_cleared (f x)))) e ∙ data_insert_same c.store.live id (subscribers_cleared (f x)))

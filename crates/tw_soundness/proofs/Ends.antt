@@ -85,14 +85,14 @@ module _ (program : List Procedure) (typings : Typings) (s : State) (held : IsHe
   others : ((len s.tasks == 0) ≡ true) × (((set.len s.notices == 0) && has_idle_rules s) ≡ true)
   others = and_parts _ _ parts.1
 
-  told : ((set.len s.notices == 0) ≡ true) × (has_idle_rules s ≡ true)
-  told = and_parts _ _ others.1
+  both : ((set.len s.notices == 0) ≡ true) × (has_idle_rules s ≡ true)
+  both = and_parts _ _ others.1
 
   idle : (not (list_any has_unasked (values s.rules)) ≡ true) × (not (list_any is_releasable (values s.rules)) ≡ true)
-  idle = and_parts _ _ told.1
+  idle = and_parts _ _ both.1
 
   no_notice : (n : Notice) → set.contains s.notices n ≡ false
-  no_notice n = ap (λ (t : set.FinSet notice_cmp). set.contains t n) (set.empty_of_len s.notices (eqb-true (set.len s.notices) 0 told.0)) ∙ set.contains-empty notice_cmp n
+  no_notice n = ap (λ (t : set.FinSet notice_cmp). set.contains t n) (set.empty_of_len s.notices (eqb-true (set.len s.notices) 0 both.0)) ∙ set.contains-empty notice_cmp n
 
   -- only rules and outputs hold anything
   reads_are : (d : ℕ) → reads_of program typings s d ≡ total (rule_reads program d) s.rules + count_of d s.outputs

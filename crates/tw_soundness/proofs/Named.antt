@@ -90,9 +90,9 @@ named_follows m n s rules h f = record {
 
 -- ---- a datum changes, and its subscribers become notices where it is closed
 
-pub named_told : (m : Data) (s : Notices) (rules : Rules) (id : ℕ) (x y : Datum) → AreNamed m s rules → get m id ≡ Some x → y.subscribers ≡ x.subscribers → (is_closed x ≡ true → is_closed y ≡ true)
+pub named_notified : (m : Data) (s : Notices) (rules : Rules) (id : ℕ) (x y : Datum) → AreNamed m s rules → get m id ≡ Some x → y.subscribers ≡ x.subscribers → (is_closed x ≡ true → is_closed y ≡ true)
     → AreNamed (insert m id (subscribers_cleared y)) (with_notices s (notices_of id y)) rules
-named_told m s rules id x y h is same stays = by (is_closed y) refl
+named_notified m s rules id x y h is same stays = by (is_closed y) refl
   where
     open_case : is_closed y ≡ false → AreNamed (insert m id y) s rules
     open_case is_open =

@@ -180,8 +180,8 @@ opened_all before (p ∷ params) inputs o h main each count fit =
     no_value : is_val p.mode ≡ false
     no_value = not-true _ (and_parts (not (is_val p.mode)) (is_flat p.ty) parts.0).0
 
-    behind : (q : Opened) → (rest : List Input) → IsOpened ((before ++ p ∷ []) ++ params) (opened q params rest) → IsOpened (before ++ (p ∷ params)) (opened q params rest)
-    behind q rest k = subst (λ (ps : List Param). IsOpened ps (opened q params rest)) (append_assoc before (p ∷ []) params) k
+    rest_of : (q : Opened) → (rest : List Input) → IsOpened ((before ++ p ∷ []) ++ params) (opened q params rest) → IsOpened (before ++ (p ∷ params)) (opened q params rest)
+    rest_of q rest k = subst (λ (ps : List Param). IsOpened ps (opened q params rest)) (append_assoc before (p ∷ []) params) k
 
     by : (b : Bool) → is_write p.mode ≡ b → (given : List Input) → length given ≡ length (input_params (p ∷ params)) → are_inputs_of (input_params (p ∷ params)) given ≡ true
         → ((q : Opened) (rest : List Input) → IsOpened (before ++ p ∷ []) q → length rest ≡ length (input_params params) → are_inputs_of (input_params params) rest ≡ true → IsOpened ((before ++ p ∷ []) ++ params) (opened q params rest))
@@ -189,7 +189,7 @@ opened_all before (p ∷ params) inputs o h main each count fit =
     by true writes given count fit all =
         let same : input_params (p ∷ params) ≡ input_params params = rw writes refl in
         let next : opened o (p ∷ params) given ≡ opened (with_output o p.ty) params given = rw writes refl in
-        subst (IsOpened (before ++ (p ∷ params))) (sym next) (behind (with_output o p.ty) given
+        subst (IsOpened (before ++ (p ∷ params))) (sym next) (rest_of (with_output o p.ty) given
         (all (with_output o p.ty) given (output_more before o p h no_value each.0 writes) (count ∙ ap length same) (sym (ap (λ ps. are_inputs_of ps given) same) ∙ fit)))
     by false reads [] count fit all =
         let same : input_params (p ∷ params) ≡ p ∷ input_params params = rw reads refl in
@@ -200,7 +200,7 @@ opened_all before (p ∷ params) inputs o h main each count fit =
         let next : opened o (p ∷ params) (i ∷ given) ≡ opened (with_given o (Some i)) params given = rw reads refl in
         let fits = and_parts (is_input_of p.ty i) (are_inputs_of (input_params params) given) (sym (ap (λ ps. are_inputs_of ps (i ∷ given)) same) ∙ fit) in
         let long : length (i ∷ given) ≡ length (p ∷ input_params params) = count ∙ ap length same in
-        subst (IsOpened (before ++ (p ∷ params))) (sym next) (behind (with_given o (Some i)) given
+        subst (IsOpened (before ++ (p ∷ params))) (sym next) (rest_of (with_given o (Some i)) given
         (all (with_given o (Some i)) given (input_more before o p h no_value each.0 i reads fits.0) (omega arith) fits.1))
 
 nothing_live : (d : ℕ) (x : Datum) → get (empty {X = Datum} {R = nat_cmp}) d ≡ Some x → ⊥

@@ -94,9 +94,9 @@ module _ (program : List Procedure) (typings : Typings) (is : IsProgram program)
       once = held.notices.once;
       subscribers = held.notices.subscribers;
       notices = λ n waits.
-          let told = held.notices.notices n waits in
+          let waits_notified = held.notices.notices n waits in
           let live = notice_is_live program typings s held n waits in
-          (told.0, (live.0, live.1, told.1 live.0 live.1));
+          (waits_notified.0, (live.0, live.1, waits_notified.1 live.0 live.1));
     };
     numbers = record { ids = held.types.store.fresh; rules = held.numbers.rules; tasks = held.numbers.tasks; frames = running };
   }

@@ -58,29 +58,29 @@ module _ (program : List Procedure) (typings : Typings) where
       module _ (p : Procedure) (here : slice_get program f.procedure ≡ Some p) (action : Action) (fits_place : IsAtPosition p (f.spent + 1) (at_next_place f.position))
           (next : typing_at typings f.procedure (f.position.place + 1) ≡ without_args (params_of program action.procedure) action.args (typing_of typings f)) where
         module _ (waits : Bool) (call : Called) (so : CalledSo program p (context_of s f) (typing_of typings f) (other_reads s a) (other_writes s a) action (fits_of) (held.types.values a f p is here) waits call) where
-          abbrev behind : Frame
-          behind = gone_after f call.rights
+          abbrev rest_of : Frame
+          rest_of = gone_after f call.rights
 
-          left_is : typing_of typings behind ≡ without_args so.callee.params action.args (typing_of typings f)
+          left_is : typing_of typings rest_of ≡ without_args so.callee.params action.args (typing_of typings f)
           left_is = next ∙ ap (λ o. without_args (params_in o) action.args (typing_of typings f)) so.is
 
-          fit_behind : RightsFit s.store (typing_of typings behind) call.rights
-          fit_behind = subst (λ (t : Typing). RightsFit s.store t call.rights) (sym left_is) so.so.rights_left
+          fit_after : RightsFit s.store (typing_of typings rest_of) call.rights
+          fit_after = subst (λ (t : Typing). RightsFit s.store t call.rights) (sym left_is) so.so.rights_left
 
           of_callee : slice_get program call.task.procedure ≡ Some so.callee
           of_callee = ap (slice_get program) so.procedure ∙ so.is
 
-          given_reads : (d : ℕ) → frame_reads typings d f ≡ frame_reads typings d behind + over_params (read_by d) (params_in (slice_get program call.task.procedure)) call.task.args
+          given_reads : (d : ℕ) → frame_reads typings d f ≡ frame_reads typings d rest_of + over_params (read_by d) (params_in (slice_get program call.task.procedure)) call.task.args
           given_reads d =
               let h = so.so.reads d in
-              let l : frame_reads typings d behind ≡ over (read_by d) (without_args so.callee.params action.args (typing_of typings f)) call.rights = ap (λ (t : Typing). over (read_by d) t call.rights) left_is in
+              let l : frame_reads typings d rest_of ≡ over (read_by d) (without_args so.callee.params action.args (typing_of typings f)) call.rights = ap (λ (t : Typing). over (read_by d) t call.rights) left_is in
               let k : over_params (read_by d) (params_in (slice_get program call.task.procedure)) call.task.args ≡ over_params (read_by d) so.callee.params call.task.args = ap (λ o. over_params (read_by d) (params_in o) call.task.args) of_callee in
               omega arith
 
-          given_writes : (d : ℕ) → frame_writes typings d f ≡ frame_writes typings d behind + over_params (write_by d) (params_in (slice_get program call.task.procedure)) call.task.args
+          given_writes : (d : ℕ) → frame_writes typings d f ≡ frame_writes typings d rest_of + over_params (write_by d) (params_in (slice_get program call.task.procedure)) call.task.args
           given_writes d =
               let h = so.so.writes d in
-              let l : frame_writes typings d behind ≡ over (write_by d) (without_args so.callee.params action.args (typing_of typings f)) call.rights = ap (λ (t : Typing). over (write_by d) t call.rights) left_is in
+              let l : frame_writes typings d rest_of ≡ over (write_by d) (without_args so.callee.params action.args (typing_of typings f)) call.rights = ap (λ (t : Typing). over (write_by d) t call.rights) left_is in
               let k : over_params (write_by d) (params_in (slice_get program call.task.procedure)) call.task.args ≡ over_params (write_by d) so.callee.params call.task.args = ap (λ o. over_params (write_by d) (params_in o) call.task.args) of_callee in
               omega arith
 
@@ -91,7 +91,7 @@ module _ (program : List Procedure) (typings : Typings) where
             let numbers = numbers_tasked program typings s call.task held.numbers in
             record {
               numbers = record { tasks = numbers.tasks; rules = numbers.rules };
-              types = types_framed program typings (with_task s call.task) a (gone_after f call.rights) p here fits_place (fit_behind false call so)
+              types = types_framed program typings (with_task s call.task) a (gone_after f call.rights) p here fits_place (fit_after false call so)
                   (types_tasked program typings s call.task so.callee (of_callee false call so) (put_fit s.store so.callee.params call.task.args so.so.args) held.types);
               counts = counts_put program typings s a f (gone_after f call.rights) is call.task fresh_task (λ d. (given_reads false call so d, given_writes false call so d)) held.counts;
               notices = held.notices;
@@ -112,7 +112,7 @@ module _ (program : List Procedure) (typings : Typings) where
             let numbers = numbers_ruled program typings s rule held.numbers in
             record {
               numbers = record { tasks = numbers.tasks; rules = numbers.rules };
-              types = types_framed program typings (with_rule s rule) a (gone_after f call.rights) p here fits_place (fit_behind true call so)
+              types = types_framed program typings (with_rule s rule) a (gone_after f call.rights) p here fits_place (fit_after true call so)
                   (types_ruled program typings s rule so.callee (of_callee true call so)
                   (subst (λ ps. RuleArgsFit s.store so.callee.params (map (λ q. first_stage q.mode) ps) call.task.args) (sym so.params) (rule_fit s.store so.callee.params call.task.args so.so.args)) held.types);
               counts = counts_rule program typings s a f (gone_after f call.rights) is rule fresh_rule (λ d. (given_reads true call so d, given_writes true call so d)) held.counts;

@@ -57,8 +57,8 @@ module _ (program : List Procedure) (typings : Typings) (s : State) (held : IsHe
   pub record Turn (i : Instr) : Type 0 where
     pub met : AllYes (asks program p i (typing_of typings f))
     pub by_data : (d : DataInstr) → i ≡ instr.Data d → Goes (data_instr d (context_of s f)) LeftSo
-    pub behind_rule : (action : Action) → i ≡ instr.Rule action → GoesAfter action
-    pub behind_put : (action : Action) → i ≡ instr.Put action → GoesAfter action
+    pub after_rule : (action : Action) → i ≡ instr.Rule action → GoesAfter action
+    pub after_put : (action : Action) → i ≡ instr.Put action → GoesAfter action
 
   module _ (c : Context) (l : LeftSo c) where
     abbrev next_frame : Frame
@@ -113,6 +113,6 @@ module _ (program : List Procedure) (typings : Typings) (s : State) (held : IsHe
       by : (i : Instr) → Turn i → Keeps (call_by program s a (record { frame = f; procedure = p; instr = i }) i) (IsHeld program typings)
       by (instr.Local j) t = tt
       by (instr.Data d) t = keeps_data d (data_instr d (context_of s f)) refl t.met (t.by_data d refl)
-      by (instr.Rule action) t = rule_goes_on program typings s held a f is p here action (t.behind_rule action refl).fits_place (t.behind_rule action refl).next (record { frame = f; procedure = p; instr = instr.Rule action }) refl refl t.met
-      by (instr.Put action) t = put_goes_on program typings s held a f is p here action (t.behind_put action refl).fits_place (t.behind_put action refl).next (record { frame = f; procedure = p; instr = instr.Put action }) refl refl t.met
+      by (instr.Rule action) t = rule_goes_on program typings s held a f is p here action (t.after_rule action refl).fits_place (t.after_rule action refl).next (record { frame = f; procedure = p; instr = instr.Rule action }) refl refl t.met
+      by (instr.Put action) t = put_goes_on program typings s held a f is p here action (t.after_put action refl).fits_place (t.after_put action refl).next (record { frame = f; procedure = p; instr = instr.Put action }) refl refl t.met
       by instr.Ret t = tt
