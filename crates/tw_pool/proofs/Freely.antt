@@ -54,7 +54,7 @@ use Rattle.tw_pool.proofs.Keeping.{ask_frames, deliver_frames, made_free, made_l
 
 -- as what a pool is seen
 abbrev pub viewed : TypedProgram → List Input → ActorCounts → Bool → HistoryView → PoolView
-viewed verified inputs layout stopped told = record { program = verified; inputs = inputs; layout = layout; limit = told.limit; stopped = stopped; history = told.events }
+viewed verified inputs layout stopped traced = record { program = verified; inputs = inputs; layout = layout; limit = traced.limit; stopped = stopped; history = traced.events }
 
 -- the result of an attempt, by whether an event was due
 pub tried_none : {A : Type 0} (due : Option A) (Done : A → Type 0) (Same : Type 0) (o : Option A) → o ≡ None → IsTried {E = AllocError} due Done Same (Ok o) → (due ≡ None) × Same
@@ -78,7 +78,7 @@ delivery program layout server n s t e =
     let both = and_parts (nat_lt server layout.servers) (server_of layout.servers n.datum == server) (went_only _ here.0) in
     (went_only (set.contains s.notices n) has.0, eqb-true (server_of layout.servers n.datum) server both.1)
 
-module _ (verified : TypedProgram) (inputs : List Input) (layout : ActorCounts) (stopped : Bool) (told : HistoryView) (old : Parts) (h : IsKept verified inputs layout told.limit told.events old) (w : PoolView) (seen : viewed verified inputs layout stopped told ≡ w) where
+module _ (verified : TypedProgram) (inputs : List Input) (layout : ActorCounts) (stopped : Bool) (traced : HistoryView) (old : Parts) (h : IsKept verified inputs layout traced.limit traced.events old) (w : PoolView) (seen : viewed verified inputs layout stopped traced ≡ w) where
   abbrev pub state : State
   state = state_of old h.notices
 
@@ -86,30 +86,30 @@ module _ (verified : TypedProgram) (inputs : List Input) (layout : ActorCounts) 
   has_state = subst (λ (x : PoolView). HasState x state) seen h.replays
 
   law : IsHeld verified.program (typings_of verified) state
-  law = reached_is_held verified.program (typings_of verified) h.parts.runnable.is h.parts.runnable.right inputs layout told.events state h.given h.replays
+  law = reached_is_held verified.program (typings_of verified) h.parts.runnable.is h.parts.runnable.right inputs layout traced.events state h.given h.replays
 
-  pub room_here : length w.history < w.limit → length told.events < told.limit
+  pub room_here : length w.history < w.limit → length traced.events < traced.limit
   room_here room = subst (λ (x : PoolView). length x.history < x.limit) (sym seen) room
 
   free_here : (actor : Actor) → IsFree w actor → get state.frames actor ≡ None
   free_here actor free = free state has_state
 
   -- events that are recorded
-  pub appended : (es : List Event) (now : HistoryView) → now ≡ record { events = told.events ++ es; limit = told.limit } → viewed verified inputs layout stopped now ≡ with_events w es
+  pub appended : (es : List Event) (now : HistoryView) → now ≡ record { events = traced.events ++ es; limit = traced.limit } → viewed verified inputs layout stopped now ≡ with_events w es
   appended es now pushed = ap (viewed verified inputs layout stopped) pushed ∙ ap (λ (x : PoolView). with_events x es) seen
 
-  pub kept_told : (event : Event) (now : HistoryView) (new : Parts) → now ≡ record { events = told.events ++ event ∷ []; limit = told.limit } → IsKept verified inputs layout told.limit (told.events ++ event ∷ []) new
+  pub kept_traced : (event : Event) (now : HistoryView) (new : Parts) → now ≡ record { events = traced.events ++ event ∷ []; limit = traced.limit } → IsKept verified inputs layout traced.limit (traced.events ++ event ∷ []) new
       → IsKept verified inputs layout now.limit now.events new
-  kept_told event now new pushed kept = subst (λ (t : HistoryView). IsKept verified inputs layout t.limit t.events new) (sym pushed) kept
+  kept_traced event now new pushed kept = subst (λ (t : HistoryView). IsKept verified inputs layout t.limit t.events new) (sym pushed) kept
 
-  pub kept_as : (es : List Event) (now : HistoryView) (new : Parts) → now ≡ record { events = told.events ++ es; limit = told.limit } → IsKept verified inputs layout told.limit (told.events ++ es) new → IsKept verified inputs layout now.limit now.events new
+  pub kept_as : (es : List Event) (now : HistoryView) (new : Parts) → now ≡ record { events = traced.events ++ es; limit = traced.limit } → IsKept verified inputs layout traced.limit (traced.events ++ es) new → IsKept verified inputs layout now.limit now.events new
   kept_as es now new pushed kept = subst (λ (t : HistoryView). IsKept verified inputs layout t.limit t.events new) (sym pushed) kept
 
-  pub line_told : (line : State → Line) (answer : Turn) (es : List Event) (now : HistoryView) → now ≡ record { events = told.events ++ es; limit = told.limit } → line state answer es → IsTurnBy line w answer (viewed verified inputs layout stopped now)
-  line_told line answer es now pushed is = record { state = state; has_state = has_state; events = es; is = is; appended = appended es now pushed }
+  pub line_traced : (line : State → Line) (answer : Turn) (es : List Event) (now : HistoryView) → now ≡ record { events = traced.events ++ es; limit = traced.limit } → line state answer es → IsTurnBy line w answer (viewed verified inputs layout stopped now)
+  line_traced line answer es now pushed is = record { state = state; has_state = has_state; events = es; is = is; appended = appended es now pushed }
 
   -- no event is recorded
-  pub line_still : (line : State → Line) (answer : Turn) → line state answer [] → IsTurnBy line w answer (viewed verified inputs layout stopped told)
+  pub line_still : (line : State → Line) (answer : Turn) → line state answer [] → IsTurnBy line w answer (viewed verified inputs layout stopped traced)
   line_still line answer is = record { state = state; has_state = has_state; events = []; is = is; appended = seen ∙ ap (λ es. record w { history = es }) (sym (append-nil w.history)) }
 
   -- if the event may allocate at once
@@ -120,8 +120,8 @@ module _ (verified : TypedProgram) (inputs : List Input) (layout : ActorCounts) 
     takes = subst (λ (x : PoolView). EventTakes x.program.program state event) seen takes;
   }
 
-  pub kept_still : (new : Parts) → Untouched old new → IsKept verified inputs layout told.limit told.events new
-  kept_still new u = still verified inputs layout told.limit told.events old h new u
+  pub kept_still : (new : Parts) → Untouched old new → IsKept verified inputs layout traced.limit traced.events new
+  kept_still new u = still verified inputs layout traced.limit traced.events old h new u
 
   -- ---- a server
 
@@ -154,11 +154,11 @@ module _ (verified : TypedProgram) (inputs : List Input) (layout : ActorCounts) 
           let parameter = few_parameters verified.program (typings_of verified) h.parts.runnable.is state law n.rule known.rule known.is n.parameter _ known.stage in
           let datum = low_datum verified.program (typings_of verified) h.parts.runnable.is state law n.rule known.rule known.is n.parameter n.datum known.arg in
           let rule = law.numbers.rules n.rule known.rule known.is in
-          let small = small_numbers verified.program inputs layout told.events state h.parts.runnable.is h.given (omega (arith, h.within, h.few)) h.replays in
+          let small = small_numbers verified.program inputs layout traced.events state h.parts.runnable.is h.given (omega (arith, h.within, h.few)) h.replays in
           (omega (arith, low_here, few), (omega (arith, datum, small.datum, h.within, h.few), omega (arith, rule, small.rule, h.within, h.few), parameter))
 
-      pub deliver_kept : IsKept verified inputs layout told.limit (told.events ++ Deliver server n.datum n.rule n.parameter ∷ []) new
-      deliver_kept = made_free verified inputs layout told.limit told.events old h (Deliver server n.datum n.rule n.parameter) new goes (room_here room) (free_here (Server server) free)
+      pub deliver_kept : IsKept verified inputs layout traced.limit (traced.events ++ Deliver server n.datum n.rule n.parameter ∷ []) new
+      deliver_kept = made_free verified inputs layout traced.limit traced.events old h (Deliver server n.datum n.rule n.parameter) new goes (room_here room) (free_here (Server server) free)
           (deliver_frames verified.program layout state (state_of new goes.left) server n goes.step_is)
 
       pub deliver_line : GoesFree w state (Server server) Made (Deliver server n.datum n.rule n.parameter ∷ [])
@@ -185,7 +185,7 @@ module _ (verified : TypedProgram) (inputs : List Input) (layout : ActorCounts) 
 
     pub next_task_small : old.next_task < 2 ^ 63
     next_task_small =
-        let small = small_numbers verified.program inputs layout told.events state h.parts.runnable.is h.given (omega (arith, h.within, h.few)) h.replays in
+        let small = small_numbers verified.program inputs layout traced.events state h.parts.runnable.is h.given (omega (arith, h.within, h.few)) h.replays in
         omega (arith, small.task, h.within, h.few)
 
     module _ (rule parameter : ℕ) (due : next_ask engine old.rules.rules ≡ Some (rule, parameter)) where
@@ -208,11 +208,11 @@ module _ (verified : TypedProgram) (inputs : List Input) (layout : ActorCounts) 
             let at = own_rule_there engine _ rule state.rules found in
             let number = law.numbers.rules rule found.rule at in
             let few = few_parameters verified.program (typings_of verified) h.parts.runnable.is state law rule found.rule at parameter _ found.has in
-            let small = small_numbers verified.program inputs layout told.events state h.parts.runnable.is h.given (omega (arith, h.within, h.few)) h.replays in
+            let small = small_numbers verified.program inputs layout traced.events state h.parts.runnable.is h.given (omega (arith, h.within, h.few)) h.replays in
             (engine_low, (omega (arith, number, small.rule, h.within, h.few), few))
 
-        pub ask_kept : IsKept verified inputs layout told.limit (told.events ++ Ask engine rule parameter ∷ []) new
-        ask_kept = made_free verified inputs layout told.limit told.events old h (Ask engine rule parameter) new ask_goes (room_here room) (free_here (Engine engine) free)
+        pub ask_kept : IsKept verified inputs layout traced.limit (traced.events ++ Ask engine rule parameter ∷ []) new
+        ask_kept = made_free verified inputs layout traced.limit traced.events old h (Ask engine rule parameter) new ask_goes (room_here room) (free_here (Engine engine) free)
             (ask_frames verified.program layout state (state_of new ask_goes.left) engine rule parameter ask_goes.step_is)
 
         pub ask_line : GoesFree w state (Engine engine) Made (Ask engine rule parameter ∷ [])
@@ -245,11 +245,11 @@ module _ (verified : TypedProgram) (inputs : List Input) (layout : ActorCounts) 
             let found = release_found engine rule state.rules released in
             let at = own_rule_there engine _ rule state.rules found in
             let number = law.numbers.rules rule found.rule at in
-            let small = small_numbers verified.program inputs layout told.events state h.parts.runnable.is h.given (omega (arith, h.within, h.few)) h.replays in
+            let small = small_numbers verified.program inputs layout traced.events state h.parts.runnable.is h.given (omega (arith, h.within, h.few)) h.replays in
             (engine_low, omega (arith, number, small.rule, h.within, h.few))
 
-        pub release_kept : IsKept verified inputs layout told.limit (told.events ++ Release engine rule ∷ []) new
-        release_kept = made_free verified inputs layout told.limit told.events old h (Release engine rule) new release_goes (room_here room) (free_here (Engine engine) free)
+        pub release_kept : IsKept verified inputs layout traced.limit (traced.events ++ Release engine rule ∷ []) new
+        release_kept = made_free verified inputs layout traced.limit traced.events old h (Release engine rule) new release_goes (room_here room) (free_here (Engine engine) free)
             (release_frames verified.program layout state (state_of new release_goes.left) engine rule release_goes.step_is)
 
         pub release_line : GoesFree w state (Engine engine) Made (Release engine rule ∷ [])
@@ -265,8 +265,8 @@ module _ (verified : TypedProgram) (inputs : List Input) (layout : ActorCounts) 
   -- ---- an issued job
 
   -- with these events recorded, and a task of the actor's that is issued under its number
-  module _ (actor : Actor) (es : List Event) (new : Parts) (kept : IsKept verified inputs layout told.limit (told.events ++ es) new) (f : FrameView) (sits : get new.seats actor ≡ Some f)
-      (by_number : f.event_no ≡ length (events_of actor (told.events ++ es))) where
+  module _ (actor : Actor) (es : List Event) (new : Parts) (kept : IsKept verified inputs layout traced.limit (traced.events ++ es) new) (f : FrameView) (sits : get new.seats actor ≡ Some f)
+      (by_number : f.event_no ≡ length (events_of actor (traced.events ++ es))) where
     abbrev after : State
     after = state_of new kept.notices
 
@@ -280,7 +280,7 @@ module _ (verified : TypedProgram) (inputs : List Input) (layout : ActorCounts) 
     is_lent =
         let runs : get after.frames actor ≡ Some (bare_frame f) = get_mapped bare_frame new.seats actor ∙ ap (option_map bare_frame) sits in
         subst (λ (x : PoolView). lent_to (with_events x es) after actor ≡ Some (job_of f)) seen
-        (ap (option_map (λ (g : Frame). record { program = verified; task = g.task; procedure = g.procedure; actor = actor; event_no = length (events_of actor (told.events ++ es)); position = g.position })) runs
+        (ap (option_map (λ (g : Frame). record { program = verified; task = g.task; procedure = g.procedure; actor = actor; event_no = length (events_of actor (traced.events ++ es)); position = g.position })) runs
         ∙ ap Some (λ i. record { program = sym fits.program i; task = f.task; procedure = f.procedure; actor = sym fits.own i; event_no = sym by_number i; position = f.position }))
 
     pub lends : Lends w actor es (Run (job_of f)) es
@@ -325,15 +325,15 @@ module _ (verified : TypedProgram) (inputs : List Input) (layout : ActorCounts) 
         )
 
     module _ (t : ℕ × TaskOf Arg) (is : best actor old.tasks.tasks ≡ Some t) (new : Parts) (makes : Makes verified layout (Take actor) old new) (f : FrameView) (sits : get new.seats actor ≡ Some f)
-        (number : f.event_no ≡ length (events_of actor told.events) + 1) where
+        (number : f.event_no ≡ length (events_of actor traced.events) + 1) where
       take_goes : Goes verified layout (Take actor) old h.notices new
       take_goes = makes h.notices h.parts
 
-      by_number : f.event_no ≡ length (events_of actor (told.events ++ Take actor ∷ []))
-      by_number = number ∙ sym (own_count actor told.events (Take actor) refl)
+      by_number : f.event_no ≡ length (events_of actor (traced.events ++ Take actor ∷ []))
+      by_number = number ∙ sym (own_count actor traced.events (Take actor) refl)
 
-      pub take_kept : IsKept verified inputs layout told.limit (told.events ++ Take actor ∷ []) new
-      take_kept = made_lent verified inputs layout told.limit told.events old h (Take actor) new take_goes (room_here room)
+      pub take_kept : IsKept verified inputs layout traced.limit (traced.events ++ Take actor ∷ []) new
+      take_kept = made_lent verified inputs layout traced.limit traced.events old h (Take actor) new take_goes (room_here room)
           (λ g at. ap (λ (x : FrameView). x.event_no) (same_Some g f (sym at ∙ sits)) ∙ by_number)
 
       pub take_line : GoesFree w state actor (Run (job_of f)) (Take actor ∷ [])

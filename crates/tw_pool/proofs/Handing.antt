@@ -50,7 +50,7 @@ use Rattle.tw_pool.specs.PoolView.{HasState, PoolView, with_events}
 use Rattle.tw_pool.specs.Turns.{Answers, IsTurnBy, Lends, Line, OrNoMemory, TakesMemory, is_last, instr_after, lent_to, steps_of}
 use Rattle.tw_pool.specs.Words.{FitsWord}
 use Rattle.tw_pool.proofs.Counting.{AreBy, has_place, itself, others_same, the_same}
-use Rattle.tw_pool.proofs.Freely.{has_state, lends, line_told, room_here, state, viewed}
+use Rattle.tw_pool.proofs.Freely.{has_state, lends, line_traced, room_here, state, viewed}
 use Rattle.tw_pool.proofs.Keeping.{no_task}
 
 -- ---- lists of one actor's events
@@ -94,13 +94,13 @@ unfolding step
 end_frames program layout actor s t e = went_of (end_event program actor s) (λ (u : State). get u.frames actor ≡ None) t
     (end_leaves program actor s {P = λ (u : State). get u.frames actor ≡ None} (get-remove actor_cmp_total s.frames actor actor ∙ ap (λ b. cond b None (get s.frames actor)) (own_key actor_cmp_total actor))) e
 
-module _ (verified : TypedProgram) (inputs : List Input) (layout : ActorCounts) (stopped : Bool) (told : HistoryView) (old : Parts) (h : IsKept verified inputs layout told.limit told.events old) (w : PoolView) (seen : viewed verified inputs layout stopped told ≡ w)
+module _ (verified : TypedProgram) (inputs : List Input) (layout : ActorCounts) (stopped : Bool) (traced : HistoryView) (old : Parts) (h : IsKept verified inputs layout traced.limit traced.events old) (w : PoolView) (seen : viewed verified inputs layout stopped traced ≡ w)
     (actor : Actor) (there : is_in w.layout actor ≡ true) (room : length w.history < w.limit) (done : DoneView) (owed : IsOwedBy w actor done) where
   abbrev here : State
-  here = state verified inputs layout stopped told old h w seen
+  here = state verified inputs layout stopped traced old h w seen
 
-  pub room_now : length told.events < told.limit
-  room_now = room_here verified inputs layout stopped told old h w seen room
+  pub room_now : length traced.events < traced.limit
+  room_now = room_here verified inputs layout stopped traced old h w seen room
 
   pub has_seat : HasPlace actor
   has_seat = has_place layout actor h.parts.runnable.counts (subst (λ (x : PoolView). is_in x.layout actor ≡ true) (sym seen) there)
@@ -111,14 +111,14 @@ module _ (verified : TypedProgram) (inputs : List Input) (layout : ActorCounts) 
     pub own : done.before ≡ job_of f
     pub program : done.before.program ≡ verified
 
-  lent_now : lent_to (viewed verified inputs layout stopped told) here actor ≡ Some done.before
-  lent_now = subst (λ (x : PoolView). lent_to x here actor ≡ Some done.before) (sym seen) (owed here (has_state verified inputs layout stopped told old h w seen))
+  lent_now : lent_to (viewed verified inputs layout stopped traced) here actor ≡ Some done.before
+  lent_now = subst (λ (x : PoolView). lent_to x here actor ≡ Some done.before) (sym seen) (owed here (has_state verified inputs layout stopped traced old h w seen))
 
   pub its : (f : FrameView) × IsIts f
   its = by (get old.seats actor) refl
     where
       job_by : Frame → JobView
-      job_by g = record { program = verified; task = g.task; procedure = g.procedure; actor = actor; event_no = length (events_of actor told.events); position = g.position }
+      job_by g = record { program = verified; task = g.task; procedure = g.procedure; actor = actor; event_no = length (events_of actor traced.events); position = g.position }
 
       by : (o : Option FrameView) → get old.seats actor ≡ o → (f : FrameView) × IsIts f
       by None e =
@@ -133,7 +133,7 @@ module _ (verified : TypedProgram) (inputs : List Input) (layout : ActorCounts) 
   pub owed_now : IsOwed old actor its.0 done
   owed_now = record { sits = its.1.sits; own = its.1.own }
 
-  small_of : (es : List Event) (p : Parts) (at : AreAt verified inputs layout es p) → length es ≤ told.limit → IsSmall (state_of p at.notices)
+  small_of : (es : List Event) (p : Parts) (at : AreAt verified inputs layout es p) → length es ≤ traced.limit → IsSmall (state_of p at.notices)
   small_of es p at within =
       let below = small_along verified.program (typings_of verified) h.parts.runnable.is h.parts.runnable.right layout es opening_bound (opening verified.program inputs) (state_of p at.notices)
       (opened_held verified.program (typings_of verified) h.parts.runnable.is h.parts.runnable.right inputs h.given) (opening_is_small verified.program inputs h.parts.runnable.is h.given) at.replays in
@@ -150,10 +150,10 @@ module _ (verified : TypedProgram) (inputs : List Input) (layout : ActorCounts) 
   -- the steps are recorded, and lead to the task's position
   pub record HasCome (o : Option Event) : Type 0 where
     pub is : option_to_list o ≡ steps_of actor done
-    pub at : AreAt verified inputs layout (told.events ++ option_to_list o) came
+    pub at : AreAt verified inputs layout (traced.events ++ option_to_list o) came
     pub fits : IfSome o FitsWord
 
-  abbrev at_old : AreAt verified inputs layout told.events old
+  abbrev at_old : AreAt verified inputs layout traced.events old
   at_old = record { notices = h.notices; replays = h.replays; parts = h.parts }
 
   pub has_come : done.steps ≤ greatest_budget → (o : Option Event) → Local_is o → HasCome o
@@ -161,7 +161,7 @@ module _ (verified : TypedProgram) (inputs : List Input) (layout : ActorCounts) 
       let none : (done.steps == 0) ≡ true = grind (arith, nat_tests, l.0) in
       record {
         is = rw none refl;
-        at = subst (λ p. AreAt verified inputs layout (told.events ++ []) p) (sym (l.1 its.0 owed_now)) (subst (λ es. AreAt verified inputs layout es old) (sym (append-nil told.events)) at_old);
+        at = subst (λ p. AreAt verified inputs layout (traced.events ++ []) p) (sym (l.1 its.0 owed_now)) (subst (λ es. AreAt verified inputs layout es old) (sym (append-nil traced.events)) at_old);
         fits = tt;
       }
   has_come few (Some e) l =
@@ -169,7 +169,7 @@ module _ (verified : TypedProgram) (inputs : List Input) (layout : ActorCounts) 
       let makes = subst (λ (v : TypedProgram). Makes v layout e old came) its.1.program (l.2 layout its.0 owed_now) in
       record {
         is = rw some (ap (λ x. x ∷ []) l.1);
-        at = then_at verified inputs layout told.events old came at_old e (makes h.notices h.parts);
+        at = then_at verified inputs layout traced.events old came at_old e (makes h.notices h.parts);
         fits = subst FitsWord (sym l.1) (has_seat, omega (arith, few));
       }
 
@@ -177,53 +177,53 @@ module _ (verified : TypedProgram) (inputs : List Input) (layout : ActorCounts) 
   owed_some = (its.0, owed_now)
 
   pub may_advance : (l : ActorCounts) × (notices : Notices) × (f : FrameView) × AreParts done.before.program l old notices × IsSmall (state_of old notices) × IsOwed old actor f done
-  may_advance = (layout, h.notices, its.0, subst (λ (v : TypedProgram). AreParts v layout old h.notices) (sym its.1.program) h.parts, small_of told.events old at_old h.within, owed_now)
+  may_advance = (layout, h.notices, its.0, subst (λ (v : TypedProgram). AreParts v layout old h.notices) (sym its.1.program) h.parts, small_of traced.events old at_old h.within, owed_now)
 
   one_at_most : (o : Option Event) → length (option_to_list o) ≤ 1
   one_at_most None = omega arith
   one_at_most (Some e) = omega arith
 
-  pub within_one : (o : Option Event) → length (told.events ++ option_to_list o) ≤ told.limit
-  within_one o = let long = length-append told.events (option_to_list o) in let few = one_at_most o in omega (arith, long, few, room_now)
+  pub within_one : (o : Option Event) → length (traced.events ++ option_to_list o) ≤ traced.limit
+  within_one o = let long = length-append traced.events (option_to_list o) in let few = one_at_most o in omega (arith, long, few, room_now)
 
   module _ (last : is_last w done ≡ false) where
-    last_now : (not (done.steps == 0) && (length told.events + 1 == told.limit)) ≡ false
+    last_now : (not (done.steps == 0) && (length traced.events + 1 == traced.limit)) ≡ false
     last_now = subst (λ (x : PoolView). (not (done.steps == 0) && (length x.history + 1 == x.limit)) ≡ false) (sym seen) last
 
-    pub room_two : (o : Option Event) → Local_is o → length (told.events ++ option_to_list o) < told.limit
-    room_two None l = let long = length-append told.events [] in omega (arith, long, room_now)
+    pub room_two : (o : Option Event) → Local_is o → length (traced.events ++ option_to_list o) < traced.limit
+    room_two None l = let long = length-append traced.events [] in omega (arith, long, room_now)
     room_two (Some e) l =
         let some : (done.steps == 0) ≡ false = grind (arith, nat_tests, l.0) in
-        let full : (length told.events + 1 == told.limit) ≡ false = sym (ap (λ b. not b && (length told.events + 1 == told.limit)) some) ∙ last_now in
-        let long = length-append told.events (e ∷ []) in
+        let full : (length traced.events + 1 == traced.limit) ≡ false = sym (ap (λ b. not b && (length traced.events + 1 == traced.limit)) some) ∙ last_now in
+        let long = length-append traced.events (e ∷ []) in
         grind (arith, nat_tests, full, long, room_now)
 
   -- the instruction after the steps
-  record IsBehind (i : Instr) : Type 0 where
+  record IsNextInstr (i : Instr) : Type 0 where
     q : Procedure
     there_is : slice_get verified.program done.before.procedure ≡ Some q
     is : slice_get q.code done.after.place ≡ Some i
 
-  is_behind : (i : Instr) → instr_after w.program.program done ≡ Some i → IsBehind i
-  is_behind i e = by (slice_get verified.program done.before.procedure) refl
+  next_instr_is : (i : Instr) → instr_after w.program.program done ≡ Some i → IsNextInstr i
+  next_instr_is i e = by (slice_get verified.program done.before.procedure) refl
     where
       e_now : option_and_then (λ (p : Procedure). slice_get p.code done.after.place) (slice_get verified.program done.before.procedure) ≡ Some i
       e_now = subst (λ (x : PoolView). instr_after x.program.program done ≡ Some i) (sym seen) e
 
-      by : (o : Option Procedure) → slice_get verified.program done.before.procedure ≡ o → IsBehind i
+      by : (o : Option Procedure) → slice_get verified.program done.before.procedure ≡ o → IsNextInstr i
       by None at = let no : None ≡ Some i = sym (ap (option_and_then (λ (p : Procedure). slice_get p.code done.after.place)) at) ∙ e_now in cc
       by (Some q) at = record { q = q; there_is = at; is = sym (ap (option_and_then (λ (p : Procedure). slice_get p.code done.after.place)) at) ∙ e_now }
 
   pub fits_place : (o : Option Event) → HasCome o → (i : Instr) → instr_after w.program.program done ≡ Some i → IsAtInstr old actor done i
   fits_place o c i e =
-      let it = is_behind i e in
+      let it = next_instr_is i e in
       record {
         layout = layout;
         notices = c.at.notices;
         f = its.0;
         owed = owed_now;
         parts = subst (λ (v : TypedProgram). AreParts v layout came c.at.notices) (sym its.1.program) c.at.parts;
-        small = small_of (told.events ++ option_to_list o) came c.at (within_one o);
+        small = small_of (traced.events ++ option_to_list o) came c.at (within_one o);
         q = it.q;
         here = ap (λ (v : TypedProgram). slice_get v.program its.0.procedure) its.1.program ∙ ap (λ (j : JobView). slice_get verified.program j.procedure) (sym its.1.own) ∙ it.there_is;
         following_is = it.is;
@@ -233,7 +233,7 @@ module _ (verified : TypedProgram) (inputs : List Input) (layout : ActorCounts) 
   pub wanted : (o : Option Event) → HasCome o → (i : Instr) → instr_after w.program.program done ≡ Some i
       → ((f : FrameView) → IsOwed old actor f done → InstrTakes i old.store.store (bare_frame (come f done))) → TakesMemory w (steps_of actor done) (Call actor)
   wanted o c i e takes =
-      let at : AreAt verified inputs layout (told.events ++ steps_of actor done) came = subst (λ es. AreAt verified inputs layout (told.events ++ es) came) c.is c.at in
+      let at : AreAt verified inputs layout (traced.events ++ steps_of actor done) came = subst (λ es. AreAt verified inputs layout (traced.events ++ es) came) c.is c.at in
       let here_is : instr_here verified.program (bare_frame (come its.0 done)) ≡ Some i =
       ap (λ (j : JobView). option_and_then (λ (p : Procedure). slice_get p.code done.after.place) (slice_get verified.program j.procedure)) (sym its.1.own) ∙ subst (λ (x : PoolView). instr_after x.program.program done ≡ Some i) (sym seen) e in
       let fits_place : IsAtAllocating verified.program (state_of came at.notices) actor = record {
@@ -251,14 +251,14 @@ module _ (verified : TypedProgram) (inputs : List Input) (layout : ActorCounts) 
 
   -- ---- with the steps alone
 
-  pub told_one : (o : Option Event) (c : HasCome o) (t : HistoryView) → t ≡ record told { events = told.events ++ option_to_list o } → t ≡ record { events = told.events ++ steps_of actor done; limit = told.limit }
-  told_one o c t is = is ∙ ap (λ es. record { events = told.events ++ es; limit = told.limit }) c.is
+  pub traced_one : (o : Option Event) (c : HasCome o) (t : HistoryView) → t ≡ record traced { events = traced.events ++ option_to_list o } → t ≡ record { events = traced.events ++ steps_of actor done; limit = traced.limit }
+  traced_one o c t is = is ∙ ap (λ es. record { events = traced.events ++ es; limit = traced.limit }) c.is
 
-  pub at_steps : (o : Option Event) (c : HasCome o) → AreAt verified inputs layout (told.events ++ steps_of actor done) came
-  at_steps o c = subst (λ es. AreAt verified inputs layout (told.events ++ es) came) c.is c.at
+  pub at_steps : (o : Option Event) (c : HasCome o) → AreAt verified inputs layout (traced.events ++ steps_of actor done) came
+  at_steps o c = subst (λ es. AreAt verified inputs layout (traced.events ++ es) came) c.is c.at
 
-  pub within_steps : (o : Option Event) (c : HasCome o) → length (told.events ++ steps_of actor done) ≤ told.limit
-  within_steps o c = subst (λ es. length (told.events ++ es) ≤ told.limit) c.is (within_one o)
+  pub within_steps : (o : Option Event) (c : HasCome o) → length (traced.events ++ steps_of actor done) ≤ traced.limit
+  within_steps o c = subst (λ es. length (traced.events ++ es) ≤ traced.limit) c.is (within_one o)
 
   -- ---- with one more event after them
 
@@ -266,27 +266,27 @@ module _ (verified : TypedProgram) (inputs : List Input) (layout : ActorCounts) 
     goes : Goes verified layout e came c.at.notices new
     goes = subst (λ (v : TypedProgram). Makes v layout e came new) its.1.program (makes layout its.0 owed_now) c.at.notices c.at.parts
 
-    both_are : (told.events ++ option_to_list o) ++ e ∷ [] ≡ told.events ++ (steps_of actor done ++ e ∷ [])
-    both_are = append_assoc told.events (option_to_list o) (e ∷ []) ∙ ap (λ es. told.events ++ (es ++ e ∷ [])) c.is
+    both_are : (traced.events ++ option_to_list o) ++ e ∷ [] ≡ traced.events ++ (steps_of actor done ++ e ∷ [])
+    both_are = append_assoc traced.events (option_to_list o) (e ∷ []) ∙ ap (λ es. traced.events ++ (es ++ e ∷ [])) c.is
 
-    pub told_two : (t p : HistoryView) → t ≡ record told { events = told.events ++ option_to_list o } → p ≡ record t { events = t.events ++ e ∷ [] } → p ≡ record { events = told.events ++ (steps_of actor done ++ e ∷ []); limit = told.limit }
-    told_two t p one two = two ∙ ap (λ (x : HistoryView). record { events = x.events ++ e ∷ []; limit = x.limit }) one ∙ ap (λ es. record { events = es; limit = told.limit }) both_are
+    pub traced_two : (t p : HistoryView) → t ≡ record traced { events = traced.events ++ option_to_list o } → p ≡ record t { events = t.events ++ e ∷ [] } → p ≡ record { events = traced.events ++ (steps_of actor done ++ e ∷ []); limit = traced.limit }
+    traced_two t p one two = two ∙ ap (λ (x : HistoryView). record { events = x.events ++ e ∷ []; limit = x.limit }) one ∙ ap (λ es. record { events = es; limit = traced.limit }) both_are
 
-    pub at_two : AreAt verified inputs layout (told.events ++ (steps_of actor done ++ e ∷ [])) new
-    at_two = subst (λ es. AreAt verified inputs layout es new) both_are (then_at verified inputs layout (told.events ++ option_to_list o) came new c.at e goes)
+    pub at_two : AreAt verified inputs layout (traced.events ++ (steps_of actor done ++ e ∷ [])) new
+    at_two = subst (λ es. AreAt verified inputs layout es new) both_are (then_at verified inputs layout (traced.events ++ option_to_list o) came new c.at e goes)
 
     pub others_two : (a : Actor) → a ≢ actor → get new.seats a ≡ get old.seats a
     others_two a h = goes.others a (λ is. h (is ∙ is_own)) ∙ get_other (come its.0 done) old.seats actor a h
 
-    pub within_two : length (told.events ++ option_to_list o) < told.limit → length (told.events ++ (steps_of actor done ++ e ∷ [])) ≤ told.limit
-    within_two less = let long = ap (λ es. length es) (sym both_are) ∙ length-append (told.events ++ option_to_list o) (e ∷ []) in omega (arith, long, less)
+    pub within_two : length (traced.events ++ option_to_list o) < traced.limit → length (traced.events ++ (steps_of actor done ++ e ∷ [])) ≤ traced.limit
+    within_two less = let long = ap (λ es. length es) (sym both_are) ∙ length-append (traced.events ++ option_to_list o) (e ∷ []) in omega (arith, long, less)
 
     pub by_two : AreBy actor (steps_of actor done ++ e ∷ [])
     by_two = then_by actor (steps_of actor done) e (steps_by actor done) is_own
 
   -- the task has ended
-  pub kept_ended : (o : Option Event) (c : HasCome o) (new : Parts) (makes : MakesAfter (End actor) old actor done new) → length (told.events ++ option_to_list o) < told.limit
-      → IsKept verified inputs layout told.limit (told.events ++ (steps_of actor done ++ End actor ∷ [])) new
+  pub kept_ended : (o : Option Event) (c : HasCome o) (new : Parts) (makes : MakesAfter (End actor) old actor done new) → length (traced.events ++ option_to_list o) < traced.limit
+      → IsKept verified inputs layout traced.limit (traced.events ++ (steps_of actor done ++ End actor ∷ [])) new
   kept_ended o c new makes less = record {
     given = h.given;
     few = h.few;
@@ -300,52 +300,52 @@ module _ (verified : TypedProgram) (inputs : List Input) (layout : ActorCounts) 
       gone : get new.seats actor ≡ None
       gone = no_task new (goes (End actor) refl o c new makes).left actor (end_frames verified.program layout actor (state_of came c.at.notices) (state_of new (goes (End actor) refl o c new makes).left) (goes (End actor) refl o c new makes).step_is)
 
-      lent_others : AreLent (told.events ++ (steps_of actor done ++ End actor ∷ [])) new.seats
+      lent_others : AreLent (traced.events ++ (steps_of actor done ++ End actor ∷ [])) new.seats
       lent_others a f sits = by (same_actor a actor) refl
         where
-          by : (b : Bool) → same_actor a actor ≡ b → f.event_no ≡ length (events_of a (told.events ++ (steps_of actor done ++ End actor ∷ [])))
+          by : (b : Bool) → same_actor a actor ≡ b → f.event_no ≡ length (events_of a (traced.events ++ (steps_of actor done ++ End actor ∷ [])))
           by true is = let no : None ≡ Some f = sym gone ∙ ap (get new.seats) (sym (the_same a actor is)) ∙ sits in cc
           by false is =
               let other : a ≢ actor = λ e. let yes : true ≡ false = sym (itself actor) ∙ ap (λ x. same_actor x actor) (sym e) ∙ is in cc in
-              h.lent a f (sym (others_two (End actor) refl o c new makes a other) ∙ sits) ∙ sym (others_same a actor other told.events (steps_of actor done ++ End actor ∷ []) (by_two (End actor) refl o c new makes))
+              h.lent a f (sym (others_two (End actor) refl o c new makes a other) ∙ sits) ∙ sym (others_same a actor other traced.events (steps_of actor done ++ End actor ∷ []) (by_two (End actor) refl o c new makes))
 
   -- ---- issuing again
 
-  module _ (es : List Event) (by : AreBy actor es) (new : Parts) (at : AreAt verified inputs layout (told.events ++ es) new) (others : (a : Actor) → a ≢ actor → get new.seats a ≡ get old.seats a) (within : length (told.events ++ es) ≤ told.limit)
-      (event_no : ℕ) (number : event_no ≡ length (events_of actor (told.events ++ es))) (job : JobView) (lent : IsLent new actor event_no job) where
-    lent_all : AreLent (told.events ++ es) new.seats
+  module _ (es : List Event) (by : AreBy actor es) (new : Parts) (at : AreAt verified inputs layout (traced.events ++ es) new) (others : (a : Actor) → a ≢ actor → get new.seats a ≡ get old.seats a) (within : length (traced.events ++ es) ≤ traced.limit)
+      (event_no : ℕ) (number : event_no ≡ length (events_of actor (traced.events ++ es))) (job : JobView) (lent : IsLent new actor event_no job) where
+    lent_all : AreLent (traced.events ++ es) new.seats
     lent_all a f sits = by_key (same_actor a actor) refl
       where
-        by_key : (b : Bool) → same_actor a actor ≡ b → f.event_no ≡ length (events_of a (told.events ++ es))
+        by_key : (b : Bool) → same_actor a actor ≡ b → f.event_no ≡ length (events_of a (traced.events ++ es))
         by_key true is =
             let who = the_same a actor is in
             let one : f ≡ lent.f = same_Some f lent.f (sym sits ∙ ap (λ x. get new.seats x) who ∙ lent.sits) in
-            ap (λ (x : FrameView). x.event_no) one ∙ lent.number ∙ number ∙ ap (λ x. length (events_of x (told.events ++ es))) (sym who)
+            ap (λ (x : FrameView). x.event_no) one ∙ lent.number ∙ number ∙ ap (λ x. length (events_of x (traced.events ++ es))) (sym who)
         by_key false is =
             let other : a ≢ actor = λ e. let yes : true ≡ false = sym (itself actor) ∙ ap (λ x. same_actor x actor) (sym e) ∙ is in cc in
-            h.lent a f (sym (others a other) ∙ sits) ∙ sym (others_same a actor other told.events es by)
+            h.lent a f (sym (others a other) ∙ sits) ∙ sym (others_same a actor other traced.events es by)
 
-    kept_lent : IsKept verified inputs layout told.limit (told.events ++ es) new
+    kept_lent : IsKept verified inputs layout traced.limit (traced.events ++ es) new
     kept_lent = record { given = h.given; few = h.few; within = within; notices = at.notices; replays = at.replays; parts = at.parts; lent = lent_all }
 
     line_lent : Lends w actor es (Run job) es
-    line_lent = subst (λ j. Lends w actor es (Run j) es) (sym lent.job_is) (lends verified inputs layout stopped told old h w seen actor es new kept_lent lent.f lent.sits (lent.number ∙ number))
+    line_lent = subst (λ j. Lends w actor es (Run j) es) (sym lent.job_is) (lends verified inputs layout stopped traced old h w seen actor es new kept_lent lent.f lent.sits (lent.number ∙ number))
 
-    module _ (t : HistoryView) (t_is : t ≡ record { events = told.events ++ es; limit = told.limit }) where
+    module _ (t : HistoryView) (t_is : t ≡ record { events = traced.events ++ es; limit = traced.limit }) where
       kept_again : IsKept verified inputs layout t.limit t.events new
       kept_again = subst (λ (x : HistoryView). IsKept verified inputs layout x.limit x.events new) (sym t_is) kept_lent
 
       line_again : IsTurnBy (λ s. Lends w actor es) w (Run job) (viewed verified inputs layout stopped t)
-      line_again = line_told verified inputs layout stopped told old h w seen (λ s. Lends w actor es) (Run job) es t t_is line_lent
+      line_again = line_traced verified inputs layout stopped traced old h w seen (λ s. Lends w actor es) (Run job) es t t_is line_lent
 
   -- after the steps
-  module _ (o : Option Event) (c : HasCome o) (t : HistoryView) (t_is : t ≡ record told { events = told.events ++ option_to_list o }) (event_no : ℕ) (counted : event_no ≡ length (events_of actor t.events))
+  module _ (o : Option Event) (c : HasCome o) (t : HistoryView) (t_is : t ≡ record traced { events = traced.events ++ option_to_list o }) (event_no : ℕ) (counted : event_no ≡ length (events_of actor t.events))
       (new : Parts) (is : (f : FrameView) → IsOwed old actor f done → new ≡ with_done old actor (lent_as event_no f) done) (job : JobView) (lent : IsLent new actor event_no job) where
     abbrev came_lent : Parts
     came_lent = with_done old actor (lent_as event_no its.0) done
 
-    at_come : AreAt verified inputs layout (told.events ++ steps_of actor done) new
-    at_come = let at = at_steps o c in subst (AreAt verified inputs layout (told.events ++ steps_of actor done)) (sym (is its.0 owed_now)) (record {
+    at_come : AreAt verified inputs layout (traced.events ++ steps_of actor done) new
+    at_come = let at = at_steps o c in subst (AreAt verified inputs layout (traced.events ++ steps_of actor done)) (sym (is its.0 owed_now)) (record {
       notices = at.notices;
       replays = at.replays ∙ ap Went (sym (lent_state came_lent old.seats actor (come its.0 done) event_no refl at.notices));
       parts = lent_parts came_lent old.seats actor (come its.0 done) event_no refl verified layout at.notices at.parts;
@@ -354,26 +354,26 @@ module _ (verified : TypedProgram) (inputs : List Input) (layout : ActorCounts) 
     others_at : (a : Actor) → a ≢ actor → get new.seats a ≡ get old.seats a
     others_at a h = ap (λ (p : Parts). get p.seats a) (is its.0 owed_now) ∙ get_other (come (lent_as event_no its.0) done) old.seats actor a h
 
-    number_is : event_no ≡ length (events_of actor (told.events ++ steps_of actor done))
-    number_is = counted ∙ ap (λ (x : HistoryView). length (events_of actor x.events)) (told_one o c t t_is)
+    number_is : event_no ≡ length (events_of actor (traced.events ++ steps_of actor done))
+    number_is = counted ∙ ap (λ (x : HistoryView). length (events_of actor x.events)) (traced_one o c t t_is)
 
     pub kept_on : IsKept verified inputs layout t.limit t.events new
-    kept_on = kept_again (steps_of actor done) (steps_by actor done) new at_come others_at (within_steps o c) event_no number_is job lent t (told_one o c t t_is)
+    kept_on = kept_again (steps_of actor done) (steps_by actor done) new at_come others_at (within_steps o c) event_no number_is job lent t (traced_one o c t t_is)
 
     pub line_on : IsTurnBy (λ s. Lends w actor (steps_of actor done)) w (Run job) (viewed verified inputs layout stopped t)
-    line_on = line_again (steps_of actor done) (steps_by actor done) new at_come others_at (within_steps o c) event_no number_is job lent t (told_one o c t t_is)
+    line_on = line_again (steps_of actor done) (steps_by actor done) new at_come others_at (within_steps o c) event_no number_is job lent t (traced_one o c t t_is)
 
   -- after the steps and a call
-  module _ (o : Option Event) (c : HasCome o) (less : length (told.events ++ option_to_list o) < told.limit) (t p : HistoryView) (one : t ≡ record told { events = told.events ++ option_to_list o }) (two : p ≡ record t { events = t.events ++ Call actor ∷ [] })
-      (event_no : ℕ) (number : event_no ≡ length (events_of actor (told.events ++ (steps_of actor done ++ Call actor ∷ [])))) (new : Parts) (makes : MakesAfter (Call actor) old actor done new) (job : JobView) (lent : IsLent new actor event_no job) where
+  module _ (o : Option Event) (c : HasCome o) (less : length (traced.events ++ option_to_list o) < traced.limit) (t p : HistoryView) (one : t ≡ record traced { events = traced.events ++ option_to_list o }) (two : p ≡ record t { events = t.events ++ Call actor ∷ [] })
+      (event_no : ℕ) (number : event_no ≡ length (events_of actor (traced.events ++ (steps_of actor done ++ Call actor ∷ [])))) (new : Parts) (makes : MakesAfter (Call actor) old actor done new) (job : JobView) (lent : IsLent new actor event_no job) where
     abbrev es : List Event
     es = steps_of actor done ++ Call actor ∷ []
 
     pub kept_called : IsKept verified inputs layout p.limit p.events new
-    kept_called = kept_again es (by_two (Call actor) refl o c new makes) new (at_two (Call actor) refl o c new makes) (others_two (Call actor) refl o c new makes) (within_two (Call actor) refl o c new makes less) event_no number job lent p (told_two (Call actor) refl o c new makes t p one two)
+    kept_called = kept_again es (by_two (Call actor) refl o c new makes) new (at_two (Call actor) refl o c new makes) (others_two (Call actor) refl o c new makes) (within_two (Call actor) refl o c new makes less) event_no number job lent p (traced_two (Call actor) refl o c new makes t p one two)
 
     pub line_called : IsTurnBy (λ s. Lends w actor es) w (Run job) (viewed verified inputs layout stopped p)
-    line_called = line_again es (by_two (Call actor) refl o c new makes) new (at_two (Call actor) refl o c new makes) (others_two (Call actor) refl o c new makes) (within_two (Call actor) refl o c new makes less) event_no number job lent p (told_two (Call actor) refl o c new makes t p one two)
+    line_called = line_again es (by_two (Call actor) refl o c new makes) new (at_two (Call actor) refl o c new makes) (others_two (Call actor) refl o c new makes) (within_two (Call actor) refl o c new makes less) event_no number job lent p (traced_two (Call actor) refl o c new makes t p one two)
 
 -- a run that reaches the limit
 pub filled : (w v : PoolView) (actor : Actor) (es : List Event) (a : Turn) → IsTurnBy (λ s. Lends w actor es) w a v → IsTurnBy (λ s. Answers (Over Limit) es) w (Over Limit) v

@@ -66,13 +66,13 @@ made p actor given es (Deliver server datum rule parameter) answer events l = in
 made p actor given es (Release engine rule) answer events (inl l) = inr l.1
 made p actor given es (Release engine rule) answer events (inr l) = inl l.1.1
 
-whose_behind : (actor : Actor) (i : Option Instr) → actor_of (event_of actor i) ≡ actor
-whose_behind actor None = refl
-whose_behind actor (Some (instr.Local i)) = refl
-whose_behind actor (Some (instr.Data i)) = refl
-whose_behind actor (Some (instr.Rule action)) = refl
-whose_behind actor (Some (instr.Put action)) = refl
-whose_behind actor (Some instr.Ret) = refl
+actor_of_next : (actor : Actor) (i : Option Instr) → actor_of (event_of actor i) ≡ actor
+actor_of_next actor None = refl
+actor_of_next actor (Some (instr.Local i)) = refl
+actor_of_next actor (Some (instr.Data i)) = refl
+actor_of_next actor (Some (instr.Rule action)) = refl
+actor_of_next actor (Some (instr.Put action)) = refl
+actor_of_next actor (Some instr.Ret) = refl
 
 whose_task : (actor : Actor) (task : Option (ℕ × Task)) (e : Event) → take_of actor task ≡ Some e → actor_of e ≡ actor
 whose_task actor None e is = cc
@@ -99,7 +99,7 @@ module _ (p : PoolView) (s : State) (actor : Actor) (answer : Turn) (events : Li
     where
       by : (events ≡ []) ⊎ (events ≡ steps_of actor done ++ event_of actor (instr_after p.program.program done) ∷ []) → AreOwn actor events
       by (inl is) = none_then is
-      by (inr is) = subst (AreOwn actor) (sym is) (own_after actor done (event_of actor (instr_after p.program.program done)) (whose_behind actor (instr_after p.program.program done)))
+      by (inr is) = subst (AreOwn actor) (sym is) (own_after actor done (event_of actor (instr_after p.program.program done)) (actor_of_next actor (instr_after p.program.program done)))
 
   free : GoesFree p s actor answer events → AreOwn actor events
   free (inl l) = by (made p actor None [] l.0 answer events l.2)

@@ -75,5 +75,5 @@ round e h =
     ∙ ap (unpack_by (kind_of e) (actor_of e)) numbers
     ∙ again e h.1
 
-pub told : (words new : List ℕ) (word : ℕ) (e : Event) → FitsWord e → word ≡ word_of e → new ≡ words ++ word ∷ [] → events_in new ≡ events_in words ++ e ∷ []
-told words new word e h is more = ap events_in more ∙ map-append unpack words (word ∷ []) ∙ ap (λ x. events_in words ++ x ∷ []) (ap unpack is ∙ round e h)
+pub traced : (words new : List ℕ) (word : ℕ) (e : Event) → FitsWord e → word ≡ word_of e → new ≡ words ++ word ∷ [] → events_in new ≡ events_in words ++ e ∷ []
+traced words new word e h is more = ap events_in more ∙ map-append unpack words (word ∷ []) ∙ ap (λ x. events_in words ++ x ∷ []) (ap unpack is ∙ round e h)

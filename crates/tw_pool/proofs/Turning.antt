@@ -89,9 +89,9 @@ pub back_past : (w v : PoolView) (actor : Actor) (done : DoneView) (a : Turn) �
 back_past w v actor done a is last l = subst (λ b. IsTurnBy (λ s. TakesBack b (is_last w done) w actor done) w a v) is (subst (λ b. IsTurnBy (λ s. TakesBack false b w actor done) w a v) last l)
 
 -- the instruction that is found after the steps
-pub behind_is : (w : PoolView) (program : List Procedure) (done : DoneView) (i : Instr) (m n : ℕ) → w.program.program ≡ program → m ≡ done.before.procedure → n ≡ done.after.place
+pub after_is : (w : PoolView) (program : List Procedure) (done : DoneView) (i : Instr) (m n : ℕ) → w.program.program ≡ program → m ≡ done.before.procedure → n ≡ done.after.place
     → option_and_then (λ (p : Procedure). slice_get p.code n) (slice_get program m) ≡ Some i → instr_after w.program.program done ≡ Some i
-behind_is w program done i m n whose of at e =
+after_is w program done i m n whose of at e =
     subst (λ (ps : List Procedure). instr_after ps done ≡ Some i) (sym whose)
     (subst (λ k. option_and_then (λ (p : Procedure). slice_get p.code done.after.place) (slice_get program k) ≡ Some i) of
     (subst (λ k. option_and_then (λ (p : Procedure). slice_get p.code k) (slice_get program m) ≡ Some i) at e))
@@ -129,12 +129,12 @@ not_local w program done i whose own law whole at =
     sym (ap (option_and_then (λ (p : Procedure). slice_get p.code done.after.place)) (ap (λ (v : TypedProgram). slice_get v.program done.before.procedure) (whose ∙ sym own) ∙ law.here)) ∙ at in
     stops_there law.p.code done.after.place i (subst (λ b. StopsAt b law.p.code law.p.registers done.after.place) (sym whole) law.stops) code
 
-module _ (verified : TypedProgram) (inputs : List Input) (layout : ActorCounts) (stopped : Bool) (told : HistoryView) (old : Parts) (h : IsKept verified inputs layout told.limit told.events old) (w : PoolView) (seen : viewed verified inputs layout stopped told ≡ w) where
+module _ (verified : TypedProgram) (inputs : List Input) (layout : ActorCounts) (stopped : Bool) (traced : HistoryView) (old : Parts) (h : IsKept verified inputs layout traced.limit traced.events old) (w : PoolView) (seen : viewed verified inputs layout stopped traced ≡ w) where
   abbrev here : State
-  here = state verified inputs layout stopped told old h w seen
+  here = state verified inputs layout stopped traced old h w seen
 
   pub at_here : HasState w here
-  at_here = has_state verified inputs layout stopped told old h w seen
+  at_here = has_state verified inputs layout stopped traced old h w seen
 
   pub only_here : (s : State) → HasState w s → s ≡ here
   only_here s at = same_went s here (sym at ∙ at_here)
@@ -146,7 +146,7 @@ module _ (verified : TypedProgram) (inputs : List Input) (layout : ActorCounts) 
   room_if goes_on = room_left w here within_here (goes_on here at_here)
 
   unchanged : (line : State → Line) (answer : Turn) → line here answer [] → IsTurnBy line w answer w
-  unchanged line answer is = subst (λ (v : PoolView). IsTurnBy line w answer v) seen (line_still verified inputs layout stopped told old h w seen line answer is)
+  unchanged line answer is = subst (λ (v : PoolView). IsTurnBy line w answer v) seen (line_still verified inputs layout stopped traced old h w seen line answer is)
 
   pub over : (actor : Actor) (given : Option DoneView) (closing : Closing) → ((s : State) → HasState w s → Some closing ≡ closing_at w s) → IsTurn w actor given (Over closing) w
   over actor given closing is = unchanged (λ s. TurnsUnless (closing_at w s) w s actor given) (Over closing)
@@ -158,7 +158,7 @@ module _ (verified : TypedProgram) (inputs : List Input) (layout : ActorCounts) 
 
     module _ (f : FrameView) (sits : get old.seats actor ≡ Some f) where
       abbrev job_by : Frame → JobView
-      job_by g = record { program = verified; task = g.task; procedure = g.procedure; actor = actor; event_no = length (events_of actor told.events); position = g.position }
+      job_by g = record { program = verified; task = g.task; procedure = g.procedure; actor = actor; event_no = length (events_of actor traced.events); position = g.position }
 
       -- the issued job
       pub lent_is : lent_to w here actor ≡ Some (job_of f)

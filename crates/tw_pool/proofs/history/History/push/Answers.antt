@@ -2,11 +2,11 @@ use Rattle.std.proofs.Common.{◌∙◌, ◌/◌, ◌%◌, ap, length, arith}
 use Rattle.tw_pool.specs.History.{HistoryView}
 use Rattle.tw_pool.specs.Words.{events_in}
 use Rattle.tw_pool.proofs.Counting.{all_placed, below, counted_more}
-use Rattle.tw_pool.proofs.Round.{told}
+use Rattle.tw_pool.proofs.Round.{traced}
 use Rattle.tw_pool.proofs.history.History.push.Goals as goal
 
 pub returns : goal.returns
-returns c = rw (← c.self.view_is) (ap (λ es. record { events = es; limit = c.self.inside.limit }) (told c.self.inside.words.items c.push_reserved.new.self.items c.pack-word.result c.args.event c.requires.fits c.pack-word.ensures c.push_reserved.ensures.items))
+returns c = rw (← c.self.view_is) (ap (λ es. record { events = es; limit = c.self.inside.limit }) (traced c.self.inside.words.items c.push_reserved.new.self.items c.pack-word.result c.args.event c.requires.fits c.pack-word.ensures c.push_reserved.ensures.items))
 
 pub overflow_add-self : goal.overflow_add-self
 overflow_add-self c =
@@ -22,6 +22,6 @@ invariant_of-self c =
       omega (arith, c.self.invariant.0, c.push_reserved.ensures.capacity),
       counted_more counts (events_in c.self.inside.words.items) c.args.event c.self.told c.self.invariant.1 c.requires.fits c.maker.result (events_in c.push_reserved.new.self.items)
           (c.maker.ensures ∙ ap (λ w. w / 8 % 32) c.pack-word.ensures)
-          (told c.self.inside.words.items c.push_reserved.new.self.items c.pack-word.result c.args.event c.requires.fits c.pack-word.ensures c.push_reserved.ensures.items),
+          (traced c.self.inside.words.items c.push_reserved.new.self.items c.pack-word.result c.args.event c.requires.fits c.pack-word.ensures c.push_reserved.ensures.items),
       all_placed c.self.inside.words.items c.push_reserved.new.self.items c.pack-word.result c.args.event c.requires.fits c.pack-word.ensures c.push_reserved.ensures.items c.self.invariant.2,
     )

@@ -29,9 +29,9 @@ push-requires-clause-fits c =
 pub invariant_of-self-2 : goal.invariant_of-self-2
 invariant_of-self-2 c =
     let t = tried_some _ _ _ c.in-Ok.asked c.in-Some.next c.in-Some.is c.in-Ok.ensures.asked in
-    free.kept_told _ _ _ c.self.inside.stopped c.self.inside.history c.self.inside.parts c.self.invariant c.args.self.now c.self.view_is _ c.push.new.self c.ask.new.self c.push.ensures (free.ask_kept _ _ _ c.self.inside.stopped c.self.inside.history c.self.inside.parts c.self.invariant c.args.self.now c.self.view_is c.args.engine c.requires.engine c.requires.room c.requires.free c.in-Some.next.0 c.in-Some.next.1 t.0 c.ask.new.self (t.1 _ _))
+    free.kept_traced _ _ _ c.self.inside.stopped c.self.inside.history c.self.inside.parts c.self.invariant c.args.self.now c.self.view_is _ c.push.new.self c.ask.new.self c.push.ensures (free.ask_kept _ _ _ c.self.inside.stopped c.self.inside.history c.self.inside.parts c.self.invariant c.args.self.now c.self.view_is c.args.engine c.requires.engine c.requires.room c.requires.free c.in-Some.next.0 c.in-Some.next.1 t.0 c.ask.new.self (t.1 _ _))
 
 pub returns : goal.returns
 returns c =
     let t = tried_some _ _ _ c.in-Ok.asked c.in-Some.next c.in-Some.is c.in-Ok.ensures.asked in
-    free.line_told _ _ _ c.self.inside.stopped c.self.inside.history c.self.inside.parts c.self.invariant c.args.self.now c.self.view_is (λ s. GoesFree c.args.self.now s (Engine c.args.engine)) Went _ c.push.new.self c.push.ensures (free.ask_line _ _ _ c.self.inside.stopped c.self.inside.history c.self.inside.parts c.self.invariant c.args.self.now c.self.view_is c.args.engine c.requires.engine c.requires.room c.requires.free c.in-Some.next.0 c.in-Some.next.1 t.0 c.ask.new.self (t.1 _ _))
+    free.line_traced _ _ _ c.self.inside.stopped c.self.inside.history c.self.inside.parts c.self.invariant c.args.self.now c.self.view_is (λ s. GoesFree c.args.self.now s (Engine c.args.engine)) Went _ c.push.new.self c.push.ensures (free.ask_line _ _ _ c.self.inside.stopped c.self.inside.history c.self.inside.parts c.self.invariant c.args.self.now c.self.view_is c.args.engine c.requires.engine c.requires.room c.requires.free c.in-Some.next.0 c.in-Some.next.1 t.0 c.ask.new.self (t.1 _ _))

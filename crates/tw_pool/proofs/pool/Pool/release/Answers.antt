@@ -32,9 +32,9 @@ push-requires-clause-fits c =
 pub invariant_of-self-2 : goal.invariant_of-self-2
 invariant_of-self-2 c =
     let t = tried_some _ _ _ c.in-Ok.released c.in-Some.rule c.in-Some.is c.in-Ok.ensures in
-    free.kept_told _ _ _ c.self.inside.stopped c.self.inside.history c.self.inside.parts c.self.invariant c.args.self.now c.self.view_is _ c.push.new.self c.release.new.self c.push.ensures (free.release_kept _ _ _ c.self.inside.stopped c.self.inside.history c.self.inside.parts c.self.invariant c.args.self.now c.self.view_is c.args.engine c.requires.engine c.requires.room c.requires.free c.requires.asked c.in-Some.rule t.0 c.release.new.self (t.1 _))
+    free.kept_traced _ _ _ c.self.inside.stopped c.self.inside.history c.self.inside.parts c.self.invariant c.args.self.now c.self.view_is _ c.push.new.self c.release.new.self c.push.ensures (free.release_kept _ _ _ c.self.inside.stopped c.self.inside.history c.self.inside.parts c.self.invariant c.args.self.now c.self.view_is c.args.engine c.requires.engine c.requires.room c.requires.free c.requires.asked c.in-Some.rule t.0 c.release.new.self (t.1 _))
 
 pub returns : goal.returns
 returns c =
     let t = tried_some _ _ _ c.in-Ok.released c.in-Some.rule c.in-Some.is c.in-Ok.ensures in
-    free.line_told _ _ _ c.self.inside.stopped c.self.inside.history c.self.inside.parts c.self.invariant c.args.self.now c.self.view_is (λ s. GoesFree c.args.self.now s (Engine c.args.engine)) Went _ c.push.new.self c.push.ensures (free.release_line _ _ _ c.self.inside.stopped c.self.inside.history c.self.inside.parts c.self.invariant c.args.self.now c.self.view_is c.args.engine c.requires.engine c.requires.room c.requires.free c.requires.asked c.in-Some.rule t.0 c.release.new.self (t.1 _))
+    free.line_traced _ _ _ c.self.inside.stopped c.self.inside.history c.self.inside.parts c.self.invariant c.args.self.now c.self.view_is (λ s. GoesFree c.args.self.now s (Engine c.args.engine)) Went _ c.push.new.self c.push.ensures (free.release_line _ _ _ c.self.inside.stopped c.self.inside.history c.self.inside.parts c.self.invariant c.args.self.now c.self.view_is c.args.engine c.requires.engine c.requires.room c.requires.free c.requires.asked c.in-Some.rule t.0 c.release.new.self (t.1 _))
