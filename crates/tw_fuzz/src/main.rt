@@ -59,7 +59,7 @@ type Difference = Option<(&'static str, u64)>;
 struct Verdicts<'r, R> {
     rt: &'r R,
     agreeing: u64,
-    are_told: bool,
+    are_erased: bool,
 }
 
 impl<R: Print + Threads + Wait + Clock + Sync> Verdicts<'_, R> {
@@ -67,7 +67,7 @@ impl<R: Print + Threads + Wait + Clock + Sync> Verdicts<'_, R> {
     fn add(&mut self, name: &str, difference: Difference) {
         match difference {
             Some((what, number)) => {
-                self.are_told &= println!(self.rt; "{name}: {what} {number} differs").is_ok();
+                self.are_erased &= println!(self.rt; "{name}: {what} {number} differs").is_ok();
             }
             None => self.agreeing = self.agreeing.wrapping_add(1),
         }
@@ -121,7 +121,7 @@ impl<R: Print + Threads + Wait + Clock + Sync> Verdicts<'_, R> {
     }
 
     /// Prints how many programs ended in which way.
-    fn tell_tally(&mut self, programs: u64, tally: &Tally) {
+    fn print_tally(&mut self, programs: u64, tally: &Tally) {
         let Tally {
             refused,
             quiet,
@@ -133,20 +133,20 @@ impl<R: Print + Threads + Wait + Clock + Sync> Verdicts<'_, R> {
             threads,
             ..
         } = *tally;
-        self.are_told &= println!(self.rt;
+        self.are_erased &= println!(self.rt;
             "{programs} programs in rounds: refused {refused}, quiet {quiet}, stuck {stuck}, limit {limit}, of {events} events"
         ).is_ok();
-        self.are_told &= println!(self.rt;
+        self.are_erased &= println!(self.rt;
             "{runs} runs of at most {FEW} events, {prefixes} times at each number of them"
         ).is_ok();
-        self.are_told &= println!(self.rt; "{threads} programs in threads").is_ok();
+        self.are_erased &= println!(self.rt; "{threads} programs in threads").is_ok();
     }
 
     /// Tests `programs` programs: in one thread, at each number of their events, and in threads, and whether each end came often
     /// enough. Also tests a long run, and two controls.
     fn run_trials(&mut self, alloc: Global, programs: u64) {
         let tally = tried(self.rt, alloc, programs, FEW);
-        self.tell_tally(programs, &tally);
+        self.print_tally(programs, &tally);
         self.add("in rounds", of_program(tally.in_rounds));
         self.add("at each number of events", of_program(tally.at_each));
         self.add("in threads", of_program(tally.in_threads));
@@ -202,7 +202,7 @@ fn trials<R: AllocGlobal + Print + Threads + Wait + Clock + Sync>(
     let mut verdicts = Verdicts {
         rt,
         agreeing: 0,
-        are_told: true,
+        are_erased: true,
     };
     match asked {
         Asked::Runs(programs) => verdicts.run_trials(alloc, programs),
@@ -216,7 +216,7 @@ fn trials<R: AllocGlobal + Print + Threads + Wait + Clock + Sync>(
     }
     let agreeing = verdicts.agreeing;
     println!(rt; "{agreeing} trials agree")?;
-    if verdicts.are_told {
+    if verdicts.are_erased {
         Ok(())
     } else {
         Err(io::Error::from(io::ErrorKind::BrokenPipe))

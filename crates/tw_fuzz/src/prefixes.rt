@@ -4,7 +4,7 @@ ghost use Rattle.std.specs.Prelude.{◌≤◌, length};
 ghost use Rattle.tw_code.specs.machine.Bounds.{AreBelow, opening_bound};
 
 use crate::case::Case;
-use crate::replay::{goes, tells};
+use crate::replay::{goes, has_report};
 use crate::rounds::run_in_rounds;
 use std::alloc::Global;
 use tw_machine::Plain;
@@ -13,7 +13,7 @@ use tw_types::Event;
 /// Returns whether a run with this limit makes exactly these events, and has the machine's report.
 fn agrees_at(alloc: Global, case: &Case, plain: &Plain, events: &[Event]) -> bool {
     match run_in_rounds(alloc, case, events.len()) {
-        Some(run) => run.events.as_slice() == events && tells(alloc, plain, &run),
+        Some(run) => run.events.as_slice() == events && has_report(alloc, plain, &run),
         None => false,
     }
 }

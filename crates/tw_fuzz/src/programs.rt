@@ -18,13 +18,13 @@ pub struct Drawn {
 /// Returns the number of a procedure to call, mostly a later one.
 fn callee(seed: &mut u64, signatures: &[Signature], caller: u8) -> u8 {
     let count = signatures.len() as u64;
-    let behind = count.saturating_sub(u64::from(caller)).saturating_sub(1);
-    if behind == 0 || draw(seed, 12) == 0 {
+    let remaining = count.saturating_sub(u64::from(caller)).saturating_sub(1);
+    if remaining == 0 || draw(seed, 12) == 0 {
         return draw(seed, count.max(1));
     }
     caller
         .wrapping_add(1)
-        .wrapping_add(draw(seed, behind.max(1)))
+        .wrapping_add(draw(seed, remaining.max(1)))
 }
 
 /// Writes a RULE or PUT of some procedure.

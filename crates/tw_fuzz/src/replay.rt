@@ -78,7 +78,7 @@ pub fn end_of(alloc: Global, left: &Final, history: &History) -> Option<Ended> {
 }
 
 /// Returns whether a machine has the same report.
-pub fn tells(alloc: Global, plain: &Plain, wanted: &Ended) -> bool {
+pub fn has_report(alloc: Global, plain: &Plain, wanted: &Ended) -> bool {
     match text_of(alloc, plain, wanted.closing) {
         Ok(text) => text.as_slice() == wanted.text.as_slice(),
         Err(_) => false,
@@ -93,7 +93,7 @@ pub fn agrees(alloc: Global, first: Plain, events: &[Event], wanted: &Ended) -> 
         return false;
     }
     match play(alloc, first, events) {
-        Some(plain) => tells(alloc, &plain, wanted),
+        Some(plain) => has_report(alloc, &plain, wanted),
         None => false,
     }
 }

@@ -132,7 +132,7 @@ fn is_pending(table: &RuleTable, listed: &Listed) -> bool {
 }
 
 /// Returns whether an engine's next ask and next release are those of the list.
-fn tells_engine(table: &RuleTable, list: &[Listed], engine: u8) -> bool {
+fn agrees_on_engine(table: &RuleTable, list: &[Listed], engine: u8) -> bool {
     asked_of(table, engine) == least_ask(list, engine)
         && released_of(table, engine) == least_release(list, engine)
 }
@@ -144,21 +144,21 @@ fn are_listed(table: &RuleTable, list: &[Listed], next: u64) -> bool {
         is_so &= is_pending(table, rule);
     }
     for engine in 0..4_u8 {
-        is_so &= tells_engine(table, list, engine);
+        is_so &= agrees_on_engine(table, list, engine);
     }
     is_so
 }
 
 /// Returns whether a rule that was returned at the end is in the list.
-fn is_told_of(list: &[Listed], told: &ErasedRule) -> bool {
-    let number = told.number.number();
+fn is_erased_of(list: &[Listed], erased: &ErasedRule) -> bool {
+    let number = erased.number.number();
     let mut is_there = false;
     for rule in list {
         is_there |= rule.number == number
-            && rule.engine == told.engine
-            && told.action == action_of(number)
-            && told.args.as_slice() == plain_args(number, rule.modes).as_slice()
-            && rule.stages.as_slice() == told.stages.as_slice();
+            && rule.engine == erased.engine
+            && erased.action == action_of(number)
+            && erased.args.as_slice() == plain_args(number, rule.modes).as_slice()
+            && rule.stages.as_slice() == erased.stages.as_slice();
     }
     is_there
 }
@@ -306,7 +306,7 @@ fn call_agrees(
             None => true,
         },
     };
-    goes && tells_engine(table, list, draw(seed, 4)) && table.pending() == list.len()
+    goes && agrees_on_engine(table, list, draw(seed, 4)) && table.pending() == list.len()
 }
 
 /// Returns the number of the first call that differs, if one does.
@@ -336,11 +336,11 @@ pub fn calls_are_the_lists(alloc: Global, calls: u16) -> Option<(&'static str, u
     };
     let mut table = RuleTable::new(alloc);
     let difference = first_difference(alloc, &mut table, &mut list, calls);
-    let told = table.shut();
+    let erased = table.shut();
     if let Some(call) = difference {
         Some(("call", call))
-    } else if told.len() != list.len() || !told.iter().all(|rule| is_told_of(&list, rule)) {
-        Some(("rules told", told.len() as u64))
+    } else if erased.len() != list.len() || !erased.iter().all(|rule| is_erased_of(&list, rule)) {
+        Some(("rules told", erased.len() as u64))
     } else {
         None
     }

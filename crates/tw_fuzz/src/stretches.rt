@@ -65,9 +65,9 @@ fn add_text(code: &mut Code, seed: &mut u64, to: u8) {
     code.put(text.as_bytes());
 }
 
-/// Adds a local instruction with a skip, or COPY, LEN or SHOW. `behind` instructions follow it in its block.
-fn add_other(code: &mut Code, seed: &mut u64, behind: u8) {
-    let skip = draw(seed, u64::from(behind).saturating_add(1));
+/// Adds a local instruction with a skip, or COPY, LEN or SHOW. `remaining` instructions follow it in its block.
+fn add_other(code: &mut Code, seed: &mut u64, remaining: u8) {
+    let skip = draw(seed, u64::from(remaining).saturating_add(1));
     let (int, left, right) = (int_register(seed), int_register(seed), int_register(seed));
     let (text, first, second) = (
         text_register(seed),
@@ -98,13 +98,17 @@ fn add_block(code: &mut Code, seed: &mut u64, bound: u64)
 {
     let count = draw(seed, bound);
     for index in 0..count {
-        let behind = count - index - 1;
+        let remaining = count - index - 1;
         let (int, text) = (int_register(seed), text_register(seed));
         match draw(seed, 10) {
             0 => add_int(code, seed, int),
             1 => add_text(code, seed, text),
-            2 => code.add(&[0x20, 0, draw(seed, u64::from(behind).saturating_add(1)) / 3]),
-            _ => add_other(code, seed, behind),
+            2 => code.add(&[
+                0x20,
+                0,
+                draw(seed, u64::from(remaining).saturating_add(1)) / 3,
+            ]),
+            _ => add_other(code, seed, remaining),
         }
     }
 }

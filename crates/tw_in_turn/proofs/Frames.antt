@@ -70,14 +70,14 @@ module _ (program : List Procedure) (layout : ActorCounts) (s t : State) where
 
 module _ (program : List Procedure) (layout : ActorCounts) where
   -- events after others start from the state that these reach
-  pub behind : (history es : List Event) (s t u : State) → run program layout history s ≡ Went t → run program layout (history ++ es) s ≡ Went u → run program layout es t ≡ Went u
+  pub run_after : (history es : List Event) (s t u : State) → run program layout history s ≡ Went t → run program layout (history ++ es) s ≡ Went u → run program layout es t ≡ Went u
   unfolding run
-  behind [] es s t u e f = subst (λ x. run program layout es x ≡ Went u) (same_went s t e) f
-  behind (first ∷ history) es s t u e f =
+  run_after [] es s t u e f = subst (λ x. run program layout es x ≡ Went u) (same_went s t e) f
+  run_after (first ∷ history) es s t u e f =
       let one = went_first (step program layout first s) (run program layout history) t e in
       let two = went_first (step program layout first s) (run program layout (history ++ es)) u f in
       let same : two.0 ≡ one.0 = same_went two.0 one.0 (sym two.1 ∙ one.1) in
-      behind history es one.0 t u one.2 (subst (λ x. run program layout (history ++ es) x ≡ Went u) same two.2)
+      run_after history es one.0 t u one.2 (subst (λ x. run program layout (history ++ es) x ≡ Went u) same two.2)
 
   pub nothing : (s t : State) → run program layout [] s ≡ Went t → s ≡ t
   unfolding run

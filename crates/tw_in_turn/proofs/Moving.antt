@@ -65,17 +65,17 @@ module _ (old : PoolView) (s : State) (actor : Actor) (answer : Turn) (events : 
       lent l.0 (subst (λ x. HasState (with_events old x) l.0) (sym l.4.1) l.1) l.2 (subst (λ x. lent_to (with_events old x) l.0 actor ≡ Some l.2) (sym l.4.1) l.3) l.4.0
       (let n = ap (λ x. length x) l.4.1 ∙ length-append es (e ∷ []) in omega (arith, n))
 
-  behind : (given : Option DoneView) (es : List Event) (i : Option Instr) → Makes old actor given es (event_of actor i) answer events → Came given
-  behind given es None (inl l) = lends given es (Call actor) l
-  behind given es None (inr l) = refused l.1.0 l.1.1
-  behind given es (Some (instr.Local i)) l = elim l [ ]
-  behind given es (Some (instr.Data i)) (inl l) = lends given es (Call actor) l
-  behind given es (Some (instr.Data i)) (inr l) = refused l.1.0 l.1.1
-  behind given es (Some (instr.Rule action)) (inl l) = lends given es (Call actor) l
-  behind given es (Some (instr.Rule action)) (inr l) = refused l.1.0 l.1.1
-  behind given es (Some (instr.Put action)) (inl l) = lends given es (Call actor) l
-  behind given es (Some (instr.Put action)) (inr l) = refused l.1.0 l.1.1
-  behind given es (Some instr.Ret) l = ended es l.0 l.1
+  run_after : (given : Option DoneView) (es : List Event) (i : Option Instr) → Makes old actor given es (event_of actor i) answer events → Came given
+  run_after given es None (inl l) = lends given es (Call actor) l
+  run_after given es None (inr l) = refused l.1.0 l.1.1
+  run_after given es (Some (instr.Local i)) l = elim l [ ]
+  run_after given es (Some (instr.Data i)) (inl l) = lends given es (Call actor) l
+  run_after given es (Some (instr.Data i)) (inr l) = refused l.1.0 l.1.1
+  run_after given es (Some (instr.Rule action)) (inl l) = lends given es (Call actor) l
+  run_after given es (Some (instr.Rule action)) (inr l) = refused l.1.0 l.1.1
+  run_after given es (Some (instr.Put action)) (inl l) = lends given es (Call actor) l
+  run_after given es (Some (instr.Put action)) (inr l) = refused l.1.0 l.1.1
+  run_after given es (Some instr.Ret) l = ended es l.0 l.1
 
   due_made : (e : Event) → IsDueFree old.layout actor s e → lent_to old s actor ≡ None → Makes old actor None [] e answer events → Came None
   due_made (Take a) due none (inl l) = lends None [] (Take a) l
@@ -108,7 +108,7 @@ module _ (old : PoolView) (s : State) (actor : Actor) (answer : Turn) (events : 
       let long = ap (λ x. length x) l.1 in
       let limit = eqb-true (length old.history + 1) old.limit both.1 in
       full l.0 (omega (arith, one, long, limit))
-  taken_back done false is l = behind (Some done) (steps_of actor done) (instr_after old.program.program done) l
+  taken_back done false is l = run_after (Some done) (steps_of actor done) (instr_after old.program.program done) l
 
   turned : closing_at old s ≡ None → (job : Option JobView) → lent_to old s actor ≡ job → (given : Option DoneView) → HasDone job given → Turns old s actor job given answer events → Came given
   turned runs_on None is None has l = goes_free runs_on is l
@@ -209,7 +209,7 @@ module _ (old new : PoolView) (actor : Actor) (given : Option DoneView) (answer 
 
   -- the events lead from the one state to the other
   leads : (t : State) → HasState new t → run old.program.program old.layout turn.events s ≡ Gone t
-  leads t has = frames.behind old.program.program old.layout old.history turn.events (opening old.program.program old.inputs) s t turn.has_state (subst (λ (p : PoolView). HasState p t) turn.appended has)
+  leads t has = frames.run_after old.program.program old.layout old.history turn.events (opening old.program.program old.inputs) s t turn.has_state (subst (λ (p : PoolView). HasState p t) turn.appended has)
 
   pub grown : length old.history ≤ old.limit → IsGrown old new
   grown low = record {

@@ -61,25 +61,25 @@ given_same (Some job) (Some d) (Some e) h k = ap Some (done_same job d e h k)
 -- ---- two answers to one turn
 
 -- results except a failed allocation
-abbrev Stands : Turn → Type 0
-Stands (Over closing) = Unit {0}
-Stands (Foreign done) = Unit {0}
-Stands Owed = Unit {0}
-Stands (NoMemory given) = ⊥
-Stands (Run job) = Unit {0}
-Stands Ended = Unit {0}
-Stands Went = Unit {0}
-Stands Idle = Unit {0}
+abbrev IsNoFailure : Turn → Type 0
+IsNoFailure (Over closing) = Unit {0}
+IsNoFailure (Foreign done) = Unit {0}
+IsNoFailure Owed = Unit {0}
+IsNoFailure (NoMemory given) = ⊥
+IsNoFailure (Run job) = Unit {0}
+IsNoFailure Ended = Unit {0}
+IsNoFailure Went = Unit {0}
+IsNoFailure Idle = Unit {0}
 
-goes_stands : (answer : Turn) → GoesOn answer → Stands answer
-goes_stands (Over closing) on = tt
-goes_stands (Foreign done) on = tt
-goes_stands Owed on = tt
-goes_stands (NoMemory given) on = on
-goes_stands (Run job) on = tt
-goes_stands Ended on = tt
-goes_stands Went on = tt
-goes_stands Idle on = tt
+goes_without_failure : (answer : Turn) → GoesOn answer → IsNoFailure answer
+goes_without_failure (Over closing) on = tt
+goes_without_failure (Foreign done) on = tt
+goes_without_failure Owed on = tt
+goes_without_failure (NoMemory given) on = on
+goes_without_failure (Run job) on = tt
+goes_without_failure Ended on = tt
+goes_without_failure Went on = tt
+goes_without_failure Idle on = tt
 
 -- one answer and the same events
 abbrev BothSame : Turn → Turn → List Event → List Event → Type 0
@@ -99,10 +99,10 @@ record TwoNotices (a b : Turn) (xs ys : List Event) : Type 0 where
 abbrev Either : Turn → Turn → List Event → List Event → Type 0
 Either a b xs ys = BothSame a b xs ys ⊎ TwoNotices a b xs ys
 
-refused_not : (a : Turn) (given : Option DoneView) → Stands a → a ≡ NoMemory given → ⊥
-refused_not a given fits_place is = subst Stands is fits_place
+refused_not : (a : Turn) (given : Option DoneView) → IsNoFailure a → a ≡ NoMemory given → ⊥
+refused_not a given fits_place is = subst IsNoFailure is fits_place
 
-module _ (p : PoolView) (a b : Turn) (xs ys : List Event) (sa : Stands a) (sb : Stands b) where
+module _ (p : PoolView) (a b : Turn) (xs ys : List Event) (sa : IsNoFailure a) (sb : IsNoFailure b) where
   lends_same : (actor : Actor) (es : List Event) → Lends p actor es a xs → Lends p actor es b ys → BothSame a b xs ys
   lends_same actor es l m =
       let state : m.0 ≡ l.0 = same_went m.0 l.0 (sym m.1 ∙ l.1) in
@@ -180,7 +180,7 @@ module _ (p : PoolView) (a b : Turn) (xs ys : List Event) (sa : Stands a) (sb : 
 
 -- ---- two moves from one pool
 
-move_same : (old new other : PoolView) (actor : Actor) (a b : Turn) (m : IsMove old actor a new) (n : IsMove old actor b other) → Stands a → Stands b → Either a b m.turn.events n.turn.events
+move_same : (old new other : PoolView) (actor : Actor) (a b : Turn) (m : IsMove old actor a new) (n : IsMove old actor b other) → IsNoFailure a → IsNoFailure b → Either a b m.turn.events n.turn.events
 move_same old new other actor a b m n sa sb =
     let s = m.turn.state in
     let state : n.turn.state ≡ s = same_went n.turn.state s (sym n.turn.has_state ∙ m.turn.has_state) in
@@ -198,10 +198,10 @@ parts_on h k xs ys d = record {
   notice = d.notice;
   instead = d.instead;
   apart = d.apart;
-  behind = d.behind ++ xs;
-  behind_other = d.behind_other ++ ys;
-  is = ap (λ es. es ++ xs) d.is ∙ append_assoc d.before (delivery d.server d.notice ∷ d.behind) xs;
-  is_other = ap (λ es. es ++ ys) d.is_other ∙ append_assoc d.before (delivery d.server d.instead ∷ d.behind_other) ys;
+  notice_after = d.notice_after ++ xs;
+  other_after = d.other_after ++ ys;
+  is = ap (λ es. es ++ xs) d.is ∙ append_assoc d.before (delivery d.server d.notice ∷ d.notice_after) xs;
+  is_other = ap (λ es. es ++ ys) d.is_other ∙ append_assoc d.before (delivery d.server d.instead ∷ d.other_after) ys;
 }
 
 history_of : (old new : PoolView) (actor : Actor) (a : Turn) (m : IsMove old actor a new) → new.history ≡ old.history ++ m.turn.events
@@ -211,7 +211,7 @@ history_of old new actor a m = ap (λ (p : PoolView). p.history) m.turn.appended
 abbrev LeadsSame : Turn → Turn → PoolView → PoolView → Type 0
 LeadsSame a b p q = ((a ≡ b) × (p ≡ q)) ⊎ ((a ≡ Went) × (b ≡ Went) × PartAtNotice p.history q.history)
 
-leads_same : (old new other : PoolView) (actor : Actor) (a b : Turn) → IsMove old actor a new → IsMove old actor b other → Stands a → Stands b → LeadsSame a b new other
+leads_same : (old new other : PoolView) (actor : Actor) (a b : Turn) → IsMove old actor a new → IsMove old actor b other → IsNoFailure a → IsNoFailure b → LeadsSame a b new other
 leads_same old new other actor a b m n sa sb = by (move_same old new other actor a b m n sa sb)
   where
     by : Either a b m.turn.events n.turn.events → LeadsSame a b new other
@@ -225,8 +225,8 @@ leads_same old new other actor a b m n sa sb = by (move_same old new other actor
         notice = two.one;
         instead = two.other;
         apart = two.apart;
-        behind = [];
-        behind_other = [];
+        notice_after = [];
+        other_after = [];
         is = history_of old new actor a m ∙ ap (λ es. old.history ++ es) two.xs_is;
         is_other = history_of old other actor b n ∙ ap (λ es. old.history ++ es) two.ys_is;
       },
@@ -244,7 +244,7 @@ after_same first (suc turns) p q (x, a, h, m, on) (y, b, k, n, goes) = by (after
     actor = actor_after first.layout turns
 
     by : PoolsSame x y → PoolsSame p q
-    by (inl same) = next (leads_same x p q actor a b m (subst (λ (o : PoolView). IsMove o actor b q) (sym same) n) (goes_stands a on) (goes_stands b goes))
+    by (inl same) = next (leads_same x p q actor a b m (subst (λ (o : PoolView). IsMove o actor b q) (sym same) n) (goes_without_failure a on) (goes_without_failure b goes))
       where
         next : LeadsSame a b p q → PoolsSame p q
         next (inl l) = inl l.1
@@ -282,8 +282,8 @@ goes_by first turns (suc later) q (x, a, h, m, on) =
       grown = history_of x q (actor_after first.layout (suc (later_on later turns))) a m ∙ (ap (λ es. es ++ m.turn.events) g.grown ∙ append_assoc g.next.history g.more m.turn.events);
     }
 
-over_stands : (a : Turn) → IsOver a → Stands a
-over_stands a over = subst Stands (sym over.1) tt
+over_without_failure : (a : Turn) → IsOver a → IsNoFailure a
+over_without_failure a over = subst IsNoFailure (sym over.1) tt
 
 flipped : (h k : List Event) → AreSame h k → AreSame k h
 flipped h k (inl is) = inl (sym is)
@@ -293,8 +293,8 @@ flipped h k (inr d) = inr (record {
   notice = d.instead;
   instead = d.notice;
   apart = λ e. d.apart (sym e);
-  behind = d.behind_other;
-  behind_other = d.behind;
+  notice_after = d.other_after;
+  other_after = d.notice_after;
   is = d.is_other;
   is_other = d.is;
 })
@@ -311,7 +311,7 @@ module _ (first p q : PoolView) (c : ComesTo first IsOver p) (d : ComesTo first 
       mine = subst (λ n. IsMove c.before (actor_after first.layout n) c.answer p) is c.last
 
       by : PoolsSame c.before d.before → AreSame p.history q.history
-      by (inl same) = next (leads_same c.before p q actor c.answer d.answer mine (subst (λ (o : PoolView). IsMove o actor d.answer q) (sym same) d.last) (over_stands c.answer c.is) (over_stands d.answer d.is))
+      by (inl same) = next (leads_same c.before p q actor c.answer d.answer mine (subst (λ (o : PoolView). IsMove o actor d.answer q) (sym same) d.last) (over_without_failure c.answer c.is) (over_without_failure d.answer d.is))
         where
           next : LeadsSame c.answer d.answer p q → AreSame p.history q.history
           next (inl l) = inl (ap (λ (o : PoolView). o.history) l.1)
@@ -336,7 +336,7 @@ module _ (first p q : PoolView) (c : ComesTo first IsOver p) (d : ComesTo first 
       end_before = end ∙ (ap (λ es. es ++ (g.more ++ d.last.turn.events)) (history_of g.before g.next actor g.answer g.move) ∙ append_assoc g.before.history g.move.turn.events (g.more ++ d.last.turn.events))
 
       by : PoolsSame c.before g.before → AreSame p.history q.history
-      by (inl same) = absurd (next (leads_same c.before p g.next actor c.answer g.answer c.last (subst (λ (o : PoolView). IsMove o actor g.answer g.next) (sym same) g.move) (over_stands c.answer c.is) (goes_stands g.answer g.on)))
+      by (inl same) = absurd (next (leads_same c.before p g.next actor c.answer g.answer c.last (subst (λ (o : PoolView). IsMove o actor g.answer g.next) (sym same) g.move) (over_without_failure c.answer c.is) (goes_without_failure g.answer g.on)))
         where
           next : LeadsSame c.answer g.answer p g.next → ⊥
           next (inl l) = subst GoesOn (sym l.0 ∙ c.is.1) g.on

@@ -14,10 +14,10 @@ pub record PartAtNotice (one other : List Event) : Type 0 where
   pub notice : Notice
   pub instead : Notice
   pub apart : notice ≢ instead
-  pub behind : List Event
-  pub behind_other : List Event
-  pub is : one ≡ before ++ delivery server notice ∷ behind
-  pub is_other : other ≡ before ++ delivery server instead ∷ behind_other
+  pub notice_after : List Event
+  pub other_after : List Event
+  pub is : one ≡ before ++ delivery server notice ∷ notice_after
+  pub is_other : other ≡ before ++ delivery server instead ∷ other_after
 
 abbrev pub AreSame : List Event → List Event → Type 0
 AreSame one other = (one ≡ other) ⊎ PartAtNotice one other

@@ -17,8 +17,8 @@ fn main(rt: HostRuntime) -> Status {
     match own_words(&rt) {
         Ok(words) => {
             let words = words.as_slice();
-            let teller = ProgressPrinter::new(rt.stderr(), is_quiet(words));
-            let status = session(&rt, &teller, words, &mut rt.stdin(), &mut writer);
+            let reporter = ProgressPrinter::new(rt.stderr(), is_quiet(words));
+            let status = session(&rt, &reporter, words, &mut rt.stdin(), &mut writer);
             complain(rt.alloc(), status, words, &mut rt.stderr());
             status
         }

@@ -20,16 +20,16 @@ seen view R p q (x ∷ xs) is = (view is.0, is.1, seen view R is.0 q xs is.2)
 -- ---- the rest of a drive
 
 -- the `Done` that is submitted is the one that was there
-module _ (was given : Option DoneView) (taken : given ≡ was) (past : List Step) (so_far : (rest : List Step) (memory : Bool) → Drives was rest memory → Drives None (past ++ rest) memory) (several : Bool) (answer : Answer) (behind : List Step) where
+module _ (was given : Option DoneView) (taken : given ≡ was) (past : List Step) (so_far : (rest : List Step) (memory : Bool) → Drives was rest memory → Drives None (past ++ rest) memory) (several : Bool) (answer : Answer) (later : List Step) where
   turned : (rest : List Step) (memory : Bool) → Drives given (asked several given answer ∷ rest) memory → Drives None (past ++ (asked several given answer ∷ rest)) memory
   turned rest memory drives = so_far (asked several given answer ∷ rest) memory (subst (λ o. Drives o (asked several given answer ∷ rest) memory) taken drives)
 
-  pub on : (next : Option DoneView) → GoesOn answer behind next → (rest : List Step) (memory : Bool) → Drives next rest memory → Drives None ((past ++ (asked several given answer ∷ behind)) ++ rest) memory
+  pub on : (next : Option DoneView) → GoesOn answer later next → (rest : List Step) (memory : Bool) → Drives next rest memory → Drives None ((past ++ (asked several given answer ∷ later)) ++ rest) memory
   on next is rest memory drives =
-      subst (λ steps. Drives None steps memory) (sym (append_assoc past (asked several given answer ∷ behind) rest)) (turned (behind ++ rest) memory (goes several answer behind next rest is drives))
+      subst (λ steps. Drives None steps memory) (sym (append_assoc past (asked several given answer ∷ later) rest)) (turned (later ++ rest) memory (goes several answer later next rest is drives))
 
-  pub over : (memory : Bool) → Ends answer behind memory → Drives None (past ++ (asked several given answer ∷ behind)) memory
-  over memory is = turned behind memory (ends several answer behind is)
+  pub over : (memory : Bool) → Ends answer later memory → Drives None (past ++ (asked several given answer ∷ later)) memory
+  over memory is = turned later memory (ends several answer later is)
 
 -- ---- at a host
 

@@ -71,5 +71,5 @@ Follows answer steps (Err end) = Ends answer steps end.memory
 -- a driver that submits this makes these steps, and `memory` is whether an allocation failed
 pub data Drives : Option DoneView → List Step → Bool → Type 0 where
   ends : {given : Option DoneView} {memory : Bool} (several : Bool) (answer : Answer) (rest : List Step) → Ends answer rest memory → Drives given (asked several given answer ∷ rest) memory
-  goes : {given : Option DoneView} {memory : Bool} (several : Bool) (answer : Answer) (behind : List Step) (next : Option DoneView) (rest : List Step)
-      → GoesOn answer behind next → Drives next rest memory → Drives given (asked several given answer ∷ (behind ++ rest)) memory
+  goes : {given : Option DoneView} {memory : Bool} (several : Bool) (answer : Answer) (later : List Step) (next : Option DoneView) (rest : List Step)
+      → GoesOn answer later next → Drives next rest memory → Drives given (asked several given answer ∷ (later ++ rest)) memory
