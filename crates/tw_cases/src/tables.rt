@@ -2,7 +2,7 @@
 
 ghost use Rattle.std.specs.Prelude.{◌≡◌, ◌<◌, IfSome, length, vec_len};
 ghost use Rattle.tw_host.specs.Seats.{actor_count};
-ghost use Rattle.tw_host.specs.Tells.{IsAnswerOf, IsDoneOf};
+ghost use Rattle.tw_host.specs.Sees.{IsAnswerOf, IsDoneOf};
 
 use std::alloc::Global;
 use std::marker::PhantomData;

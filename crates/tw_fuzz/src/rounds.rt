@@ -2,7 +2,7 @@
 
 ghost use Rattle.std.specs.Prelude.{◌≡◌, All, IfSome, true};
 ghost use Rattle.tw_types.specs.Actor.{is_in};
-ghost use Rattle.tw_host.specs.Tells.{IsDoneOf};
+ghost use Rattle.tw_host.specs.Sees.{IsDoneOf};
 
 use crate::case::Case;
 use crate::draw::draw;

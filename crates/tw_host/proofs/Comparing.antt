@@ -15,7 +15,7 @@ use Rattle.tw_types.specs.Layout.{ActorCounts}
 use Rattle.tw_code.specs.machine.History.{actor_of}
 use Rattle.tw_pool.specs.Actors.{events_of, same_actor}
 use Rattle.tw_pool.proofs.Counting.{itself, not_same}
-use Rattle.tw_host.specs.Seats.{SeatEvents, actor_at, actor_count, actors_of, told_by}
+use Rattle.tw_host.specs.Seats.{SeatEvents, actor_at, actor_count, actors_of, seen_by}
 use Rattle.tw_host.proofs.Lists.{both_less, first_of_rest, map_map, other_next, own_next, rest_more, same_both}
 use Rattle.tw_host.proofs.Ordering.{apart}
 
@@ -31,10 +31,10 @@ index_back layout (Engine n) is = rw is refl
 index_back layout (Server n) is =
     let low = ltb-true n layout.servers is in
     let e = layout.engines in
-    let behind : nat_lt (e + n) e ≡ false = grind (arith, nat_tests) in
+    let not_less : nat_lt (e + n) e ≡ false = grind (arith, nat_tests) in
     let within : nat_lt (e + n) (e + layout.servers) ≡ true = grind (arith, nat_tests, low) in
     let back : (e + n) - e ≡ n = omega arith in
-    rw (behind, within) (ap Server back)
+    rw (not_less, within) (ap Server back)
 index_back layout (Worker n) is =
     let e = layout.engines in
     let s = layout.servers in
@@ -168,7 +168,7 @@ module _ (layout : ActorCounts) (history : List Event) (lists : List (List Event
 
 module _ {X : Type 0} (actor : X → Actor) (list : X → List Event) (seats : List X) (layout : ActorCounts) (placed : map actor seats ≡ actors_of layout) where
   abbrev view : X → SeatEvents
-  view s = told_by (actor s) (list s)
+  view s = seen_by (actor s) (list s)
 
   long : length (map view seats) ≡ actor_count layout
   long = length-map seats view ∙ as_many_seats actor seats layout placed

@@ -51,8 +51,8 @@ module _ (p : PoolView) (answer : Turn) (events : List Event) where
       by true is = rw is (omega (arith, room))
       by false is = rw is (omega (arith, room))
 
-  room_behind : (actor : Actor) (done : DoneView) → length p.history < p.limit → is_last p done ≡ false → length p.history + length (steps_of actor done) < p.limit
-  room_behind actor done room last = by (done.steps == 0) refl (length p.history + 1 == p.limit) refl
+  room_after : (actor : Actor) (done : DoneView) → length p.history < p.limit → is_last p done ≡ false → length p.history + length (steps_of actor done) < p.limit
+  room_after actor done room last = by (done.steps == 0) refl (length p.history + 1 == p.limit) refl
     where
       by : (b : Bool) → (done.steps == 0) ≡ b → (c : Bool) → (length p.history + 1 == p.limit) ≡ c → length p.history + length (steps_of actor done) < p.limit
       by true is c at = rw is (omega (arith, room))
@@ -62,7 +62,7 @@ module _ (p : PoolView) (answer : Turn) (events : List Event) where
   taken_back : (actor : Actor) (short last : Bool) (done : DoneView) → is_last p done ≡ last → length p.history < p.limit → TakesBack short last p actor done answer events → Fits p events
   taken_back actor true last done is room l = subst (Fits p) (sym l.4.1) (steps_few actor done room)
   taken_back actor false true done is room l = subst (Fits p) (sym l.1) (steps_few actor done room)
-  taken_back actor false false done is room l = made actor (Some done) (steps_of actor done) (event_of actor (instr_after p.program.program done)) (room_behind actor done room is) l
+  taken_back actor false false done is room l = made actor (Some done) (steps_of actor done) (event_of actor (instr_after p.program.program done)) (room_after actor done room is) l
 
   -- ---- all lines
 

@@ -30,9 +30,9 @@ use Rattle.tw_pool.specs.declared.answer.Turn.TheVariants as turn
 use Rattle.tw_pool.specs.Actors.{events_of, same_actor}
 use Rattle.tw_pool.specs.PoolView.{PoolView, with_events}
 use Rattle.tw_pool.specs.Turns.{IsTurn}
-use Rattle.tw_host.specs.Holds.{AreTold, AreTurns, HandsOn, IsBrief, RunsHere, SomeTurns, TellsUpTo, Waits, few_steps}
+use Rattle.tw_host.specs.Holds.{SeesTurns, AreTurns, HandsOn, IsBrief, RunsHere, SomeTurns, SeesUpTo, Waits, few_steps}
 use Rattle.tw_host.specs.Run.{Run, run_of}
-use Rattle.tw_host.specs.Tells.{IsAnswerOf, IsDoneOf, SomeTurn, Tells, TurnsOrNot}
+use Rattle.tw_host.specs.Sees.{IsAnswerOf, IsDoneOf, SomeTurn, Sees, TurnsOrNot}
 use Rattle.tw_host.specs.declared.locked.Strange.{Strange}
 use Rattle.tw_host.proofs.Turning as turning
 
@@ -158,7 +158,7 @@ module _ (old new : PoolView) (actor : Actor) (answer : Turn) (count : ℕ) (a :
   same_run = ap run_of a.appended
 
   pub told : (most : ℕ) (run : Run) (given : Option DoneView) (turns : List Turn) (before after : List Event) → AreTurns old actor given turns answer new → length turns < most → length a.es ≤ 2 * most → run_of old ≡ run → length old.history ≤ run.limit
-      → length (events_of actor old.history) ≡ length before → after ≡ before ++ drop (length old.history) new.history → AreTold most run actor before after given answer
+      → length (events_of actor old.history) ≡ length before → after ≡ before ++ drop (length old.history) new.history → SeesTurns most run actor before after given answer
   told most run given turns before after are few short is low same after_is = record {
     es = a.es;
     told = after_is ∙ ap (λ es. before ++ es) news_are;
@@ -200,6 +200,6 @@ turned : (run : Run) (actor : Actor) (count : ℕ) (given : Option DoneView) (an
 turned run actor count given answer es (inl s) = inl (some_turn run actor count given answer es s)
 turned run actor count given answer es (inr none) = inr none
 
-pub once : (run : Run) (actor : Actor) (old new : List Event) (given : Option DoneView) (answer : Result Turn Strange) → TellsUpTo 1 run actor old new given answer → Tells run actor old new given answer
+pub once : (run : Run) (actor : Actor) (old new : List Event) (given : Option DoneView) (answer : Result Turn Strange) → SeesUpTo 1 run actor old new given answer → Sees run actor old new given answer
 once run actor old new given (Ok answer) t = record { es = t.es; told = t.told; own = record { few = t.few; own = t.own }; turns = turned run actor (length old) given answer t.es t.turns }
 once run actor old new given (Err strange) t = t

@@ -51,8 +51,8 @@ moved_there {X} told xs k low = by (slice_get_cases xs k).1
     by (inr c) = absurd (omega (arith, low, c.0))
 
 -- one more item is appended, if there is one
-pub told_there : {X : Type 0} (told xs : List X) (k : ℕ) → k < length xs → length (told ++ option_to_list (slice_get xs k)) ≡ length told + 1
-told_there {X} told xs k low = by (slice_get_cases xs k).1
+pub seen_there : {X : Type 0} (told xs : List X) (k : ℕ) → k < length xs → length (told ++ option_to_list (slice_get xs k)) ≡ length told + 1
+seen_there {X} told xs k low = by (slice_get_cases xs k).1
   where
     by : ((x : X) × (k < length xs) × (slice_get xs k ≡ Some x) × (get_or xs k x ≡ x)) ⊎ ((length xs ≤ k) × (slice_get xs k ≡ None)) → length (told ++ option_to_list (slice_get xs k)) ≡ length told + 1
     by (inl c) = ap (λ (o : Option X). length (told ++ option_to_list o)) c.2 ∙ length-append told (c.0 ∷ [])

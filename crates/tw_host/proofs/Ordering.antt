@@ -15,9 +15,9 @@ use Rattle.tw_types.specs.declared.event.Event.{Event}
 use Rattle.tw_types.specs.Actor.{number_in_kind}
 use Rattle.tw_types.specs.Layout.{ActorCounts}
 use Rattle.tw_pool.specs.Actors.{events_of}
-use Rattle.tw_host.specs.Ends.{told_of}
+use Rattle.tw_host.specs.Ends.{seen_of}
 use Rattle.tw_host.proofs.Lists.{map_map}
-use Rattle.tw_host.specs.Seats.{NoneOf, SeatEvents, actor_at, actors_of, actor_count, told_by}
+use Rattle.tw_host.specs.Seats.{NoneOf, SeatEvents, actor_at, actors_of, actor_count, seen_by}
 
 -- ---- no two seats of a layout are one actor's
 
@@ -73,11 +73,11 @@ module _ {X : Type 0} (f : X → Actor) (layout : ActorCounts) where
           (swapped f old new k place here other long s).1 j d (omega (arith, under, here)) apart_k (λ same. absurd (omega (arith, under, low, same))) ∙ before j d under
 
   pub none_of : (seats : List X) (k : ℕ) (actor : Actor) → InOrder seats k → actor ≡ actor_at layout k → ((j : ℕ) (d : Actor) → k ≤ j → j < length (map f seats) → get_or (map f seats) j d ≢ actor) → NoneOf actor (map f seats)
-  none_of seats k actor before is behind j d low = by (nat_lt j k) refl
+  none_of seats k actor before is not_less j d low = by (nat_lt j k) refl
     where
       by : (b : Bool) → nat_lt j k ≡ b → get_or (map f seats) j d ≢ actor
       by true e = λ same. let under = ltb-true j k e in apart layout j k under (sym (before j d under) ∙ (same ∙ is))
-      by false e = behind j d (ltb-false j k e) low
+      by false e = not_less j d (ltb-false j k e) low
 
   pub all_placed : (seats : List X) (k : ℕ) → length seats ≡ actor_count layout → actor_count layout ≤ k → InOrder seats k → map f seats ≡ actors_of layout
   all_placed seats k long over before = fill_by_all (actor_at layout) (map f seats) (actor_count layout) (Engine 0) (length-map seats f ∙ long) (λ j low. before j (Engine 0) (omega (arith, low, over)))
@@ -94,12 +94,12 @@ lent_back n xs items is same =
 -- ---- events of seats
 
 -- seats that each have the events of their actors
-pub each_of : (history : List Event) (seats : List SeatEvents) → All (λ s. s.events ≡ events_of s.actor history) seats → seats ≡ map (told_of history) (map (λ (s : SeatEvents). s.actor) seats)
+pub each_of : (history : List Event) (seats : List SeatEvents) → All (λ s. s.events ≡ events_of s.actor history) seats → seats ≡ map (seen_of history) (map (λ (s : SeatEvents). s.actor) seats)
 each_of history [] all = refl
 each_of history (s ∷ seats) all =
     let first : s.events ≡ events_of s.actor history = all 0 s (omega arith) in
     let rest = All-tail (λ (t : SeatEvents). t.events ≡ events_of t.actor history) s seats all in
-    ap (λ (es : List Event). told_by s.actor es ∷ seats) first ∙ ap (λ (ss : List SeatEvents). told_of history s.actor ∷ ss) (each_of history seats rest)
+    ap (λ (es : List Event). seen_by s.actor es ∷ seats) first ∙ ap (λ (ss : List SeatEvents). seen_of history s.actor ∷ ss) (each_of history seats rest)
 
 module _ {X : Type 0} (view : X → SeatEvents) (items seats : List X) (moved : IsPermutation items seats) where
   -- they have as many events in any order
@@ -112,15 +112,15 @@ all_at {X} view xs ys h other same is all =
     subst (λ (es : List Event). All (λ (t : SeatEvents). t.events ≡ events_of t.actor es) (map view ys)) is there
 
 module _ {X : Type 0} (actor : X → Actor) (list : X → List Event) (layout : ActorCounts) (h : List Event) (items seats : List X) (moved : IsPermutation items seats) (placed : map actor seats ≡ actors_of layout)
-    (all : All (λ (t : SeatEvents). t.events ≡ events_of t.actor h) (map (λ s. told_by (actor s) (list s)) seats)) where
-  are : map (λ s. told_by (actor s) (list s)) seats ≡ map (told_of h) (actors_of layout)
-  are = each_of h (map (λ s. told_by (actor s) (list s)) seats) all ∙ ap (map (told_of h)) (map_map (λ s. told_by (actor s) (list s)) (λ (t : SeatEvents). t.actor) seats ∙ placed)
+    (all : All (λ (t : SeatEvents). t.events ≡ events_of t.actor h) (map (λ s. seen_by (actor s) (list s)) seats)) where
+  are : map (λ s. seen_by (actor s) (list s)) seats ≡ map (seen_of h) (actors_of layout)
+  are = each_of h (map (λ s. seen_by (actor s) (list s)) seats) all ∙ ap (map (seen_of h)) (map_map (λ s. seen_by (actor s) (list s)) (λ (t : SeatEvents). t.actor) seats ∙ placed)
 
-  pub one_each : IsPermutation (map (λ s. told_by (actor s) (list s)) items) (map (told_of h) (actors_of layout))
-  one_each = subst (λ (ts : List SeatEvents). IsPermutation (map (λ s. told_by (actor s) (list s)) items) ts) are (IsPermutation-map (λ s. told_by (actor s) (list s)) items seats moved)
+  pub one_each : IsPermutation (map (λ s. seen_by (actor s) (list s)) items) (map (seen_of h) (actors_of layout))
+  one_each = subst (λ (ts : List SeatEvents). IsPermutation (map (λ s. seen_by (actor s) (list s)) items) ts) are (IsPermutation-map (λ s. seen_by (actor s) (list s)) items seats moved)
 
   pub by_seat : map list seats ≡ map (λ a. events_of a h) (actors_of layout)
-  by_seat = sym (map_map (λ s. told_by (actor s) (list s)) (λ (t : SeatEvents). t.events) seats) ∙ ap (map (λ (t : SeatEvents). t.events)) are ∙ map_map (told_of h) (λ (t : SeatEvents). t.events) (actors_of layout)
+  by_seat = sym (map_map (λ s. seen_by (actor s) (list s)) (λ (t : SeatEvents). t.events) seats) ∙ ap (map (λ (t : SeatEvents). t.events)) are ∙ map_map (seen_of h) (λ (t : SeatEvents). t.events) (actors_of layout)
 
 -- ---- one place more
 
@@ -138,25 +138,25 @@ at_place f xs k x d low at = get_or-map f xs k x d low ∙ ap f (sym at)
 
 -- one of them with another list than its actor's events
 pub contained : (seats : List SeatEvents) (k : ℕ) (actor : Actor) (list : List Event) → k < length seats → ((d : SeatEvents) → (slice_index_or seats k d).actor ≡ actor) → ((d : SeatEvents) → (slice_index_or seats k d).events ≡ list)
-    → Contains seats (told_by actor list)
-contained seats k actor list low whose what = let d = told_by actor list in (k, low, ap (λ (a : Actor). told_by a (slice_index_or seats k d).events) (whose d) ∙ ap (λ (es : List Event). told_by actor es) (what d))
+    → Contains seats (seen_by actor list)
+contained seats k actor list low whose what = let d = seen_by actor list in (k, low, ap (λ (a : Actor). seen_by a (slice_index_or seats k d).events) (whose d) ∙ ap (λ (es : List Event). seen_by actor es) (what d))
 
 module _ {X : Type 0} (actor : X → Actor) (list : X → List Event) (items seats : List X) (moved : IsPermutation items seats) where
-  back_moved : IsPermutation (map (λ s. told_by (actor s) (list s)) seats) (map (λ s. told_by (actor s) (list s)) items)
-  back_moved = IsPermutation-sym (map (λ s. told_by (actor s) (list s)) items) (map (λ s. told_by (actor s) (list s)) seats) (IsPermutation-map (λ s. told_by (actor s) (list s)) items seats moved)
+  back_moved : IsPermutation (map (λ s. seen_by (actor s) (list s)) seats) (map (λ s. seen_by (actor s) (list s)) items)
+  back_moved = IsPermutation-sym (map (λ s. seen_by (actor s) (list s)) items) (map (λ s. seen_by (actor s) (list s)) seats) (IsPermutation-map (λ s. seen_by (actor s) (list s)) items seats moved)
 
   -- none of them is the actor's
-  pub lacking : (a : Actor) → NoneOf a (map actor seats) → NoneOf a (map (λ (t : SeatEvents). t.actor) (map (λ s. told_by (actor s) (list s)) items))
+  pub lacking : (a : Actor) → NoneOf a (map actor seats) → NoneOf a (map (λ (t : SeatEvents). t.actor) (map (λ s. seen_by (actor s) (list s)) items))
   lacking a none =
       let there = All-permutation (λ (b : Actor). b ≢ a) (map actor seats) (map actor items) (IsPermutation-sym (map actor items) (map actor seats) (IsPermutation-map actor items seats moved)) none in
-      subst (λ (bs : List Actor). NoneOf a bs) (sym (map_map (λ s. told_by (actor s) (list s)) (λ (t : SeatEvents). t.actor) items)) there
+      subst (λ (bs : List Actor). NoneOf a bs) (sym (map_map (λ s. seen_by (actor s) (list s)) (λ (t : SeatEvents). t.actor) items)) there
 
-  module _ (others : List X) (same : others ≡ seats) (k : ℕ) (a : Actor) (es : List Event) (low : k < length (map (λ s. told_by (actor s) (list s)) others)) (is : es ≡ slice_index_or (map list others) k []) where
-    pub list_at : (d : SeatEvents) → (slice_index_or (map (λ s. told_by (actor s) (list s)) others) k d).events ≡ es
+  module _ (others : List X) (same : others ≡ seats) (k : ℕ) (a : Actor) (es : List Event) (low : k < length (map (λ s. seen_by (actor s) (list s)) others)) (is : es ≡ slice_index_or (map list others) k []) where
+    pub list_at : (d : SeatEvents) → (slice_index_or (map (λ s. seen_by (actor s) (list s)) others) k d).events ≡ es
     list_at d =
-        sym (get_or-map (λ (t : SeatEvents). t.events) (map (λ s. told_by (actor s) (list s)) others) k d [] low) ∙ ap (λ (ls : List (List Event)). get_or ls k []) (map_map (λ s. told_by (actor s) (list s)) (λ (t : SeatEvents). t.events) others) ∙ sym is
+        sym (get_or-map (λ (t : SeatEvents). t.events) (map (λ s. seen_by (actor s) (list s)) others) k d [] low) ∙ ap (λ (ls : List (List Event)). get_or ls k []) (map_map (λ s. seen_by (actor s) (list s)) (λ (t : SeatEvents). t.events) others) ∙ sym is
 
-    pub held : ((d : SeatEvents) → (slice_index_or (map (λ s. told_by (actor s) (list s)) others) k d).actor ≡ a) → Contains (map (λ s. told_by (actor s) (list s)) items) (told_by a es)
+    pub held : ((d : SeatEvents) → (slice_index_or (map (λ s. seen_by (actor s) (list s)) others) k d).actor ≡ a) → Contains (map (λ s. seen_by (actor s) (list s)) items) (seen_by a es)
     held whose =
-        let there = contained (map (λ s. told_by (actor s) (list s)) others) k a es low whose list_at in
-        Contains-permutation (map (λ s. told_by (actor s) (list s)) seats) (map (λ s. told_by (actor s) (list s)) items) (told_by a es) back_moved (subst (λ (xs : List X). Contains (map (λ s. told_by (actor s) (list s)) xs) (told_by a es)) same there)
+        let there = contained (map (λ s. seen_by (actor s) (list s)) others) k a es low whose list_at in
+        Contains-permutation (map (λ s. seen_by (actor s) (list s)) seats) (map (λ s. seen_by (actor s) (list s)) items) (seen_by a es) back_moved (subst (λ (xs : List X). Contains (map (λ s. seen_by (actor s) (list s)) xs) (seen_by a es)) same there)

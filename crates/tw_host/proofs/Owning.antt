@@ -16,7 +16,7 @@ use Rattle.tw_pool.specs.declared.answer.Turn.TheVariants as turn
 use Rattle.tw_pool.specs.Actors.{events_of}
 use Rattle.tw_pool.specs.PoolView.{PoolView, with_events}
 use Rattle.tw_pool.specs.Turns.{IsTurn, Lends, Makes, TakesBack, Turns, TurnsUnless, closing_at, instr_after, is_last, lent_to, steps_of}
-use Rattle.tw_host.specs.Tells.{IsAnswerOf, IsDoneOf}
+use Rattle.tw_host.specs.Sees.{IsAnswerOf, IsDoneOf}
 
 abbrev program_in : TypedProgram → Option JobView → TypedProgram
 program_in program None = program

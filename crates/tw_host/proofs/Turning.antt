@@ -6,7 +6,7 @@ use Rattle.tw_pool.specs.declared.answer.Turn.{Turn}
 use Rattle.tw_pool.specs.PoolView.{PoolView}
 use Rattle.tw_pool.specs.Turns.{AreOwn, IsTurn, closing_at}
 use Rattle.tw_pool.proofs.Lines.{own_events}
-use Rattle.tw_host.specs.Tells.{IsAnswerOf, IsDoneOf}
+use Rattle.tw_host.specs.Sees.{IsAnswerOf, IsDoneOf}
 use Rattle.tw_host.proofs.Fitting.{fits}
 use Rattle.tw_host.proofs.Owning.{is_answer_of}
 

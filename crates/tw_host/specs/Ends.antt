@@ -14,11 +14,11 @@ use Rattle.tw_pool.specs.PoolView.{PoolView}
 use Rattle.tw_host.specs.declared.close.Closed.{Closed}
 use Rattle.tw_host.specs.declared.close.Closed.TheVariants.{Ended, Differs}
 use Rattle.tw_host.specs.Run.{Run, run_of}
-use Rattle.tw_host.specs.Seats.{NoneOf, SeatEvents, actors_of, told_by}
+use Rattle.tw_host.specs.Seats.{NoneOf, SeatEvents, actors_of, seen_by}
 
 -- returns a seat with exactly its actor's events
-abbrev pub told_of : List Event → Actor → SeatEvents
-told_of history actor = told_by actor (events_of actor history)
+abbrev pub seen_of : List Event → Actor → SeatEvents
+seen_of history actor = seen_by actor (events_of actor history)
 
 -- holds if all seats together have as many events as the run
 abbrev pub Together : List SeatEvents → List Event → Type 0
@@ -32,14 +32,14 @@ pub record IsEnded (run : Run) (seats : List SeatEvents) (by_seat : List (List E
   pub within : length pool.history ≤ run.limit
   pub shut : IsShut pool final history
   pub ends_well : EndsWell run.program.program shut.state
-  pub one_each : IsPermutation seats (map (told_of history.events) (actors_of run.layout))
+  pub one_each : IsPermutation seats (map (seen_of history.events) (actors_of run.layout))
   pub by_seat_is : by_seat ≡ map (λ actor. events_of actor history.events) (actors_of run.layout)
   pub together : Together seats history.events
 
 -- holds if the seat of an actor has other events than the actor made; or none of these seats is the actor's
 abbrev pub IsOther : List SeatEvents → Actor → List Event → List Event → Type 0
 IsOther seats actor list history =
-    (Contains seats (told_by actor list) × (list ≢ events_of actor history)) ⊎ (NoneOf actor (map (λ s. s.actor) seats) × (list ≡ []))
+    (Contains seats (seen_by actor list) × (list ≢ events_of actor history)) ⊎ (NoneOf actor (map (λ s. s.actor) seats) × (list ≡ []))
 
 pub record IsDiffering (layout : ActorCounts) (seats : List SeatEvents) (actor : Actor) (list : List Event) (history : HistoryView) : Type 0 where
   pub of_layout : is_in layout actor ≡ true

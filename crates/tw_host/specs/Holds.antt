@@ -17,7 +17,7 @@ use Rattle.tw_pool.specs.PoolView.{PoolView, with_events}
 use Rattle.tw_pool.specs.Turns.{IsTurn}
 use Rattle.tw_host.specs.declared.locked.Strange.{Strange}
 use Rattle.tw_host.specs.Run.{Run, run_of}
-use Rattle.tw_host.specs.Tells.{Tells}
+use Rattle.tw_host.specs.Sees.{Sees}
 
 -- the greatest number of steps
 abbrev pub most_turns : ℕ
@@ -76,16 +76,16 @@ pub record SomeTurns (most : ℕ) (run : Run) (actor : Actor) (count : ℕ) (giv
   pub turns : AreTurns pool actor given before answer (with_events pool es)
 
 -- the seat had the old events, and gets these; or an allocation for them failed, and the pool made no step
-pub record AreTold (most : ℕ) (run : Run) (actor : Actor) (old new : List Event) (given : Option DoneView) (answer : Turn) : Type 0 where
+pub record SeesTurns (most : ℕ) (run : Run) (actor : Actor) (old new : List Event) (given : Option DoneView) (answer : Turn) : Type 0 where
   pub es : List Event
   pub told : new ≡ old ++ es
   pub few : length es ≤ 2 * most
   pub own : events_of actor es ≡ es
   pub turns : SomeTurns most run actor (length old) given answer es ⊎ ((answer ≡ turn.NoMemory given) × (es ≡ []))
 
-abbrev pub TellsUpTo : ℕ → Run → Actor → List Event → List Event → Option DoneView → Result Turn Strange → Type 0
-TellsUpTo most run actor old new given (Ok answer) = AreTold most run actor old new given answer
-TellsUpTo most run actor old new given (Err strange) = Tells run actor old new given (Err strange)
+abbrev pub SeesUpTo : ℕ → Run → Actor → List Event → List Event → Option DoneView → Result Turn Strange → Type 0
+SeesUpTo most run actor old new given (Ok answer) = SeesTurns most run actor old new given answer
+SeesUpTo most run actor old new given (Err strange) = Sees run actor old new given (Err strange)
 
-abbrev pub TellsAll : Run → Actor → List Event → List Event → Option DoneView → Result Turn Strange → Type 0
-TellsAll = TellsUpTo most_turns
+abbrev pub SeesAll : Run → Actor → List Event → List Event → Option DoneView → Result Turn Strange → Type 0
+SeesAll = SeesUpTo most_turns

@@ -1,8 +1,8 @@
 -- The definitions that a reader has to trust for the host: the seats (Seats), a run (Run), and the results of closing it (Ends).
--- `Tells` defines the result of one step and the events that its seat gets, Holds those of a batch.
+-- `Sees` defines the result of one step and the events that its seat gets, Holds those of a batch.
 pub mod Seats
 pub mod Run
-pub mod Tells
+pub mod Sees
 pub mod Holds
 pub mod Ends
 -- The invariant of the data under the lock.

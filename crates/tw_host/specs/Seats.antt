@@ -9,8 +9,8 @@ pub record SeatEvents : Type 0 where
   pub actor : Actor
   pub events : List Event
 
-abbrev pub told_by : Actor → List Event → SeatEvents
-told_by actor events = record { actor = actor; events = events }
+abbrev pub seen_by : Actor → List Event → SeatEvents
+seen_by actor events = record { actor = actor; events = events }
 
 -- holds if none of these seats is the actor's
 abbrev pub NoneOf : Actor → List Actor → Type 0

@@ -6,7 +6,7 @@ ghost use Rattle.tw_frame.specs.Banks.{HasText};
 ghost use Rattle.tw_frame.specs.Ready.{IsStop};
 ghost use Rattle.tw_pool.specs.declared.answer.Turn.{Turn as ATurn};
 ghost use Rattle.tw_host.specs.Holds.{AreTurns, HandsOn, IsBrief, RunsHere, Waits};
-ghost use Rattle.tw_host.specs.Tells.{IsDoneOf};
+ghost use Rattle.tw_host.specs.Sees.{IsDoneOf};
 
 use std::alloc::Global;
 use tw_code::Instr;

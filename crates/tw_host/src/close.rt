@@ -7,7 +7,7 @@ ghost use Rattle.tw_types.specs.declared.actor.Actor.{Actor as AnActor};
 ghost use Rattle.tw_types.specs.Actor.{is_in};
 ghost use Rattle.tw_pool.specs.Actors.{events_of};
 ghost use Rattle.tw_host.specs.Ends.{Closes};
-ghost use Rattle.tw_host.specs.Seats.{NoneOf, SeatEvents, actor_at, actors_of, actor_count, told_by};
+ghost use Rattle.tw_host.specs.Seats.{NoneOf, SeatEvents, actor_at, actors_of, actor_count, seen_by};
 
 use crate::host::Host;
 use crate::locked::Locked;
@@ -127,7 +127,7 @@ fn first_other<N: Named>(
 ) -> Option<(Actor, Option<usize>)>
     requires { length seats.old ≡ actor_count layout }
     ensures moved { IsPermutation seats.old seats.new }
-    ensures found { let told = map (λ s. told_by s.actor s.told.items) seats.new in MatchOption result
+    ensures found { let told = map (λ s. seen_by s.actor s.told.items) seats.new in MatchOption result
         ((map (λ s. s.actor) seats.new ≡ actors_of layout) × All (λ s. s.events ≡ events_of s.actor history.now.events) told)
         (λ r. MatchOption r.1 (NoneOf r.0 (map (λ s. s.actor) seats.new))
         (λ k. (k < length told) × ((d : SeatEvents) → (slice_index_or told k d).actor ≡ r.0) × ((d : SeatEvents) → (slice_index_or told k d).events ≢ events_of r.0 history.now.events))) }
@@ -152,7 +152,7 @@ fn settle_seats<N: Named>(
     requires room { vec_len seats ≤ vec_capacity by_seat }
     ensures lists { map (λ v. v.items) result.items ≡ map (λ s. s.told.items) seats.items }
     ensures parts { all.new.parts ≡ all.old.parts + vec_len seats }
-    ensures amount { all.new.amount ≡ all.old.amount + sum_by (λ s. length s.events) (map (λ s. told_by s.actor s.told.items) seats.items) }
+    ensures amount { all.new.amount ≡ all.old.amount + sum_by (λ s. length s.events) (map (λ s. seen_by s.actor s.told.items) seats.items) }
 {
     let mut rest = seats.into_iter();
     while let Some(seat) = rest.next() {
@@ -170,7 +170,7 @@ fn settle_seats<N: Named>(
 }
 
 /// Returns the events of the seat at an index, or none without an index.
-fn told_at(mut by_seat: Vec<Events>, place: Option<usize>) -> Events
+fn list_of_place(mut by_seat: Vec<Events>, place: Option<usize>) -> Events
     requires { IfSome place (λ k. k < vec_len by_seat) }
     ensures { MatchOption place (result.items ≡ []) (λ k. result ≡ slice_index_or by_seat.items k result) }
 {
@@ -185,7 +185,7 @@ impl<'a, N: Named> Locked<'a, N> {
         requires all { vec_len seats ≡ actor_count N.run.layout }
         requires empty { by_seat.items ≡ [] }
         requires room { vec_len seats ≤ vec_capacity by_seat }
-        ensures { Closes N.run (map (λ s. told_by s.actor s.told.items) seats.items) result }
+        ensures { Closes N.run (map (λ s. seen_by s.actor s.told.items) seats.items) result }
     {
         let Locked {
             pool,
@@ -205,7 +205,7 @@ impl<'a, N: Named> Locked<'a, N> {
             },
             Some((actor, seat)) => Closed::Differs {
                 actor,
-                told: told_at(by_seat, seat),
+                told: list_of_place(by_seat, seat),
                 history,
             },
         }
@@ -216,7 +216,7 @@ impl<'a, N: Named> Host<'a, N> {
     /// Closes the run, with all its seats in any order. Compares the events of each seat with its actor's events of the run.
     pub fn close(self, seats: Vec<Seat<N>>) -> Closed
         requires all { vec_len seats ≡ actor_count N.run.layout }
-        ensures { Closes N.run (map (λ s. told_by s.actor s.told.items) seats.items) result }
+        ensures { Closes N.run (map (λ s. seen_by s.actor s.told.items) seats.items) result }
     {
         let Host {
             verified: _,

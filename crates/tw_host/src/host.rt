@@ -3,8 +3,8 @@
 ghost use Rattle.std.specs.Prelude.{◌≡◌, ◌<◌, ◌≤◌, IfErr, IfOk, [], map, vec_len, vec_capacity};
 ghost use Rattle.tw_pool.specs.Openings.{IsRejection, MayOpen};
 ghost use Rattle.tw_host.specs.Seats.{actors_of, actor_count};
-ghost use Rattle.tw_host.specs.Holds.{TellsAll, TellsUpTo};
-ghost use Rattle.tw_host.specs.Tells.{IsAnswerOf, IsDoneOf, Tells};
+ghost use Rattle.tw_host.specs.Holds.{SeesAll, SeesUpTo};
+ghost use Rattle.tw_host.specs.Sees.{IsAnswerOf, IsDoneOf, Sees};
 
 use crate::batch::MOST_TURNS;
 use crate::locked::{Locked, Strange};
@@ -131,7 +131,7 @@ impl<'a, N: Named> Host<'a, N> {
         requires few { most ≤ 64 }
         requires program { IsDoneOf N.run.program done }
         ensures actor { seat.new.actor ≡ seat.old.actor }
-        ensures told { TellsUpTo most N.run seat.old.actor seat.old.told.items seat.new.told.items done.entry result }
+        ensures told { SeesUpTo most N.run seat.old.actor seat.old.told.items seat.new.told.items done.entry result }
         ensures program { IfOk result (IsAnswerOf N.run.program) }
     {
         if seat.told.reserve(2 * most).is_err() {
@@ -165,7 +165,7 @@ impl<'a, N: Named> Host<'a, N> {
     ) -> Result<Turn<'a>, Strange<'a>>
         requires program { IsDoneOf N.run.program done }
         ensures actor { seat.new.actor ≡ seat.old.actor }
-        ensures told { Tells N.run seat.old.actor seat.old.told.items seat.new.told.items done.entry result }
+        ensures told { Sees N.run seat.old.actor seat.old.told.items seat.new.told.items done.entry result }
         ensures program { IfOk result (IsAnswerOf N.run.program) }
     {
         self.hold(rt, alloc, seat, done, 1)
@@ -185,7 +185,7 @@ impl<'a, N: Named> Host<'a, N> {
     ) -> Result<Turn<'a>, Strange<'a>>
         requires program { IsDoneOf N.run.program done }
         ensures actor { seat.new.actor ≡ seat.old.actor }
-        ensures told { TellsAll N.run seat.old.actor seat.old.told.items seat.new.told.items done.entry result }
+        ensures told { SeesAll N.run seat.old.actor seat.old.told.items seat.new.told.items done.entry result }
         ensures program { IfOk result (IsAnswerOf N.run.program) }
     {
         self.hold(rt, alloc, seat, done, MOST_TURNS)

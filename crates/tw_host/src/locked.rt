@@ -1,8 +1,8 @@
 //! The data under the lock.
 
 ghost use Rattle.std.specs.Prelude.{◌≡◌, ◌<◌, ◌≤◌, ◌+◌, ◌*◌, length, true, IfOk};
-ghost use Rattle.tw_host.specs.Holds.{TellsUpTo};
-ghost use Rattle.tw_host.specs.Tells.{IsAnswerOf, IsDoneOf};
+ghost use Rattle.tw_host.specs.Holds.{SeesUpTo};
+ghost use Rattle.tw_host.specs.Sees.{IsAnswerOf, IsDoneOf};
 
 use crate::batch::run_batch;
 use crate::named::Named;
@@ -92,7 +92,7 @@ impl<'a, N: Named> Locked<'a, N> {
         requires room { length seat.old.told.items + 2 * most ≤ seat.old.told.capacity }
         requires program { IsDoneOf N.run.program done }
         ensures actor { seat.new.actor ≡ seat.old.actor }
-        ensures told { TellsUpTo most N.run seat.old.actor seat.old.told.items seat.new.told.items done.entry result }
+        ensures told { SeesUpTo most N.run seat.old.actor seat.old.told.items seat.new.told.items done.entry result }
         ensures program { IfOk result (IsAnswerOf N.run.program) }
     {
         let told = seat.told.len() as u64;

@@ -27,7 +27,7 @@ use Rattle.tw_pool.specs.PoolView.{PoolView, HasState, with_events}
 use Rattle.tw_pool.specs.Turns.{GoesFree, IsTurn, Lends, Makes, TakesBack, Turns, TurnsUnless, closing_at, closing_of, instr_after, is_last, lent_to, steps_of}
 use Rattle.tw_pool.proofs.Counting.{AreBy, others_same}
 use Rattle.tw_pool.proofs.Lines.{whose_due}
-use Rattle.tw_host.specs.Tells.{IsAnswerOf, IsDoneOf}
+use Rattle.tw_host.specs.Sees.{IsAnswerOf, IsDoneOf}
 use Rattle.tw_host.proofs.Owning.{is_answer_of}
 use Rattle.tw_host.proofs.Turning as turning
 use Rattle.tw_in_turn.specs.InTurn.{ComesTo, GoesOn, Has, HasDone, HasEnded, IsAfter, IsOver, IsWorkOf, actor_after}

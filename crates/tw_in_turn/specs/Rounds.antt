@@ -12,7 +12,7 @@ use Rattle.tw_frame.specs.Jobs.{DoneView}
 use Rattle.tw_pool.specs.declared.answer.Turn.{Turn}
 use Rattle.tw_pool.specs.PoolView.{PoolView, HasState}
 use Rattle.tw_pool.specs.Turns.{closing_at}
-use Rattle.tw_host.specs.Tells.{IsDoneOf}
+use Rattle.tw_host.specs.Sees.{IsDoneOf}
 use Rattle.tw_in_turn.specs.declared.rounds.End.{End}
 use Rattle.tw_in_turn.specs.declared.rounds.End.TheVariants.{Over, NoMemory, Stopped}
 use Rattle.tw_in_turn.specs.Stopping.{IsSomeAfter}

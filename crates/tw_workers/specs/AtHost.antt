@@ -1,16 +1,16 @@
 -- The effects of a driver's steps on a host's seat.
 use Rattle.std.specs.Prelude.{◌≡◌}
-use Rattle.tw_host.specs.Holds.{TellsAll}
+use Rattle.tw_host.specs.Holds.{SeesAll}
 use Rattle.tw_host.specs.Run.{Run}
 use Rattle.tw_host.specs.Seats.{SeatEvents}
-use Rattle.tw_host.specs.Tells.{Tells}
+use Rattle.tw_host.specs.Sees.{Sees}
 use Rattle.tw_workers.specs.Driving.{Step, Turned, Held, Stopped, Before, Ran, After}
 
 -- Holds if a scheduling step changes the seat as the host promises. So does a batch, which is made only if the observer doesn't watch.
 -- No other step changes the seat, and it stays its actor's.
 abbrev pub AtSeat : Run → Type 0 → SeatEvents → Step → SeatEvents → Type 0
-AtSeat run unwatched old (Turned given answer) new = (new.actor ≡ old.actor) × Tells run old.actor old.events new.events given answer
-AtSeat run unwatched old (Held given answer) new = unwatched × (new.actor ≡ old.actor) × TellsAll run old.actor old.events new.events given answer
+AtSeat run unwatched old (Turned given answer) new = (new.actor ≡ old.actor) × Sees run old.actor old.events new.events given answer
+AtSeat run unwatched old (Held given answer) new = unwatched × (new.actor ≡ old.actor) × SeesAll run old.actor old.events new.events given answer
 AtSeat run unwatched old Stopped new = new ≡ old
 AtSeat run unwatched old (Before actor task) new = new ≡ old
 AtSeat run unwatched old (Ran job done) new = new ≡ old

@@ -2,8 +2,8 @@
 
 ghost use Rattle.std.specs.Prelude.{◌≡◌, Bool, Ok, IfOk};
 ghost use Rattle.tw_verify.specs.Typed.{TypedProgram};
-ghost use Rattle.tw_host.specs.Seats.{told_by};
-ghost use Rattle.tw_host.specs.Tells.{IsAnswerOf, IsDoneOf};
+ghost use Rattle.tw_host.specs.Seats.{seen_by};
+ghost use Rattle.tw_host.specs.Sees.{IsAnswerOf, IsDoneOf};
 ghost use Rattle.tw_workers.specs.AtHost.{AtSeat};
 ghost use Rattle.tw_workers.specs.Driving.{Step, Turned, Stopped, Before, Ran, After, asked};
 
@@ -78,7 +78,7 @@ impl<'h, 'a, N: Named, G: Gate> DriverCalls<'a> for ObservedHost<'h, 'a, N, G> {
 
     ghost program = { N.run.program };
 
-    ghost does = { λ old step new. AtSeat N.run G.unwatched (told_by old.actor old.told.items) step (told_by new.actor new.told.items) };
+    ghost does = { λ old step new. AtSeat N.run G.unwatched (seen_by old.actor old.told.items) step (seen_by new.actor new.told.items) };
 
     fn turn<R: Wait>(
         &self,

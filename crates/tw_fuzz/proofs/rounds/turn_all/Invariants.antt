@@ -1,5 +1,5 @@
 use Rattle.std.proofs.Common.{◌≡◌, All}
-use Rattle.tw_host.specs.Tells.{IsDoneOf}
+use Rattle.tw_host.specs.Sees.{IsDoneOf}
 use Rattle.tw_fuzz.proofs.rounds.turn_all.Given as goal
 
 abbrev pub invariant-loop-place : goal.invariant-loop-place

@@ -1,6 +1,6 @@
 use Rattle.std.proofs.Common.{ap, sym, subst, ◌∙◌}
 use Rattle.tw_frame.specs.Jobs.{JobView}
-use Rattle.tw_host.specs.Tells.{IsAnswerOf, IsDoneOf}
+use Rattle.tw_host.specs.Sees.{IsAnswerOf, IsDoneOf}
 use Rattle.tw_host.proofs.Owning.{is_answer_of}
 use Rattle.tw_fuzz.proofs.rounds.turn_one.Goals as goal
 

@@ -5,7 +5,7 @@ use Rattle.tw_verify.specs.Typed.{TypedProgram}
 use Rattle.tw_pool.specs.declared.answer.Turn.{Turn}
 use Rattle.tw_pool.specs.PoolView.{PoolView}
 use Rattle.tw_pool.specs.Turns.{IsTurn}
-use Rattle.tw_host.specs.Tells.{IsDoneOf}
+use Rattle.tw_host.specs.Sees.{IsDoneOf}
 use Rattle.tw_host.proofs.Holding as holding
 use Rattle.tw_host.proofs.batch.run_batch.Goals as goal
 

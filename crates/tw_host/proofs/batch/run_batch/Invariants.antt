@@ -3,7 +3,7 @@ use Rattle.tw_types.specs.Actor.{is_in}
 use Rattle.tw_pool.specs.declared.answer.Turn.{Turn}
 use Rattle.tw_pool.specs.PoolView.{PoolView}
 use Rattle.tw_host.specs.Holds.{AreTurns}
-use Rattle.tw_host.specs.Tells.{IsDoneOf}
+use Rattle.tw_host.specs.Sees.{IsDoneOf}
 use Rattle.tw_host.proofs.batch.run_batch.Given as goal
 
 abbrev pub invariant-loop-made : goal.invariant-loop-made

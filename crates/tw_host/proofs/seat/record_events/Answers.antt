@@ -1,5 +1,5 @@
 use Rattle.std.proofs.Common.{◌+◌, ◌<◌, length, ◌++◌, ap, ◌∙◌, arith, drop}
-use Rattle.tw_host.proofs.Lists.{moved_there, told_there}
+use Rattle.tw_host.proofs.Lists.{moved_there, seen_there}
 use Rattle.tw_host.proofs.seat.record_events.Goals as goal
 
 pub loop-k-preserved : goal.loop-k-preserved
@@ -8,7 +8,7 @@ loop-k-preserved g c =
     let pushed = c.push_from.ensures in
     let events = c.args.history.now.events in
     let low : c.loop-k.k < length events = omega (arith, c.loop-k-test.true, c.len-k-end.ensures) in
-    let long = ap length pushed.items ∙ told_there c.loop-k.told.items events c.loop-k.k low in
+    let long = ap length pushed.items ∙ seen_there c.loop-k.told.items events c.loop-k.k low in
     record {
       told = ap (λ es. es ++ drop (c.loop-k.k + 1) events) pushed.items ∙ moved_there c.loop-k.told.items events c.loop-k.k low ∙ inv.told;
       room = omega (arith, inv.room, long, pushed.capacity, low);

@@ -1,6 +1,6 @@
 use Rattle.std.proofs.Common.{◌++◌, Bool, List, None}
 use Rattle.std.specs.List.{FoldsTo}
-use Rattle.tw_host.specs.Tells.{IsDoneOf}
+use Rattle.tw_host.specs.Sees.{IsDoneOf}
 use Rattle.tw_workers.specs.Driving.{Drives, Step}
 use Rattle.tw_workers.proofs.driver.drive_at.Given as goal
 

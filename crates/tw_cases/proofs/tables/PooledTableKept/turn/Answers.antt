@@ -1,5 +1,5 @@
 use Rattle.std.proofs.Common.{sym, subst}
-use Rattle.tw_host.specs.Tells.{IsAnswerOf, IsDoneOf}
+use Rattle.tw_host.specs.Sees.{IsAnswerOf, IsDoneOf}
 use Rattle.tw_host.proofs.Owning.{is_answer_of}
 use Rattle.tw_cases.proofs.tables.PooledTableKept.turn.Goals as goal
 

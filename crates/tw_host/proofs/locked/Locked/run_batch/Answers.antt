@@ -1,6 +1,6 @@
 use Rattle.std.proofs.Common.{◌≡◌, ◌++◌, ◌≤◌, ◌*◌, sym, ap, subst, ◌∙◌, arith, length, drop}
 use Rattle.tw_pool.specs.Actors.{events_of}
-use Rattle.tw_host.specs.Tells.{IsAnswerOf, IsDoneOf}
+use Rattle.tw_host.specs.Sees.{IsAnswerOf, IsDoneOf}
 use Rattle.tw_host.proofs.Holding as holding
 use Rattle.tw_host.proofs.locked.Locked.run_batch.Goals as goal
 

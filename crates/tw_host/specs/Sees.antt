@@ -25,15 +25,15 @@ abbrev pub TurnsOrNot : Run → Actor → ℕ → Option DoneView → Turn → L
 TurnsOrNot run actor count given answer es = SomeTurn run actor count given answer es ⊎ ((answer ≡ turn.NoMemory given) × (es ≡ []))
 
 -- the seat had the old events, and gets these
-pub record IsTold (run : Run) (actor : Actor) (old new : List Event) (given : Option DoneView) (answer : Turn) : Type 0 where
+pub record SeesTurn (run : Run) (actor : Actor) (old new : List Event) (given : Option DoneView) (answer : Turn) : Type 0 where
   pub es : List Event
   pub told : new ≡ old ++ es
   pub own : AreOwn actor es
   pub turns : TurnsOrNot run actor (length old) given answer es
 
-abbrev pub Tells : Run → Actor → List Event → List Event → Option DoneView → Result Turn Strange → Type 0
-Tells run actor old new given (Ok answer) = IsTold run actor old new given answer
-Tells run actor old new given (Err strange) = (new ≡ old) × (strange.count ≢ length old) × (strange.done ≡ given)
+abbrev pub Sees : Run → Actor → List Event → List Event → Option DoneView → Result Turn Strange → Type 0
+Sees run actor old new given (Ok answer) = SeesTurn run actor old new given answer
+Sees run actor old new given (Err strange) = (new ≡ old) × (strange.count ≢ length old) × (strange.done ≡ given)
 
 -- ---- consequences for jobs
 
