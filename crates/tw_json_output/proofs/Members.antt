@@ -21,24 +21,24 @@ some_entry : (x y : Subscript × ℕ) → ◌≡◌ {A = Option (Subscript × �
 some_entry x y e = cc
 
 -- the subscript and the datum of an entry
-abbrev told_of : Data → Subscript × ℕ → Subscript × Option Datum
-told_of live e = (e.0, fin.get live e.1)
+abbrev member_of : Data → Subscript × ℕ → Subscript × Option Datum
+member_of live e = (e.0, fin.get live e.1)
 
-entry_told : (live : Data) (m : Subscript × Option Datum) (found : Option (Subscript × ℕ)) → ◌≡◌ {A = Option (Subscript × Option Datum)} (Some m) (option_map (told_of live) found) → (e : Subscript × ℕ) × (found ≡ Some e) × (m ≡ told_of live e)
-entry_told live m None is = absurd (cc)
-entry_told live m (Some e) is = (e, refl, cc)
+entry_shown : (live : Data) (m : Subscript × Option Datum) (found : Option (Subscript × ℕ)) → ◌≡◌ {A = Option (Subscript × Option Datum)} (Some m) (option_map (member_of live) found) → (e : Subscript × ℕ) × (found ≡ Some e) × (m ≡ member_of live e)
+entry_shown live m None is = absurd (cc)
+entry_shown live m (Some e) is = (e, refl, cc)
 
-pub one_member_more : (live : Data) (es : List (Subscript × ℕ)) (i : ℕ) (m : Subscript × Option Datum) (old new : json.Members) → Some m ≡ option_map (told_of live) (slice_get es i) → old ≡ members_json live (take i es)
+pub one_member_more : (live : Data) (es : List (Subscript × ℕ)) (i : ℕ) (m : Subscript × Option Datum) (old new : json.Members) → Some m ≡ option_map (member_of live) (slice_get es i) → old ≡ members_json live (take i es)
     → new ≡ json.put (key_of m.0) (datum_json m.1) old → new ≡ members_json live (take (i + 1) es)
-one_member_more live es i m old new at before made = by (entry_told live m (slice_get es i) at)
+one_member_more live es i m old new at before made = by (entry_shown live m (slice_get es i) at)
   where
-    by : (e : Subscript × ℕ) × (slice_get es i ≡ Some e) × (m ≡ told_of live e) → new ≡ members_json live (take (i + 1) es)
-    by (e, found, told) =
+    by : (e : Subscript × ℕ) × (slice_get es i ≡ Some e) × (m ≡ member_of live e) → new ≡ members_json live (take (i + 1) es)
+    by (e, found, found_member) =
         let lt : i < length es = slice_get_within es i e found in
         let is : get_or es i e ≡ e = some_entry _ _ (sym (slice_get-get_or es i e lt) ∙ found) in
         let one : take (i + 1) es ≡ take i es ++ e ∷ [] = take_more es i e lt ∙ ap (λ (x : Subscript × ℕ). take i es ++ x ∷ []) is in
         made
-        ∙ ap (λ (x : Subscript × Option Datum). json.put (key_of x.0) (datum_json x.1) old) told
+        ∙ ap (λ (x : Subscript × Option Datum). json.put (key_of x.0) (datum_json x.1) old) found_member
         ∙ ap (λ (ms : json.Members). added live ms e) before
         ∙ sym (after_all live json.no_members (take i es) e)
         ∙ ap (λ (xs : List (Subscript × ℕ)). members_json live xs) (sym one)

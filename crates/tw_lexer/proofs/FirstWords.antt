@@ -32,8 +32,8 @@ gap_joins : (g h : List ℕ) → IsGap g → IsGap h → IsGap (g ++ h)
 gap_joins [] h is other = other
 gap_joins (b ∷ g) h is other = (is.0, gap_joins g h is.1 other)
 
-behind_blank : (bytes rest : List ℕ) → IsAfterGap bytes rest → IsBlank rest → IsBlank bytes
-behind_blank bytes rest a b = record {
+after_blank : (bytes rest : List ℕ) → IsAfterGap bytes rest → IsBlank rest → IsBlank bytes
+after_blank bytes rest a b = record {
   gap = a.gap ++ b.gap;
   rest = b.rest;
   parts = a.parts ∙ ap (λ (x : List ℕ). a.gap ++ x) b.parts ∙ sym (append_assoc a.gap b.gap b.rest);
@@ -72,7 +72,7 @@ word_after word bytes rest after a f = record {
 }
 
 pub after_gap : (found : nexts.Next) (bytes rest : List ℕ) → IsAfterGap bytes rest → IsNext found rest → IsNext found bytes
-after_gap next.End bytes rest a is = behind_blank bytes rest a is
+after_gap next.End bytes rest a is = after_blank bytes rest a is
 after_gap next.Broken bytes rest a is = (λ blank. is.0 (blank_after bytes rest a blank), λ word after first. is.1 word after (word_after word bytes rest after a first))
 after_gap (next.Found word after) bytes rest a is = after_word (seen word) bytes rest after.now a is
 

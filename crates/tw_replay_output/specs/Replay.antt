@@ -31,7 +31,7 @@ use Rattle.tw_timeline.specs.Timeline.{picture_of}
 use Rattle.tw_timeline.specs.Places.{between}
 use Rattle.tw_timeline.specs.Xml.{xml_text}
 use Rattle.tw_symbols.specs.Symbols.{AreSymbols}
-use Rattle.tw_report.specs.History.{AreParts, Tell, lines_in}
+use Rattle.tw_report.specs.History.{AreParts, IsTraceOf, lines_in}
 use Rattle.tw_report.specs.Lines.{history_line, not_enabled_line, trap_line}
 use Rattle.tw_program_output.specs.Lines.{opening_line}
 use Rattle.tw_report.specs.Report.{state_report}
@@ -163,8 +163,8 @@ IsReplayed text order program events r =
 -- holds if the lines encode a trace, or have a first line that isn't known
 abbrev pub RepliesByLines : Option (List ℕ) → ReplayOrder → List (List ℕ) → Versioned → Reply → Type 0
 RepliesByLines text order lines program r =
-    ((events : List Event) × Tell lines (Ok events) × IsReplayed text order program events r)
-    ⊎ ((line : ℕ) × Tell lines (Err line) × (r ≡ reply (history_line line) Refused))
+    ((events : List Event) × IsTraceOf lines (Ok events) × IsReplayed text order program events r)
+    ⊎ ((line : ℕ) × IsTraceOf lines (Err line) × (r ≡ reply (history_line line) Refused))
 
 -- holds if the part after the line `events` is UTF-8, and this is the reply to what precedes it and to the trace's lines; or if it isn't UTF-8
 abbrev pub RepliesByHistory : List ℕ → (List ℕ → List (List ℕ) → Reply → Type 0) → Reply → Type 0

@@ -23,9 +23,9 @@ use Rattle.tw_report.proofs.Readings.{number_read, number_spelled}
 plain_read : (low high n : ℕ) (word : List ℕ) → IsInRange low high n → SpellsPart (Number [] n) word → number_in low high word ≡ Some n
 plain_read low high n word inside (digits, spells, is) = number_read low high n word (subst (SpellsDigits n) (sym is) spells) inside
 
-behind_read : (letter n : ℕ) (word : List ℕ) → (letter == letter) ≡ true → IsByte n → SpellsPart (Number (letter ∷ []) n) word → number_after letter word ≡ Some n
+number_read_after : (letter n : ℕ) (word : List ℕ) → (letter == letter) ≡ true → IsByte n → SpellsPart (Number (letter ∷ []) n) word → number_after letter word ≡ Some n
 unfolding number_after
-behind_read letter n word same inside (digits, spells, is) = rw (is, same) (number_read 0 255 n digits spells inside)
+number_read_after letter n word same inside (digits, spells, is) = rw (is, same) (number_read 0 255 n digits spells inside)
 
 not_after : (letter other : ℕ) (word digits : List ℕ) → word ≡ other ∷ digits → (other == letter) ≡ false → number_after letter word ≡ None
 unfolding number_after
@@ -33,9 +33,9 @@ not_after letter other word digits is apart = rw (is, apart) refl
 
 actor_read : (actor : Actor) (word : List ℕ) → IsByte (number_in_kind actor) → SpellsPart (actor_part actor) word → actor_in word ≡ Some actor
 unfolding actor_in
-actor_read (Engine n) word inside spells = rw (behind_read 101 n word refl inside spells) refl
-actor_read (Server n) word inside spells = rw (not_after 101 115 word spells.0 spells.2 refl, behind_read 115 n word refl inside spells) refl
-actor_read (Worker n) word inside spells = rw (not_after 101 119 word spells.0 spells.2 refl, not_after 115 119 word spells.0 spells.2 refl, behind_read 119 n word refl inside spells) refl
+actor_read (Engine n) word inside spells = rw (number_read_after 101 n word refl inside spells) refl
+actor_read (Server n) word inside spells = rw (not_after 101 115 word spells.0 spells.2 refl, number_read_after 115 n word refl inside spells) refl
+actor_read (Worker n) word inside spells = rw (not_after 101 119 word spells.0 spells.2 refl, not_after 115 119 word spells.0 spells.2 refl, number_read_after 119 n word refl inside spells) refl
 
 parameter_read : (parameter : ℕ) (word : List ℕ) → SpellsPart (Parameter parameter) word → parameter_in word ≡ Some parameter
 unfolding parameter_in
@@ -55,10 +55,10 @@ parameter_spelled parameter word e = by (words_64 word) refl e
 plain_spelled : (low high n : ℕ) (word : List ℕ) → number_in low high word ≡ Some n → IsInRange low high n × SpellsPart (Number [] n) word
 plain_spelled low high n word e = let s = number_spelled low high n word e in (s.1, (word, s.0, refl))
 
-behind_spelled : (letter n : ℕ) (word : List ℕ) → number_after letter word ≡ Some n → IsByte n × SpellsPart (Number (letter ∷ []) n) word
+spelled_after : (letter n : ℕ) (word : List ℕ) → number_after letter word ≡ Some n → IsByte n × SpellsPart (Number (letter ∷ []) n) word
 unfolding number_after
-behind_spelled letter n [] e = cc
-behind_spelled letter n (b ∷ rest) e = by (b == letter) refl e
+spelled_after letter n [] e = cc
+spelled_after letter n (b ∷ rest) e = by (b == letter) refl e
   where
     by : (t : Bool) → (b == letter) ≡ t → cond t (number_in 0 255 rest) None ≡ Some n → IsByte n × SpellsPart (Number (letter ∷ []) n) (b ∷ rest)
     by true is e = let s = number_spelled 0 255 n rest e in (s.1, (rest, s.0, ap (λ (c : ℕ). c ∷ rest) (eqb-true b letter is)))
@@ -72,9 +72,9 @@ actor_spelled actor word e = by (number_after 101 word) (number_after 115 word) 
     Is a = IsByte (number_in_kind a) × SpellsPart (actor_part a) word
 
     by : (e s w : Option ℕ) → number_after 101 word ≡ e → number_after 115 word ≡ s → number_after 119 word ≡ w → option_or (option_map Engine e) (option_or (option_map Server s) (option_map Worker w)) ≡ Some actor → IsByte (number_in_kind actor) × SpellsPart (actor_part actor) word
-    by (Some n) s w is _ _ f = let same : Engine n ≡ actor = cc in subst (λ a. IsByte (number_in_kind a) × SpellsPart (actor_part a) word) same (behind_spelled 101 n word is)
-    by None (Some n) w _ is _ f = let same : Server n ≡ actor = cc in subst (λ a. IsByte (number_in_kind a) × SpellsPart (actor_part a) word) same (behind_spelled 115 n word is)
-    by None None (Some n) _ _ is f = let same : Worker n ≡ actor = cc in subst (λ a. IsByte (number_in_kind a) × SpellsPart (actor_part a) word) same (behind_spelled 119 n word is)
+    by (Some n) s w is _ _ f = let same : Engine n ≡ actor = cc in subst (λ a. IsByte (number_in_kind a) × SpellsPart (actor_part a) word) same (spelled_after 101 n word is)
+    by None (Some n) w _ is _ f = let same : Server n ≡ actor = cc in subst (λ a. IsByte (number_in_kind a) × SpellsPart (actor_part a) word) same (spelled_after 115 n word is)
+    by None None (Some n) _ _ is f = let same : Worker n ≡ actor = cc in subst (λ a. IsByte (number_in_kind a) × SpellsPart (actor_part a) word) same (spelled_after 119 n word is)
     by None None None _ _ _ f = cc
 
 -- ---- a written event is read
@@ -104,18 +104,18 @@ event_read (Call a) words may = name_read (codes "call") (actor_part a ∷ []) w
 event_read (End a) words may = name_read (codes "end") (actor_part a ∷ []) words (End a) (λ rest. step_read actor_in _ (actor_part a) [] rest a (End a) (λ w. actor_read a w may) (alone_read (End a)))
 event_read (Ask e r j) words may =
     name_read (codes "ask") (actor_part (Engine e) ∷ Number [] r ∷ Parameter j ∷ []) words (Ask e r j)
-    (λ rest. step_read (number_after 101) _ (actor_part (Engine e)) (Number [] r ∷ Parameter j ∷ []) rest e (Ask e r j) (λ w. behind_read 101 e w refl may.0)
+    (λ rest. step_read (number_after 101) _ (actor_part (Engine e)) (Number [] r ∷ Parameter j ∷ []) rest e (Ask e r j) (λ w. number_read_after 101 e w refl may.0)
     (λ rest. step_read words_64 _ (Number [] r) (Parameter j ∷ []) rest r (Ask e r j) (λ w. plain_read 0 0xFFFFFFFFFFFFFFFF r w may.1)
     (λ rest. step_read parameter_in _ (Parameter j) [] rest j (Ask e r j) (λ w. parameter_read j w) (alone_read (Ask e r j)))))
 event_read (Deliver s d r j) words may =
     name_read (codes "deliver") (actor_part (Server s) ∷ Number [] d ∷ Number [] r ∷ Parameter j ∷ []) words (Deliver s d r j)
-    (λ rest. step_read (number_after 115) _ (actor_part (Server s)) (Number [] d ∷ Number [] r ∷ Parameter j ∷ []) rest s (Deliver s d r j) (λ w. behind_read 115 s w refl may.0)
+    (λ rest. step_read (number_after 115) _ (actor_part (Server s)) (Number [] d ∷ Number [] r ∷ Parameter j ∷ []) rest s (Deliver s d r j) (λ w. number_read_after 115 s w refl may.0)
     (λ rest. step_read words_64 _ (Number [] d) (Number [] r ∷ Parameter j ∷ []) rest d (Deliver s d r j) (λ w. plain_read 0 0xFFFFFFFFFFFFFFFF d w may.1)
     (λ rest. step_read words_64 _ (Number [] r) (Parameter j ∷ []) rest r (Deliver s d r j) (λ w. plain_read 0 0xFFFFFFFFFFFFFFFF r w may.2)
     (λ rest. step_read parameter_in _ (Parameter j) [] rest j (Deliver s d r j) (λ w. parameter_read j w) (alone_read (Deliver s d r j))))))
 event_read (Release e r) words may =
     name_read (codes "release") (actor_part (Engine e) ∷ Number [] r ∷ []) words (Release e r)
-    (λ rest. step_read (number_after 101) _ (actor_part (Engine e)) (Number [] r ∷ []) rest e (Release e r) (λ w. behind_read 101 e w refl may.0)
+    (λ rest. step_read (number_after 101) _ (actor_part (Engine e)) (Number [] r ∷ []) rest e (Release e r) (λ w. number_read_after 101 e w refl may.0)
     (λ rest. step_read words_64 _ (Number [] r) [] rest r (Release e r) (λ w. plain_read 0 0xFFFFFFFFFFFFFFFF r w may.1) (alone_read (Release e r))))
 
 -- ---- an event that is read was written so
@@ -148,52 +148,52 @@ no_more : (words : List (List ℕ)) → words ≡ [] → SpellParts [] words
 no_more words is = subst (SpellParts []) (sym is) tt
 
 -- the event, within its limits, and its parts after the name
-abbrev Told : List ℕ → Event → List (List ℕ) → Type 0
-Told name event words = IsEvent event × SpellParts (event_parts event) (name ∷ words)
+abbrev IsEventLine : List ℕ → Event → List (List ℕ) → Type 0
+IsEventLine name event words = IsEvent event × SpellParts (event_parts event) (name ∷ words)
 
-told : (name : List ℕ) (made event : Event) (words : List (List ℕ)) → made ≡ event → Told name made words → Told name event words
-told name made event words same t = subst (λ e. Told name e words) same t
+source : (name : List ℕ) (made event : Event) (words : List (List ℕ)) → made ≡ event → IsEventLine name made words → IsEventLine name event words
+source name made event words same t = subst (λ e. IsEventLine name e words) same t
 
-for_actor_told : (name : List ℕ) (make : Actor → Event) (event : Event) (words : List (List ℕ)) → ((a : Actor) (w : List (List ℕ)) → IsByte (number_in_kind a) → SpellParts (actor_part a ∷ []) w → Told name (make a) w) → for_actor make words ≡ Some event → Told name event words
-for_actor_told name make event words to e =
+for_actor_event : (name : List ℕ) (make : Actor → Event) (event : Event) (words : List (List ℕ)) → ((a : Actor) (w : List (List ℕ)) → IsByte (number_in_kind a) → SpellParts (actor_part a ∷ []) w → IsEventLine name (make a) w) → for_actor make words ≡ Some event → IsEventLine name event words
+for_actor_event name make event words to e =
     let s = stepped actor_in _ words event e in
     let last = alone_is (make s.a) event s.rest s.goes_on in
     let actor = actor_spelled s.a s.word s.says in
-    told name (make s.a) event words last.1 (to s.a words actor.0 (one_more (actor_part s.a) [] words s.word s.rest s.is actor.1 (no_more s.rest last.0)))
+    source name (make s.a) event words last.1 (to s.a words actor.0 (one_more (actor_part s.a) [] words s.word s.rest s.is actor.1 (no_more s.rest last.0)))
 
-local_told : (event : Event) (words : List (List ℕ)) → local_in words ≡ Some event → Told (codes "local") event words
-local_told event words e =
+local_event : (event : Event) (words : List (List ℕ)) → local_in words ≡ Some event → IsEventLine (codes "local") event words
+local_event event words e =
     let s = stepped actor_in _ words event e in
     let t = stepped (number_in 1 1000000000) _ s.rest event s.goes_on in
     let last = alone_is (Local s.a t.a) event t.rest t.goes_on in
     let actor = actor_spelled s.a s.word s.says in
     let steps = plain_spelled 1 1000000000 t.a t.word t.says in
-    told (codes "local") (Local s.a t.a) event words last.1 ((actor.0, steps.0), (refl, one_more (actor_part s.a) (Number [] t.a ∷ []) words s.word s.rest s.is actor.1 (one_more (Number [] t.a) [] s.rest t.word t.rest t.is steps.1 (no_more t.rest last.0))))
+    source (codes "local") (Local s.a t.a) event words last.1 ((actor.0, steps.0), (refl, one_more (actor_part s.a) (Number [] t.a ∷ []) words s.word s.rest s.is actor.1 (one_more (Number [] t.a) [] s.rest t.word t.rest t.is steps.1 (no_more t.rest last.0))))
 
-ask_told : (event : Event) (words : List (List ℕ)) → ask_in words ≡ Some event → Told (codes "ask") event words
-ask_told event words e =
+ask_event : (event : Event) (words : List (List ℕ)) → ask_in words ≡ Some event → IsEventLine (codes "ask") event words
+ask_event event words e =
     let s = stepped (number_after 101) _ words event e in
     let t = stepped words_64 _ s.rest event s.goes_on in
     let u = stepped parameter_in _ t.rest event t.goes_on in
     let last = alone_is (Ask s.a t.a u.a) event u.rest u.goes_on in
-    let engine = behind_spelled 101 s.a s.word s.says in
+    let engine = spelled_after 101 s.a s.word s.says in
     let rule = plain_spelled 0 0xFFFFFFFFFFFFFFFF t.a t.word t.says in
     let parameter = parameter_spelled u.a u.word u.says in
-    told (codes "ask") (Ask s.a t.a u.a) event words last.1
+    source (codes "ask") (Ask s.a t.a u.a) event words last.1
     ((engine.0, rule.0, parameter.0), (refl, one_more (actor_part (Engine s.a)) (Number [] t.a ∷ Parameter u.a ∷ []) words s.word s.rest s.is engine.1 (one_more (Number [] t.a) (Parameter u.a ∷ []) s.rest t.word t.rest t.is rule.1 (one_more (Parameter u.a) [] t.rest u.word u.rest u.is parameter.1 (no_more u.rest last.0)))))
 
-deliver_told : (event : Event) (words : List (List ℕ)) → deliver_in words ≡ Some event → Told (codes "deliver") event words
-deliver_told event words e =
+deliver_event : (event : Event) (words : List (List ℕ)) → deliver_in words ≡ Some event → IsEventLine (codes "deliver") event words
+deliver_event event words e =
     let s = stepped (number_after 115) _ words event e in
     let t = stepped words_64 _ s.rest event s.goes_on in
     let u = stepped words_64 _ t.rest event t.goes_on in
     let v = stepped parameter_in _ u.rest event u.goes_on in
     let last = alone_is (Deliver s.a t.a u.a v.a) event v.rest v.goes_on in
-    let server = behind_spelled 115 s.a s.word s.says in
+    let server = spelled_after 115 s.a s.word s.says in
     let datum = plain_spelled 0 0xFFFFFFFFFFFFFFFF t.a t.word t.says in
     let rule = plain_spelled 0 0xFFFFFFFFFFFFFFFF u.a u.word u.says in
     let parameter = parameter_spelled v.a v.word v.says in
-    told (codes "deliver") (Deliver s.a t.a u.a v.a) event words last.1 (
+    source (codes "deliver") (Deliver s.a t.a u.a v.a) event words last.1 (
       (server.0, datum.0, rule.0, parameter.0),
       (
         refl,
@@ -202,42 +202,42 @@ deliver_told event words e =
       ),
     )
 
-release_told : (event : Event) (words : List (List ℕ)) → release_in words ≡ Some event → Told (codes "release") event words
-release_told event words e =
+release_event_is : (event : Event) (words : List (List ℕ)) → release_in words ≡ Some event → IsEventLine (codes "release") event words
+release_event_is event words e =
     let s = stepped (number_after 101) _ words event e in
     let t = stepped words_64 _ s.rest event s.goes_on in
     let last = alone_is (Release s.a t.a) event t.rest t.goes_on in
-    let engine = behind_spelled 101 s.a s.word s.says in
+    let engine = spelled_after 101 s.a s.word s.says in
     let rule = plain_spelled 0 0xFFFFFFFFFFFFFFFF t.a t.word t.says in
-    told (codes "release") (Release s.a t.a) event words last.1 ((engine.0, rule.0), (refl, one_more (actor_part (Engine s.a)) (Number [] t.a ∷ []) words s.word s.rest s.is engine.1 (one_more (Number [] t.a) [] s.rest t.word t.rest t.is rule.1 (no_more t.rest last.0))))
+    source (codes "release") (Release s.a t.a) event words last.1 ((engine.0, rule.0), (refl, one_more (actor_part (Engine s.a)) (Number [] t.a ∷ []) words s.word s.rest s.is engine.1 (one_more (Number [] t.a) [] s.rest t.word t.rest t.is rule.1 (no_more t.rest last.0))))
 
 name_is : (name word : List ℕ) → bytes_eq name word ≡ true → word ≡ name
 name_is name word e = sym ((bytes_eq-Decides name word).0 e)
 
-named_told : (name : List ℕ) (words : List (List ℕ)) (event : Event) → named name words ≡ Some event → Told name event words
+named_event : (name : List ℕ) (words : List (List ℕ)) (event : Event) → named name words ≡ Some event → IsEventLine name event words
 unfolding named
-named_told name words event e =
+named_event name words event e =
     by (bytes_eq name (codes "take")) (bytes_eq name (codes "local")) (bytes_eq name (codes "call")) (bytes_eq name (codes "end")) (bytes_eq name (codes "ask")) (bytes_eq name (codes "deliver")) (bytes_eq name (codes "release"))
     refl refl refl refl refl refl refl e
   where
-    at_home : (word : List ℕ) → bytes_eq name word ≡ true → Told word event words → Told name event words
-    at_home word is t = subst (λ n. Told n event words) (name_is name word is) t
+    at_home : (word : List ℕ) → bytes_eq name word ≡ true → IsEventLine word event words → IsEventLine name event words
+    at_home word is t = subst (λ n. IsEventLine n event words) (name_is name word is) t
 
     by : (t l c n a d r : Bool) → bytes_eq name (codes "take") ≡ t → bytes_eq name (codes "local") ≡ l → bytes_eq name (codes "call") ≡ c → bytes_eq name (codes "end") ≡ n → bytes_eq name (codes "ask") ≡ a → bytes_eq name (codes "deliver") ≡ d
         → bytes_eq name (codes "release") ≡ r
-        → cond t (for_actor Take words) (cond l (local_in words) (cond c (for_actor Call words) (cond n (for_actor End words) (cond a (ask_in words) (cond d (deliver_in words) (cond r (release_in words) None)))))) ≡ Some event → Told name event words
-    by true l c n a d r is _ _ _ _ _ _ e = at_home (codes "take") is (for_actor_told (codes "take") Take event words (λ a w may spells. (may, (refl, spells))) e)
-    by false true c n a d r _ is _ _ _ _ _ e = at_home (codes "local") is (local_told event words e)
-    by false false true n a d r _ _ is _ _ _ _ e = at_home (codes "call") is (for_actor_told (codes "call") Call event words (λ a w may spells. (may, (refl, spells))) e)
-    by false false false true a d r _ _ _ is _ _ _ e = at_home (codes "end") is (for_actor_told (codes "end") End event words (λ a w may spells. (may, (refl, spells))) e)
-    by false false false false true d r _ _ _ _ is _ _ e = at_home (codes "ask") is (ask_told event words e)
-    by false false false false false true r _ _ _ _ _ is _ e = at_home (codes "deliver") is (deliver_told event words e)
-    by false false false false false false true _ _ _ _ _ _ is e = at_home (codes "release") is (release_told event words e)
+        → cond t (for_actor Take words) (cond l (local_in words) (cond c (for_actor Call words) (cond n (for_actor End words) (cond a (ask_in words) (cond d (deliver_in words) (cond r (release_in words) None)))))) ≡ Some event → IsEventLine name event words
+    by true l c n a d r is _ _ _ _ _ _ e = at_home (codes "take") is (for_actor_event (codes "take") Take event words (λ a w may spells. (may, (refl, spells))) e)
+    by false true c n a d r _ is _ _ _ _ _ e = at_home (codes "local") is (local_event event words e)
+    by false false true n a d r _ _ is _ _ _ _ e = at_home (codes "call") is (for_actor_event (codes "call") Call event words (λ a w may spells. (may, (refl, spells))) e)
+    by false false false true a d r _ _ _ is _ _ _ e = at_home (codes "end") is (for_actor_event (codes "end") End event words (λ a w may spells. (may, (refl, spells))) e)
+    by false false false false true d r _ _ _ _ is _ _ e = at_home (codes "ask") is (ask_event event words e)
+    by false false false false false true r _ _ _ _ _ is _ e = at_home (codes "deliver") is (deliver_event event words e)
+    by false false false false false false true _ _ _ _ _ _ is e = at_home (codes "release") is (release_event_is event words e)
     by false false false false false false false _ _ _ _ _ _ _ e = cc
 
-pub event_told : (words : List (List ℕ)) (event : Event) → event_in words ≡ Some event → IsEvent event × SpellParts (event_parts event) words
-event_told [] event e = cc
-event_told (name ∷ words) event e = named_told name words event e
+pub event_shown : (words : List (List ℕ)) (event : Event) → event_in words ≡ Some event → IsEvent event × SpellParts (event_parts event) words
+event_shown [] event e = cc
+event_shown (name ∷ words) event e = named_event name words event e
 
 -- ---- the line
 
@@ -246,7 +246,7 @@ line_event line None e = λ event spells. none event (sym (event_read event (wor
   where
     none : (event : Event) → Some event ≡ None → ⊥
     none event e = cc
-line_event line (Some event) e = let t = event_told (words_in line) event e in record { limits = t.0; parts = t.1 }
+line_event line (Some event) e = let t = event_shown (words_in line) event e in record { limits = t.0; parts = t.1 }
 
 no_name : (words : List (List ℕ)) → named [] words ≡ None
 unfolding named
@@ -273,10 +273,10 @@ pub parameter_none : parameter_in [] ≡ None
 unfolding parameter_in
 parameter_none = ap (option_map (λ (k : ℕ). min k 255)) (number_none 0 0xFFFFFFFFFFFFFFFF)
 
-pub behind_none : (letter : ℕ) → number_after letter [] ≡ None
+pub none_after : (letter : ℕ) → number_after letter [] ≡ None
 unfolding number_after
-behind_none letter = refl
+none_after letter = refl
 
 pub actor_none : actor_in [] ≡ None
 unfolding actor_in
-actor_none = rw (behind_none 101, behind_none 115, behind_none 119) refl
+actor_none = rw (none_after 101, none_after 115, none_after 119) refl

@@ -6,7 +6,7 @@ use Rattle.std.proofs.lemmas.List.Sums.{count_by-le-length}
 use Rattle.tw_types.specs.declared.event.Event.{Event}
 use Rattle.tw_types.specs.declared.event.Event.TheVariants.{Take, Local, Call, End, Ask, Deliver, Release}
 use Rattle.tw_report.specs.Events.{IsEvent, SpellParts, SpellsEvent, event_parts, words_in}
-use Rattle.tw_report.specs.History.{IsBlank, IsEnd, OneHistory, Tell, behind_blank, behind_event, lines_in}
+use Rattle.tw_report.specs.History.{IsBlank, IsEnd, OneHistory, IsTraceOf, after_blank, after_event, lines_in}
 use Rattle.tw_report.proofs.Written.{one_event}
 
 -- ---- only one trace
@@ -48,7 +48,7 @@ end_no_event line event end spells = two_words event (words_in line) (codes "end
 
 pub one_history : OneHistory
 one_history [] r q t u = t ∙ sym u
-one_history (line ∷ others) r q (inl (b, (x, t, e))) (inl (b', (y, u, f))) = e ∙ ap behind_blank (one_history others x y t u) ∙ sym f
+one_history (line ∷ others) r q (inl (b, (x, t, e))) (inl (b', (y, u, f))) = e ∙ ap after_blank (one_history others x y t u) ∙ sym f
 one_history (line ∷ others) r q (inl (b, (x, t, e))) (inr (inl (end, f))) = absurd (blank_no_end line b end)
 one_history (line ∷ others) r q (inl (b, (x, t, e))) (inr (inr (inl (event, spells, y)))) = absurd (blank_no_event line event b spells)
 one_history (line ∷ others) r q (inl (b, (x, t, e))) (inr (inr (inr (un, f)))) = absurd (un.0 b)
@@ -59,7 +59,7 @@ one_history (line ∷ others) r q (inr (inl (end, e))) (inr (inr (inr (un, f))))
 one_history (line ∷ others) r q (inr (inr (inl (event, spells, x)))) (inl (b, (y, u, f))) = absurd (blank_no_event line event b spells)
 one_history (line ∷ others) r q (inr (inr (inl (event, spells, x)))) (inr (inl (end, f))) = absurd (end_no_event line event end spells)
 one_history (line ∷ others) r q (inr (inr (inl (event, spells, (x, t, e))))) (inr (inr (inl (other, also, (y, u, f))))) =
-    e ∙ ap (behind_event event) (one_history others x y t u) ∙ ap (λ (v : Event). behind_event v y) (sym (one_event line event other spells also)) ∙ sym f
+    e ∙ ap (after_event event) (one_history others x y t u) ∙ ap (λ (v : Event). after_event v y) (sym (one_event line event other spells also)) ∙ sym f
 one_history (line ∷ others) r q (inr (inr (inl (event, spells, x)))) (inr (inr (inr (un, f)))) = absurd (un.2 event spells)
 one_history (line ∷ others) r q (inr (inr (inr (un, e)))) (inl (b, (y, u, f))) = absurd (un.0 b)
 one_history (line ∷ others) r q (inr (inr (inr (un, e)))) (inr (inl (end, f))) = absurd (un.1 end)
@@ -68,25 +68,25 @@ one_history (line ∷ others) r q (inr (inr (inr (un, e)))) (inr (inr (inr (un',
 
 -- ---- the events
 
-some_told : (events es : List Event) → ◌≡◌ {A = Result (List Event) ℕ} (Ok events) (Ok es) → es ≡ events
-some_told events es e = cc
+some_event : (events es : List Event) → ◌≡◌ {A = Result (List Event) ℕ} (Ok events) (Ok es) → es ≡ events
+some_event events es e = cc
 
 -- each is one of a line
-pub told_events : (lines : List (List ℕ)) (events : List Event) → Tell lines (Ok events) → AllByRecursion IsEvent events × (length events ≤ length lines)
-told_events [] events t = subst (λ (es : List Event). AllByRecursion IsEvent es × (length es ≤ 0)) (some_told events [] t) (tt, omega arith)
-told_events (line ∷ others) events (inl (blank, (Ok es, t, e))) =
-    let more = told_events others es t in
-    subst (λ (vs : List Event). AllByRecursion IsEvent vs × (length vs ≤ length (line ∷ others))) (some_told events es e) (more.0, omega (arith, more.1))
-told_events (line ∷ others) events (inl (blank, (Err n, t, e))) = cc
-told_events (line ∷ others) events (inr (inl (end, e))) = subst (λ (es : List Event). AllByRecursion IsEvent es × (length es ≤ length (line ∷ others))) (some_told events [] e) (tt, omega arith)
-told_events (line ∷ others) events (inr (inr (inl (event, spells, (Ok es, t, e))))) =
-    let more = told_events others es t in
-    subst (λ (vs : List Event). AllByRecursion IsEvent vs × (length vs ≤ length (line ∷ others))) (some_told events (event ∷ es) e) ((spells.limits, more.0), omega (arith, more.1))
-told_events (line ∷ others) events (inr (inr (inl (event, spells, (Err n, t, e))))) = cc
-told_events (line ∷ others) events (inr (inr (inr (un, e)))) = cc
+pub events_traced : (lines : List (List ℕ)) (events : List Event) → IsTraceOf lines (Ok events) → AllByRecursion IsEvent events × (length events ≤ length lines)
+events_traced [] events t = subst (λ (es : List Event). AllByRecursion IsEvent es × (length es ≤ 0)) (some_event events [] t) (tt, omega arith)
+events_traced (line ∷ others) events (inl (blank, (Ok es, t, e))) =
+    let more = events_traced others es t in
+    subst (λ (vs : List Event). AllByRecursion IsEvent vs × (length vs ≤ length (line ∷ others))) (some_event events es e) (more.0, omega (arith, more.1))
+events_traced (line ∷ others) events (inl (blank, (Err n, t, e))) = cc
+events_traced (line ∷ others) events (inr (inl (end, e))) = subst (λ (es : List Event). AllByRecursion IsEvent es × (length es ≤ length (line ∷ others))) (some_event events [] e) (tt, omega arith)
+events_traced (line ∷ others) events (inr (inr (inl (event, spells, (Ok es, t, e))))) =
+    let more = events_traced others es t in
+    subst (λ (vs : List Event). AllByRecursion IsEvent vs × (length vs ≤ length (line ∷ others))) (some_event events (event ∷ es) e) ((spells.limits, more.0), omega (arith, more.1))
+events_traced (line ∷ others) events (inr (inr (inl (event, spells, (Err n, t, e))))) = cc
+events_traced (line ∷ others) events (inr (inr (inr (un, e)))) = cc
 
 pub few_lines : (text : List ℕ) → length (lines_in text) ≤ length text + 1
 few_lines text = omega (arith, length-slice_split (λ b. b == 10) text, count_by-le-length (λ b. b == 10) text)
 
-pub few_events : (text : List ℕ) (events : List Event) → Tell (lines_in text) (Ok events) → length events ≤ length text + 1
-few_events text events t = omega (arith, few_lines text, (told_events (lines_in text) events t).1)
+pub few_events : (text : List ℕ) (events : List Event) → IsTraceOf (lines_in text) (Ok events) → length events ≤ length text + 1
+few_events text events t = omega (arith, few_lines text, (events_traced (lines_in text) events t).1)

@@ -6,7 +6,7 @@ use Rattle.std.proofs.lemmas.List.{append-nil, length-append, length-drop, take-
 use Rattle.std.proofs.lemmas.List.Splits.{slice_split-cons_no}
 use Rattle.tw_types.specs.declared.event.Event.{Event}
 use Rattle.tw_report.specs.Events.{SpellsEvent}
-use Rattle.tw_report.specs.History.{HasNoLineFeed, IsBlank, IsNoHistory, IsWord, Tell, behind_blank, behind_event, lines_in, text_of}
+use Rattle.tw_report.specs.History.{HasNoLineFeed, IsBlank, IsNoHistory, IsWord, IsTraceOf, after_blank, after_event, lines_in, text_of}
 use Rattle.tw_report.specs.reading.History.{IsFirstLine, IsReadTo, Takes, onto}
 use Rattle.tw_report.specs.declared.history.HistoryFault.{HistoryFault}
 use Rattle.tw_report.specs.declared.history.HistoryFault.TheVariants.{UnknownLine, NoMemory}
@@ -45,52 +45,52 @@ shorter text line rest first = let all : length text ≡ length line + suc (leng
 
 -- ---- events
 
-abbrev Behind : List Event → List ℕ → List Event → Type 0
-Behind events line after = (IsBlank line × (after ≡ events)) ⊎ ((event : Event) × SpellsEvent event line × (after ≡ events ++ event ∷ []))
+abbrev AddsLine : List Event → List ℕ → List Event → Type 0
+AddsLine events line after = (IsBlank line × (after ≡ events)) ⊎ ((event : Event) × SpellsEvent event line × (after ≡ events ++ event ∷ []))
 
 -- with one line more before them
-pub told_more : (events after : List Event) (count : ℕ) (line : List ℕ) (others : List (List ℕ)) (r : Result (List Event) ℕ) → Behind events line after → Tell others r → (q : Result (List Event) ℕ) × Tell (line ∷ others) q × (onto events count q ≡ onto after (count + 1) r)
-told_more events after count line others r (inl (blank, same)) t = (behind_blank r, inl (blank, (r, t, refl)), by r)
+pub more_traced : (events after : List Event) (count : ℕ) (line : List ℕ) (others : List (List ℕ)) (r : Result (List Event) ℕ) → AddsLine events line after → IsTraceOf others r → (q : Result (List Event) ℕ) × IsTraceOf (line ∷ others) q × (onto events count q ≡ onto after (count + 1) r)
+more_traced events after count line others r (inl (blank, same)) t = (after_blank r, inl (blank, (r, t, refl)), by r)
   where
-    by : (r : Result (List Event) ℕ) → onto events count (behind_blank r) ≡ onto after (count + 1) r
+    by : (r : Result (List Event) ℕ) → onto events count (after_blank r) ≡ onto after (count + 1) r
     by (Ok es) = ap (λ (xs : List Event). Ok (xs ++ es)) (sym same)
     by (Err n) = let e : count + suc n ≡ (count + 1) + n = omega arith in ap Err e
-told_more events after count line others r (inr (event, spells, same)) t = (behind_event event r, inr (inr (inl (event, spells, (r, t, refl)))), by r)
+more_traced events after count line others r (inr (event, spells, same)) t = (after_event event r, inr (inr (inl (event, spells, (r, t, refl)))), by r)
   where
-    by : (r : Result (List Event) ℕ) → onto events count (behind_event event r) ≡ onto after (count + 1) r
+    by : (r : Result (List Event) ℕ) → onto events count (after_event event r) ≡ onto after (count + 1) r
     by (Ok es) = ap Ok (sym (append_assoc events (event ∷ []) es)) ∙ ap (λ (xs : List Event). Ok (xs ++ es)) (sym same)
     by (Err n) = let e : count + suc n ≡ (count + 1) + n = omega arith in ap Err e
 
 pub read_more : (text rest line others : List ℕ) (events after : List Event) (count : ℕ) → IsReadTo text events count rest → IsFirstLine rest line (Some others) → Takes events line (count + 1) (Ok true) after → IsReadTo text after (count + 1) others
 read_more text rest line others events after count read first takes = λ r t.
-    let more = told_more events after count line (lines_in others) r takes t in
-    subst (Tell (lines_in text)) more.2 (read more.0 (subst (λ ls. Tell ls more.0) (sym first.1.0) more.1))
+    let more = more_traced events after count line (lines_in others) r takes t in
+    subst (IsTraceOf (lines_in text)) more.2 (read more.0 (subst (λ ls. IsTraceOf ls more.0) (sym first.1.0) more.1))
 
-pub read_last : (text rest line : List ℕ) (events after : List Event) (count : ℕ) → IsReadTo text events count rest → IsFirstLine rest line None → Takes events line (count + 1) (Ok true) after → Tell (lines_in text) (Ok after)
+pub read_last : (text rest line : List ℕ) (events after : List Event) (count : ℕ) → IsReadTo text events count rest → IsFirstLine rest line None → Takes events line (count + 1) (Ok true) after → IsTraceOf (lines_in text) (Ok after)
 read_last text rest line events after count read first takes =
-    let more = told_more events after count line [] (Ok []) takes refl in
-    subst (Tell (lines_in text)) (more.2 ∙ ap Ok (append-nil after)) (read more.0 (subst (λ ls. Tell ls more.0) (sym first.1.0) more.1))
+    let more = more_traced events after count line [] (Ok []) takes refl in
+    subst (IsTraceOf (lines_in text)) (more.2 ∙ ap Ok (append-nil after)) (read more.0 (subst (λ ls. IsTraceOf ls more.0) (sym first.1.0) more.1))
 
 -- the first line, with any text after it
 line_of : (rest line : List ℕ) (after : Option (List ℕ)) → IsFirstLine rest line after → (others : List (List ℕ)) × (lines_in rest ≡ line ∷ others)
 line_of rest line None first = ([], first.1.0)
 line_of rest line (Some others) first = (lines_in others, first.1.0)
 
-pub read_end : (text rest line : List ℕ) (follows : Option (List ℕ)) (events after : List Event) (count : ℕ) → IsReadTo text events count rest → IsFirstLine rest line follows → Takes events line (count + 1) (Ok false) after → Tell (lines_in text) (Ok after)
+pub read_end : (text rest line : List ℕ) (follows : Option (List ℕ)) (events after : List Event) (count : ℕ) → IsReadTo text events count rest → IsFirstLine rest line follows → Takes events line (count + 1) (Ok false) after → IsTraceOf (lines_in text) (Ok after)
 read_end text rest line follows events after count read first takes =
     let l = line_of rest line follows first in
-    subst (Tell (lines_in text)) (ap Ok (append-nil events ∙ sym takes.1)) (read (Ok []) (subst (λ ls. Tell ls (Ok [])) (sym l.1) (inr (inl (takes.0, refl)))))
+    subst (IsTraceOf (lines_in text)) (ap Ok (append-nil events ∙ sym takes.1)) (read (Ok []) (subst (λ ls. IsTraceOf ls (Ok [])) (sym l.1) (inr (inl (takes.0, refl)))))
 
-pub read_unknown : (text rest line : List ℕ) (follows : Option (List ℕ)) (events after : List Event) (count at : ℕ) → IsReadTo text events count rest → IsFirstLine rest line follows → Takes events line (count + 1) (Err (UnknownLine at)) after → Tell (lines_in text) (Err at)
+pub read_unknown : (text rest line : List ℕ) (follows : Option (List ℕ)) (events after : List Event) (count at : ℕ) → IsReadTo text events count rest → IsFirstLine rest line follows → Takes events line (count + 1) (Err (UnknownLine at)) after → IsTraceOf (lines_in text) (Err at)
 read_unknown text rest line follows events after count at read first takes =
     let l = line_of rest line follows first in
-    subst (Tell (lines_in text)) (ap Err (sym takes.1)) (read (Err 1) (subst (λ ls. Tell ls (Err 1)) (sym l.1) (inr (inr (inr (takes.0, refl))))))
+    subst (IsTraceOf (lines_in text)) (ap Err (sym takes.1)) (read (Err 1) (subst (λ ls. IsTraceOf ls (Err 1)) (sym l.1) (inr (inr (inr (takes.0, refl))))))
 
 pub read_fault : (text rest line : List ℕ) (follows : Option (List ℕ)) (events after : List Event) (count : ℕ) (fault : HistoryFault) → IsReadTo text events count rest → IsFirstLine rest line follows → Takes events line (count + 1) (Err fault) after → IsNoHistory (lines_in text) fault
 read_fault text rest line follows events after count (UnknownLine at) read first takes = read_unknown text rest line follows events after count at read first takes
 read_fault text rest line follows events after count NoMemory read first takes = tt
 
-pub read_ended : (text rest line : List ℕ) (follows : Option (List ℕ)) (events after : List Event) (count : ℕ) (goes : Bool) → goes ≡ false → IsReadTo text events count rest → IsFirstLine rest line follows → Takes events line (count + 1) (Ok goes) after → Tell (lines_in text) (Ok after)
+pub read_ended : (text rest line : List ℕ) (follows : Option (List ℕ)) (events after : List Event) (count : ℕ) (goes : Bool) → goes ≡ false → IsReadTo text events count rest → IsFirstLine rest line follows → Takes events line (count + 1) (Ok goes) after → IsTraceOf (lines_in text) (Ok after)
 read_ended text rest line follows events after count goes is read first takes = read_end text rest line follows events after count read first (subst (λ (b : Bool). Takes events line (count + 1) (Ok b) after) is takes)
 
 pub went : (events after : List Event) (line : List ℕ) (number : ℕ) (goes : Bool) → goes ≡ true → Takes events line number (Ok goes) after → Takes events line number (Ok true) after

@@ -39,40 +39,40 @@ some_entry : (x y : Subscript × ℕ) → ◌≡◌ {A = Option (Subscript × �
 some_entry x y e = cc
 
 -- the subscript and the datum of an entry
-abbrev pub told_of : Data → Subscript × ℕ → Subscript × Option Datum
-told_of live e = (e.0, fin.get live e.1)
+abbrev pub member_of : Data → Subscript × ℕ → Subscript × Option Datum
+member_of live e = (e.0, fin.get live e.1)
 
 -- the entry at an index, by the member that is returned for it
-entry_told : (live : Data) (m : Subscript × Option Datum) (found : Option (Subscript × ℕ)) → ◌≡◌ {A = Option (Subscript × Option Datum)} (Some m) (option_map (told_of live) found) → (e : Subscript × ℕ) × (found ≡ Some e) × (m ≡ told_of live e)
-entry_told live m None is = absurd (cc)
-entry_told live m (Some e) is = (e, refl, cc)
+entry_shown : (live : Data) (m : Subscript × Option Datum) (found : Option (Subscript × ℕ)) → ◌≡◌ {A = Option (Subscript × Option Datum)} (Some m) (option_map (member_of live) found) → (e : Subscript × ℕ) × (found ≡ Some e) × (m ≡ member_of live e)
+entry_shown live m None is = absurd (cc)
+entry_shown live m (Some e) is = (e, refl, cc)
 
 -- the text with the line of member i appended, if the lines before it are there
-pub one_member_more : (live : Data) (es : List (Subscript × ℕ)) (i : ℕ) (m : Subscript × Option Datum) (old out new : List ℕ) → Some m ≡ option_map (told_of live) (slice_get es i) → out ≡ old ++ member_lines live (take i es)
+pub one_member_more : (live : Data) (es : List (Subscript × ℕ)) (i : ℕ) (m : Subscript × Option Datum) (old out new : List ℕ) → Some m ≡ option_map (member_of live) (slice_get es i) → out ≡ old ++ member_lines live (take i es)
     → new ≡ out ++ member_line m.0 m.1 → new ≡ old ++ member_lines live (take (i + 1) es)
-one_member_more live es i m old out new at before made = by (entry_told live m (slice_get es i) at)
+one_member_more live es i m old out new at before made = by (entry_shown live m (slice_get es i) at)
   where
-    by : (e : Subscript × ℕ) × (slice_get es i ≡ Some e) × (m ≡ told_of live e) → new ≡ old ++ member_lines live (take (i + 1) es)
-    by (e, found, told) =
+    by : (e : Subscript × ℕ) × (slice_get es i ≡ Some e) × (m ≡ member_of live e) → new ≡ old ++ member_lines live (take (i + 1) es)
+    by (e, found, source) =
         let lt : i < length es = slice_get_within es i e found in
         let is : get_or es i e ≡ e = some_entry _ _ (sym (slice_get-get_or es i e lt) ∙ found) in
         let one : take (i + 1) es ≡ take i es ++ e ∷ [] = take_more es i e lt ∙ ap (λ (x : Subscript × ℕ). take i es ++ x ∷ []) is in
         made
-        ∙ ap (λ (x : Subscript × Option Datum). out ++ member_line x.0 x.1) told
+        ∙ ap (λ (x : Subscript × Option Datum). out ++ member_line x.0 x.1) source
         ∙ ap (λ (t : List ℕ). t ++ member_line e.0 (fin.get live e.1)) before
         ∙ flat_map_more (λ (x : Subscript × ℕ). member_line x.0 (fin.get live x.1)) old (take i es) e
         ∙ ap (λ (ms : List (Subscript × ℕ)). old ++ member_lines live ms) (sym one)
 
-never_none : (live : Data) (x : Subscript × ℕ) → ◌≡◌ {A = Option (Subscript × Option Datum)} None (option_map (told_of live) (Some x)) → ⊥
+never_none : (live : Data) (x : Subscript × ℕ) → ◌≡◌ {A = Option (Subscript × Option Datum)} None (option_map (member_of live) (Some x)) → ⊥
 never_none live x e = cc
 
 -- there is a member at each index below their number
-pub is_there : (live : Data) (members : Members) (i count : ℕ) → count ≡ fin.len members → i < count → None ≡ option_map (told_of live) (slice_get (fin.entries members) i) → ⊥
+pub is_there : (live : Data) (members : Members) (i count : ℕ) → count ≡ fin.len members → i < count → None ≡ option_map (member_of live) (slice_get (fin.entries members) i) → ⊥
 is_there live members i count all lt none = by (fin.entries members) (omega (arith, lt, all, fin.len-entries members)) none
   where
-    by : (es : List (Subscript × ℕ)) → i < length es → None ≡ option_map (told_of live) (slice_get es i) → ⊥
+    by : (es : List (Subscript × ℕ)) → i < length es → None ≡ option_map (member_of live) (slice_get es i) → ⊥
     by [] inside none = absurd (omega (arith, inside))
-    by (e ∷ es) inside none = never_none live (get_or (e ∷ es) i e) (none ∙ ap (option_map (told_of live)) (slice_get-get_or (e ∷ es) i e inside))
+    by (e ∷ es) inside none = never_none live (get_or (e ∷ es) i e) (none ∙ ap (option_map (member_of live)) (slice_get-get_or (e ∷ es) i e inside))
 
 -- all have been added
 pub all_members : (live : Data) (members : Members) (i count : ℕ) (old out : List ℕ) → count ≡ fin.len members → count ≤ i → out ≡ old ++ member_lines live (take i (fin.entries members)) → out ≡ old ++ member_lines live (fin.entries members)

@@ -68,9 +68,9 @@ bare_some : (text : List ℕ) → IsBare text → has_bytes text ≡ true
 bare_some [] bare = absurd bare
 bare_some (b ∷ text) bare = refl
 
-some_behind : (front text : List ℕ) → has_bytes text ≡ true → has_bytes (front ++ text) ≡ true
-some_behind [] text some = some
-some_behind (b ∷ front) text some = refl
+some_after : (front text : List ℕ) → has_bytes text ≡ true → has_bytes (front ++ text) ≡ true
+some_after [] text some = some
+some_after (b ∷ front) text some = refl
 
 small : (n : ℕ) → IsWord n → n < 2 ^ 64
 small n h = omega (arith, h.1)
@@ -78,7 +78,7 @@ small n h = omega (arith, h.1)
 part_one : (part : Part) → IsFine part → IsOne (part_text part)
 part_one (Name name) fine = fine
 part_one (Number front n) fine =
-    (all_append (λ b. is_parting b ≡ false) front (decimal n) fine.0 (no_gap (decimal n) (decimal_clean n (small n fine.1))), some_behind front (decimal n) (bare_some (decimal n) (decimal_bare n (small n fine.1))))
+    (all_append (λ b. is_parting b ≡ false) front (decimal n) fine.0 (no_gap (decimal n) (decimal_clean n (small n fine.1))), some_after front (decimal n) (bare_some (decimal n) (decimal_bare n (small n fine.1))))
 part_one (Parameter n) fine = let word = byte_word n fine in (no_gap (decimal n) (decimal_clean n (small n word)), bare_some (decimal n) (decimal_bare n (small n word)))
 
 parts_one : (parts : List Part) → AllByRecursion IsFine parts → AllByRecursion IsOne (map part_text parts)

@@ -31,27 +31,27 @@ IsUnknown line = (IsBlank line → ⊥) × (IsEnd line → ⊥) × ((event : Eve
 -- ---- traces
 
 -- returns the result for lines after one that isn't an event
-abbrev pub behind_blank : Result (List Event) ℕ → Result (List Event) ℕ
-behind_blank (Ok events) = Ok events
-behind_blank (Err line) = Err (suc line)
+abbrev pub after_blank : Result (List Event) ℕ → Result (List Event) ℕ
+after_blank (Ok events) = Ok events
+after_blank (Err line) = Err (suc line)
 
-abbrev pub behind_event : Event → Result (List Event) ℕ → Result (List Event) ℕ
-behind_event event (Ok events) = Ok (event ∷ events)
-behind_event event (Err line) = Err (suc line)
+abbrev pub after_event : Event → Result (List Event) ℕ → Result (List Event) ℕ
+after_event event (Ok events) = Ok (event ∷ events)
+after_event event (Err line) = Err (suc line)
 
 -- Holds for the events of lines, up to `end` or all of them, in their order; or for the number, from 1, of the first unknown
 -- line.
-abbrev pub Tell : List (List ℕ) → Result (List Event) ℕ → Type 0
-Tell [] r = r ≡ Ok []
-Tell (line ∷ others) r =
-    (IsBlank line × ((q : Result (List Event) ℕ) × Tell others q × (r ≡ behind_blank q)))
+abbrev pub IsTraceOf : List (List ℕ) → Result (List Event) ℕ → Type 0
+IsTraceOf [] r = r ≡ Ok []
+IsTraceOf (line ∷ others) r =
+    (IsBlank line × ((q : Result (List Event) ℕ) × IsTraceOf others q × (r ≡ after_blank q)))
     ⊎ ((IsEnd line × (r ≡ Ok []))
-    ⊎ (((event : Event) × SpellsEvent event line × ((q : Result (List Event) ℕ) × Tell others q × (r ≡ behind_event event q)))
+    ⊎ (((event : Event) × SpellsEvent event line × ((q : Result (List Event) ℕ) × IsTraceOf others q × (r ≡ after_event event q)))
     ⊎ (IsUnknown line × (r ≡ Err 1))))
 
 -- holds for the error of lines
 abbrev pub IsNoHistory : List (List ℕ) → HistoryFault → Type 0
-IsNoHistory lines (UnknownLine line) = Tell lines (Err line)
+IsNoHistory lines (UnknownLine line) = IsTraceOf lines (Err line)
 IsNoHistory lines NoMemory = Unit {0}
 
 -- ---- the text after `events`
@@ -82,4 +82,4 @@ AreParts text before after = IsCut text before after ⊎ (HasNoHistory text × (
 
 -- no lines are two traces
 abbrev pub OneHistory : Type 0
-OneHistory = (lines : List (List ℕ)) (r q : Result (List Event) ℕ) → Tell lines r → Tell lines q → r ≡ q
+OneHistory = (lines : List (List ℕ)) (r q : Result (List Event) ℕ) → IsTraceOf lines r → IsTraceOf lines q → r ≡ q

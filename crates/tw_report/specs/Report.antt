@@ -69,8 +69,8 @@ entries_in None = []
 entries_in (Some x) = fin.entries (members_in x.content)
 
 -- returns the member of a container with `index` smaller subscripts: its subscript, and its datum if that is live
-abbrev pub member_told : Data → Datum → ℕ → Option (Subscript × Option Datum)
-member_told live container index = option_map (λ e. (e.0, fin.get live e.1)) (slice_get (entries_in (Some container)) index)
+abbrev pub member_shown : Data → Datum → ℕ → Option (Subscript × Option Datum)
+member_shown live container index = option_map (λ e. (e.0, fin.get live e.1)) (slice_get (entries_in (Some container)) index)
 
 -- returns the line of an output, and those of its members
 abbrev pub output_text : Data → ℕ → Option Datum → List ℕ

@@ -4,7 +4,7 @@ ghost use Rattle.std.specs.Prelude.{◌≡◌, ◌↔◌, ◌+◌, ◌<◌, ◌�
 ghost use Rattle.std.specs.Option.{option_map};
 ghost use Rattle.std.specs.List.{AllByRecursion};
 ghost use Rattle.tw_report.specs.Events.{IsEvent};
-ghost use Rattle.tw_report.specs.History.{AreParts, IsNoHistory, IsWord, Tell, lines_in};
+ghost use Rattle.tw_report.specs.History.{AreParts, IsNoHistory, IsWord, IsTraceOf, lines_in};
 ghost use Rattle.tw_report.specs.reading.History.{IsFirstLine, Takes};
 
 use crate::read_event::event_of;
@@ -66,7 +66,7 @@ fn take_line(events: &mut Vec<Event>, line: &[u8], number: usize) -> Result<bool
 ///
 /// Blank lines are skipped, and counted. Anything after `end` is ignored.
 pub fn read_history(alloc: Global, text: &[u8]) -> Result<Vec<Event>, HistoryFault>
-    ensures told { MatchResult result (λ events. Tell (lines_in text.now) (Ok events.items)) (λ fault. IsNoHistory (lines_in text.now) fault) }
+    ensures traced { MatchResult result (λ events. IsTraceOf (lines_in text.now) (Ok events.items)) (λ fault. IsNoHistory (lines_in text.now) fault) }
     ensures sizes { IfOk result (λ events. AllByRecursion IsEvent events.items) }
     ensures few { IfOk result (λ events. length events.items ≤ length text.now + 1) }
 {

@@ -112,15 +112,15 @@ fn put_member_line<M: Member>(
 fn put_member_lines<T: ReportSource>(
     alloc: Global,
     out: &mut Vec<u8>,
-    told: &T,
+    source: &T,
     container: &Datum<T::Kept>,
 ) -> Result<(), AllocError>
-    requires { T.IsShown told.now container.now }
+    requires { T.IsShown source.now container.now }
     ensures { OnOk result (out.new.items ≡ out.old.items
-        ++ member_lines (T.live told.now) (entries (members_in container.now.datum.content))) }
+        ++ member_lines (T.live source.now) (entries (members_in container.now.datum.content))) }
 {
     for index in 0..container.len() {
-        let Some(member) = told.member(container, index) else {
+        let Some(member) = source.member(container, index) else {
             unreachable!();
         };
         put_member_line(alloc, out, member)?;
@@ -132,17 +132,17 @@ fn put_member_lines<T: ReportSource>(
 fn put_output<T: ReportSource>(
     alloc: Global,
     out: &mut Vec<u8>,
-    told: &T,
+    source: &T,
     number: usize,
     id: DatumId,
 ) -> Result<(), AllocError>
     ensures { OnOk result (out.new.items ≡ out.old.items
-        ++ output_text (T.live told.now) number (get (T.live told.now) id)) }
+        ++ output_text (T.live source.now) number (get (T.live source.now) id)) }
 {
-    let datum = told.datum(id);
+    let datum = source.datum(id);
     put_output_line(alloc, out, number, datum)?;
     match datum {
-        Some(datum) => put_member_lines(alloc, out, told, datum),
+        Some(datum) => put_member_lines(alloc, out, source, datum),
         None => Ok(()),
     }
 }
@@ -151,13 +151,13 @@ fn put_output<T: ReportSource>(
 pub fn put_report<T: ReportSource>(
     alloc: Global,
     out: &mut Vec<u8>,
-    told: &T,
+    source: &T,
     closing: &[u8],
 ) -> Result<(), AllocError>
-    ensures { OnOk result (out.new.items ≡ out.old.items ++ report (T.live told.now) (T.ids told.now) closing.now) }
+    ensures { OnOk result (out.new.items ≡ out.old.items ++ report (T.live source.now) (T.ids source.now) closing.now) }
 {
-    for (number, id) in told.outputs().iter().enumerate() {
-        put_output(alloc, out, told, number, *id)?;
+    for (number, id) in source.outputs().iter().enumerate() {
+        put_output(alloc, out, source, number, *id)?;
     }
     out.extend_from_slice(closing)
 }

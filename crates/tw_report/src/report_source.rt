@@ -5,7 +5,7 @@ ghost use Rattle.std.specs.FinMap.{get};
 ghost use Rattle.std.specs.Option.{option_copied};
 ghost use Rattle.tw_types.specs.Store.{Data};
 ghost use Rattle.tw_datum.specs.Kept.{KeptDatum};
-ghost use Rattle.tw_report.specs.Report.{member_told};
+ghost use Rattle.tw_report.specs.Report.{member_shown};
 
 use tw_datum::{Datum, Member};
 use tw_machine::State;
@@ -39,7 +39,7 @@ pub trait ReportSource {
         index: usize,
     ) -> Option<(&'a Value, Option<&'a Datum<Self::Kept>>)>
         requires { IsShown self.now container.now }
-        ensures { option_map (λ m. (m.0.now, option_map (λ d. d.datum) (option_copied m.1))) result ≡ member_told (live self.now) container.now.datum index };
+        ensures { option_map (λ m. (m.0.now, option_map (λ d. d.datum) (option_copied m.1))) result ≡ member_shown (live self.now) container.now.datum index };
 }
 
 /// A state of the reference machine looks up a member by its id.

@@ -2,7 +2,7 @@
 use Rattle.std.specs.Prelude.{◌≡◌, ◌⊎◌, ◌+◌, ℕ, Bool, true, false, List, [], ◌∷◌, ◌++◌, Option, Some, None, Result, Ok, Err}
 use Rattle.tw_types.specs.declared.event.Event.{Event}
 use Rattle.tw_report.specs.Events.{SpellsEvent}
-use Rattle.tw_report.specs.History.{HasNoLineFeed, IsBlank, IsEnd, IsUnknown, Tell, lines_in}
+use Rattle.tw_report.specs.History.{HasNoLineFeed, IsBlank, IsEnd, IsUnknown, IsTraceOf, lines_in}
 use Rattle.tw_report.specs.declared.history.HistoryFault.{HistoryFault}
 use Rattle.tw_report.specs.declared.history.HistoryFault.TheVariants.{UnknownLine, NoMemory}
 
@@ -20,7 +20,7 @@ onto events count (Err line) = Err (count + line)
 
 -- holds if these are the events of the first `count` lines, and this is the rest of the text
 abbrev pub IsReadTo : List ℕ → List Event → ℕ → List ℕ → Type 0
-IsReadTo text events count rest = (r : Result (List Event) ℕ) → Tell (lines_in rest) r → Tell (lines_in text) (onto events count r)
+IsReadTo text events count rest = (r : Result (List Event) ℕ) → IsTraceOf (lines_in rest) r → IsTraceOf (lines_in text) (onto events count r)
 
 -- holds for the text after the first line: nothing, or a line feed and the other lines
 abbrev pub Follows : List ℕ → List ℕ → Option (List ℕ) → Type 0

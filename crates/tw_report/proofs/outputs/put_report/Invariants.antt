@@ -3,4 +3,4 @@ use Rattle.tw_report.specs.Report.{output_texts}
 use Rattle.tw_report.proofs.outputs.put_report.Given as goal
 
 abbrev pub invariant-loop-number : goal.invariant-loop-number
-invariant-loop-number g l = l.out.items ≡ l.fn.out.items ++ output_texts (g.T.ReportSource.live l.told) 0 (take l.number (g.T.ReportSource.ids l.told))
+invariant-loop-number g l = l.out.items ≡ l.fn.out.items ++ output_texts (g.T.ReportSource.live l.source) 0 (take l.number (g.T.ReportSource.ids l.source))
