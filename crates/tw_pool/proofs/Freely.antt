@@ -174,8 +174,8 @@ module _ (verified : TypedProgram) (inputs : List Input) (layout : ActorCounts) 
     engine_low : engine < 4
     engine_low = let here = subst (λ (x : PoolView). engine < x.layout.engines) (sym seen) low in let few = h.parts.runnable.counts.few_engines in omega (arith, here, few)
 
-    pub seat_free : get old.seats (Engine engine) ≡ None
-    seat_free = no_task old h.notices (Engine engine) (free_here (Engine engine) free)
+    pub slot_free : get old.running_tasks (Engine engine) ≡ None
+    slot_free = no_task old h.notices (Engine engine) (free_here (Engine engine) free)
 
     pub asks_none : next_ask engine old.rules.rules ≡ None → AsksNone w engine
     asks_none e s at = ap (λ (t : State). next_ask engine t.rules) (same_went s state (sym at ∙ has_state)) ∙ next_ask_mapped bare_arg engine old.rules.rules ∙ e
@@ -265,7 +265,7 @@ module _ (verified : TypedProgram) (inputs : List Input) (layout : ActorCounts) 
   -- ---- an issued job
 
   -- with these events recorded, and a task of the actor's that is issued under its number
-  module _ (actor : Actor) (es : List Event) (new : Parts) (kept : IsKept verified inputs layout traced.limit (traced.events ++ es) new) (f : FrameView) (sits : get new.seats actor ≡ Some f)
+  module _ (actor : Actor) (es : List Event) (new : Parts) (kept : IsKept verified inputs layout traced.limit (traced.events ++ es) new) (f : FrameView) (is_running : get new.running_tasks actor ≡ Some f)
       (by_number : f.event_no ≡ length (events_of actor (traced.events ++ es))) where
     abbrev after : State
     after = state_of new kept.notices
@@ -274,11 +274,11 @@ module _ (verified : TypedProgram) (inputs : List Input) (layout : ActorCounts) 
     after_here = subst (λ (x : PoolView). HasState (with_events x es) after) seen kept.replays
 
     fits : FrameFits verified new.store.places actor f
-    fits = kept.parts.rights_fit.frames actor f sits
+    fits = kept.parts.rights_fit.frames actor f is_running
 
     is_lent : lent_to (with_events w es) after actor ≡ Some (job_of f)
     is_lent =
-        let runs : get after.frames actor ≡ Some (bare_frame f) = get_mapped bare_frame new.seats actor ∙ ap (option_map bare_frame) sits in
+        let runs : get after.frames actor ≡ Some (bare_frame f) = get_mapped bare_frame new.running_tasks actor ∙ ap (option_map bare_frame) is_running in
         subst (λ (x : PoolView). lent_to (with_events x es) after actor ≡ Some (job_of f)) seen
         (ap (option_map (λ (g : Frame). record { program = verified; task = g.task; procedure = g.procedure; actor = actor; event_no = length (events_of actor (traced.events ++ es)); position = g.position })) runs
         ∙ ap Some (λ i. record { program = sym fits.program i; task = f.task; procedure = f.procedure; actor = sym fits.own i; event_no = sym by_number i; position = f.position }))
@@ -292,7 +292,7 @@ module _ (verified : TypedProgram) (inputs : List Input) (layout : ActorCounts) 
     pub there_here : is_in layout actor ≡ true
     there_here = subst (λ (x : PoolView). is_in x.layout actor ≡ true) (sym seen) there
 
-    pub taker_free : get old.seats actor ≡ None
+    pub taker_free : get old.running_tasks actor ≡ None
     taker_free = no_task old h.notices actor (free_here actor free)
 
     due_is : (a : Actor) → MayTakeNow w a → (o : Option (ℕ × Task)) → best a state.tasks ≡ o → (due : Event) → IsDueFree w.layout a state due → take_of a o ≡ Some due
@@ -324,7 +324,7 @@ module _ (verified : TypedProgram) (inputs : List Input) (layout : ActorCounts) 
           inr (wanted (Take actor) (record { e = entry_by bare_task takes.e; is = is; texts = takes.texts }), (refl, refl)),
         )
 
-    module _ (t : ℕ × TaskOf Arg) (is : best actor old.tasks.tasks ≡ Some t) (new : Parts) (makes : Makes verified layout (Take actor) old new) (f : FrameView) (sits : get new.seats actor ≡ Some f)
+    module _ (t : ℕ × TaskOf Arg) (is : best actor old.tasks.tasks ≡ Some t) (new : Parts) (makes : Makes verified layout (Take actor) old new) (f : FrameView) (is_running : get new.running_tasks actor ≡ Some f)
         (number : f.event_no ≡ length (events_of actor traced.events) + 1) where
       take_goes : Goes verified layout (Take actor) old h.notices new
       take_goes = makes h.notices h.parts
@@ -334,7 +334,7 @@ module _ (verified : TypedProgram) (inputs : List Input) (layout : ActorCounts) 
 
       pub take_kept : IsKept verified inputs layout traced.limit (traced.events ++ Take actor ∷ []) new
       take_kept = made_lent verified inputs layout traced.limit traced.events old h (Take actor) new take_goes (room_here room)
-          (λ g at. ap (λ (x : FrameView). x.event_no) (same_Some g f (sym at ∙ sits)) ∙ by_number)
+          (λ g at. ap (λ (x : FrameView). x.event_no) (same_Some g f (sym at ∙ is_running)) ∙ by_number)
 
       pub take_line : GoesFree w state actor (Run (job_of f)) (Take actor ∷ [])
-      take_line = inl (Take actor, is_due actor first (entry_by bare_task t) (best_is ∙ ap (option_map (entry_by bare_task)) is), inl (lends actor (Take actor ∷ []) new take_kept f sits by_number))
+      take_line = inl (Take actor, is_due actor first (entry_by bare_task t) (best_is ∙ ap (option_map (entry_by bare_task)) is), inl (lends actor (Take actor ∷ []) new take_kept f is_running by_number))

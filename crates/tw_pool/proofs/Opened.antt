@@ -13,13 +13,13 @@ use Rattle.tw_code.specs.machine.State.{State}
 use Rattle.tw_verify.specs.Typed.{TypedProgram}
 use Rattle.tw_pool_state.specs.Opening.{IsOpening}
 use Rattle.tw_pool_state.specs.Parts.{state_of}
-use Rattle.tw_pool_state.specs.Seats.{Seated}
+use Rattle.tw_pool_state.specs.RunningTasks.{TasksByActor}
 use Rattle.tw_pool_state.specs.declared.parts.Parts.{Parts}
 use Rattle.tw_pool.specs.Kept.{AreLent, IsKept}
 use Rattle.tw_pool.specs.Openings.{MayOpen}
 
-nobody : (seats : Seated) → seats ≡ fin.empty → AreLent [] seats
-nobody seats none actor f at = let no_one : None ≡ Some f = sym (get-empty actor_cmp actor) ∙ (sym (ap (λ (s : Seated). get s actor) none) ∙ at) in cc
+nobody : (running_tasks : TasksByActor) → running_tasks ≡ fin.empty → AreLent [] running_tasks
+nobody running_tasks none actor f at = let no_one : None ≡ Some f = sym (get-empty actor_cmp actor) ∙ (sym (ap (λ (s : TasksByActor). get s actor) none) ∙ at) in cc
 
 replays_nothing : (verified : TypedProgram) (inputs : List Input) (layout : ActorCounts) (s : State) → s ≡ opening verified.program inputs → reached verified.program inputs layout [] ≡ Went s
 unfolding run
@@ -34,5 +34,5 @@ kept verified inputs layout limit p may opens = record {
   notices = set.empty;
   replays = replays_nothing verified inputs layout (state_of p set.empty) opens.state;
   parts = opens.parts;
-  lent = nobody p.seats opens.nobody;
+  lent = nobody p.running_tasks opens.nobody;
 }

@@ -153,24 +153,24 @@ module _ (verified : TypedProgram) (inputs : List Input) (layout : ActorCounts) 
       (subst (λ c. TurnsUnless c w here actor given (Over closing) []) (is here at_here) (refl, refl))
 
   module _ (actor : Actor) where
-    pub is_free : get old.seats actor ≡ None → IsFree w actor
-    is_free none s at = ap (λ (t : State). get t.frames actor) (only_here s at) ∙ get_mapped bare_frame old.seats actor ∙ ap (option_map bare_frame) none
+    pub is_free : get old.running_tasks actor ≡ None → IsFree w actor
+    is_free none s at = ap (λ (t : State). get t.frames actor) (only_here s at) ∙ get_mapped bare_frame old.running_tasks actor ∙ ap (option_map bare_frame) none
 
-    module _ (f : FrameView) (sits : get old.seats actor ≡ Some f) where
+    module _ (f : FrameView) (is_running : get old.running_tasks actor ≡ Some f) where
       abbrev job_by : Frame → JobView
       job_by g = record { program = verified; task = g.task; procedure = g.procedure; actor = actor; event_no = length (events_of actor traced.events); position = g.position }
 
       -- the issued job
       pub lent_is : lent_to w here actor ≡ Some (job_of f)
       lent_is =
-          let fits = h.parts.rights_fit.frames actor f sits in
-          let number = h.lent actor f sits in
+          let fits = h.parts.rights_fit.frames actor f is_running in
+          let number = h.lent actor f is_running in
           subst (λ (x : PoolView). lent_to x here actor ≡ Some (job_of f)) seen
-          (ap (option_map job_by) (get_mapped bare_frame old.seats actor ∙ ap (option_map bare_frame) sits)
+          (ap (option_map job_by) (get_mapped bare_frame old.running_tasks actor ∙ ap (option_map bare_frame) is_running)
           ∙ ap Some (λ i. record { program = sym fits.program i; task = f.task; procedure = f.procedure; actor = sym fits.own i; event_no = sym number i; position = f.position }))
 
       pub program_is : w.program ≡ f.program
-      program_is = ap (λ (x : PoolView). x.program) (sym seen) ∙ sym (h.parts.rights_fit.frames actor f sits).program
+      program_is = ap (λ (x : PoolView). x.program) (sym seen) ∙ sym (h.parts.rights_fit.frames actor f is_running).program
 
       pub is_owed : (done : DoneView) → done.before ≡ job_of f → IsOwedBy w actor done
       is_owed done own s at = ap (λ t. lent_to w t actor) (only_here s at) ∙ lent_is ∙ ap Some (sym own)
@@ -183,12 +183,12 @@ module _ (verified : TypedProgram) (inputs : List Input) (layout : ActorCounts) 
       foreign_line done other = unchanged (λ s. Turns w s actor (lent_to w s actor) (Some done)) (Foreign done)
           (subst (λ j. Turns w here actor j (Some done) (Foreign done) []) (sym lent_is) (inr (other, (refl, refl))))
 
-    pub owed_if : IsSome (get old.seats actor) → IsTurnBy (λ s. Turns w s actor (lent_to w s actor) None) w Owed w
-    owed_if some = by (get old.seats actor) refl some
+    pub owed_if : IsSome (get old.running_tasks actor) → IsTurnBy (λ s. Turns w s actor (lent_to w s actor) None) w Owed w
+    owed_if some = by (get old.running_tasks actor) refl some
       where
-        by : (o : Option FrameView) → get old.seats actor ≡ o → IsSome o → IsTurnBy (λ s. Turns w s actor (lent_to w s actor) None) w Owed w
+        by : (o : Option FrameView) → get old.running_tasks actor ≡ o → IsSome o → IsTurnBy (λ s. Turns w s actor (lent_to w s actor) None) w Owed w
         by None none is = cc
-        by (Some f) sits is = owed_line f sits
+        by (Some f) is_running is = owed_line f is_running
 
     -- a Done, and no task
     pub stray_line : (done : DoneView) → IsFree w actor → IsTurnBy (λ s. Turns w s actor (lent_to w s actor) (Some done)) w (Foreign done) w

@@ -16,15 +16,15 @@ use Rattle.tw_verify.specs.Typed.{TypedProgram}
 use Rattle.tw_frame.specs.Jobs.{DoneView, FrameView}
 use Rattle.tw_pool_state.specs.Fits.{AreParts}
 use Rattle.tw_pool_state.specs.Parts.{state_of}
-use Rattle.tw_pool_state.specs.Seats.{Seated}
+use Rattle.tw_pool_state.specs.RunningTasks.{TasksByActor}
 use Rattle.tw_pool_state.specs.declared.parts.Parts.{Parts}
 use Rattle.tw_pool.specs.Actors.{events_of}
 use Rattle.tw_pool.specs.PoolView.{PoolView, HasState}
 use Rattle.tw_pool.specs.Turns.{lent_to}
 
 -- holds if each task was issued last under the number of its actor's events
-abbrev pub AreLent : List Event → Seated → Type 0
-AreLent history seats = (actor : Actor) (f : FrameView) → get seats actor ≡ Some f → f.event_no ≡ length (events_of actor history)
+abbrev pub AreLent : List Event → TasksByActor → Type 0
+AreLent history running_tasks = (actor : Actor) (f : FrameView) → get running_tasks actor ≡ Some f → f.event_no ≡ length (events_of actor history)
 
 -- the state of the parts is the one that the events reach
 pub record IsKept (verified : TypedProgram) (inputs : List Input) (layout : ActorCounts) (limit : ℕ) (history : List Event) (p : Parts) : Type 0 where
@@ -34,7 +34,7 @@ pub record IsKept (verified : TypedProgram) (inputs : List Input) (layout : Acto
   pub notices : Notices
   pub replays : reached verified.program inputs layout history ≡ Went (state_of p notices)
   pub parts : AreParts verified layout p notices
-  pub lent : AreLent history p.seats
+  pub lent : AreLent history p.running_tasks
 
 -- holds if this is so in the pool's state
 abbrev pub InState : PoolView → (State → Type 0) → Type 0

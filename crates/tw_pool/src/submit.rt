@@ -221,7 +221,7 @@ impl<'a> Pool<'a> {
         requires program { done.before.program ≡ self.old.program }
         ensures { IsTurnBy (λ s. Turns self.old s actor (lent_to self.old s actor) (Some done.entry)) self.old result self.new }
     {
-        let Some(frame) = self.parts.seats.get(actor) else {
+        let Some(frame) = self.parts.running_tasks.get(actor) else {
             return Turn::Foreign(done);
         };
         if !frame.is_current(done.before()) {

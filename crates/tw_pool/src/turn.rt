@@ -5,7 +5,7 @@ ghost use Rattle.std.specs.FinMap.{get};
 ghost use Rattle.tw_types.specs.Actor.{is_in};
 ghost use Rattle.tw_code.specs.machine.Ending.{ending};
 ghost use Rattle.tw_code.specs.machine.State.{State};
-ghost use Rattle.tw_pool_state.specs.Seats.{HasSeat};
+ghost use Rattle.tw_pool_state.specs.RunningTasks.{HasSlot};
 ghost use Rattle.tw_pool.specs.PoolView.{HasState};
 ghost use Rattle.tw_pool.specs.Turns.{IsTurn, closing_at, closing_of};
 
@@ -28,10 +28,10 @@ fn closing_of(ending: Ending) -> Closing
 
 /// Returns whether the actor has a task. Its job is then always issued.
 fn has_task(parts: &Parts<'_>, actor: Actor) -> bool
-    requires { HasSeat actor }
-    ensures { MatchBool result (IsSome (get parts.now.seats actor)) (get parts.now.seats actor ≡ None) }
+    requires { HasSlot actor }
+    ensures { MatchBool result (IsSome (get parts.now.running_tasks actor)) (get parts.now.running_tasks actor ≡ None) }
 {
-    match parts.seats.get(actor) {
+    match parts.running_tasks.get(actor) {
         Some(_frame) => true,
         None => false,
     }

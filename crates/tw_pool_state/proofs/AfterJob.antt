@@ -1,6 +1,6 @@
 -- RULE and PUT: the requirements on their parts, if a task is at one after a job.
 use Rattle.std.proofs.Common.{map as each, ◌≡◌, ◌≤◌, ◌<◌, ◌+◌, ◌^◌, ◌∙◌, ℕ, List, Option, Some, None, IsSome, sym, ap, subst, length, slice_get, arith}
-use Rattle.tw_pool_state.proofs.PartNames.{Action, Actor, DoneView, FrameView, HasSeat, Held, IsInstr, IsOwed, IsProcedure, IsProgram, MayBeAt, Param, Parts, Procedure, IsAtInstr, Value, at_next_place, bare_frame, come, context_of, get, job_of, named_values, same_Some, state_of, with_done}
+use Rattle.tw_pool_state.proofs.PartNames.{Action, Actor, DoneView, FrameView, HasSlot, Held, IsInstr, IsOwed, IsProcedure, IsProgram, MayBeAt, Param, Parts, Procedure, IsAtInstr, Value, at_next_place, bare_frame, come, context_of, get, job_of, named_values, same_Some, state_of, with_done}
 use Rattle.tw_rights.specs.Bundled.{Bundled, bundled}
 use Rattle.tw_queue.specs.Queues as queues
 use Rattle.tw_code.specs.declared.instr.Instr.{Instr}
@@ -8,9 +8,9 @@ use Rattle.tw_code.specs.format.Program as format
 use Rattle.tw_soundness.proofs.Accepted.{all_found}
 use Rattle.tw_pool_state.proofs.Fitting.{seen}
 use Rattle.tw_pool_state.proofs.Handovers.{few_params, low_place, may_bundle}
-use Rattle.tw_pool_state.proofs.Law.{runner_has_seat}
+use Rattle.tw_pool_state.proofs.Law.{runner_has_slot}
 use Rattle.tw_pool_state.proofs.Naming.{IsNamed}
-use Rattle.tw_pool_state.proofs.Seating.{get_own}
+use Rattle.tw_pool_state.proofs.Runners.{get_own}
 
 pub so_valued : (values : List Value) (params wanted : List Param) → params ≡ wanted → (named : List ℕ) (vals : List Value) → each Some vals ≡ named_values values params named → each Some vals ≡ named_values values wanted named
 so_valued values params wanted p named vals is = is ∙ ap (λ ps. named_values values ps named) p
@@ -19,14 +19,14 @@ module _ (old : Parts) (actor : Actor) (done : DoneView) (instr : Instr) (s : Is
   abbrev pub there : Parts
   there = with_done old actor s.f done
 
-  pub runs_there : get there.seats actor ≡ Some (come s.f done)
-  runs_there = get_own old.seats actor (come s.f done)
+  pub runs_there : get there.running_tasks actor ≡ Some (come s.f done)
+  runs_there = get_own old.running_tasks actor (come s.f done)
 
-  pub seat_there : HasSeat actor
-  seat_there = runner_has_seat done.before.program s.layout there s.notices s.parts actor (come s.f done) runs_there
+  pub slot_there : HasSlot actor
+  slot_there = runner_has_slot done.before.program s.layout there s.notices s.parts actor (come s.f done) runs_there
 
   spent_there : s.f.spent + done.steps < 2 ^ 63
-  spent_there = let few = s.small.spent actor (bare_frame (come s.f done)) (seen bare_frame there.seats actor (Some (come s.f done)) runs_there) in omega (arith, few)
+  spent_there = let few = s.small.spent actor (bare_frame (come s.f done)) (seen bare_frame there.running_tasks actor (Some (come s.f done)) runs_there) in omega (arith, few)
 
   place_there : done.after.place < 2 ^ 63
   place_there = let low = low_place done.before.program.program s.parts.runnable.is s.f.procedure s.q s.here done.after.place instr s.following_is in omega (arith, low)
@@ -36,12 +36,12 @@ module _ (old : Parts) (actor : Actor) (done : DoneView) (instr : Instr) (s : Is
     pub few : length params ≤ 8
     few = let low = few_params done.before.program.program s.parts.runnable.is action.procedure u.procedure u.is in omega (arith, low, ap length params_is)
 
-    pub sits_ready : (vals : List Value) → each Some vals ≡ named_values done.after.values params action.args → MayBeAt s.f.program.program s.f.procedure (at_next_place done.after)
-        → (x : FrameView) × (get old.seats actor ≡ Some x) × (done.before ≡ job_of x) × (x.spent + done.steps < 2 ^ 63) × (done.after.place < 2 ^ 63) × IsSome (bundled x.held params registers vals)
+    pub is_running_ready : (vals : List Value) → each Some vals ≡ named_values done.after.values params action.args → MayBeAt s.f.program.program s.f.procedure (at_next_place done.after)
+        → (x : FrameView) × (get old.running_tasks actor ≡ Some x) × (done.before ≡ job_of x) × (x.spent + done.steps < 2 ^ 63) × (done.after.place < 2 ^ 63) × IsSome (bundled x.held params registers vals)
         × MayBeAt x.program.program x.procedure (at_next_place done.after)
-    sits_ready vals are fits_place = (
+    is_running_ready vals are fits_place = (
       s.f,
-      s.owed.sits,
+      s.owed.is_running,
       s.owed.own,
       spent_there,
       place_there,
@@ -55,13 +55,13 @@ module _ (old : Parts) (actor : Actor) (done : DoneView) (instr : Instr) (s : Is
 -- arguments taken after a job, for any frame to which the job belongs
 module _ (old : Parts) (actor : Actor) (done : DoneView) (instr : Instr) (s : IsAtInstr old actor done instr) (f : FrameView) (owed : IsOwed old actor f done) where
   same_frame : s.f ≡ f
-  same_frame = same_Some s.f f (sym s.owed.sits ∙ owed.sits)
+  same_frame = same_Some s.f f (sym s.owed.is_running ∙ owed.is_running)
 
   pub here_too : slice_get done.before.program.program f.procedure ≡ Some s.q
   here_too = ap (λ (g : FrameView). slice_get done.before.program.program g.procedure) (sym same_frame) ∙ s.here
 
-  pub runs_too : get (with_done old actor f done).seats actor ≡ Some (come f done)
-  runs_too = get_own old.seats actor (come f done)
+  pub runs_too : get (with_done old actor f done).running_tasks actor ≡ Some (come f done)
+  runs_too = get_own old.running_tasks actor (come f done)
 
 module _ (program : List Procedure) (number : ℕ) (callee : Procedure) (found : slice_get program number ≡ Some callee) (procedure : Procedure) (is : slice_get program number ≡ Some procedure) where
   same_callee : callee ≡ procedure

@@ -16,13 +16,13 @@ use Rattle.tw_pool_state.proofs.Goings.{may_be_at}
 use Rattle.tw_pool_state.proofs.Keeping.{all_kept, args_kept, file_kept}
 use Rattle.tw_pool_state.proofs.Law.{goes_to, held}
 use Rattle.tw_pool_state.proofs.Registers.{id_at, placed_at, placed_each, right_id}
-use Rattle.tw_pool_state.proofs.Seating.{get_other, get_own}
+use Rattle.tw_pool_state.proofs.Runners.{get_other, get_own}
 use Rattle.tw_pool_state.proofs.Notifying.{notified}
 
 module _ (verified : TypedProgram) (layout : ActorCounts) (old : Parts) (notices : Notices) (h : AreParts verified layout old notices)
-    (actor : Actor) (f : FrameView) (p : Procedure) (d : DataInstr) (runs : get old.seats actor ≡ Some f) (here : slice_get verified.program f.procedure ≡ Some p) (at : slice_get p.code f.position.place ≡ Some (instr.Data d)) where
-  there : get (mapped bare_frame old.seats) actor ≡ Some (bare_frame f)
-  there = seen bare_frame old.seats actor (Some f) runs
+    (actor : Actor) (f : FrameView) (p : Procedure) (d : DataInstr) (runs : get old.running_tasks actor ≡ Some f) (here : slice_get verified.program f.procedure ≡ Some p) (at : slice_get p.code f.position.place ≡ Some (instr.Data d)) where
+  there : get (mapped bare_frame old.running_tasks) actor ≡ Some (bare_frame f)
+  there = seen bare_frame old.running_tasks actor (Some f) runs
 
   law : IsHeld verified.program (typings_of verified) (state_of old notices)
   law = held verified layout old notices h
@@ -33,7 +33,7 @@ module _ (verified : TypedProgram) (layout : ActorCounts) (old : Parts) (notices
   own_code : IsProcedure p
   own_code = all_found IsProcedure verified.program f.procedure p h.runnable.is.1 here
 
-  module _ (new : Parts) (g : FrameView) (o : IsDone d old.store new.store f g) (seats : new.seats ≡ insert old.seats actor g)
+  module _ (new : Parts) (g : FrameView) (o : IsDone d old.store new.store f g) (running_tasks : new.running_tasks ≡ insert old.running_tasks actor g)
       (rules : new.rules ≡ old.rules) (tasks : new.tasks ≡ old.tasks) (next_task : new.next_task ≡ old.next_task) (outputs : new.outputs ≡ old.outputs) where
     abbrev left : Notices
     left = with_notices notices o.more
@@ -55,7 +55,7 @@ module _ (verified : TypedProgram) (layout : ActorCounts) (old : Parts) (notices
       next_rule = (rules i).next;
       tasks = mapped bare_task (tasks i).tasks;
       next_task = next_task i;
-      frames = (ap (mapped bare_frame) seats ∙ insert_mapped bare_frame actor_cmp_total actor_cmp-IsAntisymmetric old.seats actor g ∙ ap (insert (mapped bare_frame old.seats) actor) frame_is) i;
+      frames = (ap (mapped bare_frame) running_tasks ∙ insert_mapped bare_frame actor_cmp_total actor_cmp-IsAntisymmetric old.running_tasks actor g ∙ ap (insert (mapped bare_frame old.running_tasks) actor) frame_is) i;
       notices = left;
       outputs = each (λ (right : Right). right.id) (outputs i);
     }
@@ -100,8 +100,8 @@ module _ (verified : TypedProgram) (layout : ActorCounts) (old : Parts) (notices
           (asked_at verified.program (typings_of verified) h.runnable.is h.runnable.right f.procedure p here f.position.place (instr.Data d) at) ∙ ap kinds_in (sym typing_is);
     }
       where
-        new_there : get (mapped bare_frame new.seats) actor ≡ Some (bare_frame g)
-        new_there = seen bare_frame new.seats actor (Some g) (ap (λ m. get m actor) seats ∙ get_own old.seats actor g)
+        new_there : get (mapped bare_frame new.running_tasks) actor ≡ Some (bare_frame g)
+        new_there = seen bare_frame new.running_tasks actor (Some g) (ap (λ m. get m actor) running_tasks ∙ get_own old.running_tasks actor g)
 
         each_is : (k : ℕ) (x : Held) → slice_index_or g.held k None ≡ Some x → IsAt new.store.places (right_in x)
         each_is k x now = elim (o.own k x now) as (λ _. IsAt new.store.places (right_in x)) [
@@ -116,16 +116,16 @@ module _ (verified : TypedProgram) (layout : ActorCounts) (old : Parts) (notices
         typing_is = ap (λ (n : FrameView). typing_at (typings_of verified) n.procedure g.position.place) o.rest
             ∙ (typed_after verified.program (typings_of verified) h.runnable.is h.runnable.right f.procedure p here f.position.place g.position.place (instr.Data d) o.way at o.onwards).1
 
-    fit_is : RightsFit verified new.store.places new.seats new.tasks.tasks new.rules.rules new.outputs
+    fit_is : RightsFit verified new.store.places new.running_tasks new.tasks.tasks new.rules.rules new.outputs
     fit_is = record {
-      frames = λ a x is. elim (put_or_before actor_cmp_total actor_cmp-IsAntisymmetric old.seats actor g a x (ap (λ m. get m a) (sym seats) ∙ is)) as (λ _. FrameFits verified new.store.places a x) [
+      frames = λ a x is. elim (put_or_before actor_cmp_total actor_cmp-IsAntisymmetric old.running_tasks actor g a x (ap (λ m. get m a) (sym running_tasks) ∙ is)) as (λ _. FrameFits verified new.store.places a x) [
         | inl same ↦ subst (λ b. FrameFits verified new.store.places b x) (sym same.0) (subst (FrameFits verified new.store.places actor) same.1 own)
         | inr before ↦ record {
           program = (h.rights_fit.frames a x before).program;
           own = (h.rights_fit.frames a x before).own;
           placed = file_kept old.store.places new.store.places Both kept x.held (λ k id in_it. (
-            register_is_live verified.program (typings_of verified) (state_of old notices) law a (bare_frame x) k id (seen bare_frame old.seats a (Some x) before) in_it,
-            register_is_live verified.program (typings_of verified) (state_of new left) law_new a (bare_frame x) k id (seen bare_frame new.seats a (Some x) is) in_it,
+            register_is_live verified.program (typings_of verified) (state_of old notices) law a (bare_frame x) k id (seen bare_frame old.running_tasks a (Some x) before) in_it,
+            register_is_live verified.program (typings_of verified) (state_of new left) law_new a (bare_frame x) k id (seen bare_frame new.running_tasks a (Some x) is) in_it,
           )) (h.rights_fit.frames a x before).placed;
           kinds = (h.rights_fit.frames a x before).kinds;
         }
@@ -150,7 +150,7 @@ module _ (verified : TypedProgram) (layout : ActorCounts) (old : Parts) (notices
 
     pub called : Goes verified layout (Call actor) old notices new
     called = goes_to verified layout old notices h (Call actor) new left _ goes same_state queues_are.0 (queues_are.1 ∙ h.servers) fit_is
-        (λ other apart. ap (λ m. get m other) seats ∙ get_other old.seats actor g other apart)
+        (λ other apart. ap (λ m. get m other) running_tasks ∙ get_other old.running_tasks actor g other apart)
 
   pub may_do : IsSmall (state_of old notices) → MayDo d old.store f
   may_do small = record {
@@ -175,7 +175,7 @@ module _ (verified : TypedProgram) (layout : ActorCounts) (old : Parts) (notices
       spent = small.spent actor (bare_frame f) there;
     };
     fits_place = λ store g o.
-        let new : Parts = record old { store = store; seats = insert old.seats actor g } in
+        let new : Parts = record old { store = store; running_tasks = insert old.running_tasks actor g } in
         let c = called new g o refl refl refl refl refl in
-        may_be_at verified layout new c.left c.parts actor g (get_own old.seats actor g);
+        may_be_at verified layout new c.left c.parts actor g (get_own old.running_tasks actor g);
   }

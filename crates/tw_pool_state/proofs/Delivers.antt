@@ -44,7 +44,7 @@ module _ (verified : TypedProgram) (layout : ActorCounts) (old : Parts) (notices
 
   module _ (new : Parts) (store : new.store.store ≡ old.store.store) (places : new.store.places ≡ old.store.places) (queues : new.store.queues ≡ set old.store.queues server rest)
       (rules : new.rules.rules ≡ staged old.rules.rules n.rule n.parameter Ready) (next_rule : new.rules.next ≡ old.rules.next)
-      (tasks : new.tasks ≡ old.tasks) (next_task : new.next_task ≡ old.next_task) (seats : new.seats ≡ old.seats) (outputs : new.outputs ≡ old.outputs) where
+      (tasks : new.tasks ≡ old.tasks) (next_task : new.next_task ≡ old.next_task) (running_tasks : new.running_tasks ≡ old.running_tasks) (outputs : new.outputs ≡ old.outputs) where
     abbrev left : Notices
     left = set_of.remove notices n
 
@@ -58,7 +58,7 @@ module _ (verified : TypedProgram) (layout : ActorCounts) (old : Parts) (notices
       next_rule = next_rule i;
       tasks = mapped bare_task (tasks i).tasks;
       next_task = next_task i;
-      frames = mapped bare_frame (seats i);
+      frames = mapped bare_frame (running_tasks i);
       notices = left;
       outputs = map (λ (right : Right). right.id) (outputs i);
     }
@@ -73,11 +73,11 @@ module _ (verified : TypedProgram) (layout : ActorCounts) (old : Parts) (notices
     delivers = goes_to verified layout old notices h (Deliver server n.datum n.rule n.parameter) new left _ came same_state
         (subst (λ qs. AreQueued qs left) (sym queues) (notes.taken old.store.queues notices h.queued server inside n rest is))
         (ap length queues ∙ length-set old.store.queues server rest ∙ h.servers)
-        fit_is (λ actor other. ap (λ m. get m actor) seats)
+        fit_is (λ actor other. ap (λ m. get m actor) running_tasks)
       where
-        staged_fit : RightsFit verified old.store.places old.seats old.tasks.tasks (staged old.rules.rules n.rule n.parameter Ready) old.outputs
-        staged_fit = subst (λ rs. RightsFit verified old.store.places old.seats old.tasks.tasks rs old.outputs) (sym (staged_is old.rules.rules n.rule its.x n.parameter Ready its.there))
-            (fit_staged verified old.store.places old.seats old.tasks.tasks old.rules.rules old.outputs h.rights_fit n.rule its.x n.parameter Ready its.there)
+        staged_fit : RightsFit verified old.store.places old.running_tasks old.tasks.tasks (staged old.rules.rules n.rule n.parameter Ready) old.outputs
+        staged_fit = subst (λ rs. RightsFit verified old.store.places old.running_tasks old.tasks.tasks rs old.outputs) (sym (staged_is old.rules.rules n.rule its.x n.parameter Ready its.there))
+            (fit_staged verified old.store.places old.running_tasks old.tasks.tasks old.rules.rules old.outputs h.rights_fit n.rule its.x n.parameter Ready its.there)
 
-        fit_is : RightsFit verified new.store.places new.seats new.tasks.tasks new.rules.rules new.outputs
-        fit_is = rw (places, seats, tasks, rules, outputs) staged_fit
+        fit_is : RightsFit verified new.store.places new.running_tasks new.tasks.tasks new.rules.rules new.outputs
+        fit_is = rw (places, running_tasks, tasks, rules, outputs) staged_fit

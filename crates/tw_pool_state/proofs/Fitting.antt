@@ -1,7 +1,7 @@
 -- Rights stay right when one rule, task or frame changes.
 use Rattle.std.proofs.Common.{◌≡◌, ℕ, List, Option, Some, None, refl, sym, ap, subst, ◌∙◌, inl, inr, option_map}
 use Rattle.std.specs.declared.cmp.Ordering.{Ordering}
-use Rattle.tw_pool_state.proofs.PartNames.{Actor, Arg, ArgsMatch, FinMap, FrameFits, FrameView, Places, Right, RuleOf, RulesOf, Seated, RightsFit, TaskOf, TasksOf, TypedProgram, actor_cmp-IsAntisymmetric, actor_cmp_total, at_stage, get, get_mapped, insert, mapped, nat_cmp-IsAntisymmetric, nat_cmp_total, params_of, remove, same_Some, task_from}
+use Rattle.tw_pool_state.proofs.PartNames.{Actor, Arg, ArgsMatch, FinMap, FrameFits, FrameView, Places, Right, RuleOf, RulesOf, TasksByActor, RightsFit, TaskOf, TasksOf, TypedProgram, actor_cmp-IsAntisymmetric, actor_cmp_total, at_stage, get, get_mapped, insert, mapped, nat_cmp-IsAntisymmetric, nat_cmp_total, params_of, remove, same_Some, task_from}
 use Rattle.tw_types.specs.declared.actor.Kind.{Kind}
 use Rattle.tw_types.specs.declared.stage.Stage.{Stage}
 use Rattle.tw_types.proofs.Parts.{put_or_before, before_removal}
@@ -22,9 +22,9 @@ image_of {X = X} f m k y e = by (get m k) refl (sym (get_mapped f m k) ∙ e)
 pub seen : {K X Y : Type 0} {R : K → K → Ordering} (f : X → Y) (m : FinMap R X) (k : K) (o : Option X) → get m k ≡ o → get (mapped f m) k ≡ option_map f o
 seen f m k o e = get_mapped f m k ∙ ap (option_map f) e
 
-module _ (verified : TypedProgram) (places : Places) (seats : Seated) (tasks : TasksOf Arg) (rules : RulesOf Arg) (outputs : List Right) (h : RightsFit verified places seats tasks rules outputs) where
+module _ (verified : TypedProgram) (places : Places) (running_tasks : TasksByActor) (tasks : TasksOf Arg) (rules : RulesOf Arg) (outputs : List Right) (h : RightsFit verified places running_tasks tasks rules outputs) where
   -- a stage changes
-  pub fit_staged : (number : ℕ) (r : RuleOf Arg) (parameter : ℕ) (stage : Stage) → get rules number ≡ Some r → RightsFit verified places seats tasks (insert rules number (at_stage r parameter stage)) outputs
+  pub fit_staged : (number : ℕ) (r : RuleOf Arg) (parameter : ℕ) (stage : Stage) → get rules number ≡ Some r → RightsFit verified places running_tasks tasks (insert rules number (at_stage r parameter stage)) outputs
   fit_staged number r parameter stage at = record {
     frames = h.frames;
     tasks = h.tasks;
@@ -36,7 +36,7 @@ module _ (verified : TypedProgram) (places : Places) (seats : Seated) (tasks : T
   }
 
   -- a rule becomes a task
-  pub fit_released : (number next : ℕ) (r : RuleOf Arg) (kind : Kind) → get rules number ≡ Some r → RightsFit verified places seats (insert tasks next (task_from kind r)) (remove rules number) outputs
+  pub fit_released : (number next : ℕ) (r : RuleOf Arg) (kind : Kind) → get rules number ≡ Some r → RightsFit verified places running_tasks (insert tasks next (task_from kind r)) (remove rules number) outputs
   fit_released number next r kind at = record {
     frames = h.frames;
     tasks = λ n x there. elim (put_or_before nat_cmp_total nat_cmp-IsAntisymmetric tasks next (task_from kind r) n x there) as (λ _. ArgsMatch places (params_of verified.program x.procedure) x.args) [
@@ -48,7 +48,7 @@ module _ (verified : TypedProgram) (places : Places) (seats : Seated) (tasks : T
   }
 
   -- a task is put
-  pub fit_put : (next : ℕ) (t : TaskOf Arg) → ArgsMatch places (params_of verified.program t.procedure) t.args → RightsFit verified places seats (insert tasks next t) rules outputs
+  pub fit_put : (next : ℕ) (t : TaskOf Arg) → ArgsMatch places (params_of verified.program t.procedure) t.args → RightsFit verified places running_tasks (insert tasks next t) rules outputs
   fit_put next t args = record {
     frames = h.frames;
     tasks = λ n x there. elim (put_or_before nat_cmp_total nat_cmp-IsAntisymmetric tasks next t n x there) as (λ _. ArgsMatch places (params_of verified.program x.procedure) x.args) [
@@ -60,7 +60,7 @@ module _ (verified : TypedProgram) (places : Places) (seats : Seated) (tasks : T
   }
 
   -- a rule is made
-  pub fit_ruled : (next : ℕ) (r : RuleOf Arg) → ArgsMatch places (params_of verified.program r.procedure) r.args → RightsFit verified places seats tasks (insert rules next r) outputs
+  pub fit_ruled : (next : ℕ) (r : RuleOf Arg) → ArgsMatch places (params_of verified.program r.procedure) r.args → RightsFit verified places running_tasks tasks (insert rules next r) outputs
   fit_ruled next r args = record {
     frames = h.frames;
     tasks = h.tasks;
@@ -72,7 +72,7 @@ module _ (verified : TypedProgram) (places : Places) (seats : Seated) (tasks : T
   }
 
   -- a task is taken
-  pub fit_without : (number : ℕ) → RightsFit verified places seats (remove tasks number) rules outputs
+  pub fit_without : (number : ℕ) → RightsFit verified places running_tasks (remove tasks number) rules outputs
   fit_without number = record {
     frames = h.frames;
     tasks = λ n x there. h.tasks n x (before_removal nat_cmp_total nat_cmp-IsAntisymmetric tasks number n x there).1;
@@ -81,9 +81,9 @@ module _ (verified : TypedProgram) (places : Places) (seats : Seated) (tasks : T
   }
 
   -- a task starts, or moves on
-  pub fit_seated : (actor : Actor) (f : FrameView) → FrameFits verified places actor f → RightsFit verified places (insert seats actor f) tasks rules outputs
-  fit_seated actor f fits = record {
-    frames = λ a x there. elim (put_or_before actor_cmp_total actor_cmp-IsAntisymmetric seats actor f a x there) as (λ _. FrameFits verified places a x) [
+  pub fit_by_actor : (actor : Actor) (f : FrameView) → FrameFits verified places actor f → RightsFit verified places (insert running_tasks actor f) tasks rules outputs
+  fit_by_actor actor f fits = record {
+    frames = λ a x there. elim (put_or_before actor_cmp_total actor_cmp-IsAntisymmetric running_tasks actor f a x there) as (λ _. FrameFits verified places a x) [
       | inl same ↦ subst (λ b. FrameFits verified places b x) (sym same.0) (subst (FrameFits verified places actor) same.1 fits)
       | inr before ↦ h.frames a x before
     ];
@@ -93,9 +93,9 @@ module _ (verified : TypedProgram) (places : Places) (seats : Seated) (tasks : T
   }
 
   -- a task ends
-  pub fit_ended : (actor : Actor) → RightsFit verified places (remove seats actor) tasks rules outputs
+  pub fit_ended : (actor : Actor) → RightsFit verified places (remove running_tasks actor) tasks rules outputs
   fit_ended actor = record {
-    frames = λ a x there. h.frames a x (before_removal actor_cmp_total actor_cmp-IsAntisymmetric seats actor a x there).1;
+    frames = λ a x there. h.frames a x (before_removal actor_cmp_total actor_cmp-IsAntisymmetric running_tasks actor a x there).1;
     tasks = h.tasks;
     rules = h.rules;
     outputs = h.outputs;

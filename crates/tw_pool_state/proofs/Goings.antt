@@ -1,6 +1,6 @@
 -- A task moves on by local steps, and its next job is issued: on the parts.
 use Rattle.std.proofs.Common.{◌≡◌, ◌<◌, ◌+◌, ◌∙◌, ℕ, false, List, Some, refl, sym, ap, subst, slice_get, arith, nat_eq}
-use Rattle.tw_pool_state.proofs.PartNames.{Actor, ActorCounts, AreParts, FrameFits, Goes, IsLent, IsOwed, IsReached, Local, Notices, Parts, Procedure, Seated, RightsFit, State, TypedProgram, Went, actor_cmp-IsAntisymmetric, actor_cmp_total, come, get, insert, insert_mapped, kinds_in, lent_as, mapped, nat_tests, position_there, state_of, steps_leave, typings_of, with_done, with_frame}
+use Rattle.tw_pool_state.proofs.PartNames.{Actor, ActorCounts, AreParts, FrameFits, Goes, IsLent, IsOwed, IsReached, Local, Notices, Parts, Procedure, TasksByActor, RightsFit, State, TypedProgram, Went, actor_cmp-IsAntisymmetric, actor_cmp_total, come, get, insert, insert_mapped, kinds_in, lent_as, mapped, nat_tests, position_there, state_of, steps_leave, typings_of, with_done, with_frame}
 use Rattle.tw_types.specs.declared.event.Event.{Event}
 use Rattle.tw_types.proofs.Outcomes.{same_went}
 use Rattle.tw_code.specs.machine.History.{actor_of}
@@ -9,9 +9,9 @@ use Rattle.tw_code.specs.machine.State.{Frame}
 use Rattle.tw_soundness.proofs.Safe.{kept_by}
 use Rattle.tw_frame.specs.Jobs.{DoneView, FrameView, IsDone, JobView, MayBeAt, bare_frame, job_of}
 use Rattle.tw_frame.proofs.Lending.{fresh_position}
-use Rattle.tw_pool_state.proofs.Fitting.{seen, fit_seated}
+use Rattle.tw_pool_state.proofs.Fitting.{seen, fit_by_actor}
 use Rattle.tw_pool_state.proofs.Law.{goes_to, held}
-use Rattle.tw_pool_state.proofs.Seating.{again, get_other, get_own, same_seat}
+use Rattle.tw_pool_state.proofs.Runners.{again, get_other, get_own, same_slot}
 
 -- where the `Done` of the frame's job leads
 pub record Leads (program : List Procedure) (f : FrameView) (done : DoneView) : Type 0 where
@@ -30,9 +30,9 @@ leads old actor f done owed law = record {
 -- ---- local steps
 
 module _ (verified : TypedProgram) (layout : ActorCounts) (old : Parts) (notices : Notices) (h : AreParts verified layout old notices)
-    (actor : Actor) (f : FrameView) (runs : get old.seats actor ≡ Some f) (done : DoneView) (way : Leads verified.program f done) where
-  there : get (mapped bare_frame old.seats) actor ≡ Some (bare_frame f)
-  there = seen bare_frame old.seats actor (Some f) runs
+    (actor : Actor) (f : FrameView) (runs : get old.running_tasks actor ≡ Some f) (done : DoneView) (way : Leads verified.program f done) where
+  there : get (mapped bare_frame old.running_tasks) actor ≡ Some (bare_frame f)
+  there = seen bare_frame old.running_tasks actor (Some f) runs
 
   goes : 0 < done.steps → step verified.program layout (Local actor done.steps) (state_of old notices) ≡ Went (with_frame (state_of old notices) actor (bare_frame (come f done)))
   unfolding step
@@ -48,27 +48,27 @@ module _ (verified : TypedProgram) (layout : ActorCounts) (old : Parts) (notices
       record { program = before.program; own = before.own; placed = before.placed; kinds = before.kinds ∙ ap kinds_in (sym same) }
 
   same_state : state_of (with_done old actor f done) notices ≡ with_frame (state_of old notices) actor (bare_frame (come f done))
-  same_state = ap (λ m. record (state_of old notices) { frames = m }) (insert_mapped bare_frame actor_cmp_total actor_cmp-IsAntisymmetric old.seats actor (come f done))
+  same_state = ap (λ m. record (state_of old notices) { frames = m }) (insert_mapped bare_frame actor_cmp_total actor_cmp-IsAntisymmetric old.running_tasks actor (come f done))
 
   pub gone : 0 < done.steps → Goes verified layout (Local actor done.steps) old notices (with_done old actor f done)
   gone some = goes_to verified layout old notices h (Local actor done.steps) (with_done old actor f done) notices _ (goes some) same_state h.queued h.servers
-      (fit_seated verified old.store.places old.seats old.tasks.tasks old.rules.rules old.outputs h.rights_fit actor (come f done) fits)
-      (get_other old.seats actor (come f done))
+      (fit_by_actor verified old.store.places old.running_tasks old.tasks.tasks old.rules.rules old.outputs h.rights_fit actor (come f done) fits)
+      (get_other old.running_tasks actor (come f done))
 
 -- without a step its position doesn't change
-pub stayed : (program : List Procedure) (old : Parts) (actor : Actor) (f : FrameView) → get old.seats actor ≡ Some f → (done : DoneView) → Leads program f done → done.steps ≡ 0 → with_done old actor f done ≡ old
+pub stayed : (program : List Procedure) (old : Parts) (actor : Actor) (f : FrameView) → get old.running_tasks actor ≡ Some f → (done : DoneView) → Leads program f done → done.steps ≡ 0 → with_done old actor f done ≡ old
 stayed program old actor f runs done way none =
     let at : f.position ≡ done.after = same_went f.position done.after (ap (λ n. local_steps n way.p.code f.position) (sym none) ∙ way.steps) in
     let spent : f.spent + done.steps ≡ f.spent = omega (arith, none) in
     let same : come f done ≡ f = λ i. record f { position = sym at i; spent = spent i } in
-    ap (λ m. record old { seats = m }) (ap (insert old.seats actor) same ∙ same_seat old.seats actor f runs)
+    ap (λ m. record old { running_tasks = m }) (ap (insert old.running_tasks actor) same ∙ same_slot old.running_tasks actor f runs)
 
 -- ---- issuing
 
 module _ (verified : TypedProgram) (layout : ActorCounts) (old : Parts) (notices : Notices) (h : AreParts verified layout old notices)
-    (actor : Actor) (f : FrameView) (runs : get old.seats actor ≡ Some f) where
-  in_frames : get (mapped bare_frame old.seats) actor ≡ Some (bare_frame f)
-  in_frames = seen bare_frame old.seats actor (Some f) runs
+    (actor : Actor) (f : FrameView) (runs : get old.running_tasks actor ≡ Some f) where
+  in_frames : get (mapped bare_frame old.running_tasks) actor ≡ Some (bare_frame f)
+  in_frames = seen bare_frame old.running_tasks actor (Some f) runs
 
   -- it may run from there
   pub may_be_at : MayBeAt f.program.program f.procedure f.position
@@ -84,18 +84,18 @@ module _ (verified : TypedProgram) (layout : ActorCounts) (old : Parts) (notices
       (kept_by verified.program (typings_of verified) layout event (state_of old notices) t h.runnable.is h.runnable.right (held verified layout old notices h) goes) actor g now p here)
 
 -- the number under which it is issued isn't in the machine's state
-module _ (new : Parts) (seats : Seated) (actor : Actor) (f : FrameView) (event_no : ℕ) (sits : new.seats ≡ insert seats actor (lent_as event_no f)) where
+module _ (new : Parts) (running_tasks : TasksByActor) (actor : Actor) (f : FrameView) (event_no : ℕ) (is_running : new.running_tasks ≡ insert running_tasks actor (lent_as event_no f)) where
   abbrev unlent : Parts
-  unlent = record new { seats = insert seats actor f }
+  unlent = record new { running_tasks = insert running_tasks actor f }
 
   pub lent_state : (notices : Notices) → state_of new notices ≡ state_of unlent notices
   lent_state notices = ap (λ m. record (state_of new notices) { frames = m })
-      (ap (mapped bare_frame) sits ∙ insert_mapped bare_frame actor_cmp_total actor_cmp-IsAntisymmetric seats actor (lent_as event_no f)
-      ∙ sym (insert_mapped bare_frame actor_cmp_total actor_cmp-IsAntisymmetric seats actor f))
+      (ap (mapped bare_frame) is_running ∙ insert_mapped bare_frame actor_cmp_total actor_cmp-IsAntisymmetric running_tasks actor (lent_as event_no f)
+      ∙ sym (insert_mapped bare_frame actor_cmp_total actor_cmp-IsAntisymmetric running_tasks actor f))
 
   module _ (verified : TypedProgram) (layout : ActorCounts) (notices : Notices) (h : AreParts verified layout unlent notices) where
     before : FrameFits verified new.store.places actor f
-    before = h.rights_fit.frames actor f (get_own seats actor f)
+    before = h.rights_fit.frames actor f (get_own running_tasks actor f)
 
     pub lent_parts : AreParts verified layout new notices
     lent_parts = record {
@@ -103,8 +103,8 @@ module _ (new : Parts) (seats : Seated) (actor : Actor) (f : FrameView) (event_n
       law = subst (IsReached verified.program layout) (sym (lent_state notices)) h.law;
       queued = h.queued;
       servers = h.servers;
-      rights_fit = subst (λ m. RightsFit verified new.store.places m new.tasks.tasks new.rules.rules new.outputs) (again seats actor f (lent_as event_no f) ∙ sym sits)
-          (fit_seated verified new.store.places (insert seats actor f) new.tasks.tasks new.rules.rules new.outputs h.rights_fit actor (lent_as event_no f) (record { program = before.program; own = before.own; placed = before.placed; kinds = before.kinds }));
+      rights_fit = subst (λ m. RightsFit verified new.store.places m new.tasks.tasks new.rules.rules new.outputs) (again running_tasks actor f (lent_as event_no f) ∙ sym is_running)
+          (fit_by_actor verified new.store.places (insert running_tasks actor f) new.tasks.tasks new.rules.rules new.outputs h.rights_fit actor (lent_as event_no f) (record { program = before.program; own = before.own; placed = before.placed; kinds = before.kinds }));
     }
 
   pub lent_goes : (verified : TypedProgram) (layout : ActorCounts) (event : Event) → actor_of event ≡ actor → (old : Parts) (notices : Notices) → Goes verified layout event old notices unlent → Goes verified layout event old notices new
@@ -112,8 +112,8 @@ module _ (new : Parts) (seats : Seated) (actor : Actor) (f : FrameView) (event_n
     left = goes.left;
     step_is = goes.step_is ∙ ap Went (sym (lent_state goes.left));
     parts = lent_parts verified layout goes.left goes.parts;
-    others = λ other apart. ap (λ m. get m other) sits ∙ get_other seats actor (lent_as event_no f) other (λ e. apart (e ∙ sym own)) ∙ sym (get_other seats actor f other (λ e. apart (e ∙ sym own))) ∙ goes.others other apart;
+    others = λ other apart. ap (λ m. get m other) is_running ∙ get_other running_tasks actor (lent_as event_no f) other (λ e. apart (e ∙ sym own)) ∙ sym (get_other running_tasks actor f other (λ e. apart (e ∙ sym own))) ∙ goes.others other apart;
   }
 
   pub is_lent : (job : JobView) → job ≡ job_of (lent_as event_no f) → IsLent new actor event_no job
-  is_lent job is = record { f = lent_as event_no f; sits = ap (λ m. get m actor) sits ∙ get_own seats actor (lent_as event_no f); number = refl; job_is = is }
+  is_lent job is = record { f = lent_as event_no f; is_running = ap (λ m. get m actor) is_running ∙ get_own running_tasks actor (lent_as event_no f); number = refl; job_is = is }

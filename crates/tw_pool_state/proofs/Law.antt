@@ -1,6 +1,6 @@
 -- The theorems on the machine, for the state of the parts.
 use Rattle.std.proofs.Common.{◌≡◌, ◌≢◌, ◌<◌, ◌∙◌, sym, ap, ℕ, ◌++◌, ◌∷◌, [], length, slice_get, Option, Some, None, ◌≤◌, true, arith}
-use Rattle.tw_pool_state.proofs.PartNames.{Actor, ActorCounts, AreParts, AreQueued, FrameView, Goes, HasSeat, IsLayout, IsReached, Notices, Parts, Procedure, RightsFit, State, TypedProgram, Went, bare_frame, get, is_control, is_in, ltb-true, number_in_kind, opening, state_of, step, typings_of}
+use Rattle.tw_pool_state.proofs.PartNames.{Actor, ActorCounts, AreParts, AreQueued, FrameView, Goes, HasSlot, IsLayout, IsReached, Notices, Parts, Procedure, RightsFit, State, TypedProgram, Went, bare_frame, get, is_control, is_in, ltb-true, number_in_kind, opening, state_of, step, typings_of}
 use Rattle.tw_types.specs.declared.actor.Actor.TheVariants.{Engine, Server, Worker}
 use Rattle.tw_types.specs.declared.event.Event.{Event}
 use Rattle.tw_types.specs.declared.actor.Kind.{Kind}
@@ -31,8 +31,8 @@ module _ (verified : TypedProgram) (layout : ActorCounts) (p : Parts) (notices :
 
   -- an event, from what it leaves
   pub goes_to : (event : Event) (new : Parts) (left : Notices) (next : State) → step verified.program layout event (state_of p notices) ≡ Went next → state_of new left ≡ next
-      → AreQueued new.store.queues left → length new.store.queues ≡ layout.servers → RightsFit verified new.store.places new.seats new.tasks.tasks new.rules.rules new.outputs
-      → ((actor : Actor) → actor ≢ actor_of event → get new.seats actor ≡ get p.seats actor) → Goes verified layout event p notices new
+      → AreQueued new.store.queues left → length new.store.queues ≡ layout.servers → RightsFit verified new.store.places new.running_tasks new.tasks.tasks new.rules.rules new.outputs
+      → ((actor : Actor) → actor ≢ actor_of event → get new.running_tasks actor ≡ get p.running_tasks actor) → Goes verified layout event p notices new
   goes_to event new left next step_is same queued servers rights_fit others =
       let went : step verified.program layout event (state_of p notices) ≡ Went (state_of new left) = step_is ∙ ap Went (sym same) in
       record {
@@ -48,22 +48,22 @@ module _ (verified : TypedProgram) (layout : ActorCounts) (p : Parts) (notices :
         others = others;
       }
 
--- an actor of the layout has a seat
-pub has_seat : (layout : ActorCounts) (actor : Actor) → IsLayout layout → is_in layout actor ≡ true → HasSeat actor
-has_seat layout (Engine number) counts there = let below = ltb-true number layout.engines there in omega (arith, below, counts.few_engines)
-has_seat layout (Server number) counts there = let below = ltb-true number layout.servers there in omega (arith, below, counts.few_servers)
-has_seat layout (Worker number) counts there = let below = ltb-true number layout.workers there in omega (arith, below, counts.few_workers)
+-- an actor of the layout has a slot
+pub has_slot : (layout : ActorCounts) (actor : Actor) → IsLayout layout → is_in layout actor ≡ true → HasSlot actor
+has_slot layout (Engine number) counts there = let below = ltb-true number layout.engines there in omega (arith, below, counts.few_engines)
+has_slot layout (Server number) counts there = let below = ltb-true number layout.servers there in omega (arith, below, counts.few_servers)
+has_slot layout (Worker number) counts there = let below = ltb-true number layout.workers there in omega (arith, below, counts.few_workers)
 
 -- who runs a task
-pub runner_has_seat : (verified : TypedProgram) (layout : ActorCounts) (p : Parts) (notices : Notices) → AreParts verified layout p notices → (actor : Actor) (f : FrameView) → get p.seats actor ≡ Some f → HasSeat actor
-runner_has_seat verified layout p notices h actor f sits =
-    has_seat layout actor h.runnable.counts ((in_layout verified layout p notices h).frames actor (bare_frame f) (seen bare_frame p.seats actor (Some f) sits)).there
+pub runner_has_slot : (verified : TypedProgram) (layout : ActorCounts) (p : Parts) (notices : Notices) → AreParts verified layout p notices → (actor : Actor) (f : FrameView) → get p.running_tasks actor ≡ Some f → HasSlot actor
+runner_has_slot verified layout p notices h actor f is_running =
+    has_slot layout actor h.runnable.counts ((in_layout verified layout p notices h).frames actor (bare_frame f) (seen bare_frame p.running_tasks actor (Some f) is_running)).there
 
 -- who runs a control task is an engine that rules may have
-pub engine_low : (verified : TypedProgram) (layout : ActorCounts) (p : Parts) (notices : Notices) → AreParts verified layout p notices → (actor : Actor) (f : FrameView) (q : Procedure) → get p.seats actor ≡ Some f
+pub engine_low : (verified : TypedProgram) (layout : ActorCounts) (p : Parts) (notices : Notices) → AreParts verified layout p notices → (actor : Actor) (f : FrameView) (q : Procedure) → get p.running_tasks actor ≡ Some f
     → slice_get verified.program f.procedure ≡ Some q → is_control q.kind ≡ true → (engine : ℕ) → engine ≡ number_in_kind actor → engine < 4
-engine_low verified layout p notices h actor f q sits here control engine is =
-    let low = engine_below verified.program layout (state_of p notices) (in_layout verified layout p notices h) actor (bare_frame f) q (seen bare_frame p.seats actor (Some f) sits) here control in
+engine_low verified layout p notices h actor f q is_running here control engine is =
+    let low = engine_below verified.program layout (state_of p notices) (in_layout verified layout p notices h) actor (bare_frame f) q (seen bare_frame p.running_tasks actor (Some f) is_running) here control in
     omega (arith, low, is, h.runnable.counts.few_engines)
 
 -- a target of the layout is one that the queues have

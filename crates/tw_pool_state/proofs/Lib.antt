@@ -1,5 +1,5 @@
 mod Law
-mod Seating
+mod Runners
 mod FrameBufferLists
 mod Notes
 mod Fitting

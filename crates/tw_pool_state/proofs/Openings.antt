@@ -63,7 +63,7 @@ module _ (verified : TypedProgram) (inputs : List Input) (layout : ActorCounts) 
     next_rule = waits.next_rule i;
     tasks = tasks_are i;
     next_task = waits.next_task i;
-    frames = (ap (mapped bare_frame) waits.seats ∙ empty_mapped bare_frame) i;
+    frames = (ap (mapped bare_frame) waits.running_tasks ∙ empty_mapped bare_frame) i;
     notices = set.empty;
     outputs = (ap (each (λ (r : Right). r.id)) waits.outputs ∙ made.outputs) i;
   }
@@ -71,15 +71,15 @@ module _ (verified : TypedProgram) (inputs : List Input) (layout : ActorCounts) 
   queues_are : p.store.queues ≡ replicate layout.servers []
   queues_are = ap (λ (s : Served). s.queues) waits.store ∙ made.queues
 
-  fits_place : RightsFit verified p.store.places p.seats p.tasks.tasks p.rules.rules p.outputs
+  fits_place : RightsFit verified p.store.places p.running_tasks p.tasks.tasks p.rules.rules p.outputs
   fits_place =
       let s = waits.store in
-      let seats = waits.seats in
+      let running_tasks = waits.running_tasks in
       let tasks = waits.tasks in
       let rules = waits.rules in
       let outputs = waits.outputs in
       let args : ArgsMatch o.store.places (params_of verified.program 0) o.args = subst (λ ps. ArgsMatch o.store.places ps o.args) (sym (main_is verified.program)) made.rights_fit in
-      rw (s, seats, tasks, rules, outputs) (fit_put verified o.store.places fin.empty fin.empty fin.empty o.outputs (nothing_fits verified o.store.places o.outputs made.outputs_at) 1 main args)
+      rw (s, running_tasks, tasks, rules, outputs) (fit_put verified o.store.places fin.empty fin.empty fin.empty o.outputs (nothing_fits verified o.store.places o.outputs made.outputs_at) 1 main args)
 
   reached_is : AreInputsOf verified.program inputs → IsReached verified.program layout (state_of p set.empty)
   unfolding run
@@ -95,5 +95,5 @@ module _ (verified : TypedProgram) (inputs : List Input) (layout : ActorCounts) 
       servers = ap length queues_are ∙ length-replicate layout.servers [];
       rights_fit = fits_place;
     };
-    nobody = waits.seats;
+    nobody = waits.running_tasks;
   }

@@ -45,11 +45,11 @@ module _ (verified : TypedProgram) (layout : ActorCounts) (old : Parts) (notices
       target_below layout procedure.0.kind its.x.target h.runnable.counts
       (subst (λ (r : Rule). up_to r.target ≤ count_of layout procedure.0.kind) (sym its.is) (it.target procedure.0 (ap (λ (r : Rule). slice_get verified.program r.procedure) (sym its.is) ∙ procedure.1)))
 
-  module _ (free : get old.seats (Engine engine) ≡ None) where
+  module _ (free : get old.running_tasks (Engine engine) ≡ None) where
     goes : step verified.program layout (Release engine number) (state_of old notices) ≡ Went (with_task (record (state_of old notices) { rules = remove (mapped bare_rule old.rules.rules) number }) (task_from procedure.0.kind found.rule))
     unfolding step
     goes =
-        let none : get (mapped bare_frame old.seats) (Engine engine) ≡ None = seen bare_frame old.seats (Engine engine) None free in
+        let none : get (mapped bare_frame old.running_tasks) (Engine engine) ≡ None = seen bare_frame old.running_tasks (Engine engine) None free in
         let own = found.own in
         let has = found.has in
         let p : slice_get verified.program found.rule.procedure ≡ Some procedure.0 = ap (λ (r : Rule). slice_get verified.program r.procedure) (sym its.is) ∙ procedure.1 in
@@ -57,7 +57,7 @@ module _ (verified : TypedProgram) (layout : ActorCounts) (old : Parts) (notices
 
     module _ (new : Parts) (kind : Kind) (kind_is : procedure.0.kind ≡ kind)
         (store : new.store ≡ old.store) (rules : new.rules.rules ≡ remove old.rules.rules number) (next_rule : new.rules.next ≡ old.rules.next)
-        (tasks : new.tasks.tasks ≡ insert old.tasks.tasks old.next_task (task_from kind its.x)) (next_task : new.next_task ≡ old.next_task + 1) (seats : new.seats ≡ old.seats) (outputs : new.outputs ≡ old.outputs) where
+        (tasks : new.tasks.tasks ≡ insert old.tasks.tasks old.next_task (task_from kind its.x)) (next_task : new.next_task ≡ old.next_task + 1) (running_tasks : new.running_tasks ≡ old.running_tasks) (outputs : new.outputs ≡ old.outputs) where
       pub new_rules : mapped bare_rule new.rules.rules ≡ remove (mapped bare_rule old.rules.rules) number
       new_rules = ap (mapped bare_rule) rules ∙ remove_mapped bare_rule nat_cmp_total nat_cmp-IsAntisymmetric old.rules.rules number
 
@@ -73,13 +73,13 @@ module _ (verified : TypedProgram) (layout : ActorCounts) (old : Parts) (notices
         next_rule = next_rule i;
         tasks = new_tasks i;
         next_task = next_task i;
-        frames = mapped bare_frame (seats i);
+        frames = mapped bare_frame (running_tasks i);
         notices = notices;
         outputs = map (λ (right : Right). right.id) (outputs i);
       }
 
       pub releases : Goes verified layout (Release engine number) old notices new
-      releases = goes_to verified layout old notices h (Release engine number) new notices _ goes same_state (rw store h.queued) (rw store h.servers) fit_is (λ actor other. ap (λ m. get m actor) seats)
+      releases = goes_to verified layout old notices h (Release engine number) new notices _ goes same_state (rw store h.queued) (rw store h.servers) fit_is (λ actor other. ap (λ m. get m actor) running_tasks)
         where
-          fit_is : RightsFit verified new.store.places new.seats new.tasks.tasks new.rules.rules new.outputs
-          fit_is = rw (store, seats, tasks, rules, outputs) (fit_released verified old.store.places old.seats old.tasks.tasks old.rules.rules old.outputs h.rights_fit number old.next_task its.x kind its.there)
+          fit_is : RightsFit verified new.store.places new.running_tasks new.tasks.tasks new.rules.rules new.outputs
+          fit_is = rw (store, running_tasks, tasks, rules, outputs) (fit_released verified old.store.places old.running_tasks old.tasks.tasks old.rules.rules old.outputs h.rights_fit number old.next_task its.x kind its.there)

@@ -101,11 +101,11 @@ module _ (verified : TypedProgram) (layout : ActorCounts) (old : Parts) (notices
   pub asks_open : closed_by (get old.store.store.live reads.right.id) ≡ false → (ns : Notices) → AsksOpen (state_of old ns) number parameter
   asks_open e ns = record { rule = found.rule; pends = pending; id = reads.right.id; asks = arg_there; x = live.0; live = live.1; not_closed = sym (ap closed_by live.1) ∙ e }
 
-  module _ (free : get old.seats (Engine engine) ≡ None) where
+  module _ (free : get old.running_tasks (Engine engine) ≡ None) where
     goes : step verified.program layout (Ask engine number parameter) (state_of old notices) ≡ Went (asked (state_of old notices) number found.rule parameter reads.right.id live.0)
     unfolding step
     goes =
-        let none : get (mapped bare_frame old.seats) (Engine engine) ≡ None = seen bare_frame old.seats (Engine engine) None free in
+        let none : get (mapped bare_frame old.running_tasks) (Engine engine) ≡ None = seen bare_frame old.running_tasks (Engine engine) None free in
         let own = found.own in
         let has = found.has in
         let arg = arg_there in
@@ -116,7 +116,7 @@ module _ (verified : TypedProgram) (layout : ActorCounts) (old : Parts) (notices
         (leads : asked (state_of old notices) number found.rule parameter reads.right.id live.0 ≡ with_stage (record (state_of old notices) { store = s }) number found.rule parameter stage)
         (store : new.store.store ≡ s) (places : new.store.places ≡ old.store.places) (queues : new.store.queues ≡ old.store.queues)
         (rules : new.rules.rules ≡ staged old.rules.rules number parameter stage) (next_rule : new.rules.next ≡ old.rules.next)
-        (tasks : new.tasks ≡ old.tasks) (next_task : new.next_task ≡ old.next_task) (seats : new.seats ≡ old.seats) (outputs : new.outputs ≡ old.outputs) where
+        (tasks : new.tasks ≡ old.tasks) (next_task : new.next_task ≡ old.next_task) (running_tasks : new.running_tasks ≡ old.running_tasks) (outputs : new.outputs ≡ old.outputs) where
       pub new_rules : mapped bare_rule new.rules.rules ≡ insert (mapped bare_rule old.rules.rules) number (at_stage found.rule parameter stage)
       new_rules = ap (mapped bare_rule) rules ∙ staged_bare old.rules.rules number its.x parameter stage its.there ∙ ap (λ r. insert (mapped bare_rule old.rules.rules) number (at_stage r parameter stage)) its.is
 
@@ -127,21 +127,21 @@ module _ (verified : TypedProgram) (layout : ActorCounts) (old : Parts) (notices
         next_rule = next_rule i;
         tasks = mapped bare_task (tasks i).tasks;
         next_task = next_task i;
-        frames = mapped bare_frame (seats i);
+        frames = mapped bare_frame (running_tasks i);
         notices = notices;
         outputs = map (λ (right : Right). right.id) (outputs i);
       }
 
       pub asks : Goes verified layout (Ask engine number parameter) old notices new
       asks = goes_to verified layout old notices h (Ask engine number parameter) new notices _ (goes ∙ ap Went leads) same_state
-          (subst (λ qs. AreQueued qs notices) (sym queues) h.queued) (ap length queues ∙ h.servers) fit_is (λ actor other. ap (λ m. get m actor) seats)
+          (subst (λ qs. AreQueued qs notices) (sym queues) h.queued) (ap length queues ∙ h.servers) fit_is (λ actor other. ap (λ m. get m actor) running_tasks)
         where
-          staged_fit : RightsFit verified old.store.places old.seats old.tasks.tasks (staged old.rules.rules number parameter stage) old.outputs
-          staged_fit = subst (λ rs. RightsFit verified old.store.places old.seats old.tasks.tasks rs old.outputs) (sym (staged_is old.rules.rules number its.x parameter stage its.there))
-              (fit_staged verified old.store.places old.seats old.tasks.tasks old.rules.rules old.outputs h.rights_fit number its.x parameter stage its.there)
+          staged_fit : RightsFit verified old.store.places old.running_tasks old.tasks.tasks (staged old.rules.rules number parameter stage) old.outputs
+          staged_fit = subst (λ rs. RightsFit verified old.store.places old.running_tasks old.tasks.tasks rs old.outputs) (sym (staged_is old.rules.rules number its.x parameter stage its.there))
+              (fit_staged verified old.store.places old.running_tasks old.tasks.tasks old.rules.rules old.outputs h.rights_fit number its.x parameter stage its.there)
 
-          fit_is : RightsFit verified new.store.places new.seats new.tasks.tasks new.rules.rules new.outputs
-          fit_is = rw (places, seats, tasks, rules, outputs) staged_fit
+          fit_is : RightsFit verified new.store.places new.running_tasks new.tasks.tasks new.rules.rules new.outputs
+          fit_is = rw (places, running_tasks, tasks, rules, outputs) staged_fit
 
     -- the results in both cases
     pub closed_leads : closed_by (get old.store.store.live reads.right.id) ≡ true → asked (state_of old notices) number found.rule parameter reads.right.id live.0 ≡ with_stage (record (state_of old notices) { store = old.store.store }) number found.rule parameter Ready

@@ -13,7 +13,7 @@ use Rattle.tw_code.specs.machine.Position.{at_next_place}
 use Rattle.tw_verify.specs.Typed.{TypedProgram}
 use Rattle.tw_frame.specs.Drafts.{StartsAsMachine, started}
 use Rattle.tw_frame.specs.Jobs.{DoneView, FrameView, JobView, MayBeAt, bare_frame, job_of}
-use Rattle.tw_pool_state.specs.Seats.{Seated}
+use Rattle.tw_pool_state.specs.RunningTasks.{TasksByActor}
 
 -- ---- it starts
 
@@ -36,23 +36,23 @@ MayBegin verified actor waiting = (e : ℕ × TaskOf Arg) (values : List Value) 
     → StartsAsMachine verified.program e.0 e.1.procedure e.1.args values (bare_frame (begun verified actor 0 e values)) → MayBeAt verified.program e.1.procedure (begun verified actor 0 e values).position
 
 -- the best task starts like the machine's, with its start values, and is issued under this number
-pub record Begins (verified : TypedProgram) (actor : Actor) (event_no : ℕ) (old : Seated) (waiting : TasksOf Arg) (new : Seated) (left : TasksOf Arg) (job : JobView) : Type 0 where
+pub record Begins (verified : TypedProgram) (actor : Actor) (event_no : ℕ) (old : TasksByActor) (waiting : TasksOf Arg) (new : TasksByActor) (left : TasksOf Arg) (job : JobView) : Type 0 where
   pub e : ℕ × TaskOf Arg
   pub due : best actor waiting ≡ Some e
   pub values : List Value
   pub starts : (p : Procedure) → slice_get verified.program e.1.procedure ≡ Some p → started e.1.args p.registers ≡ Ok values
   pub machine : StartsAsMachine verified.program e.0 e.1.procedure e.1.args values (bare_frame (begun verified actor event_no e values))
-  pub sits : new ≡ insert old actor (begun verified actor event_no e values)
+  pub is_running : new ≡ insert old actor (begun verified actor event_no e values)
   pub rest : left ≡ remove waiting e.0
   pub lent : job ≡ job_of (begun verified actor event_no e values)
 
 -- holds if nothing changes when no task waits for the actor
-abbrev pub BeginsOrNone : TypedProgram → Actor → ℕ → Seated → TasksOf Arg → Seated → TasksOf Arg → Option JobView → Type 0
+abbrev pub BeginsOrNone : TypedProgram → Actor → ℕ → TasksByActor → TasksOf Arg → TasksByActor → TasksOf Arg → Option JobView → Type 0
 BeginsOrNone verified actor event_no old waiting new left None = (best actor waiting ≡ None) × (new ≡ old) × (left ≡ waiting)
 BeginsOrNone verified actor event_no old waiting new left (Some job) = Begins verified actor event_no old waiting new left job
 
 -- holds if nothing changes when an allocation fails
-abbrev pub IsBegun : {E : Type 0} → TypedProgram → Actor → ℕ → Seated → TasksOf Arg → Seated → TasksOf Arg → Result (Option JobView) E → Type 0
+abbrev pub IsBegun : {E : Type 0} → TypedProgram → Actor → ℕ → TasksByActor → TasksOf Arg → TasksByActor → TasksOf Arg → Result (Option JobView) E → Type 0
 IsBegun verified actor event_no old waiting new left (Ok o) = BeginsOrNone verified actor event_no old waiting new left o
 IsBegun verified actor event_no old waiting new left (Err e) = IsSome (best actor waiting) × (new ≡ old) × (left ≡ waiting)
 

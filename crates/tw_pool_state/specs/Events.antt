@@ -29,7 +29,7 @@ pub record Goes (verified : TypedProgram) (layout : ActorCounts) (event : Event)
   pub left : Notices
   pub step_is : step verified.program layout event (state_of old notices) ≡ Went (state_of new left)
   pub parts : AreParts verified layout new left
-  pub others : (actor : Actor) → actor ≢ actor_of event → get new.seats actor ≡ get old.seats actor
+  pub others : (actor : Actor) → actor ≢ actor_of event → get new.running_tasks actor ≡ get old.running_tasks actor
 
 -- holds if it does so for any set of notices that has those in the queues
 abbrev pub Makes : TypedProgram → ActorCounts → Event → Parts → Parts → Type 0
@@ -42,7 +42,7 @@ pub record Untouched (old new : Parts) : Type 0 where
   pub next_rule : new.rules.next ≡ old.rules.next
   pub tasks : new.tasks.tasks ≡ old.tasks.tasks
   pub next_task : new.next_task ≡ old.next_task
-  pub seats : new.seats ≡ old.seats
+  pub running_tasks : new.running_tasks ≡ old.running_tasks
   pub outputs : new.outputs ≡ old.outputs
 
 -- holds if a due event succeeds; nothing changes if none is due, or if an allocation fails
@@ -55,11 +55,11 @@ IsTried due Made Same (Err e) = IsSome due × Same
 
 -- returns the parts after the job
 abbrev pub with_done : Parts → Actor → FrameView → DoneView → Parts
-with_done p actor f done = record p { seats = insert p.seats actor (come f done) }
+with_done p actor f done = record p { running_tasks = insert p.running_tasks actor (come f done) }
 
 -- the `Done` is of the job that was issued last for the actor's task
 pub record IsOwed (p : Parts) (actor : Actor) (f : FrameView) (done : DoneView) : Type 0 where
-  pub sits : get p.seats actor ≡ Some f
+  pub is_running : get p.running_tasks actor ≡ Some f
   pub own : done.before ≡ job_of f
 
 -- numbers, counts and spent instructions are small
@@ -87,7 +87,7 @@ MakesAfter event old actor done new = (layout : ActorCounts) (f : FrameView) →
 -- the job is the actor's, issued under this number
 pub record IsLent (p : Parts) (actor : Actor) (event_no : ℕ) (job : JobView) : Type 0 where
   pub f : FrameView
-  pub sits : get p.seats actor ≡ Some f
+  pub is_running : get p.running_tasks actor ≡ Some f
   pub number : f.event_no ≡ event_no
   pub job_is : job ≡ job_of f
 

@@ -1,5 +1,5 @@
 -- Invariants of the parts of every pool. Their state is one that the program reaches. Each right has its datum's place, and is of the
--- kind that its holder's typing has. Each running task is of the program, and is in its actor's seat.
+-- kind that its holder's typing has. Each running task is of the program, and is in its actor's slot.
 use Rattle.std.specs.Prelude.{◌≡◌, ℕ, Bool, true, false, List, [], ◌∷◌, Option, Some, None, map as each, option_map, length}
 use Rattle.std.specs.FinMap.{get}
 use Rattle.tw_types.specs.declared.actor.Actor.{Actor}
@@ -33,7 +33,7 @@ use Rattle.tw_verify.specs.Typed.{TypedProgram, typings_of}
 use Rattle.tw_frame.specs.Jobs.{FrameView}
 use Rattle.tw_pool_state.specs.Notes.{AreQueued}
 use Rattle.tw_pool_state.specs.Parts.{state_of}
-use Rattle.tw_pool_state.specs.Seats.{Seated}
+use Rattle.tw_pool_state.specs.RunningTasks.{TasksByActor}
 use Rattle.tw_pool_state.specs.declared.parts.Parts.{Parts}
 
 -- ---- places
@@ -83,15 +83,15 @@ ArgsMatch places (p ∷ params) (arg ∷ args) = ArgMatches places (right_of p) 
 
 -- ---- all rights
 
--- a task of the program in this actor's seat
+-- a task of the program in this actor's slot
 pub record FrameFits (verified : TypedProgram) (places : Places) (actor : Actor) (f : FrameView) : Type 0 where
   pub program : f.program ≡ verified
   pub own : f.actor ≡ actor
   pub placed : ArePlaced places f.held
   pub kinds : kinds_of f.held ≡ kinds_in (typing_at (typings_of verified) f.procedure f.position.place)
 
-pub record RightsFit (verified : TypedProgram) (places : Places) (seats : Seated) (waiting : TasksOf Arg) (pending : RulesOf Arg) (given : List Right) : Type 0 where
-  pub frames : (actor : Actor) (f : FrameView) → get seats actor ≡ Some f → FrameFits verified places actor f
+pub record RightsFit (verified : TypedProgram) (places : Places) (running_tasks : TasksByActor) (waiting : TasksOf Arg) (pending : RulesOf Arg) (given : List Right) : Type 0 where
+  pub frames : (actor : Actor) (f : FrameView) → get running_tasks actor ≡ Some f → FrameFits verified places actor f
   pub tasks : (number : ℕ) (t : TaskOf Arg) → get waiting number ≡ Some t → ArgsMatch places (params_of verified.program t.procedure) t.args
   pub rules : (number : ℕ) (r : RuleOf Arg) → get pending number ≡ Some r → ArgsMatch places (params_of verified.program r.procedure) r.args
   pub outputs : AreAt places given
@@ -118,4 +118,4 @@ pub record AreParts (verified : TypedProgram) (layout : ActorCounts) (p : Parts)
   pub law : IsReached verified.program layout (state_of p notices)
   pub queued : AreQueued p.store.queues notices
   pub servers : length p.store.queues ≡ layout.servers
-  pub rights_fit : RightsFit verified p.store.places p.seats p.tasks.tasks p.rules.rules p.outputs
+  pub rights_fit : RightsFit verified p.store.places p.running_tasks p.tasks.tasks p.rules.rules p.outputs

@@ -1,8 +1,8 @@
--- The definitions that a reader has to trust for a pool's parts: the seats (Seats), the queued notices (Notes), the state of the parts
+-- The definitions that a reader has to trust for a pool's parts: the slots (RunningTasks), the queued notices (Notes), the state of the parts
 -- (Parts), and their invariants (Fits).
 -- Coming defines changes of a task after a job, Events the effect of one event, Opening the parts of an opened program, and Memory where
 -- an instruction on data allocates.
-pub mod Seats
+pub mod RunningTasks
 pub mod Notes
 pub mod Parts
 pub mod Fits

@@ -38,6 +38,6 @@ impl<'a> Parts<'a> {
         ensures came { (f : FrameView) → IsOwed self.old actor f done.entry → self.new ≡ with_done self.old actor (lent_as event_no f) done.entry }
         ensures lent { IsLent self.new actor event_no result }
     {
-        self.seats.advance(actor, event_no, done)
+        self.running_tasks.advance(actor, event_no, done)
     }
 }

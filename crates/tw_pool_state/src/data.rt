@@ -140,7 +140,7 @@ impl<'a> Parts<'a> {
         ensures back { IfErr result (λ back. back ≡ done.entry) }
         ensures memory { OnErr result ((f : FrameView) → IsOwed self.old actor f done.entry → TakesMemory instr.now self.old.store (come f done.entry)) }
     {
-        self.seats
+        self.running_tasks
             .exec_data(actor, &mut self.store, alloc, event_no, done, instr)
     }
 }

@@ -15,6 +15,6 @@ impl<'a> Parts<'a> {
         requires fits_place { IsAtInstr self.old actor done instr.Ret }
         ensures { MakesAfter (event.End actor) self.old actor done.entry self.new }
     {
-        self.seats.end(alloc, actor, done);
+        self.running_tasks.end(alloc, actor, done);
     }
 }

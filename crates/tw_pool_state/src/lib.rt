@@ -16,13 +16,13 @@ mod put;
 mod quiet;
 mod release;
 mod rule;
-mod seat_tasks;
-mod seats;
+mod running_tasks;
 mod shut;
 mod take;
+mod task_slots;
 mod work;
 
 pub use outputs::Outputs;
 pub use parts::Parts;
-pub use seats::Seats;
+pub use running_tasks::RunningTasks;
 pub use shut::Remains;

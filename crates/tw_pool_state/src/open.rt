@@ -14,7 +14,7 @@ ghost use Rattle.tw_pool_state.specs.Opening.{IsOpening};
 use crate::input_data::add_input;
 use crate::outputs::Outputs;
 use crate::parts::Parts;
-use crate::seats::Seats;
+use crate::running_tasks::RunningTasks;
 use std::alloc::{AllocError, Global};
 use std::marker::Model;
 use tw_code::main_params;
@@ -197,24 +197,29 @@ impl<'a> Parts<'a> {
         ensures { IfOk result (λ p. IsOpening verified.now inputs.now layout p) }
     {
         let params = main_params(verified.program().procedures());
-        let seats = Seats::new(alloc)?;
+        let running_tasks = RunningTasks::new(alloc)?;
         let Ok(queues) = queues_for_main(alloc) else {
-            seats.shut();
+            running_tasks.shut();
             return Err(AllocError);
         };
         let Ok(opened) = Opened::of(alloc, layout.servers(), params, inputs) else {
-            seats.shut();
+            running_tasks.shut();
             queues.shut();
             return Err(AllocError);
         };
-        Ok(Parts::begun(alloc, seats, queues, opened))
+        Ok(Parts::begun(alloc, running_tasks, queues, opened))
     }
 
     /// Makes the parts in which main waits with its data, and no task runs.
-    fn begun(alloc: Global, seats: Seats<'a>, mut queues: TaskQueues, opened: Opened) -> Parts<'a>
+    fn begun(
+        alloc: Global,
+        running_tasks: RunningTasks<'a>,
+        mut queues: TaskQueues,
+        opened: Opened,
+    ) -> Parts<'a>
         requires tasks { queues.tasks ≡ map.empty }
         requires room { room_for Control None queues ≡ true }
-        ensures { MainWaits seats.entry opened result }
+        ensures { MainWaits running_tasks.entry opened result }
     {
         let Opened {
             store,
@@ -236,7 +241,7 @@ impl<'a> Parts<'a> {
             rules: RuleTable::new(alloc),
             tasks: queues,
             next_task: 2,
-            seats,
+            running_tasks,
             outputs: Outputs::new(rights, ids),
         }
     }

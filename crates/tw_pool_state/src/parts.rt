@@ -1,7 +1,7 @@
 //! The state of a pool.
 
 use crate::outputs::Outputs;
-use crate::seats::Seats;
+use crate::running_tasks::RunningTasks;
 use tw_queue::TaskQueues;
 use tw_rules::RuleTable;
 use tw_store::Store;
@@ -13,6 +13,6 @@ pub struct Parts<'a> {
     pub tasks: TaskQueues,
     /// The number of the task that is put next.
     pub next_task: u64,
-    pub seats: Seats<'a>,
+    pub running_tasks: RunningTasks<'a>,
     pub outputs: Outputs,
 }

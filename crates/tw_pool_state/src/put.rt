@@ -42,7 +42,7 @@ impl<'a> Parts<'a> {
             return Err(done);
         };
         let (args, job) = self
-            .seats
+            .running_tasks
             .take_args(actor, event_no, done, registers, asked, room);
         let task = Task {
             no: TaskNo::new(self.next_task),

@@ -53,7 +53,7 @@ impl<'a> Parts<'a> {
         requires parts { (verified : TypedProgram) × (notices : Notices) × AreParts verified layout self.now notices }
         ensures { (verified : TypedProgram) (notices : Notices) → AreParts verified layout self.now notices → result ≡ is_quiet (state_of self.now notices) }
     {
-        if self.seats.running() != 0 {
+        if self.running_tasks.running() != 0 {
             return false;
         }
         if self.tasks.len() != 0 {

@@ -43,7 +43,7 @@ impl<'a> Parts<'a> {
             return Err(done);
         };
         let (args, job) = self
-            .seats
+            .running_tasks
             .take_args(actor, event_no, done, registers, asked, room);
         let planned = PlannedTask {
             procedure: action.procedure,

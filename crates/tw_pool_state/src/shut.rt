@@ -31,11 +31,11 @@ impl<'a> Parts<'a> {
             rules,
             tasks,
             next_task: _,
-            seats,
+            running_tasks,
             outputs,
         } = self;
         tasks.shut();
-        seats.shut();
+        running_tasks.shut();
         Remains {
             store,
             outputs: outputs.shut(),

@@ -26,7 +26,7 @@ use Rattle.tw_verify.proofs.verified.Verified.TheSendSync as OfVerified
 use Rattle.tw_store.specs.contracts.store.Store
 use Rattle.tw_rules.proofs.table.RuleTable.TheSendSync as OfRules
 use Rattle.tw_queue.proofs.queues.TaskQueues.TheSendSync as OfTasks
-use Rattle.tw_pool_state.proofs.seats.Seats.TheSendSync as OfSeats
+use Rattle.tw_pool_state.proofs.running_tasks.RunningTasks.TheSendSync as OfSeats
 use Rattle.tw_pool_state.proofs.outputs.Outputs.TheSendSync as OfOutputs
 use Rattle.tw_pool_state.specs.contracts.parts.Parts
 use Rattle.tw_pool.proofs.history.History.TheSendSync as OfHistory

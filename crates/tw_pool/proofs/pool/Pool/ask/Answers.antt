@@ -7,7 +7,7 @@ use Rattle.tw_pool.proofs.Freely.{tried_none, tried_some}
 use Rattle.tw_pool.proofs.pool.Pool.ask.Goals as goal
 
 pub ask-requires-clause-free : goal.ask-requires-clause-free
-ask-requires-clause-free c = free.seat_free _ _ _ c.self.inside.stopped c.self.inside.history c.self.inside.parts c.self.invariant c.args.self.now c.self.view_is c.args.engine c.requires.engine c.requires.room c.requires.free
+ask-requires-clause-free c = free.slot_free _ _ _ c.self.inside.stopped c.self.inside.history c.self.inside.parts c.self.invariant c.args.self.now c.self.view_is c.args.engine c.requires.engine c.requires.room c.requires.free
 
 pub invariant_of-self : goal.invariant_of-self
 invariant_of-self c = free.kept_still _ _ _ c.self.inside.stopped c.self.inside.history c.self.inside.parts c.self.invariant c.args.self.now c.self.view_is c.ask.new.self c.in_default.ensures.asked.1

@@ -10,7 +10,7 @@ pub event_of-event-requires : goal.event_of-event-requires
 event_of-event-requires c = record { owed = hand.owed_some _ _ _ c.self.inside.stopped c.self.inside.history c.self.inside.parts c.self.invariant c.args.self.now c.self.view_is c.args.actor c.requires.actor c.requires.room c.args.done c.requires.owed }
 
 pub count_after-event_no-requires : goal.count_after-event_no-requires
-count_after-event_no-requires c = record { place = hand.has_seat _ _ _ c.self.inside.stopped c.self.inside.history c.self.inside.parts c.self.invariant c.args.self.now c.self.view_is c.args.actor c.requires.actor c.requires.room c.args.done c.requires.owed; few = omega (arith, c.self.invariant.within, c.self.invariant.few) }
+count_after-event_no-requires c = record { place = hand.has_slot _ _ _ c.self.inside.stopped c.self.inside.history c.self.inside.parts c.self.invariant c.args.self.now c.self.view_is c.args.actor c.requires.actor c.requires.room c.args.done c.requires.owed; few = omega (arith, c.self.invariant.within, c.self.invariant.few) }
 
 pub call_by-requires-clause-fits_place : goal.call_by-requires-clause-fits_place
 call_by-requires-clause-fits_place c = hand.fits_place _ _ _ c.self.inside.stopped c.self.inside.history c.self.inside.parts c.self.invariant c.args.self.now c.self.view_is c.args.actor c.requires.actor c.requires.room c.args.done c.requires.owed c.event_of-event.result (hand.has_come _ _ _ c.self.inside.stopped c.self.inside.history c.self.inside.parts c.self.invariant c.args.self.now c.self.view_is c.args.actor c.requires.actor c.requires.room c.args.done c.requires.owed c.steps-steps.ensures.done.few c.event_of-event.result c.event_of-event.ensures) c.args.instr.now c.requires.following_is

@@ -7,7 +7,7 @@ use Rattle.tw_pool.proofs.Freely.{tried_none, tried_some}
 use Rattle.tw_pool.proofs.pool.Pool.release.Goals as goal
 
 pub release-requires-clause-free : goal.release-requires-clause-free
-release-requires-clause-free c = free.seat_free _ _ _ c.self.inside.stopped c.self.inside.history c.self.inside.parts c.self.invariant c.args.self.now c.self.view_is c.args.engine c.requires.engine c.requires.room c.requires.free
+release-requires-clause-free c = free.slot_free _ _ _ c.self.inside.stopped c.self.inside.history c.self.inside.parts c.self.invariant c.args.self.now c.self.view_is c.args.engine c.requires.engine c.requires.room c.requires.free
 
 pub release-requires-clause-number : goal.release-requires-clause-number
 release-requires-clause-number c = free.next_task_small _ _ _ c.self.inside.stopped c.self.inside.history c.self.inside.parts c.self.invariant c.args.self.now c.self.view_is c.args.engine c.requires.engine c.requires.room c.requires.free

@@ -35,10 +35,10 @@ returns-in_default-taken c = free.line_still _ _ _ c.self.inside.stopped c.self.
 pub invariant_of-self-2 : goal.invariant_of-self-2
 invariant_of-self-2 c =
     let t = taken_some _ _ _ c.in-Ok.taken c.in-Some.job c.in-Some.is c.in-Ok.ensures.taken in
-    free.kept_traced _ _ _ c.self.inside.stopped c.self.inside.history c.self.inside.parts c.self.invariant c.args.self.now c.self.view_is _ c.push.new.self c.take.new.self c.push.ensures (free.take_kept _ _ _ c.self.inside.stopped c.self.inside.history c.self.inside.parts c.self.invariant c.args.self.now c.self.view_is c.args.actor c.requires.actor c.requires.room c.requires.free c.requires.first t.0 t.1 c.take.new.self (t.2.1 _ (free.there_here _ _ _ c.self.inside.stopped c.self.inside.history c.self.inside.parts c.self.invariant c.args.self.now c.self.view_is c.args.actor c.requires.actor c.requires.room c.requires.free c.requires.first)) t.2.0.f t.2.0.sits (t.2.0.number ∙ ap (λ n. n + 1) c.count-event_no.ensures))
+    free.kept_traced _ _ _ c.self.inside.stopped c.self.inside.history c.self.inside.parts c.self.invariant c.args.self.now c.self.view_is _ c.push.new.self c.take.new.self c.push.ensures (free.take_kept _ _ _ c.self.inside.stopped c.self.inside.history c.self.inside.parts c.self.invariant c.args.self.now c.self.view_is c.args.actor c.requires.actor c.requires.room c.requires.free c.requires.first t.0 t.1 c.take.new.self (t.2.1 _ (free.there_here _ _ _ c.self.inside.stopped c.self.inside.history c.self.inside.parts c.self.invariant c.args.self.now c.self.view_is c.args.actor c.requires.actor c.requires.room c.requires.free c.requires.first)) t.2.0.f t.2.0.is_running (t.2.0.number ∙ ap (λ n. n + 1) c.count-event_no.ensures))
 
 pub returns : goal.returns
 returns c =
     let t = taken_some _ _ _ c.in-Ok.taken c.in-Some.job c.in-Some.is c.in-Ok.ensures.taken in
     free.line_traced _ _ _ c.self.inside.stopped c.self.inside.history c.self.inside.parts c.self.invariant c.args.self.now c.self.view_is (λ s. GoesFree c.args.self.now s c.args.actor) (Run c.in-Some.job) _ c.push.new.self c.push.ensures
-    (subst (λ (j : JobView). GoesFree c.args.self.now (state_of c.self.inside.parts c.self.invariant.notices) c.args.actor (Run j) (Take c.args.actor ∷ [])) (sym t.2.0.job_is) (free.take_line _ _ _ c.self.inside.stopped c.self.inside.history c.self.inside.parts c.self.invariant c.args.self.now c.self.view_is c.args.actor c.requires.actor c.requires.room c.requires.free c.requires.first t.0 t.1 c.take.new.self (t.2.1 _ (free.there_here _ _ _ c.self.inside.stopped c.self.inside.history c.self.inside.parts c.self.invariant c.args.self.now c.self.view_is c.args.actor c.requires.actor c.requires.room c.requires.free c.requires.first)) t.2.0.f t.2.0.sits (t.2.0.number ∙ ap (λ n. n + 1) c.count-event_no.ensures)))
+    (subst (λ (j : JobView). GoesFree c.args.self.now (state_of c.self.inside.parts c.self.invariant.notices) c.args.actor (Run j) (Take c.args.actor ∷ [])) (sym t.2.0.job_is) (free.take_line _ _ _ c.self.inside.stopped c.self.inside.history c.self.inside.parts c.self.invariant c.args.self.now c.self.view_is c.args.actor c.requires.actor c.requires.room c.requires.free c.requires.first t.0 t.1 c.take.new.self (t.2.1 _ (free.there_here _ _ _ c.self.inside.stopped c.self.inside.history c.self.inside.parts c.self.invariant c.args.self.now c.self.view_is c.args.actor c.requires.actor c.requires.room c.requires.free c.requires.first)) t.2.0.f t.2.0.is_running (t.2.0.number ∙ ap (λ n. n + 1) c.count-event_no.ensures)))

@@ -3,24 +3,24 @@ use Rattle.tw_pool_state.proofs.PartNames.{Call, FrameView, IsLent, IsOwed, JobV
 use Rattle.tw_pool_state.proofs.Answering.{when_back, when_done, when_lent, when_refused}
 use Rattle.tw_pool_state.proofs.Calling.{called, may_do}
 use Rattle.tw_pool_state.proofs.Goings.{is_lent, lent_goes}
-use Rattle.tw_pool_state.proofs.Law.{runner_has_seat}
-use Rattle.tw_pool_state.proofs.Seating.{again, get_own, same_seat}
+use Rattle.tw_pool_state.proofs.Law.{runner_has_slot}
+use Rattle.tw_pool_state.proofs.Runners.{again, get_own, same_slot}
 use Rattle.tw_pool_state.proofs.parts.Parts.call_data.Goals as goal
 
-pub exec_data-requires-clause-seat : goal.exec_data-requires-clause-seat
-exec_data-requires-clause-seat c =
+pub exec_data-requires-clause-task_slot : goal.exec_data-requires-clause-task_slot
+exec_data-requires-clause-task_slot c =
     let s = c.requires.fits_place in
     let done = c.args.done in
-    runner_has_seat done.before.program s.layout (with_done c.args.self.now c.args.actor s.f done) s.notices s.parts c.args.actor (come s.f done) (get_own c.args.self.now.seats c.args.actor (come s.f done))
+    runner_has_slot done.before.program s.layout (with_done c.args.self.now c.args.actor s.f done) s.notices s.parts c.args.actor (come s.f done) (get_own c.args.self.now.running_tasks c.args.actor (come s.f done))
 
-pub exec_data-requires-clause-sits : goal.exec_data-requires-clause-sits
-exec_data-requires-clause-sits c =
+pub exec_data-requires-clause-is_running : goal.exec_data-requires-clause-is_running
+exec_data-requires-clause-is_running c =
     let s = c.requires.fits_place in
     let done = c.args.done in (
       s.f,
-      s.owed.sits,
+      s.owed.is_running,
       s.owed.own,
-      may_do done.before.program s.layout (with_done c.args.self.now c.args.actor s.f done) s.notices s.parts c.args.actor (come s.f done) s.q c.args.instr.now (get_own c.args.self.now.seats c.args.actor (come s.f done)) s.here s.following_is s.small,
+      may_do done.before.program s.layout (with_done c.args.self.now c.args.actor s.f done) s.notices s.parts c.args.actor (come s.f done) s.q c.args.instr.now (get_own c.args.self.now.running_tasks c.args.actor (come s.f done)) s.here s.following_is s.small,
     )
 
 pub returns-clause-called : goal.returns-clause-called
@@ -28,45 +28,45 @@ returns-clause-called c =
     let s = c.requires.fits_place in
     let done = c.args.done in
     let old = c.args.self.now in
-    let e = c.exec_data.ensures s.f s.owed.sits in
-    let new : Parts = record old { store = c.exec_data.new.store; seats = c.exec_data.new.self } in
+    let e = c.exec_data.ensures s.f s.owed.is_running in
+    let new : Parts = record old { store = c.exec_data.new.store; running_tasks = c.exec_data.new.self } in
     when_done c.args.instr.now old.store c.exec_data.new.store s.f e.0 c.args.event_no done (MakesAfter (Call c.args.actor) old c.args.actor done new) c.exec_data.result e.2 (λ job l. λ layout f owed.
-    let same : s.f ≡ f = same_Some s.f f (sym s.owed.sits ∙ owed.sits) in
+    let same : s.f ≡ f = same_Some s.f f (sym s.owed.is_running ∙ owed.is_running) in
     subst (λ (x : FrameView). Makes done.before.program layout (Call c.args.actor) (with_done old c.args.actor x done) new) same (λ notices h.
-    lent_goes new old.seats c.args.actor l.at c.args.event_no (e.1 ∙ ap (insert old.seats c.args.actor) l.is_lent) done.before.program layout (Call c.args.actor) refl (with_done old c.args.actor s.f done) notices
-    (called done.before.program layout (with_done old c.args.actor s.f done) notices h c.args.actor (come s.f done) s.q c.args.instr.now (get_own old.seats c.args.actor (come s.f done)) s.here s.following_is
-    (record new { seats = insert old.seats c.args.actor l.at }) l.at l.is_done (sym (again old.seats c.args.actor (come s.f done) l.at)) refl refl refl refl)))
+    lent_goes new old.running_tasks c.args.actor l.at c.args.event_no (e.1 ∙ ap (insert old.running_tasks c.args.actor) l.is_lent) done.before.program layout (Call c.args.actor) refl (with_done old c.args.actor s.f done) notices
+    (called done.before.program layout (with_done old c.args.actor s.f done) notices h c.args.actor (come s.f done) s.q c.args.instr.now (get_own old.running_tasks c.args.actor (come s.f done)) s.here s.following_is
+    (record new { running_tasks = insert old.running_tasks c.args.actor l.at }) l.at l.is_done (sym (again old.running_tasks c.args.actor (come s.f done) l.at)) refl refl refl refl)))
 
 pub returns-clause-lent : goal.returns-clause-lent
 returns-clause-lent c =
     let s = c.requires.fits_place in
-    let e = c.exec_data.ensures s.f s.owed.sits in
+    let e = c.exec_data.ensures s.f s.owed.is_running in
     when_lent c.args.instr.now c.args.self.now.store c.exec_data.new.store s.f e.0 c.args.event_no c.args.done (λ (job : JobView). IsLent _ c.args.actor c.args.event_no job) c.exec_data.result e.2 (λ job l.
-    is_lent _ c.args.self.now.seats c.args.actor l.at c.args.event_no (e.1 ∙ ap (insert c.args.self.now.seats c.args.actor) l.is_lent) job (l.is_job ∙ ap job_of l.is_lent))
+    is_lent _ c.args.self.now.running_tasks c.args.actor l.at c.args.event_no (e.1 ∙ ap (insert c.args.self.now.running_tasks c.args.actor) l.is_lent) job (l.is_job ∙ ap job_of l.is_lent))
 
 pub returns-clause-refused : goal.returns-clause-refused
 returns-clause-refused c =
     let s = c.requires.fits_place in
-    let e = c.exec_data.ensures s.f s.owed.sits in
+    let e = c.exec_data.ensures s.f s.owed.is_running in
     when_refused c.args.instr.now c.args.self.now.store c.exec_data.new.store s.f e.0 c.args.event_no c.args.done (Untouched c.args.self.now _) c.exec_data.result e.2 (λ back r. record {
       store = r.store;
       rules = refl;
       next_rule = refl;
       tasks = refl;
       next_task = refl;
-      seats = e.1 ∙ ap (insert c.args.self.now.seats c.args.actor) r.frame ∙ same_seat c.args.self.now.seats c.args.actor s.f s.owed.sits;
+      running_tasks = e.1 ∙ ap (insert c.args.self.now.running_tasks c.args.actor) r.frame ∙ same_slot c.args.self.now.running_tasks c.args.actor s.f s.owed.is_running;
       outputs = refl;
     })
 
 pub returns-clause-back : goal.returns-clause-back
 returns-clause-back c =
     let s = c.requires.fits_place in
-    let e = c.exec_data.ensures s.f s.owed.sits in
+    let e = c.exec_data.ensures s.f s.owed.is_running in
     when_back c.args.instr.now c.args.self.now.store c.exec_data.new.store s.f e.0 c.args.event_no c.args.done c.exec_data.result e.2
 
 pub returns-clause-memory : goal.returns-clause-memory
 returns-clause-memory c =
     let s = c.requires.fits_place in
-    let e = c.exec_data.ensures s.f s.owed.sits in
+    let e = c.exec_data.ensures s.f s.owed.is_running in
     when_refused c.args.instr.now c.args.self.now.store c.exec_data.new.store s.f e.0 c.args.event_no c.args.done ((f : FrameView) → IsOwed c.args.self.now c.args.actor f c.args.done → TakesMemory c.args.instr.now c.args.self.now.store (come f c.args.done)) c.exec_data.result e.2 (λ back r. λ f owed.
-    subst (λ (x : FrameView). TakesMemory c.args.instr.now c.args.self.now.store (come x c.args.done)) (same_Some s.f f (sym s.owed.sits ∙ owed.sits)) r.memory)
+    subst (λ (x : FrameView). TakesMemory c.args.instr.now c.args.self.now.store (come x c.args.done)) (same_Some s.f f (sym s.owed.is_running ∙ owed.is_running)) r.memory)

@@ -8,7 +8,7 @@ pub returns-then-steps-eq0 : goal.returns-then-steps-eq0
 returns-then-steps-eq0 c =
     let done = c.args.done.now in
     let none : done.steps ≡ 0 = grind (arith, nat_tests, c.steps-steps.ensures.is, c.if-steps-eq0.true) in
-    (none, λ f owed. stayed done.before.program.program c.args.self.now c.args.actor f owed.sits done (leads c.args.self.now c.args.actor f done owed c.steps-steps.ensures.done) none)
+    (none, λ f owed. stayed done.before.program.program c.args.self.now c.args.actor f owed.is_running done (leads c.args.self.now c.args.actor f done owed c.steps-steps.ensures.done) none)
 
 pub returns-else-steps-eq0 : goal.returns-else-steps-eq0
 returns-else-steps-eq0 c =
@@ -18,5 +18,5 @@ returns-else-steps-eq0 c =
       ap (event.Local c.args.actor) c.steps-steps.ensures.is,
       λ layout f owed notices h.
           subst (λ n. Goes done.before.program layout (event.Local c.args.actor n) c.args.self.now notices (with_done c.args.self.now c.args.actor f done)) (sym c.steps-steps.ensures.is)
-          (gone done.before.program layout c.args.self.now notices h c.args.actor f owed.sits done (leads c.args.self.now c.args.actor f done owed c.steps-steps.ensures.done) some),
+          (gone done.before.program layout c.args.self.now notices h c.args.actor f owed.is_running done (leads c.args.self.now c.args.actor f done owed c.steps-steps.ensures.done) some),
     )

@@ -2,11 +2,11 @@ use Rattle.std.proofs.Common.{◌≡◌, ◌∙◌, Some, refl, sym, ap, arith, 
 use Rattle.std.proofs.lemmas.Int.{to_z-of_z}
 use Rattle.tw_pool_state.proofs.PartNames.{Call, come, get, gone_on, insert, with_done}
 use Rattle.tw_code.specs.declared.instr.Instr.TheVariants as instr
-use Rattle.tw_pool_state.proofs.AfterJob.{few, here_too, in_queue, kind_of_callee, operands, params_of_callee, runs_there, runs_too, seat_there, sits_ready, so_bundled, so_valued, there}
+use Rattle.tw_pool_state.proofs.AfterJob.{few, here_too, in_queue, kind_of_callee, operands, params_of_callee, runs_there, runs_too, slot_there, is_running_ready, so_bundled, so_valued, there}
 use Rattle.tw_pool_state.proofs.Goings.{is_lent, lent_goes}
 use Rattle.tw_pool_state.proofs.Puts.{put_goes, put_named, put_fits}
 use Rattle.tw_pool_state.proofs.Releases.{fresh}
-use Rattle.tw_pool_state.proofs.Seating.{again}
+use Rattle.tw_pool_state.proofs.Runners.{again}
 use Rattle.tw_pool_state.proofs.ValueRegisters.{ok_ints}
 use Rattle.tw_pool_state.proofs.parts.Parts.put.Goals as goal
 
@@ -27,8 +27,8 @@ reserve-requires c =
     let s = c.requires.fits_place in
     in_queue c.args.action.now.target (operands c.args.done.before.program.program s.parts.runnable.is s.f.procedure s.q s.here c.args.done.after.place (instr.Put c.args.action.now) s.following_is).1.1.1.0
 
-pub take_args-args-requires-clause-seat : goal.take_args-args-requires-clause-seat
-take_args-args-requires-clause-seat c = seat_there c.args.self.now c.args.actor c.args.done (instr.Put c.args.action.now) c.requires.fits_place
+pub take_args-args-requires-clause-task_slot : goal.take_args-args-requires-clause-task_slot
+take_args-args-requires-clause-task_slot c = slot_there c.args.self.now c.args.actor c.args.done (instr.Put c.args.action.now) c.requires.fits_place
 
 pub take_args-args-requires-clause-few : goal.take_args-args-requires-clause-few
 take_args-args-requires-clause-few c =
@@ -37,12 +37,12 @@ take_args-args-requires-clause-few c =
     let params = params_of_callee c.args.done.before.program.program c.args.action.now.procedure c.in-Ok.asked.callee.now c.in-Ok.ensures.callee u.procedure u.is in
     few c.args.self.now c.args.actor c.args.done (instr.Put c.args.action.now) c.requires.fits_place c.args.action.now u c.in-Ok.asked.callee.now.params params c.as_slice-registers.result.now c.as_slice-registers.ensures
 
-pub take_args-args-requires-clause-sits : goal.take_args-args-requires-clause-sits
-take_args-args-requires-clause-sits c =
+pub take_args-args-requires-clause-is_running : goal.take_args-args-requires-clause-is_running
+take_args-args-requires-clause-is_running c =
     let s = c.requires.fits_place in
     let u = put_named c.args.done.before.program s.layout (there c.args.self.now c.args.actor c.args.done (instr.Put c.args.action.now) c.requires.fits_place) s.notices s.parts c.args.actor (come s.f c.args.done) s.q c.args.action.now (runs_there c.args.self.now c.args.actor c.args.done (instr.Put c.args.action.now) c.requires.fits_place) s.here s.following_is in
     let params = params_of_callee c.args.done.before.program.program c.args.action.now.procedure c.in-Ok.asked.callee.now c.in-Ok.ensures.callee u.procedure u.is in
-    sits_ready c.args.self.now c.args.actor c.args.done (instr.Put c.args.action.now) c.requires.fits_place c.args.action.now u c.in-Ok.asked.callee.now.params params c.as_slice-registers.result.now c.as_slice-registers.ensures c.in-Ok.asked.vals.items c.in-Ok.ensures.values
+    is_running_ready c.args.self.now c.args.actor c.args.done (instr.Put c.args.action.now) c.requires.fits_place c.args.action.now u c.in-Ok.asked.callee.now.params params c.as_slice-registers.result.now c.as_slice-registers.ensures c.in-Ok.asked.vals.items c.in-Ok.ensures.values
     (put_fits c.args.done.before.program s.layout (there c.args.self.now c.args.actor c.args.done (instr.Put c.args.action.now) c.requires.fits_place) s.notices s.parts c.args.actor (come s.f c.args.done) s.q c.args.action.now (runs_there c.args.self.now c.args.actor c.args.done (instr.Put c.args.action.now) c.requires.fits_place) s.here s.following_is)
 
 pub put-requires-clause-new : goal.put-requires-clause-new
@@ -65,24 +65,24 @@ returns-clause-put c = λ layout f owed notices h.
     let runs = runs_too c.args.self.now c.args.actor c.args.done (instr.Put c.args.action.now) c.requires.fits_place f owed in
     let u = put_named program layout (with_done old c.args.actor f c.args.done) notices h c.args.actor (come f c.args.done) s.q action runs here s.following_is in
     let params = params_of_callee c.args.done.before.program.program c.args.action.now.procedure c.in-Ok.asked.callee.now c.in-Ok.ensures.callee u.procedure u.is in
-    let over = c.take_args-args.ensures f owed.sits in
+    let over = c.take_args-args.ensures f owed.is_running in
     let vals = so_valued c.args.done.after.values c.in-Ok.asked.callee.now.params u.procedure.params params action.args c.in-Ok.asked.vals.items c.in-Ok.ensures.values in
     let bundle = so_bundled f.held c.in-Ok.asked.callee.now.params u.procedure.params params c.as_slice-registers.result.now action.args c.as_slice-registers.ensures c.in-Ok.asked.vals.items (Some (record { args = c.take_args-args.result.0; file = over.0 })) over.1 in
-    let seats = sym (again old.seats c.args.actor (come f c.args.done) (gone_on (come f c.args.done) over.0)) in
+    let running_tasks = sym (again old.running_tasks c.args.actor (come f c.args.done) (gone_on (come f c.args.done) over.0)) in
     let bits : to_z w64 (of_z w64 c.in-Ok.asked.priority) ≡ c.in-Ok.asked.priority = grind (arith, to_z-of_z) in
     let key : to_z w64 (of_z w64 c.in-Ok.asked.priority) ≡ u.priority = bits ∙ ok_ints c.in-Ok.asked.priority u.priority (sym c.in-Ok.ensures.priority ∙ u.priority_is) in
     let kind = kind_of_callee c.args.done.before.program.program c.args.action.now.procedure c.in-Ok.asked.callee.now c.in-Ok.ensures.callee u.procedure u.is in
-    lent_goes _ old.seats c.args.actor (gone_on (come f c.args.done) over.0) c.args.event_no over.2 program layout (Call c.args.actor) refl (with_done old c.args.actor f c.args.done) notices
+    lent_goes _ old.running_tasks c.args.actor (gone_on (come f c.args.done) over.0) c.args.event_no over.2 program layout (Call c.args.actor) refl (with_done old c.args.actor f c.args.done) notices
     (put_goes program layout (with_done old c.args.actor f c.args.done) notices h c.args.actor (come f c.args.done) s.q action runs here s.following_is c.in-Ok.asked.vals.items vals c.take_args-args.result.0 over.0 bundle _
     (c.in-Ok-put.ensures.put
     ∙ ap (λ z. insert c.reserve.new.self.tasks c.new.result (record { kind = c.in-Ok.asked.callee.now.kind; procedure = action.procedure; priority = z; target = action.target; args = c.take_args-args.result.0 })) key
     ∙ ap (λ k. insert c.reserve.new.self.tasks c.new.result (record { kind = k; procedure = action.procedure; priority = u.priority; target = action.target; args = c.take_args-args.result.0 })) kind
     ∙ ap (λ ts. insert ts c.new.result (record { kind = u.procedure.kind; procedure = action.procedure; priority = u.priority; target = action.target; args = c.take_args-args.result.0 })) c.in-Ok-reserve.ensures.same
     ∙ ap (λ n. insert old.tasks.tasks n (record { kind = u.procedure.kind; procedure = action.procedure; priority = u.priority; target = action.target; args = c.take_args-args.result.0 })) c.new.ensures)
-    refl seats refl refl refl)
+    refl running_tasks refl refl refl)
 
 pub returns-clause-lent : goal.returns-clause-lent
 returns-clause-lent c =
     let s = c.requires.fits_place in
-    let over = c.take_args-args.ensures s.f s.owed.sits in
-    is_lent _ c.args.self.now.seats c.args.actor (gone_on (come s.f c.args.done) over.0) c.args.event_no over.2 _ over.3
+    let over = c.take_args-args.ensures s.f s.owed.is_running in
+    is_lent _ c.args.self.now.running_tasks c.args.actor (gone_on (come s.f c.args.done) over.0) c.args.event_no over.2 _ over.3

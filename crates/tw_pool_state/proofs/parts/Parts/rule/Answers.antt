@@ -5,11 +5,11 @@ use Rattle.tw_code.specs.declared.instr.Instr.TheVariants as instr
 use Rattle.tw_rights.specs.Bundled.{bundled}
 use Rattle.tw_rules.specs.Table.{new_rule}
 use Rattle.tw_rules.proofs.Fitting.{bundled_suit}
-use Rattle.tw_pool_state.proofs.AfterJob.{few, here_too, params_of_callee, runs_there, runs_too, seat_there, sits_ready, so_bundled, so_valued, there}
+use Rattle.tw_pool_state.proofs.AfterJob.{few, here_too, params_of_callee, runs_there, runs_too, slot_there, is_running_ready, so_bundled, so_valued, there}
 use Rattle.tw_pool_state.proofs.Goings.{is_lent, lent_goes}
 use Rattle.tw_pool_state.proofs.Law.{engine_low}
 use Rattle.tw_pool_state.proofs.NewRules.{rule, rule_goes, rule_named, rule_fits}
-use Rattle.tw_pool_state.proofs.Seating.{again}
+use Rattle.tw_pool_state.proofs.Runners.{again}
 use Rattle.tw_pool_state.proofs.ValueRegisters.{ok_ints}
 use Rattle.tw_pool_state.proofs.parts.Parts.rule.Goals as goal
 
@@ -25,8 +25,8 @@ action_operands-requires-clause-priority c =
     let u = rule_named c.args.done.before.program s.layout (there c.args.self.now c.args.actor c.args.done (instr.Rule c.args.action.now) c.requires.fits_place) s.notices s.parts c.args.actor (come s.f c.args.done) s.q c.args.action.now (runs_there c.args.self.now c.args.actor c.args.done (instr.Rule c.args.action.now) c.requires.fits_place) s.here s.following_is in
     (u.priority, u.priority_is)
 
-pub take_args-args-requires-clause-seat : goal.take_args-args-requires-clause-seat
-take_args-args-requires-clause-seat c = seat_there c.args.self.now c.args.actor c.args.done (instr.Rule c.args.action.now) c.requires.fits_place
+pub take_args-args-requires-clause-task_slot : goal.take_args-args-requires-clause-task_slot
+take_args-args-requires-clause-task_slot c = slot_there c.args.self.now c.args.actor c.args.done (instr.Rule c.args.action.now) c.requires.fits_place
 
 pub take_args-args-requires-clause-few : goal.take_args-args-requires-clause-few
 take_args-args-requires-clause-few c =
@@ -35,12 +35,12 @@ take_args-args-requires-clause-few c =
     let params = params_of_callee c.args.done.before.program.program c.args.action.now.procedure c.in-Ok.asked.callee.now c.in-Ok.ensures.callee u.procedure u.is in
     few c.args.self.now c.args.actor c.args.done (instr.Rule c.args.action.now) c.requires.fits_place c.args.action.now u c.in-Ok.asked.callee.now.params params c.as_slice-registers.result.now c.as_slice-registers.ensures
 
-pub take_args-args-requires-clause-sits : goal.take_args-args-requires-clause-sits
-take_args-args-requires-clause-sits c =
+pub take_args-args-requires-clause-is_running : goal.take_args-args-requires-clause-is_running
+take_args-args-requires-clause-is_running c =
     let s = c.requires.fits_place in
     let u = rule_named c.args.done.before.program s.layout (there c.args.self.now c.args.actor c.args.done (instr.Rule c.args.action.now) c.requires.fits_place) s.notices s.parts c.args.actor (come s.f c.args.done) s.q c.args.action.now (runs_there c.args.self.now c.args.actor c.args.done (instr.Rule c.args.action.now) c.requires.fits_place) s.here s.following_is in
     let params = params_of_callee c.args.done.before.program.program c.args.action.now.procedure c.in-Ok.asked.callee.now c.in-Ok.ensures.callee u.procedure u.is in
-    sits_ready c.args.self.now c.args.actor c.args.done (instr.Rule c.args.action.now) c.requires.fits_place c.args.action.now u c.in-Ok.asked.callee.now.params params c.as_slice-registers.result.now c.as_slice-registers.ensures c.in-Ok.asked.vals.items c.in-Ok.ensures.values
+    is_running_ready c.args.self.now c.args.actor c.args.done (instr.Rule c.args.action.now) c.requires.fits_place c.args.action.now u c.in-Ok.asked.callee.now.params params c.as_slice-registers.result.now c.as_slice-registers.ensures c.in-Ok.asked.vals.items c.in-Ok.ensures.values
     (rule_fits c.args.done.before.program s.layout (there c.args.self.now c.args.actor c.args.done (instr.Rule c.args.action.now) c.requires.fits_place) s.notices s.parts c.args.actor (come s.f c.args.done) s.q c.args.action.now (runs_there c.args.self.now c.args.actor c.args.done (instr.Rule c.args.action.now) c.requires.fits_place) s.here s.following_is)
 
 pub reserve-requires : goal.reserve-requires
@@ -65,7 +65,7 @@ add-requires-clause-few c =
 pub add-requires-clause-args : goal.add-requires-clause-args
 add-requires-clause-args c =
     let s = c.requires.fits_place in
-    let over = c.take_args-args.ensures s.f s.owed.sits in
+    let over = c.take_args-args.ensures s.f s.owed.is_running in
     bundled_suit s.f.held c.as_slice-params.result.now c.as_slice-registers.result.now c.in-Ok.asked.vals.items _ (ap (λ ps. bundled s.f.held ps c.as_slice-registers.result.now c.in-Ok.asked.vals.items) c.as_slice-params.ensures ∙ over.1)
 
 pub returns-clause-rule : goal.returns-clause-rule
@@ -78,10 +78,10 @@ returns-clause-rule c = λ layout f owed notices h.
     let runs = runs_too c.args.self.now c.args.actor c.args.done (instr.Rule c.args.action.now) c.requires.fits_place f owed in
     let u = rule_named program layout (with_done old c.args.actor f c.args.done) notices h c.args.actor (come f c.args.done) s.q action runs here s.following_is in
     let params = params_of_callee c.args.done.before.program.program c.args.action.now.procedure c.in-Ok.asked.callee.now c.in-Ok.ensures.callee u.procedure u.is in
-    let over = c.take_args-args.ensures f owed.sits in
+    let over = c.take_args-args.ensures f owed.is_running in
     let vals = so_valued c.args.done.after.values c.in-Ok.asked.callee.now.params u.procedure.params params action.args c.in-Ok.asked.vals.items c.in-Ok.ensures.values in
     let bundle = so_bundled f.held c.in-Ok.asked.callee.now.params u.procedure.params params c.as_slice-registers.result.now action.args c.as_slice-registers.ensures c.in-Ok.asked.vals.items (Some (record { args = c.take_args-args.result.0; file = over.0 })) over.1 in
-    let seats = sym (again old.seats c.args.actor (come f c.args.done) (gone_on (come f c.args.done) over.0)) in
+    let running_tasks = sym (again old.running_tasks c.args.actor (come f c.args.done) (gone_on (come f c.args.done) over.0)) in
     let bits : to_z w64 (of_z w64 c.in-Ok.asked.priority) ≡ c.in-Ok.asked.priority = grind (arith, to_z-of_z) in
     let key : to_z w64 (of_z w64 c.in-Ok.asked.priority) ≡ u.priority = bits ∙ ok_ints c.in-Ok.asked.priority u.priority (sym c.in-Ok.ensures.priority ∙ u.priority_is) in
     let made : c.add.new.self.rules ≡ insert old.rules.rules old.rules.next (rule program layout (with_done old c.args.actor f c.args.done) notices h c.args.actor (come f c.args.done) s.q action runs here s.following_is c.in-Ok.asked.vals.items vals c.take_args-args.result.0 over.0 bundle) =
@@ -91,12 +91,12 @@ returns-clause-rule c = λ layout f owed notices h.
     ∙ ap (λ ps. insert c.reserve.new.self.rules c.reserve.new.self.next (new_rule (number_in_kind c.args.actor) ps (record { procedure = action.procedure; priority = u.priority; target = action.target }) c.take_args-args.result.0)) (c.as_slice-params.ensures ∙ params)
     ∙ ap (λ rs. insert rs c.reserve.new.self.next (new_rule (number_in_kind c.args.actor) u.procedure.params (record { procedure = action.procedure; priority = u.priority; target = action.target }) c.take_args-args.result.0)) c.in-Ok-reserve.ensures.rules
     ∙ ap (λ n. insert old.rules.rules n (new_rule (number_in_kind c.args.actor) u.procedure.params (record { procedure = action.procedure; priority = u.priority; target = action.target }) c.take_args-args.result.0)) c.in-Ok-reserve.ensures.next in
-    lent_goes _ old.seats c.args.actor (gone_on (come f c.args.done) over.0) c.args.event_no over.2 program layout (Call c.args.actor) refl (with_done old c.args.actor f c.args.done) notices
+    lent_goes _ old.running_tasks c.args.actor (gone_on (come f c.args.done) over.0) c.args.event_no over.2 program layout (Call c.args.actor) refl (with_done old c.args.actor f c.args.done) notices
     (rule_goes program layout (with_done old c.args.actor f c.args.done) notices h c.args.actor (come f c.args.done) s.q action runs here s.following_is c.in-Ok.asked.vals.items vals c.take_args-args.result.0 over.0 bundle _
-    made (c.in-Ok-add.ensures.next ∙ ap (λ n. n + 1) c.in-Ok-reserve.ensures.next) seats refl refl refl refl)
+    made (c.in-Ok-add.ensures.next ∙ ap (λ n. n + 1) c.in-Ok-reserve.ensures.next) running_tasks refl refl refl refl)
 
 pub returns-clause-lent : goal.returns-clause-lent
 returns-clause-lent c =
     let s = c.requires.fits_place in
-    let over = c.take_args-args.ensures s.f s.owed.sits in
-    is_lent _ c.args.self.now.seats c.args.actor (gone_on (come s.f c.args.done) over.0) c.args.event_no over.2 _ over.3
+    let over = c.take_args-args.ensures s.f s.owed.is_running in
+    is_lent _ c.args.self.now.running_tasks c.args.actor (gone_on (come s.f c.args.done) over.0) c.args.event_no over.2 _ over.3

@@ -1,9 +1,0 @@
-use Rattle.std.proofs.Common.{◌≡◌, ◌≤◌, replicate, None}
-use Rattle.std.specs.Prelude.{vec_capacity}
-use Rattle.tw_pool_state.proofs.seat_tasks.SeatTasks.none.Given as goal
-
-abbrev pub invariant-loop-index : goal.invariant-loop-index
-invariant-loop-index l = record {
-  room : 24 ≤ vec_capacity l.frames;
-  empty : l.frames.items ≡ replicate l._index None;
-}

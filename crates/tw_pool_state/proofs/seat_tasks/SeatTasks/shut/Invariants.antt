@@ -1,8 +1,0 @@
-use Rattle.std.proofs.Common.{length}
-use Rattle.tw_pool_state.proofs.seat_tasks.SeatTasks.shut.Given as goal
-
-abbrev pub invariant-loop-seat : goal.invariant-loop-seat
-invariant-loop-seat l = Unit {0}
-
-abbrev pub decreases-loop-seat : goal.decreases-loop-seat
-decreases-loop-seat l = length l.frames.items

@@ -1,0 +1,270 @@
+//! The running tasks, by their actors.
+
+ghost use Rattle.std.specs.Prelude.{◌≡◌, ◌<◌, ◌≤◌, ◌+◌, ◌^◌, ℕ, IfOk, List, OnErr, Option, IsSome, None, Some, length, replicate, slice_index_or, slice_set};
+ghost use Rattle.std.specs.FinMap as map;
+ghost use Rattle.std.specs.FinMap.{get, insert, remove, len};
+ghost use Rattle.std.specs.Option.{option_copied};
+ghost use Rattle.tw_rights.specs.declared.held.Held.{Held};
+ghost use Rattle.tw_rights.specs.Bundled.{bundled};
+ghost use Rattle.tw_rights.specs.Roomy.{IsRoom};
+ghost use Rattle.tw_types.specs.Task.{TaskOf, best};
+ghost use Rattle.tw_rights.specs.declared.arg.Arg.{Arg};
+ghost use Rattle.tw_frame.specs.Drafts.{MayStart};
+ghost use Rattle.tw_code.specs.machine.Position.{at_next_place};
+ghost use Rattle.tw_frame.specs.Jobs.{FrameView, MayBeAt, job_of};
+ghost use Rattle.tw_pool_state.specs.RunningTasks.{HasSlot};
+ghost use Rattle.tw_pool_state.specs.Coming.{IsBegun, MayBegin, come, gone_on, lent_as};
+ghost use Rattle.tw_pool_state.specs.Data.{IsLentAnswer, MayDo};
+ghost use Rattle.tw_pool_state.specs.Memory.{TakesTexts};
+
+use crate::operands::ActionOperands;
+use crate::task_slots::TaskSlots;
+use std::alloc::{AllocError, Global};
+use std::marker::Model;
+use tw_code::DataInstr;
+use tw_frame::{Done, Frame, FrameBuffers, Job};
+use tw_queue::TaskQueues;
+use tw_rights::{Arg, Bundle};
+use tw_store::Store;
+use tw_types::Actor;
+use tw_verify::Verified;
+
+/// A slot for each actor of the greatest layout: engines, servers, workers.
+pub struct RunningTasks<'a> {
+    task_slots: TaskSlots<'a>,
+    /// Memory for a task, for each empty slot.
+    frame_buffers: Vec<Option<FrameBuffers<'a>>>,
+    taken: usize,
+}
+
+impl<'a> Model for RunningTasks<'a> {
+    ghost use Rattle.std.specs.Coded.{codes};
+    ghost use Rattle.std.specs.FinMap.{code};
+    ghost use Rattle.tw_types.specs.Actor.{actor_cmp};
+    ghost use Rattle.tw_frame.specs.Jobs.{FrameView};
+    ghost use Rattle.tw_pool_state.specs.RunningTasks.{TasksByActor};
+
+    ghost Value = { TasksByActor };
+
+    ghost coded = { Prim.hlevel (codes, code {X = FrameView} {R = actor_cmp} (Prim.hlevel codes) (Prim.hlevel codes)) };
+
+    ghost use Rattle.tw_pool_state.specs.RunningTasks.{by_actor, AreKept, AreTaskSlots};
+
+    ghost view = { λ s. by_actor s.task_slots.frames.items };
+
+    ghost invariant = { λ s. AreTaskSlots s.task_slots.frames.items s.taken × AreKept s.task_slots.frames.items s.frame_buffers.items };
+}
+
+/// Takes the memory that is there.
+fn take_buffers<'a>(
+    frame_buffers: &mut Vec<Option<FrameBuffers<'a>>>,
+    task_slot: usize,
+) -> FrameBuffers<'a>
+    requires inside { task_slot < length frame_buffers.old.items }
+    requires there { IsSome (slice_index_or frame_buffers.old.items task_slot None) }
+    ensures { frame_buffers.new.items ≡ slice_set frame_buffers.old.items task_slot None }
+{
+    let place = &mut frame_buffers[task_slot];
+    match place.take() {
+        Some(frame_buffers) => frame_buffers,
+        None => unreachable!(),
+    }
+}
+
+/// Puts memory there, and frees what was there.
+fn put_buffers<'a>(
+    frame_buffers: &mut Vec<Option<FrameBuffers<'a>>>,
+    task_slot: usize,
+    room: FrameBuffers<'a>,
+)
+    requires { task_slot < length frame_buffers.old.items }
+    ensures { frame_buffers.new.items ≡ slice_set frame_buffers.old.items task_slot (Some tt) }
+{
+    let place = &mut frame_buffers[task_slot];
+    match std::mem::replace(place, Some(room)) {
+        None => {}
+        Some(before) => before.shut(),
+    }
+}
+
+/// Allocates memory for each slot.
+fn all_frame_buffers<'a>(alloc: Global) -> Result<Vec<Option<FrameBuffers<'a>>>, AllocError>
+    ensures { IfOk result (λ frame_buffers. frame_buffers.items ≡ replicate 24 (Some tt)) }
+{
+    let mut frame_buffers = Vec::with_capacity(alloc, TaskSlots::COUNT)?;
+    for _index in 0..TaskSlots::COUNT {
+        let Ok(room) = FrameBuffers::new(alloc) else {
+            drop_frame_buffers(frame_buffers);
+            return Err(AllocError);
+        };
+        frame_buffers.push_reserved(Some(room));
+    }
+    Ok(frame_buffers)
+}
+
+/// Frees their memory.
+fn drop_frame_buffers<'a>(mut frame_buffers: Vec<Option<FrameBuffers<'a>>>) {
+    while let Some(room) = frame_buffers.pop() {
+        if let Some(room) = room {
+            room.shut();
+        }
+    }
+    frame_buffers.destroy_empty();
+}
+
+impl<'a> RunningTasks<'a> {
+    /// Makes empty slots, with memory for a task in each.
+    pub fn new(alloc: Global) -> Result<RunningTasks<'a>, AllocError>
+        ensures { IfOk result (λ running_tasks. running_tasks ≡ map.empty) }
+    {
+        let frame_buffers = all_frame_buffers(alloc)?;
+        let Ok(task_slots) = TaskSlots::none(alloc) else {
+            drop_frame_buffers(frame_buffers);
+            return Err(AllocError);
+        };
+        Ok(RunningTasks {
+            task_slots,
+            frame_buffers,
+            taken: 0,
+        })
+    }
+
+    /// Spends every right of every task.
+    pub fn shut(self) {
+        let RunningTasks {
+            task_slots,
+            frame_buffers,
+            taken: _,
+        } = self;
+        task_slots.shut();
+        drop_frame_buffers(frame_buffers);
+    }
+
+    /// Returns the number of running tasks.
+    pub fn running(&self) -> usize
+        ensures { result ≡ len self.now }
+    {
+        self.taken
+    }
+
+    /// Returns the task of an actor, if it has one.
+    pub fn get(&self, actor: Actor) -> Option<&Frame<'a>>
+        requires { HasSlot actor }
+        ensures { option_copied result ≡ get self.now actor }
+    {
+        self.task_slots.task_in_slot(actor.place())
+    }
+
+    /// Starts the best task of an actor without one, if there is one, and issues its job.
+    pub(crate) fn start(
+        &mut self,
+        alloc: Global,
+        actor: Actor,
+        verified: &'a Verified,
+        event_no: u64,
+        tasks: &mut TaskQueues,
+    ) -> Result<Option<Job<'a>>, AllocError>
+        requires task_slot { HasSlot actor }
+        requires empty { get self.old actor ≡ None }
+        requires may { (e : ℕ × TaskOf Arg) → best actor tasks.old.tasks ≡ Some e → MayStart verified.now.program e.1.procedure e.1.args }
+        requires fits_place { MayBegin verified.now actor tasks.old.tasks }
+        ensures begun { IsBegun verified.now actor event_no self.old tasks.old.tasks self.new tasks.new.tasks result }
+        ensures memory { OnErr result (TakesTexts verified.now.program (best actor tasks.old.tasks)) }
+    {
+        let Some(best) = tasks.best(actor) else {
+            return Ok(None);
+        };
+        let number = actor.place();
+        let start = match take_buffers(&mut self.frame_buffers, number).start(
+            alloc, best, verified,
+        ) {
+            Ok(start) => start,
+            Err(frame_buffers) => {
+                put_buffers(&mut self.frame_buffers, number, frame_buffers);
+                return Err(AllocError);
+            }
+        };
+        let Some(task) = tasks.take(actor) else {
+            unreachable!();
+        };
+        let (mut frame, draft) = Frame::start(task, actor, verified, start);
+        let job = frame.lend(event_no, draft);
+        self.task_slots.put_task(number, frame);
+        self.taken += 1;
+        Ok(Some(job))
+    }
+
+    /// Ends the actor's task. Its memory, and that of its last `Done`, is for the next one.
+    pub(crate) fn end(&mut self, alloc: Global, actor: Actor, done: Done<'a>)
+        requires task_slot { HasSlot actor }
+        requires is_running { IsSome (get self.old actor) }
+        ensures { self.new ≡ remove self.old actor }
+    {
+        let number = actor.place();
+        let Some(frame) = self.task_slots.take_task(number) else {
+            unreachable!();
+        };
+        self.taken -= 1;
+        put_buffers(&mut self.frame_buffers, number, frame.end(alloc, done));
+    }
+
+    /// Completes the actor's job, which `done` must be of, and issues the next one.
+    pub(crate) fn advance(&mut self, actor: Actor, event_no: u64, done: Done<'a>) -> Job<'a>
+        requires task_slot { HasSlot actor }
+        requires is_running { (f : FrameView) × (get self.old actor ≡ Some f) × (done.before ≡ job_of f) × (f.spent < 2 ^ 63) }
+        ensures { (f : FrameView) → get self.old actor ≡ Some f
+            → (self.new ≡ insert self.old actor (lent_as event_no (come f done.entry))) × (result ≡ job_of (lent_as event_no (come f done.entry))) }
+    {
+        self.task_slots.advance(actor.place(), event_no, done)
+    }
+
+    /// Completes the actor's job, moves arguments out of its registers, moves to the next place, and issues the next job.
+    #[inline(always)]
+    pub(crate) fn take_args(
+        &mut self,
+        actor: Actor,
+        event_no: u64,
+        done: Done<'a>,
+        args: &[u8],
+        asked: ActionOperands<'_>,
+        room: Vec<Arg>,
+    ) -> (Bundle, Job<'a>)
+        requires task_slot { HasSlot actor }
+        requires few { length asked.callee.now.params ≤ 8 }
+        requires room { IsRoom (length asked.callee.now.params) room }
+        requires is_running { (f : FrameView) × (get self.old actor ≡ Some f) × (done.before ≡ job_of f) × (f.spent + done.steps < 2 ^ 63)
+            × (done.after.place < 2 ^ 63) × IsSome (bundled f.held asked.callee.now.params args.now asked.vals.items)
+            × MayBeAt f.program.program f.procedure (at_next_place done.after) }
+        ensures { (f : FrameView) → get self.old actor ≡ Some f → (file : List (Option Held))
+            × (bundled f.held asked.entry.callee.now.params args.now asked.entry.vals.items ≡ Some (record { args = result.0; file = file }))
+            × (self.new ≡ insert self.old actor (lent_as event_no (gone_on (come f done.entry) file))) × (result.1 ≡ job_of (lent_as event_no (gone_on (come f done.entry) file))) }
+    {
+        let ActionOperands {
+            callee,
+            priority: _,
+            vals,
+        } = asked;
+        let params = callee.params.as_slice();
+        self.task_slots
+            .take_args(actor.place(), event_no, done, params, args, vals, room)
+    }
+
+    /// Completes the actor's job, executes an instruction on data, and issues the next job. Returns the `Done` if an allocation fails.
+    pub(crate) fn exec_data(
+        &mut self,
+        actor: Actor,
+        store: &mut Store,
+        alloc: Global,
+        event_no: u64,
+        done: Done<'a>,
+        instr: &DataInstr,
+    ) -> Result<Job<'a>, Done<'a>>
+        requires task_slot { HasSlot actor }
+        requires is_running { (f : FrameView) × (get self.old actor ≡ Some f) × (done.before ≡ job_of f) × MayDo instr.now store.old (come f done) }
+        ensures { (f : FrameView) → get self.old actor ≡ Some f → (g : FrameView) × (self.new ≡ insert self.old actor g)
+            × IsLentAnswer instr.now store.old store.new f g event_no done.entry result }
+    {
+        self.task_slots
+            .exec_data(actor.place(), store, alloc, event_no, done, instr)
+    }
+}
