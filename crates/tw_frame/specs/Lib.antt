@@ -8,4 +8,5 @@ pub mod JobBuffers
 pub mod Banks
 pub mod Pieces
 pub mod Positions
+pub mod Innermost
 pub mod Requirements

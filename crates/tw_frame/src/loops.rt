@@ -2,12 +2,13 @@
 
 ghost use Rattle.std.specs.Prelude.{◌≡◌, ◌<◌, ◌^◌, ◌∷◌, ◌+◌, [], length, Some, None, IsTrue, ◌↔◌};
 ghost use Rattle.tw_code.specs.machine.Position.{after_end};
+ghost use Rattle.tw_frame.specs.Innermost.{with_innermost};
 
 use std::marker::Model;
 
 /// A loop: its first place, and the iterations that are left, this one included.
 #[derive(Clone, Copy)]
-struct LoopState {
+pub(crate) struct LoopState {
     first: u32,
     left: u32,
 }
@@ -61,9 +62,30 @@ impl Loops {
         }
     }
 
-    /// Begins a loop inside the others.
+    /// Returns the innermost loop, if one is begun.
     #[inline(always)]
-    pub(crate) fn begin(&mut self, first: u32, iterations: u16)
+    pub(crate) fn innermost(&self) -> LoopState
+        ensures { with_innermost result self.now ≡ self.now }
+    {
+        if self.depth > 0 {
+            self.begun[self.depth - 1]
+        } else {
+            LoopState { first: 0, left: 0 }
+        }
+    }
+
+    /// Changes the innermost loop, if one is begun.
+    #[inline(always)]
+    pub(crate) fn set_innermost(&mut self, innermost: LoopState)
+        ensures set { self.new ≡ with_innermost innermost self.old }
+        ensures len { length self.new ≡ length self.old }
+    {
+        if self.depth > 0 {
+            self.begun[self.depth - 1] = innermost;
+        }
+    }
+
+    fn push(&mut self, first: u32, iterations: u16)
         requires { length self.old < 4 }
         ensures { self.new ≡ record { first = first; left = iterations } ∷ self.old }
     {
@@ -74,19 +96,39 @@ impl Loops {
         self.depth += 1;
     }
 
+    fn pop(&mut self) -> LoopState
+        requires { 0 < length self.old }
+        ensures { self.old ≡ result ∷ self.new }
+    {
+        let innermost = self.begun[self.depth - 1];
+        self.depth -= 1;
+        innermost
+    }
+
+    /// Begins a loop inside the others. `innermost` is the innermost one before and after.
+    #[inline(always)]
+    pub(crate) fn begin(&mut self, innermost: &mut LoopState, first: u32, iterations: u16)
+        requires { length (with_innermost innermost.old self.old) < 4 }
+        ensures { with_innermost innermost.new self.new ≡ record { first = first; left = iterations } ∷ with_innermost innermost.old self.old }
+    {
+        self.set_innermost(*innermost);
+        self.push(first, iterations);
+        *innermost = self.innermost();
+    }
+
     /// Ends an iteration of the innermost loop. Returns the next place.
     #[inline(always)]
-    pub(crate) fn end_iteration(&mut self, place: usize) -> usize
-        requires begun { 0 < length self.old }
+    pub(crate) fn end_iteration(&mut self, innermost: &mut LoopState, place: usize) -> usize
+        requires begun { 0 < length (with_innermost innermost.old self.old) }
         requires inside { place < 2 ^ 63 }
-        ensures { after_end place self.old ≡ Some (record { place = result; loops = self.new }) }
+        ensures { after_end place (with_innermost innermost.old self.old) ≡ Some (record { place = result; loops = with_innermost innermost.new self.new }) }
     {
-        let inner = &mut self.begun[self.depth - 1];
-        if inner.left > 1 {
-            inner.left -= 1;
-            inner.first as usize
+        if innermost.left > 1 {
+            innermost.left -= 1;
+            innermost.first as usize
         } else {
-            self.depth -= 1;
+            let _ended = self.pop();
+            *innermost = self.innermost();
             place + 1
         }
     }
