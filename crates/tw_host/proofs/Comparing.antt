@@ -94,12 +94,12 @@ module _ (layout : ActorCounts) (history : List Event) (lists : List (List Event
   module _ (found : List ℕ) (k : ℕ) (event : Event) (before : Found found k) (low : k < length history) (at : slice_get history k ≡ Some event) where
     of_others : (j : ℕ) → j < actor_count layout → actor_at layout j ≢ actor_of event → Of (k + 1) (get_or found j 0) j
     of_others j there_ other =
-        let told = get_or lists j [] in
-        let rest = drop (get_or found j 0) told in
+        let list = get_or lists j [] in
+        let rest = drop (get_or found j 0) list in
         let a = actor_at layout j in
         let stays = other_next a history k event low at (not_same (actor_of event) a (λ e. other (sym e))) in
         let was = before j there_ in
-        (omega (arith, was.0), was.1, same_both told (events_of a history) rest rest (events_of a (drop k history)) (events_of a (drop (k + 1) history)) refl stays was.2)
+        (omega (arith, was.0), was.1, same_both list (events_of a history) rest rest (events_of a (drop k history)) (events_of a (drop (k + 1) history)) refl stays was.2)
 
     -- an actor without a seat
     pub passed : is_in layout (actor_of event) ≡ false → Found found (k + 1)
@@ -122,16 +122,16 @@ module _ (layout : ActorCounts) (history : List Event) (lists : List (List Event
       pub found_more : own < length found → slice_get (get_or lists own []) (get_or found own 0) ≡ Some event → Found (set found own (get_or found own 0 + 1)) (k + 1)
       found_more room next j there_ = by (j == own) refl
         where
-          told : List Event
-          told = get_or lists own []
+          list : List Event
+          list = get_or lists own []
 
           n : ℕ
           n = get_or found own 0
 
-          more : n < length told
-          more = at_most (slice_get_cases told n).1
+          more : n < length list
+          more = at_most (slice_get_cases list n).1
             where
-              at_most : ((x : Event) × (n < length told) × (slice_get told n ≡ Some x) × (get_or told n x ≡ x)) ⊎ ((length told ≤ n) × (slice_get told n ≡ None)) → n < length told
+              at_most : ((x : Event) × (n < length list) × (slice_get list n ≡ Some x) × (get_or list n x ≡ x)) ⊎ ((length list ≤ n) × (slice_get list n ≡ None)) → n < length list
               at_most (inl c) = c.1
               at_most (inr c) = let none : None ≡ Some event = sym c.1 ∙ next in cc
 
@@ -140,8 +140,8 @@ module _ (layout : ActorCounts) (history : List Event) (lists : List (List Event
               let was = before own own_low in (
                 omega (arith, was.0, same),
                 omega (arith, more, same),
-                both_less told (events_of (actor_at layout own) history) event (drop n told) (drop m told) (events_of (actor_at layout own) (drop k history)) (events_of (actor_at layout own) (drop (k + 1) history))
-                    (rest_more told n event more next ∙ ap (λ i. event ∷ drop i told) (sym same)) first was.2,
+                both_less list (events_of (actor_at layout own) history) event (drop n list) (drop m list) (events_of (actor_at layout own) (drop k history)) (events_of (actor_at layout own) (drop (k + 1) history))
+                    (rest_more list n event more next ∙ ap (λ i. event ∷ drop i list) (sym same)) first was.2,
               )
 
           by : (b : Bool) → (j == own) ≡ b → Of (k + 1) (get_or (set found own (n + 1)) j 0) j

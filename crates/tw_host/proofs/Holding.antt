@@ -30,7 +30,7 @@ use Rattle.tw_pool.specs.declared.answer.Turn.TheVariants as turn
 use Rattle.tw_pool.specs.Actors.{events_of, same_actor}
 use Rattle.tw_pool.specs.PoolView.{PoolView, with_events}
 use Rattle.tw_pool.specs.Turns.{IsTurn}
-use Rattle.tw_host.specs.Holds.{SeesTurns, AreTurns, HandsOn, IsBrief, RunsHere, SomeTurns, SeesUpTo, Waits, few_steps}
+use Rattle.tw_host.specs.Holds.{SeesTurns, AreTurns, HandsOn, IsBrief, RunsHere, SomeTurns, SeesUpTo, Waits, few_instructions}
 use Rattle.tw_host.specs.Run.{Run, run_of}
 use Rattle.tw_host.specs.Sees.{IsAnswerOf, IsDoneOf, SomeTurn, Sees, TurnsOrNot}
 use Rattle.tw_host.specs.declared.locked.Strange.{Strange}
@@ -67,7 +67,7 @@ waits_still job done waits is d =
 -- ---- a job whose task is brief
 
 pub is_brief : (job : JobView) (v : TypedProgram) → v ≡ job.program → (number : ℕ) → number ≡ job.procedure → (p : Procedure) → slice_get v.program number ≡ Some p
-    → (budget : ℕ) → IsSomeAnd (slice_get v.program number) (λ (q : Procedure). IsBudget (flows q.code) budget) → budget ≤ few_steps
+    → (budget : ℕ) → IsSomeAnd (slice_get v.program number) (λ (q : Procedure). IsBudget (flows q.code) budget) → budget ≤ few_instructions
     → IsProgram v.program → AreRight v.program (typings_of v) → (HasText p.registers → ⊥) → IsBrief job
 is_brief job v of_job number same p there budget is_budget few is right plain = record {
   p = p;
@@ -84,7 +84,7 @@ no_text : (code : List Instr) (types : List Scalar) (place : ℕ) → (HasText t
 no_text code types place plain false stops = refl
 no_text code types place plain true stops = absurd (plain stops.texts)
 
-brief_job : (job : JobView) (b : IsBrief job) (after : Position) (steps : ℕ) (short : Bool) → IsDone job.program.program job.procedure job.position after steps short → (steps ≤ few_steps) × (short ≡ false)
+brief_job : (job : JobView) (b : IsBrief job) (after : Position) (steps : ℕ) (short : Bool) → IsDone job.program.program job.procedure job.position after steps short → (steps ≤ few_instructions) × (short ≡ false)
 brief_job job b after steps short d =
     let same : d.p ≡ b.p = same_Some d.p b.p (sym d.here ∙ b.here) in
     let fits_place : IsAtPosition b.p steps after = subst (λ (q : Procedure). IsAtPosition q steps after) same d.reached.fits_place in
@@ -93,7 +93,7 @@ brief_job job b after steps short d =
     (omega (arith, below, b.few), no_text b.p.code b.p.registers after.place b.plain short stops)
 
 pub few_here : (job : JobView) (done : DoneView) → RunsHere job → done.before ≡ job → IsDone done.before.program.program done.before.procedure done.before.position done.after done.steps done.short
-    → (done.steps ≤ few_steps) × (done.short ≡ false)
+    → (done.steps ≤ few_instructions) × (done.short ≡ false)
 few_here job done (inl waits) is d = let none = waits_still job done waits is d in (omega (arith, none.0), none.1)
 few_here job done (inr brief) is d = brief_job done.before (subst (λ (j : JobView). IsBrief j) (sym is) brief) done.after done.steps done.short d
 
@@ -157,11 +157,11 @@ module _ (old new : PoolView) (actor : Actor) (answer : Turn) (count : ℕ) (a :
   pub same_run : run_of new ≡ run_of old
   same_run = ap run_of a.appended
 
-  pub told : (most : ℕ) (run : Run) (given : Option DoneView) (turns : List Turn) (before after : List Event) → AreTurns old actor given turns answer new → length turns < most → length a.es ≤ 2 * most → run_of old ≡ run → length old.history ≤ run.limit
+  pub appended : (most : ℕ) (run : Run) (given : Option DoneView) (turns : List Turn) (before after : List Event) → AreTurns old actor given turns answer new → length turns < most → length a.es ≤ 2 * most → run_of old ≡ run → length old.history ≤ run.limit
       → length (events_of actor old.history) ≡ length before → after ≡ before ++ drop (length old.history) new.history → SeesTurns most run actor before after given answer
-  told most run given turns before after are few short is low same after_is = record {
+  appended most run given turns before after are few short is low same after_is = record {
     es = a.es;
-    told = after_is ∙ ap (λ es. before ++ es) news_are;
+    appended = after_is ∙ ap (λ es. before ++ es) news_are;
     few = short;
     own = a.own;
     turns = inl (record { pool = old; of_run = is; within = low; same_count = same; before = turns; few = few; turns = subst (λ (q : PoolView). AreTurns old actor given turns answer q) a.appended are });
@@ -201,5 +201,5 @@ turned run actor count given answer es (inl s) = inl (some_turn run actor count 
 turned run actor count given answer es (inr none) = inr none
 
 pub once : (run : Run) (actor : Actor) (old new : List Event) (given : Option DoneView) (answer : Result Turn Strange) → SeesUpTo 1 run actor old new given answer → Sees run actor old new given answer
-once run actor old new given (Ok answer) t = record { es = t.es; told = t.told; own = record { few = t.few; own = t.own }; turns = turned run actor (length old) given answer t.es t.turns }
+once run actor old new given (Ok answer) t = record { es = t.es; appended = t.appended; own = record { few = t.few; own = t.own }; turns = turned run actor (length old) given answer t.es t.turns }
 once run actor old new given (Err strange) t = t

@@ -28,8 +28,8 @@ abbrev pub Waits : JobView → Type 0
 Waits job = (p : Procedure) × (slice_get job.program.program job.procedure ≡ Some p) × IsStop p.code job.position.place
 
 -- the greatest budget of a task whose jobs are run under the lock
-abbrev pub few_steps : ℕ
-few_steps = 256
+abbrev pub few_instructions : ℕ
+few_instructions = 256
 
 -- a job of an accepted procedure whose budget is that small, and without text registers, so that no step allocates
 pub record IsBrief (job : JobView) : Type 0 where
@@ -39,7 +39,7 @@ pub record IsBrief (job : JobView) : Type 0 where
   pub accepts : Accepts job.program.program typings p
   pub budget : ℕ
   pub is_budget : IsBudget (flows p.code) budget
-  pub few : budget ≤ few_steps
+  pub few : budget ≤ few_instructions
   pub plain : HasText p.registers → ⊥
 
 -- holds for a job that is run under the lock
@@ -54,7 +54,7 @@ HandsOn (turn.Over closing) next = ⊥
 HandsOn (turn.Foreign done) next = ⊥
 HandsOn turn.Owed next = ⊥
 HandsOn (turn.NoMemory given) next = ⊥
-HandsOn (turn.Run job) next = RunsHere job × ((done : DoneView) × (next ≡ Some done) × (done.before ≡ job) × (done.steps ≤ few_steps) × (done.short ≡ false))
+HandsOn (turn.Run job) next = RunsHere job × ((done : DoneView) × (next ≡ Some done) × (done.before ≡ job) × (done.steps ≤ few_instructions) × (done.short ≡ false))
 HandsOn turn.Ended next = next ≡ None
 HandsOn turn.Went next = next ≡ None
 HandsOn turn.Idle next = ⊥
@@ -78,7 +78,7 @@ pub record SomeTurns (most : ℕ) (run : Run) (actor : Actor) (count : ℕ) (giv
 -- the seat had the old events, and gets these; or an allocation for them failed, and the pool made no step
 pub record SeesTurns (most : ℕ) (run : Run) (actor : Actor) (old new : List Event) (given : Option DoneView) (answer : Turn) : Type 0 where
   pub es : List Event
-  pub told : new ≡ old ++ es
+  pub appended : new ≡ old ++ es
   pub few : length es ≤ 2 * most
   pub own : events_of actor es ≡ es
   pub turns : SomeTurns most run actor (length old) given answer es ⊎ ((answer ≡ turn.NoMemory given) × (es ≡ []))

@@ -27,7 +27,7 @@ TurnsOrNot run actor count given answer es = SomeTurn run actor count given answ
 -- the seat had the old events, and gets these
 pub record SeesTurn (run : Run) (actor : Actor) (old new : List Event) (given : Option DoneView) (answer : Turn) : Type 0 where
   pub es : List Event
-  pub told : new ≡ old ++ es
+  pub appended : new ≡ old ++ es
   pub own : AreOwn actor es
   pub turns : TurnsOrNot run actor (length old) given answer es
 

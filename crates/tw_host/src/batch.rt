@@ -1,4 +1,4 @@
-//! Several scheduling steps in one batch, which holds the lock once.
+//! Several turns of one actor in a batch, which holds the lock once.
 
 ghost use Rattle.std.specs.Prelude.{◌≡◌, ◌<◌, ◌≤◌, IfErr, IfOk, List, true, false, length};
 ghost use Rattle.tw_types.specs.Actor.{is_in};
@@ -14,16 +14,16 @@ use tw_frame::{Done, Job};
 use tw_pool::{Pool, Turn};
 use tw_types::{Actor, Scalar};
 
-/// The greatest number of steps of one seat in a batch.
+/// The greatest number of turns in a batch.
 pub(crate) const MOST_TURNS: usize = 64;
 
-/// From this number of steps on a batch ends when a task has ended, so that seldom a job is left to be run outside of the lock.
+/// After so many turns a batch ends when a task ends: a longer batch could end with a new job, which must be run without the lock.
 const ENOUGH_TURNS: usize = 56;
 
 /// The greatest budget of a procedure whose jobs are run under the lock.
-const FEW_STEPS: u64 = 256;
+const FEW_INSTRUCTIONS: u64 = 256;
 
-/// Returns whether there is an instruction at a place that isn't local.
+/// Returns whether a place has an instruction that isn't local.
 fn stops_at(code: &[Instr], place: usize) -> bool
     ensures { result ≡ true → IsStop code.now place }
 {
@@ -57,7 +57,7 @@ fn has_no_text(types: &[Scalar]) -> bool
     true
 }
 
-/// Returns whether a job's task executes few instructions and allocates nothing for them.
+/// Returns whether a job's task executes at most `FEW_INSTRUCTIONS`, and allocates nothing for them.
 fn is_brief(job: &Job<'_>) -> bool
     ensures { result ≡ true → IsBrief job.now }
 {
@@ -66,13 +66,14 @@ fn is_brief(job: &Job<'_>) -> bool
     let number = usize::from(lent.procedure());
     match verified.program().procedures().get(number) {
         Some(procedure) => {
-            verified.budget(number) <= FEW_STEPS && has_no_text(procedure.registers.as_slice())
+            verified.budget(number) <= FEW_INSTRUCTIONS
+                && has_no_text(procedure.registers.as_slice())
         }
         None => false,
     }
 }
 
-/// Returns whether a job is run under the lock.
+/// Returns whether a job is to be run under the lock.
 fn runs_here(job: &Job<'_>) -> bool
     ensures { result ≡ true → RunsHere job.now }
 {
@@ -99,7 +100,7 @@ fn has_ended(answer: &Turn<'_>) -> bool {
     }
 }
 
-/// Returns what the next step of the batch is passed, or the result with which the batch ends.
+/// Returns what is passed to the next turn of the batch, or the result with which the batch ends.
 fn handed_on<'a>(alloc: Global, answer: Turn<'a>) -> Result<Option<Done<'a>>, Turn<'a>>
     ensures on { IfOk result (HandsOn answer.entry) }
     ensures back { IfErr result (λ back. back ≡ answer.entry) }
@@ -117,7 +118,7 @@ fn handed_on<'a>(alloc: Global, answer: Turn<'a>) -> Result<Option<Done<'a>>, Tu
     }
 }
 
-/// Makes steps of an actor, at most `most`, as long as little or nothing has to be run between two of them.
+/// Makes at most `most` turns of an actor. Ends earlier with a job that isn't to be run under the lock, or with a result that has no next turn.
 pub(crate) fn run_batch<'a>(
     pool: &mut Pool<'a>,
     alloc: Global,

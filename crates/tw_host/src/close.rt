@@ -35,12 +35,12 @@ pub enum Closed {
 }
 
 /// Returns whether the event at `next` of a list is this event of the run.
-fn is_next(told: &Events, next: usize, history: &History, k: usize) -> bool
-    requires within { next ≤ length told.now.items }
+fn is_next(list: &Events, next: usize, history: &History, k: usize) -> bool
+    requires within { next ≤ length list.now.items }
     requires there { k < length history.now.events }
-    ensures { IsTrue result ↔ (slice_get told.now.items next ≡ slice_get history.now.events k) }
+    ensures { IsTrue result ↔ (slice_get list.now.items next ≡ slice_get history.now.events k) }
 {
-    next < told.len() && told.is_at(next, history, k)
+    next < list.len() && list.is_at(next, history, k)
 }
 
 /// Returns whether a seat is an actor's.
@@ -84,12 +84,12 @@ fn put_in_order<N: Named>(seats: &mut [Seat<N>], layout: Layout) -> Option<Actor
 /// Returns the first seat for whose list another number of events was found than it has.
 fn first_longer<N: Named>(seats: &[Seat<N>], layout: Layout, found: &[usize; 24]) -> Option<usize>
     requires { length seats.now ≡ actor_count layout }
-    ensures { let lists = map (λ s. s.told.items) seats.now in MatchOption result
+    ensures { let lists = map (λ s. s.events.items) seats.now in MatchOption result
         ((j : ℕ) → j < actor_count layout → get_or found.now j 0 ≡ length (get_or lists j []))
         (λ j. (j < actor_count layout) × (get_or found.now j 0 ≢ length (get_or lists j []))) }
 {
     for j in 0..layout.actor_count() {
-        if found[j] != seats[j].told.len() {
+        if found[j] != seats[j].events.len() {
             return Some(j);
         }
     }
@@ -100,7 +100,7 @@ fn first_longer<N: Named>(seats: &[Seat<N>], layout: Layout, found: &[usize; 24]
 /// run once: it must be the next one of its actor's list.
 fn differing<N: Named>(seats: &[Seat<N>], layout: Layout, history: &History) -> Option<usize>
     requires { map (λ s. s.actor) seats.now ≡ actors_of layout }
-    ensures { let lists = map (λ s. s.told.items) seats.now in MatchOption result
+    ensures { let lists = map (λ s. s.events.items) seats.now in MatchOption result
         ((j : ℕ) → j < actor_count layout → get_or lists j [] ≡ events_of (actor_at layout j) history.now.events)
         (λ j. (j < actor_count layout) × (get_or lists j [] ≢ events_of (actor_at layout j) history.now.events)) }
 {
@@ -109,7 +109,7 @@ fn differing<N: Named>(seats: &[Seat<N>], layout: Layout, history: &History) -> 
         let actor = history.actor(k);
         if layout.has(actor) {
             let own = layout.index_of(actor);
-            if !is_next(&seats[own].told, found[own], history, k) {
+            if !is_next(&seats[own].events, found[own], history, k) {
                 return Some(own);
             }
             found[own] += 1;
@@ -127,10 +127,10 @@ fn first_other<N: Named>(
 ) -> Option<(Actor, Option<usize>)>
     requires { length seats.old ≡ actor_count layout }
     ensures moved { IsPermutation seats.old seats.new }
-    ensures found { let told = map (λ s. seen_by s.actor s.told.items) seats.new in MatchOption result
-        ((map (λ s. s.actor) seats.new ≡ actors_of layout) × All (λ s. s.events ≡ events_of s.actor history.now.events) told)
+    ensures found { let seen = map (λ s. seen_by s.actor s.events.items) seats.new in MatchOption result
+        ((map (λ s. s.actor) seats.new ≡ actors_of layout) × All (λ s. s.events ≡ events_of s.actor history.now.events) seen)
         (λ r. MatchOption r.1 (NoneOf r.0 (map (λ s. s.actor) seats.new))
-        (λ k. (k < length told) × ((d : SeatEvents) → (slice_index_or told k d).actor ≡ r.0) × ((d : SeatEvents) → (slice_index_or told k d).events ≢ events_of r.0 history.now.events))) }
+        (λ k. (k < length seen) × ((d : SeatEvents) → (slice_index_or seen k d).actor ≡ r.0) × ((d : SeatEvents) → (slice_index_or seen k d).events ≢ events_of r.0 history.now.events))) }
     ensures layout { IfSome result (λ r. is_in layout r.0 ≡ true) }
 {
     if let Some(actor) = put_in_order(seats, layout) {
@@ -150,20 +150,20 @@ fn settle_seats<N: Named>(
 ) -> Vec<Events>
     requires empty { by_seat.items ≡ [] }
     requires room { vec_len seats ≤ vec_capacity by_seat }
-    ensures lists { map (λ v. v.items) result.items ≡ map (λ s. s.told.items) seats.items }
+    ensures lists { map (λ v. v.items) result.items ≡ map (λ s. s.events.items) seats.items }
     ensures parts { all.new.parts ≡ all.old.parts + vec_len seats }
-    ensures amount { all.new.amount ≡ all.old.amount + sum_by (λ s. length s.events) (map (λ s. seen_by s.actor s.told.items) seats.items) }
+    ensures amount { all.new.amount ≡ all.old.amount + sum_by (λ s. length s.events) (map (λ s. seen_by s.actor s.events.items) seats.items) }
 {
     let mut rest = seats.into_iter();
     while let Some(seat) = rest.next() {
         let Seat {
             actor: _,
-            told,
+            events,
             share,
             apart: _,
         } = seat;
         all.merge(share);
-        by_seat.push_reserved(told);
+        by_seat.push_reserved(events);
     }
     rest.destroy_empty();
     by_seat
@@ -185,7 +185,7 @@ impl<'a, N: Named> Locked<'a, N> {
         requires all { vec_len seats ≡ actor_count N.run.layout }
         requires empty { by_seat.items ≡ [] }
         requires room { vec_len seats ≤ vec_capacity by_seat }
-        ensures { Closes N.run (map (λ s. seen_by s.actor s.told.items) seats.items) result }
+        ensures { Closes N.run (map (λ s. seen_by s.actor s.events.items) seats.items) result }
     {
         let Locked {
             pool,
@@ -216,7 +216,7 @@ impl<'a, N: Named> Host<'a, N> {
     /// Closes the run, with all its seats in any order. Compares the events of each seat with its actor's events of the run.
     pub fn close(self, seats: Vec<Seat<N>>) -> Closed
         requires all { vec_len seats ≡ actor_count N.run.layout }
-        ensures { Closes N.run (map (λ s. seen_by s.actor s.told.items) seats.items) result }
+        ensures { Closes N.run (map (λ s. seen_by s.actor s.events.items) seats.items) result }
     {
         let Host {
             verified: _,

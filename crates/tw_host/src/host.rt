@@ -79,7 +79,7 @@ impl<'a, N: Named> Host<'a, N> {
         ensures allowed { IfOk result (λ _. MayOpen verified.now.program inputs.now layout limit) }
         ensures len { IfOk result (λ r. vec_len r.1 ≡ actor_count layout) }
         ensures actors { IfOk result (λ r. map (λ s. s.actor) r.1.items ≡ actors_of layout) }
-        ensures told { IfOk result (λ r. map (λ s. s.told.items) r.1.items ≡ map (λ _. []) (actors_of layout)) }
+        ensures events { IfOk result (λ r. map (λ s. s.events.items) r.1.items ≡ map (λ _. []) (actors_of layout)) }
         ensures refused { IfErr result (IsRejection verified.now.program inputs.now layout limit) }
     {
         let pool = Pool::open(alloc, verified, inputs, layout, limit)?;
@@ -131,18 +131,18 @@ impl<'a, N: Named> Host<'a, N> {
         requires few { most ≤ 64 }
         requires program { IsDoneOf N.run.program done }
         ensures actor { seat.new.actor ≡ seat.old.actor }
-        ensures told { SeesUpTo most N.run seat.old.actor seat.old.told.items seat.new.told.items done.entry result }
+        ensures events { SeesUpTo most N.run seat.old.actor seat.old.events.items seat.new.events.items done.entry result }
         ensures program { IfOk result (IsAnswerOf N.run.program) }
     {
-        if seat.told.reserve(2 * most).is_err() {
+        if seat.events.reserve(2 * most).is_err() {
             return Ok(Turn::NoMemory(done));
         }
-        let told = seat.told.len();
+        let before = seat.events.len();
         let mut guard = locked_soon(&self.locked, rt);
         let locked = &mut **guard;
         locked.check_in(seat, self.progress.is_over());
         let answer = locked.run_batch(alloc, seat, done, most);
-        let events = seat.told.len() - told;
+        let events = seat.events.len() - before;
         let due = locked.to_wake(seat, events, &answer);
         self.progress.set_events(locked.len());
         drop(guard);
@@ -165,7 +165,7 @@ impl<'a, N: Named> Host<'a, N> {
     ) -> Result<Turn<'a>, Strange<'a>>
         requires program { IsDoneOf N.run.program done }
         ensures actor { seat.new.actor ≡ seat.old.actor }
-        ensures told { Sees N.run seat.old.actor seat.old.told.items seat.new.told.items done.entry result }
+        ensures events { Sees N.run seat.old.actor seat.old.events.items seat.new.events.items done.entry result }
         ensures program { IfOk result (IsAnswerOf N.run.program) }
     {
         self.hold(rt, alloc, seat, done, 1)
@@ -185,7 +185,7 @@ impl<'a, N: Named> Host<'a, N> {
     ) -> Result<Turn<'a>, Strange<'a>>
         requires program { IsDoneOf N.run.program done }
         ensures actor { seat.new.actor ≡ seat.old.actor }
-        ensures told { SeesAll N.run seat.old.actor seat.old.told.items seat.new.told.items done.entry result }
+        ensures events { SeesAll N.run seat.old.actor seat.old.events.items seat.new.events.items done.entry result }
         ensures program { IfOk result (IsAnswerOf N.run.program) }
     {
         self.hold(rt, alloc, seat, done, MOST_TURNS)
@@ -215,8 +215,8 @@ impl<'a, N: Named> Host<'a, N> {
 
     /// Returns how many wakes were lost: how often a thread returned from `park` by itself although there was work for a parked
     /// one, and how many wakes weren't made. It is 0 unless the host has a bug. Call it when no other thread is in a step.
-    pub fn late_wakes(&self, rt: &impl Wait) -> u64 {
+    pub fn missed_wakes(&self, rt: &impl Wait) -> u64 {
         let guard = self.locked.lock(rt);
-        guard.sleepers.late_wakes(self.parkers.unparks())
+        guard.sleepers.missed_wakes(self.parkers.unparks())
     }
 }

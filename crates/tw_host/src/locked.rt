@@ -89,15 +89,15 @@ impl<'a, N: Named> Locked<'a, N> {
         most: usize,
     ) -> Result<Turn<'a>, Strange<'a>>
         requires some { 0 < most }
-        requires room { length seat.old.told.items + 2 * most ≤ seat.old.told.capacity }
+        requires room { length seat.old.events.items + 2 * most ≤ seat.old.events.capacity }
         requires program { IsDoneOf N.run.program done }
         ensures actor { seat.new.actor ≡ seat.old.actor }
-        ensures told { SeesUpTo most N.run seat.old.actor seat.old.told.items seat.new.told.items done.entry result }
+        ensures events { SeesUpTo most N.run seat.old.actor seat.old.events.items seat.new.events.items done.entry result }
         ensures program { IfOk result (IsAnswerOf N.run.program) }
     {
-        let told = seat.told.len() as u64;
+        let recorded = seat.events.len() as u64;
         let count = self.pool.count(seat.actor);
-        if count != told {
+        if count != recorded {
             return Err(Strange { count, done });
         }
         let before = self.pool.history().len();

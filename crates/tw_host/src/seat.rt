@@ -13,13 +13,13 @@ use tw_types::{Actor, Layout};
 /// The place from which one actor is driven, with the events that it got. It must be returned to the host.
 pub struct Seat<N: Named> {
     pub(crate) actor: Actor,
-    pub(crate) told: Events,
+    pub(crate) events: Events,
     pub(crate) share: Share<N>,
     /// Unused: keeps two adjacent seats out of one cache line, since each thread writes its own.
     pub(crate) apart: [u64; 8],
     pub ghost in_layout: { is_in N.run.layout actor ≡ true },
     pub ghost one_part: { share.parts ≡ 1 },
-    pub ghost counted: { share.amount ≡ length told.items },
+    pub ghost counted: { share.amount ≡ length events.items },
 }
 
 impl<N: Named> Seat<N> {
@@ -31,10 +31,10 @@ impl<N: Named> Seat<N> {
     }
 
     /// Returns the events that the seat got, in order.
-    pub fn told(&self) -> &Events
-        ensures { result.now ≡ self.now.told }
+    pub fn events(&self) -> &Events
+        ensures { result.now ≡ self.now.events }
     {
-        &self.told
+        &self.events
     }
 }
 
@@ -65,14 +65,14 @@ pub(crate) fn seats_of<N: Named>(
     requires amount { all.old.amount ≡ 0 }
     ensures len { vec_len result ≡ actor_count layout }
     ensures actors { map (λ s. s.actor) result.items ≡ actors_of layout }
-    ensures told { map (λ s. s.told.items) result.items ≡ map (λ _. []) (actors_of layout) }
+    ensures events { map (λ s. s.events.items) result.items ≡ map (λ _. []) (actors_of layout) }
     ensures parts { (all.new.parts ≡ 0) × (all.new.amount ≡ 0) }
 {
     for seat in 0..layout.actor_count() {
         let share = all.split_off(1, 0);
         seats.push_reserved(Seat {
             actor: layout.actor_at(seat),
-            told: Events::new(alloc),
+            events: Events::new(alloc),
             share,
             apart: [0; 8],
         });
@@ -88,19 +88,19 @@ pub(crate) fn record_events<N: Named>(
     seat: &mut Seat<N>,
 )
     requires before { before ≤ length history.now.events }
-    requires room { length seat.old.told.items + (length history.now.events - before) ≤ seat.old.told.capacity }
-    ensures told { seat.new.told.items ≡ seat.old.told.items ++ drop before history.now.events }
+    requires room { length seat.old.events.items + (length history.now.events - before) ≤ seat.old.events.capacity }
+    ensures events { seat.new.events.items ≡ seat.old.events.items ++ drop before history.now.events }
     ensures actor { seat.new.actor ≡ seat.old.actor }
     ensures total { book.new.total + before ≡ book.old.total + length history.now.events }
 {
     let Seat {
         actor: _,
-        told,
+        events,
         share,
         apart: _,
     } = seat;
     for k in before..history.len() {
-        told.push_from(history, k);
+        events.push_from(history, k);
         book.add(share, 1);
     }
 }

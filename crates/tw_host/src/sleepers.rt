@@ -215,7 +215,7 @@ impl Sleepers {
     }
 
     /// Returns how many wakes were late, or weren't made although they were due.
-    pub(crate) fn late_wakes(&self, made: u64) -> u64 {
+    pub(crate) fn missed_wakes(&self, made: u64) -> u64 {
         self.late.wrapping_add(self.wakes.wrapping_sub(made))
     }
 }

@@ -112,7 +112,7 @@ impl Gate for ProgressPrinter {
         }
     }
 
-    fn late_wakes(&self, late: u64) {
+    fn missed_wakes(&self, late: u64) {
         if late != 0 && !self.is_quiet {
             let stderr = &self.stderr;
             let _printed = eprintln!(stderr; "tw: {late} late wakes of idle threads");

@@ -148,7 +148,7 @@ pub(crate) fn drive_borrowed<'a, N: Named, G: Gate, R: Wait + Clock>(
     gate: &G,
 ) -> bool
     ensures actor { seat.new.actor ≡ seat.old.actor }
-    ensures driven { (steps : List Step) × FoldsTo (AtSeat N.run G.unwatched) (seen_by seat.old.actor seat.old.told.items) steps (seen_by seat.new.actor seat.new.told.items) × Drives None steps result }
+    ensures driven { (steps : List Step) × FoldsTo (AtSeat N.run G.unwatched) (seen_by seat.old.actor seat.old.events.items) steps (seen_by seat.new.actor seat.new.events.items) × Drives None steps result }
 {
     let guarded = ObservedHost { host, gate };
     drive_at(rt, alloc, &guarded, seat)
@@ -164,7 +164,7 @@ pub fn drive<'a, N: Named, G: Gate, R: Wait + Clock>(
     gate: &G,
 ) -> Driven<N>
     ensures actor { result.seat.actor ≡ seat.actor }
-    ensures driven { (steps : List Step) × FoldsTo (AtSeat N.run G.unwatched) (seen_by seat.actor seat.told.items) steps (seen_by result.seat.actor result.seat.told.items) × Drives None steps result.memory }
+    ensures driven { (steps : List Step) × FoldsTo (AtSeat N.run G.unwatched) (seen_by seat.actor seat.events.items) steps (seen_by result.seat.actor result.seat.events.items) × Drives None steps result.memory }
 {
     let mut seat = seat;
     let memory = drive_borrowed(rt, alloc, host, &mut seat, gate);

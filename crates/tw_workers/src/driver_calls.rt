@@ -78,7 +78,7 @@ impl<'h, 'a, N: Named, G: Gate> DriverCalls<'a> for ObservedHost<'h, 'a, N, G> {
 
     ghost program = { N.run.program };
 
-    ghost does = { λ old step new. AtSeat N.run G.unwatched (seen_by old.actor old.told.items) step (seen_by new.actor new.told.items) };
+    ghost does = { λ old step new. AtSeat N.run G.unwatched (seen_by old.actor old.events.items) step (seen_by new.actor new.events.items) };
 
     fn turn<R: Wait>(
         &self,

@@ -42,7 +42,7 @@ pub trait Gate {
 
     /// Receives how many wakes of idle threads were lost. It is called once, after the last driver has ended. The number is 0 unless
     /// the host has a bug.
-    fn late_wakes(&self, _late: u64) {}
+    fn missed_wakes(&self, _late: u64) {}
 }
 
 /// A job observer that does nothing.

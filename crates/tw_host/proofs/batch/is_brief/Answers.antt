@@ -9,8 +9,8 @@ use Rattle.tw_frame.specs.Jobs.{JobView}
 use Rattle.tw_host.proofs.Holding as holding
 use Rattle.tw_host.proofs.batch.is_brief.Goals as goal
 
-pub returns-then-budget-le-FEW_STEPS : goal.returns-then-budget-le-FEW_STEPS
-returns-then-budget-le-FEW_STEPS c = λ holds.
+pub returns-then-budget-le-FEW_INSTRUCTIONS : goal.returns-then-budget-le-FEW_INSTRUCTIONS
+returns-then-budget-le-FEW_INSTRUCTIONS c = λ holds.
     let job = c.args.job.now in
     let v = c.program-verified.result.now in
     let p = c.in-Some.procedure.now in
@@ -21,5 +21,5 @@ returns-then-budget-le-FEW_STEPS c = λ holds.
     let same : number ≡ job.procedure = c.from-number.ensures ∙ (c.procedure.ensures ∙ ap (λ (j : JobView). j.procedure) c.lent-lent.ensures) in
     let here : slice_get listed number ≡ Some p = slice_get-get_or listed number p lookup.3.0 ∙ ap Some (sym (lookup.3.1 p)) in
     holding.is_brief job v (c.program-verified.ensures ∙ ap (λ (j : JobView). j.program) c.lent-lent.ensures) number same p (ap (λ (xs : List Procedure). slice_get xs number) (sym all) ∙ here)
-    c.budget.result c.budget.ensures.is c.if-budget-le-FEW_STEPS.true (subst (λ (ps : List Procedure). IsProgram ps) c.program.ensures.is c.procedures.ensures.within) c.program.ensures.right
+    c.budget.result c.budget.ensures.is c.if-budget-le-FEW_INSTRUCTIONS.true (subst (λ (ps : List Procedure). IsProgram ps) c.program.ensures.is c.procedures.ensures.within) c.program.ensures.right
     (λ text. c.has_no_text.ensures holds (subst (λ (types : List Scalar). HasText types) (sym c.as_slice.ensures) text))

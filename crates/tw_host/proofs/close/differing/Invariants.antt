@@ -5,5 +5,5 @@ use Rattle.tw_host.proofs.close.differing.Given as goal
 abbrev pub invariant-loop-k : goal.invariant-loop-k
 invariant-loop-k g l = record {
   places : length l.found ≡ 24;
-  are : Found l.layout l.history.events (map (λ s. s.told.items) l.seats) l.found l.k;
+  are : Found l.layout l.history.events (map (λ s. s.events.items) l.seats) l.found l.k;
 }

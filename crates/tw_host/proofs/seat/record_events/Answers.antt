@@ -8,9 +8,9 @@ loop-k-preserved g c =
     let pushed = c.push_from.ensures in
     let events = c.args.history.now.events in
     let low : c.loop-k.k < length events = omega (arith, c.loop-k-test.true, c.len-k-end.ensures) in
-    let long = ap length pushed.items ∙ seen_there c.loop-k.told.items events c.loop-k.k low in
+    let long = ap length pushed.items ∙ seen_there c.loop-k.events.items events c.loop-k.k low in
     record {
-      told = ap (λ es. es ++ drop (c.loop-k.k + 1) events) pushed.items ∙ moved_there c.loop-k.told.items events c.loop-k.k low ∙ inv.told;
+      events = ap (λ es. es ++ drop (c.loop-k.k + 1) events) pushed.items ∙ moved_there c.loop-k.events.items events c.loop-k.k low ∙ inv.events;
       room = omega (arith, inv.room, long, pushed.capacity, low);
       total = omega (arith, inv.total, c.add.ensures.total);
       parts = c.add.ensures.parts ∙ inv.parts;

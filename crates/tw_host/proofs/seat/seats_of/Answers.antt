@@ -18,5 +18,5 @@ loop-seat-preserved g c =
       len = omega (arith, inv.len, pushed.len);
       room = omega (arith, inv.room, pushed.capacity);
       actors = ap (map (λ s. s.actor)) pushed.items ∙ one_more (λ s. s.actor) at c.loop-seat.seats.items _ seat inv.actors c.actor_at.ensures.is;
-      told = ap (map (λ s. s.told.items)) pushed.items ∙ (one_more (λ s. s.told.items) (λ _. none) c.loop-seat.seats.items _ seat (inv.told ∙ map_map at (λ _. none) (range_with_len 0 seat)) c.new.ensures ∙ sym (map_map at (λ _. none) (range_with_len 0 (seat + 1))));
+      events = ap (map (λ s. s.events.items)) pushed.items ∙ (one_more (λ s. s.events.items) (λ _. none) c.loop-seat.seats.items _ seat (inv.events ∙ map_map at (λ _. none) (range_with_len 0 seat)) c.new.ensures ∙ sym (map_map at (λ _. none) (range_with_len 0 (seat + 1))));
     }

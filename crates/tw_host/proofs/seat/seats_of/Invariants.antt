@@ -10,5 +10,5 @@ invariant-loop-seat g l = record {
   len : vec_len l.seats ≡ l.seat;
   room : actor_count l.layout ≤ vec_capacity l.seats;
   actors : map (λ s. s.actor) l.seats.items ≡ map (actor_at l.layout) (range_with_len 0 l.seat);
-  told : map (λ s. s.told.items) l.seats.items ≡ map (λ _. []) (map (actor_at l.layout) (range_with_len 0 l.seat));
+  events : map (λ s. s.events.items) l.seats.items ≡ map (λ _. []) (map (actor_at l.layout) (range_with_len 0 l.seat));
 }

@@ -43,8 +43,8 @@ invariant_of-self g c =
       no_amount = inv.no_amount;
     }
 
-pub returns-clause-told : goal.returns-clause-told
-returns-clause-told g c =
+pub returns-clause-events : goal.returns-clause-events
+returns-clause-events g c =
     let seat = c.args.seat.now in
     let old = c.self.inside.pool in
     let new = c.run_batch-answer.new.pool in
@@ -52,10 +52,10 @@ returns-clause-told g c =
     let of_program = ap (λ r. r.program) c.self.invariant.of_run in
     let a = holding.all t.0 old new seat.actor c.args.done c.run_batch-answer.result t.2 (subst (λ program. IsDoneOf program c.args.done) (sym of_program) c.requires.program) in
     let before = c.len-before.ensures ∙ ap length c.history.ensures.events in
-    let is = c.record_events.ensures.told ∙ ap (λ n. seat.told.items ++ drop n c.history-2.result.now.events) before ∙ ap (λ es. seat.told.items ++ drop (length old.history) es) c.history-2.ensures.events in
-    let same : length (events_of seat.actor old.history) ≡ length seat.told.items = omega (arith, c.if-count-told.false, c.count-count.ensures, c.len-told.ensures) in
+    let is = c.record_events.ensures.events ∙ ap (λ n. seat.events.items ++ drop n c.history-2.result.now.events) before ∙ ap (λ es. seat.events.items ++ drop (length old.history) es) c.history-2.ensures.events in
+    let same : length (events_of seat.actor old.history) ≡ length seat.events.items = omega (arith, c.if-count-recorded.false, c.count-count.ensures, c.len-recorded.ensures) in
     let short : length a.es ≤ 2 * c.args.most = omega (arith, a.few, t.1) in
-    holding.told old new seat.actor c.run_batch-answer.result _ a c.args.most g.N.Named.run c.args.done t.0 seat.told.items c.record_events.new.seat.told.items t.2 t.1 short c.self.invariant.of_run c.self.invariant.within same is
+    holding.appended old new seat.actor c.run_batch-answer.result _ a c.args.most g.N.Named.run c.args.done t.0 seat.events.items c.record_events.new.seat.events.items t.2 t.1 short c.self.invariant.of_run c.self.invariant.within same is
 
 pub returns-clause-program : goal.returns-clause-program
 returns-clause-program g c =
