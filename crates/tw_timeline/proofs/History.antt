@@ -208,7 +208,7 @@ trail_more first events event s t number old new h went is marks bars makers =
     let program = first.program in
     let layout = first.layout in
     let count : number ≡ 1 + length events = omega (arith, trail_length first events s old h) in
-    let moment : ℕ → Moment = λ n. record { number = n; event = event; before = s; following = t } in
+    let moment : ℕ → Moment = λ n. record { number = n; event = event; before = s; state_after = t } in
     let whole : history first (events ++ event ∷ []) ≡ history first events ++ moment number ∷ [] =
     moments_more program layout 1 events event first.state s t h.reached went ∙ ap (λ (n : ℕ). history first events ++ moment n ∷ []) (sym count) in
     let turned = went_of (step program layout event s) (Turned s) t (event_turned s h.earlier program layout event) went in
