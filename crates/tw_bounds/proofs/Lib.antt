@@ -12,3 +12,6 @@ pub mod Tables
 pub mod Partial
 pub mod Accepting
 pub mod Circling
+pub mod LimitedRuns
+pub mod Largest
+pub mod LeastRuns

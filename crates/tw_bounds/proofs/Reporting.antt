@@ -18,7 +18,7 @@ number_of (AtMost n) = n
 number_of Over = 0
 number_of Endless = 0
 
-is_exact : (exact : Option ℕ) (n : ℕ) → reported exact ≡ AtMost n → exact ≡ Some n
+pub is_exact : (exact : Option ℕ) (n : ℕ) → reported exact ≡ AtMost n → exact ≡ Some n
 is_exact None n e = cc
 is_exact (Some m) n e = by (nat_le m greatest_bound) e
   where

@@ -3,6 +3,8 @@
 
 mod bound;
 mod circles;
+mod least;
+mod limited;
 mod row;
 mod solving;
 mod theorems;
@@ -13,6 +15,8 @@ mod whole_runs;
 
 pub use bound::{Bound, RunBounds};
 pub use circles::{Circle, circle_of_calls};
+pub use least::least_bounds;
+pub use limited::{LimitedBounds, largest_budget, limited_bounds};
 pub use theorems::{budgets_are_costs, within_bound};
 pub use weights::Weights;
 pub use whole_runs::run_bounds;

@@ -1,0 +1,236 @@
+-- Each event does at most what the limit counts for it.
+use Rattle.std.proofs.Common.{◌≡◌, ℕ, zero, suc, ◌+◌, ◌*◌, ◌<◌, ◌≤◌, ◌==◌, ◌||◌, Bool, true, false, not, if◌then◌else◌, is_none, List, [], ◌∷◌, length, slice_get, Some, refl, sym, ap, ◌∙◌, arith}
+use Rattle.std.proofs.lemmas.List.Sums.{sum_by-cons}
+use Rattle.std.proofs.lemmas.Option.{same_Some, slice_get_within}
+use Rattle.std.specs.Cmp.{nat_cmp_total}
+use Rattle.std.specs.FinMap.{get, insert}
+use Rattle.std.specs.List.{list_all, list_any}
+use Rattle.tw_types.specs.declared.actor.Actor.{Actor}
+use Rattle.tw_types.specs.declared.cause.Cause.TheVariants.{RightLeft}
+use Rattle.tw_types.specs.declared.event.Event.{Event}
+use Rattle.tw_types.specs.declared.event.Event.TheVariants.{Take, Local, Call, End, Ask, Deliver, Release}
+use Rattle.tw_types.specs.declared.input.Input.{Input}
+use Rattle.tw_types.specs.Layout.{ActorCounts}
+use Rattle.tw_types.specs.Outcome.{Went, outcome_of}
+use Rattle.tw_types.specs.Result.{must}
+use Rattle.tw_types.proofs.ActorOrder.{actor_cmp-IsAntisymmetric, actor_cmp_total}
+use Rattle.tw_types.proofs.Maps.{get_here}
+use Rattle.tw_types.proofs.Outcomes.{IfWent, if_both, if_ok, if_only, if_then, same_went, went_first, went_of}
+use Rattle.tw_types.proofs.Results.{ok_of}
+use Rattle.tw_code.specs.declared.instr.DataInstr.{DataInstr}
+use Rattle.tw_code.specs.declared.instr.DataInstr.TheVariants as on_data
+use Rattle.tw_code.specs.declared.instr.Instr.{Instr}
+use Rattle.tw_code.specs.declared.instr.Instr.TheVariants as instr
+use Rattle.tw_code.specs.declared.procedure.Procedure.{Procedure}
+use Rattle.tw_code.specs.accepting.Flow.{flows}
+use Rattle.tw_code.specs.accepting.Walk.{IsBudget}
+use Rattle.tw_code.specs.format.Program.{IsProgram}
+use Rattle.tw_code.specs.machine.Arguments.{called, put_called}
+use Rattle.tw_code.specs.machine.Data.{data_instr}
+use Rattle.tw_code.specs.machine.Holders.{Typings}
+use Rattle.tw_code.specs.machine.Inputs.{AreInputsOf}
+use Rattle.tw_code.specs.machine.Machine.{RunningInstr, call_by, call_event, end_event, is_ret, local_event, run, running_instr_of, step}
+use Rattle.tw_code.specs.machine.Opening.{opening, reached}
+use Rattle.tw_code.specs.machine.State.{Frame, State, context_of}
+use Rattle.tw_code.proofs.Leaving.{IsRunningAt, is_running_at, ask_leaves, deliver_leaves, end_leaves, local_leaves, release_leaves, take_leaves}
+use Rattle.tw_budget.proofs.FrameTheorems.{below_budget}
+use Rattle.tw_soundness.specs.Invariant.{IsHeld}
+use Rattle.tw_soundness.specs.NoTrap.{AreRight}
+use Rattle.tw_soundness.proofs.Safe.{accepts, kept_by, opened_held}
+use Rattle.tw_bounds.specs.declared.bound.Bound.{Bound}
+use Rattle.tw_bounds.specs.declared.bound.Bound.TheVariants.{AtMost}
+use Rattle.tw_bounds.specs.declared.limited.LimitedBounds.{LimitedBounds}
+use Rattle.tw_bounds.specs.Limited.{AreLimitedBounds, IsLargestBudget, IsRunWithinLimited, LimitsRuns, has_instr, makes_datum, makes_datum_by, makes_rule, one_each}
+use Rattle.tw_bounds.specs.Reports.{reported}
+use Rattle.tw_bounds.specs.Runs.{instructions_by, instructions_in, tasks_by, tasks_in}
+use Rattle.tw_bounds.proofs.Moved.{DataGoes, data_goes, for_new, subscribed_next}
+use Rattle.tw_bounds.proofs.Reporting.{is_exact}
+
+-- ---- instructions of the program
+
+any_at : {X : Type 0} (test : X → Bool) (xs : List X) (k : ℕ) (x : X) → slice_get xs k ≡ Some x → test x ≡ true → list_any test xs ≡ true
+any_at test [] k x at passes = cc
+any_at test (y ∷ xs) zero x at passes = let same = same_Some y x at in rw (same, passes) refl
+any_at test (y ∷ xs) (suc k) x at passes = by (test y) (any_at test xs k x at passes)
+  where
+    by : (b : Bool) → list_any test xs ≡ true → (b || list_any test xs) ≡ true
+    by true h = refl
+    by false h = h
+
+has_at : (test : Instr → Bool) (program : List Procedure) (k : ℕ) (p : Procedure) (place : ℕ) (i : Instr) → slice_get program k ≡ Some p → slice_get p.code place ≡ Some i → test i ≡ true → has_instr test program ≡ true
+has_at test program k p place i here at passes = any_at (λ q. list_any test q.code) program k p here (any_at test p.code place i at passes)
+
+abbrev one_if : Bool → ℕ
+one_if b = if b then 1 else 0
+
+abbrev each_if : Bool → ℕ → ℕ
+each_if b limit = if b then limit else 0
+
+one_more : (b : Bool) (limit : ℕ) → one_if b + each_if b limit ≡ each_if b (suc limit)
+one_more true limit = omega arith
+one_more false limit = refl
+
+some_one : (b : Bool) → b ≡ true → 1 ≤ one_if b
+some_one true e = omega arith
+some_one false e = cc
+
+-- ---- what is made by an event
+
+record IsMade (program : List Procedure) (s t : State) : Type 0 where
+  new_data : t.store.next ≤ s.store.next + one_if (has_instr makes_datum program)
+  rules : t.next_rule ≤ s.next_rule + one_if (has_instr makes_rule program)
+
+module _ (program : List Procedure) (s : State) where
+  abbrev Made : State → Type 0
+  Made t = IsMade program s t
+
+  same_made : (t : State) → t.store.next ≡ s.store.next → t.next_rule ≡ s.next_rule → IsMade program s t
+  same_made t e f = record { new_data = omega (arith, e); rules = omega (arith, f) }
+
+  module _ (a : Actor) where
+    new_few : (i : DataInstr) (at : RunningInstr) → IsRunningAt program a s at → at.instr ≡ instr.Data i → for_new 1 i ≤ one_if (has_instr makes_datum program)
+    new_few (on_data.New write read ty) at here e = some_one (has_instr makes_datum program) (has_at makes_datum program at.frame.procedure at.procedure at.frame.position.place (instr.Data (on_data.New write read ty)) here.procedure (here.instr ∙ ap Some e) refl)
+    new_few i at here e = omega arith
+
+    by_instr : (at : RunningInstr) → IsRunningAt program a s at → (i : Instr) → at.instr ≡ i → IfWent (call_by program s a at i) Made
+    by_instr at here (instr.Local i) e = record { is = tt }
+    by_instr at here (instr.Data i) e =
+        if_ok (data_instr i (context_of s at.frame)) (λ c went.
+        let m = ok_of (data_instr i (context_of s at.frame)) (DataGoes i (context_of s at.frame)) c (data_goes i (context_of s at.frame)) went in
+        let n = m.next 1 in
+        let few = new_few i at here e in
+        record { is = record { new_data = omega arith; rules = omega arith } })
+    by_instr at here (instr.Rule action) e =
+        if_ok (called program at.procedure.kind (context_of s at.frame) action) (λ call went.
+        let one = some_one (has_instr makes_rule program) (has_at makes_rule program at.frame.procedure at.procedure at.frame.position.place (instr.Rule action) here.procedure (here.instr ∙ ap Some e) refl) in
+        record { is = record { new_data = omega arith; rules = omega arith } })
+    by_instr at here (instr.Put action) e =
+        if_ok (put_called program at.procedure.kind (context_of s at.frame) action) (λ call went. record { is = same_made _ refl refl })
+    by_instr at here instr.Ret e = record { is = tt }
+
+    call_made : IfWent (call_event program a s) Made
+    call_made = if_both (running_instr_of program a s) (λ at fits_place. by_instr at (is_running_at program a s at fits_place) at.instr refl)
+
+  event_made : (layout : ActorCounts) (event : Event) → IfWent (step program layout event s) Made
+  unfolding step
+  event_made layout (Take a) = take_leaves program a s layout (λ e frame first begun. same_made _ refl refl)
+  event_made layout (Local a n) = local_leaves program a s n (λ frame at some here. same_made _ refl refl)
+  event_made layout (Call a) = call_made a
+  event_made layout (End a) = end_leaves program a s (same_made _ refl refl)
+  event_made layout (Ask engine rule parameter) = ask_leaves s engine rule parameter
+      (λ r id x u. same_made _ refl refl)
+      (λ r id x u. same_made _ (subscribed_next s.store id (record { rule = rule; parameter = parameter })) refl)
+  event_made layout (Deliver server datum rule parameter) = deliver_leaves s layout server (record { datum = datum; rule = rule; parameter = parameter })
+      (λ has none. same_made _ refl refl)
+      (λ r has pending. same_made _ refl refl)
+  event_made layout (Release engine rule) = release_leaves s program engine rule (λ r p pending ready. same_made _ refl refl)
+
+-- ---- what is executed by an event
+
+module _ (program : List Procedure) (typings : Typings) (is : IsProgram program) (are : AreRight program typings) (most : ℕ) (largest : IsLargestBudget program most) where
+  -- what a task has executed is less than the largest budget
+  spent_few : (s : State) → IsHeld program typings s → (a : Actor) (f : Frame) → get s.frames a ≡ Some f → f.spent < most
+  spent_few s held a f runs =
+      let p = held.types.procedures.frames a f runs in
+      let accepted = accepts program typings is are f.procedure p.0 p.1 in
+      let w = held.budgets.within a f p.0 accepted.budget.0 runs p.1 accepted.budget.1 in
+      let below = below_budget (flows p.0.code) accepted.sound accepted.budget.0 f.spent f.position.place f.position.loops w in
+      let up = largest.each f.procedure p.0 accepted.budget.0 (slice_get_within program f.procedure p.0 p.1) p.1 accepted.budget.1 in
+      omega (arith, below, up)
+
+  abbrev Ran : Actor → ℕ → State → Type 0
+  Ran a n t = (g : Frame) × (get t.frames a ≡ Some g) × (n ≤ g.spent)
+
+  module _ (s : State) (held : IsHeld program typings s) where
+    some_fit : (a : Actor) (f : Frame) → get s.frames a ≡ Some f → 1 ≤ most
+    some_fit a f runs = let h = spent_few s held a f runs in omega arith
+
+    ran : (a : Actor) (n : ℕ) → IfWent (local_event program a n s) (Ran a n)
+    ran a n = local_leaves program a s n (λ frame at some here.
+        let g : Frame = record frame { position = at; spent = frame.spent + n } in
+        (g, get_here actor_cmp_total actor_cmp-IsAntisymmetric s.frames a g, omega arith))
+
+    called_once : (a : Actor) → IfWent (call_event program a s) (λ t. 1 ≤ most)
+    called_once a = if_both (running_instr_of program a s) (λ at fits_place. let here = is_running_at program a s at fits_place in by at (some_fit a at.frame here.frame) at.instr)
+      where
+        by : (at : RunningInstr) → 1 ≤ most → (i : Instr) → IfWent (call_by program s a at i) (λ t. 1 ≤ most)
+        by at one (instr.Local i) = record { is = tt }
+        by at one (instr.Data i) = if_ok (data_instr i (context_of s at.frame)) (λ c went. record { is = one })
+        by at one (instr.Rule action) = if_ok (called program at.procedure.kind (context_of s at.frame) action) (λ call went. record { is = one })
+        by at one (instr.Put action) = if_ok (put_called program at.procedure.kind (context_of s at.frame) action) (λ call went. record { is = one })
+        by at one instr.Ret = record { is = tt }
+
+    ended_once : (a : Actor) → IfWent (end_event program a s) (λ t. 1 ≤ most)
+    ended_once a = if_both (running_instr_of program a s) (λ at fits_place.
+        if_only (is_ret at.instr) (λ ret.
+        if_then (outcome_of (must (list_all is_none at.frame.rights) RightLeft)) (λ _.
+        record { is = some_fit a at.frame (is_running_at program a s at fits_place).frame })))
+
+    event_runs : (layout : ActorCounts) (event : Event) (t : State) → IsHeld program typings t → step program layout event s ≡ Went t → instructions_by event ≤ most
+    unfolding step
+    event_runs layout (Take a) t after e = omega arith
+    event_runs layout (Local a n) t after e =
+        let r = went_of (local_event program a n s) (Ran a n) t (ran a n) e in
+        let h = spent_few t after a r.0 r.1 in
+        omega (arith, r.2, h)
+    event_runs layout (Call a) t after e = went_of (call_event program a s) (λ u. 1 ≤ most) t (called_once a) e
+    event_runs layout (End a) t after e = went_of (end_event program a s) (λ u. 1 ≤ most) t (ended_once a) e
+    event_runs layout (Ask engine rule parameter) t after e = omega arith
+    event_runs layout (Deliver server datum rule parameter) t after e = omega arith
+    event_runs layout (Release engine rule) t after e = omega arith
+
+  -- ---- along a run
+
+  record IsFew (limit : ℕ) (events : List Event) (s t : State) : Type 0 where
+    instructions : instructions_in events ≤ limit * most
+    new_data : t.store.next ≤ s.store.next + one_each makes_datum program limit
+    rules : t.next_rule ≤ s.next_rule + one_each makes_rule program limit
+
+  run_few : (limit : ℕ) (layout : ActorCounts) (events : List Event) (s t : State) → IsHeld program typings s → length events ≤ limit → run program layout events s ≡ Went t → IsFew limit events s t
+  unfolding run
+  run_few limit layout [] s t held fits e =
+      let data_same = ap (λ (u : State). u.store.next) (same_went s t e) in
+      let rules_same = ap (λ (u : State). u.next_rule) (same_went s t e) in
+      record { instructions = omega arith; new_data = omega (arith, data_same); rules = omega (arith, rules_same) }
+  run_few zero layout (event ∷ events) s t held fits e = absurd (omega arith)
+  run_few (suc limit) layout (event ∷ events) s t held fits e =
+      let one = went_first (step program layout event s) (run program layout events) t e in
+      let after = kept_by program typings layout event s one.0 is are held one.1 in
+      let runs = event_runs s held layout event one.0 after one.1 in
+      let made = went_of (step program layout event s) (IsMade program s) one.0 (event_made program s layout event) one.1 in
+      let rest = run_few limit layout events one.0 t after (omega arith) one.2 in
+      record {
+        instructions = omega (arith, runs, rest.instructions, sum_by-cons instructions_by event events);
+        new_data = omega (arith, made.new_data, rest.new_data, one_more (has_instr makes_datum program) limit);
+        rules = omega (arith, made.rules, rest.rules, one_more (has_instr makes_rule program) limit);
+      }
+
+takes_few : (events : List Event) → tasks_in events ≤ length events
+takes_few [] = omega arith
+takes_few (event ∷ events) = let rest = takes_few events in let one = at_most_one event in omega (arith, rest, one, sum_by-cons tasks_by event events)
+  where
+    at_most_one : (e : Event) → tasks_by e ≤ 1
+    at_most_one (Take a) = omega arith
+    at_most_one (Local a n) = omega arith
+    at_most_one (Call a) = omega arith
+    at_most_one (End a) = omega arith
+    at_most_one (Ask engine rule parameter) = omega arith
+    at_most_one (Deliver server datum rule parameter) = omega arith
+    at_most_one (Release engine rule) = omega arith
+
+-- a number that is reported as at most n is n
+number_is : (bound : Bound) (m n : ℕ) → bound ≡ reported (Some m) → bound ≡ AtMost n → m ≡ n
+number_is bound m n is at = same_Some m n (is_exact (Some m) n (sym is ∙ at))
+
+pub limits_run : (program : List Procedure) (typings : Typings) → IsProgram program → AreRight program typings → (limit : ℕ) (bounds : LimitedBounds) → AreLimitedBounds program limit bounds → LimitsRuns program limit bounds
+limits_run program typings is are limit bounds b = record {
+  within = λ inputs layout events s given fits e.
+      let few = run_few program typings is are b.most b.largest limit layout events (opening program inputs) s (opened_held program typings is are inputs given) fits e in
+      record {
+        tasks = λ n at. let same = number_is bounds.tasks limit n b.tasks at in let f = takes_few events in omega (arith, same, f, fits);
+        instructions = λ n at. let same = number_is bounds.instructions (limit * b.most) n b.instructions at in omega (arith, same, few.instructions);
+        new_data = λ n at. let same = number_is bounds.data (one_each makes_datum program limit) n b.new_data at in omega (arith, same, few.new_data);
+        rules = λ n at. let same = number_is bounds.rules (one_each makes_rule program limit) n b.rules at in omega (arith, same, few.rules);
+        few = λ n at. let same = number_is bounds.events limit n b.events at in omega (arith, same, fits);
+      };
+}

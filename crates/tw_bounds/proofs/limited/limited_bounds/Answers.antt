@@ -1,0 +1,30 @@
+use Rattle.std.proofs.Common.{◌≡◌, ◌*◌, ℕ, Bool, if◌then◌else◌, List, Some, ap, sym, ◌∙◌, subst}
+use Rattle.tw_code.specs.declared.procedure.Procedure.{Procedure}
+use Rattle.tw_code.specs.format.Program.{IsProgram}
+use Rattle.tw_bounds.specs.Limited.{AreLimitedBounds, has_instr, makes_datum, makes_rule}
+use Rattle.tw_bounds.specs.Reports.{reported}
+use Rattle.tw_bounds.proofs.LimitedRuns.{limits_run}
+use Rattle.tw_bounds.proofs.limited.limited_bounds.Goals as goal
+
+bounds_are : (c : goal.After-one_each-4) → AreLimitedBounds c.args.verified.now.program c.args.limit (record { tasks = c.one_each.result; instructions = c.from_capped.result; «data» = c.one_each-2.result; rules = c.one_each-3.result; events = c.one_each-4.result })
+bounds_are c =
+    let same = c.procedures-procedures.ensures.is ∙ c.program-program.ensures.is in
+    let makes = c.makes_data.ensures ∙ ap (has_instr makes_datum) same in
+    let rules = c.makes_rules.ensures ∙ ap (has_instr makes_rule) same in
+    record {
+      tasks = c.one_each.ensures;
+      most = c.largest_budget.result;
+      largest = c.largest_budget.ensures.is;
+      instructions = c.from_capped.ensures ∙ ap (λ (n : ℕ). reported (Some (n * c.largest_budget.result))) c.from.ensures;
+      new_data = c.one_each-2.ensures ∙ ap (λ (b : Bool). reported (Some (if b then c.args.limit else 0))) makes;
+      rules = c.one_each-3.ensures ∙ ap (λ (b : Bool). reported (Some (if b then c.args.limit else 0))) rules;
+      events = c.one_each-4.ensures;
+    }
+
+pub returns-clause-are : goal.returns-clause-are
+returns-clause-are c = bounds_are c
+
+pub returns-clause-runs : goal.returns-clause-runs
+returns-clause-runs c =
+    let within = subst (λ (ps : List Procedure). IsProgram ps) c.program-program.ensures.is c.procedures-procedures.ensures.within in
+    limits_run c.args.verified.now.program _ within c.program-program.ensures.right c.args.limit _ (bounds_are c)

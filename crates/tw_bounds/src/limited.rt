@@ -1,0 +1,121 @@
+//! Bounds that a limit of events gives.
+
+ghost use Rattle.std.specs.Prelude.{◌≡◌, ◌≤◌, Some, if◌then◌else◌, max};
+ghost use Rattle.std.specs.List.{list_any};
+ghost use Rattle.tw_code.specs.accepting.Walk.{greatest_budget};
+ghost use Rattle.tw_bounds.specs.Limited.{AreLimitedBounds, IsLargestBudget, LimitsRuns, has_instr, makes_datum, makes_rule};
+ghost use Rattle.tw_bounds.specs.Reports.{reported};
+
+use crate::bound::Bound;
+use tw_code::{DataInstr, Instr, Procedure};
+use tw_verify::Verified;
+
+/// Bounds of a run with a limited number of events.
+#[derive(Clone, Copy, Debug)]
+pub struct LimitedBounds {
+    /// Tasks that are taken, main's included.
+    pub tasks: Bound,
+    /// Instructions that are executed.
+    pub instructions: Bound,
+    /// Data made by NEW.
+    pub data: Bound,
+    /// Rules made by RULE.
+    pub rules: Bound,
+    /// Events of the run.
+    pub events: Bound,
+}
+
+/// Returns whether an instruction makes a datum.
+fn makes_datum(instr: &Instr) -> bool
+    ensures { result ≡ makes_datum instr.now }
+{
+    matches!(instr, Instr::Data(DataInstr::New { .. }))
+}
+
+/// Returns whether an instruction makes a rule.
+fn makes_rule(instr: &Instr) -> bool
+    ensures { result ≡ makes_rule instr.now }
+{
+    matches!(instr, Instr::Rule(_))
+}
+
+/// Returns whether a procedure has an instruction that makes a datum.
+fn has_new(procedure: &Procedure) -> bool
+    ensures { result ≡ list_any makes_datum procedure.now.code }
+{
+    procedure
+        .code
+        .as_slice()
+        .iter()
+        .any(|instr| makes_datum(instr))
+}
+
+/// Returns whether a procedure has an instruction that makes a rule.
+fn has_rule(procedure: &Procedure) -> bool
+    ensures { result ≡ list_any makes_rule procedure.now.code }
+{
+    procedure
+        .code
+        .as_slice()
+        .iter()
+        .any(|instr| makes_rule(instr))
+}
+
+/// Returns whether an event can make a datum.
+fn makes_data(program: &[Procedure]) -> bool
+    ensures { result ≡ has_instr makes_datum program.now }
+{
+    program.iter().any(|procedure| has_new(procedure))
+}
+
+/// Returns whether an event can make a rule.
+fn makes_rules(program: &[Procedure]) -> bool
+    ensures { result ≡ has_instr makes_rule program.now }
+{
+    program.iter().any(|procedure| has_rule(procedure))
+}
+
+/// Returns the bound if each event makes one thing, or none does.
+fn one_each(makes: bool, limit: u32) -> Bound
+    ensures { result ≡ reported (Some (if makes then limit else 0)) }
+{
+    let number = if makes { u64::from(limit) } else { 0 };
+    Bound::from_capped(Some(number))
+}
+
+/// Returns the larger of two numbers.
+fn larger(a: u64, b: u64) -> u64
+    ensures { result ≡ max a b }
+{
+    if a < b { b } else { a }
+}
+
+/// Returns the largest budget of a procedure.
+pub fn largest_budget(verified: &Verified) -> u64
+    ensures is { IsLargestBudget verified.now.program result }
+    ensures small { result ≤ greatest_budget }
+{
+    let program = verified.program();
+    let mut most = 0;
+    for number in 0..program.procedures().len() {
+        most = larger(most, verified.budget(number));
+    }
+    most
+}
+
+/// Returns the bounds of runs with at most `limit` events. Each event takes at most one task, executes instructions of one task,
+/// and makes at most one datum or rule.
+pub fn limited_bounds(verified: &Verified, limit: u32) -> LimitedBounds
+    ensures are { AreLimitedBounds verified.now.program limit result }
+    ensures runs { LimitsRuns verified.now.program limit result }
+{
+    let program = verified.program();
+    let procedures = program.procedures();
+    LimitedBounds {
+        tasks: one_each(true, limit),
+        instructions: Bound::from_capped(Some(u64::from(limit) * largest_budget(verified))),
+        data: one_each(makes_data(procedures), limit),
+        rules: one_each(makes_rules(procedures), limit),
+        events: one_each(true, limit),
+    }
+}
