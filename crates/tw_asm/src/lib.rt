@@ -29,7 +29,7 @@ mod write;
 pub use assembler::{LinedProgram, assemble, assemble_lined};
 pub use disassembler::disassemble;
 pub use fault::{AsmFault, FaultNo};
-pub use first::first_of;
+pub use first::{first_of, is_plainly_blank};
 pub use line_numbers::LineNumbers;
 pub use listing::{LabelPlaces, put_head_lines, put_right};
 pub use statement::First;

@@ -257,22 +257,6 @@ fn take_statement<'a>(
     }
 }
 
-/// Like `read_words`, but a line without words is mostly seen at once.
-fn read_line<'a>(
-    alloc: Global,
-    reading: &Reading<'_>,
-    number: usize,
-    line: &'a str,
-) -> Result<Option<Statement<'a>>, AsmFault>
-    ensures { WordsRead (seen_reading reading.now) number line.now result }
-{
-    if is_plainly_blank(line) {
-        Ok(None)
-    } else {
-        read_words(alloc, reading, number, line)
-    }
-}
-
 fn take_line<'a>(
     alloc: Global,
     reading: Reading<'a>,
@@ -281,7 +265,7 @@ fn take_line<'a>(
 ) -> Result<Reading<'a>, AsmFault>
     ensures { TakenLine (seen_reading reading.entry) number line.now result }
 {
-    match read_line(alloc, &reading, number, line) {
+    match read_words(alloc, &reading, number, line) {
         Ok(None) => Ok(reading),
         Ok(Some(statement)) => take_statement(alloc, reading, number, statement),
         Err(f) => Err(f),
@@ -300,7 +284,9 @@ fn read_lines<'a>(alloc: Global, text: &'a str) -> Result<Reading<'a>, AsmFault>
         stage: Stage::Start,
     };
     for (index, line) in text.lines().enumerate() {
-        reading = take_line(alloc, reading, index + 1, line)?;
+        if !is_plainly_blank(line) {
+            reading = take_line(alloc, reading, index + 1, line)?;
+        }
     }
     Ok(reading)
 }

@@ -12,6 +12,7 @@ ghost use Rattle.tw_code.specs.declared.version.Version.{Version as AVersion};
 ghost use Rattle.tw_diagnostics.specs.LineRole.{HasNoHead, IsFirstHead, advanced, is_head, says_of, situation_of, stage_after, stage_text, version_after};
 
 use std::alloc::{AllocError, Global};
+use tw_asm::is_plainly_blank;
 use tw_code::Version;
 use tw_lexer::{Word, digits, words_of};
 
@@ -139,6 +140,9 @@ fn said_in(words: &[Word<'_>]) -> LineRole
 pub fn line_role(alloc: Global, line: &str) -> Result<LineRole, AllocError>
     ensures { IfOk result (λ says. (s : Standing) (said : Option Statement) → LineSays s line.now said → says ≡ says_of said) }
 {
+    if is_plainly_blank(line) {
+        return Ok(said_in(&[]));
+    }
     let read = words_of(alloc, line.as_bytes())?;
     Ok(said_in(&read.words))
 }

@@ -18,6 +18,9 @@ pub mod NameSteps
 pub mod Apart
 pub mod Uses
 pub mod Renamed
+pub mod RenamedWords
+pub mod RenamedHeads
+pub mod RenamedTexts
 pub mod RightLines
 pub mod BlankLines
 mod TextNames

@@ -11,12 +11,12 @@ use Rattle.tw_symbols.specs.declared.meaning.Binding.{Binding}
 use Rattle.tw_symbols.proofs.SaidTexts.{went_then}
 
 module _ (f : List ℕ → List ℕ) (is : IsRenaming f) where
-  meaning_kept : (name : List ℕ) (table : Table) → meaning (f name) (renamed_table f table) ≡ meaning name table
+  pub meaning_kept : (name : List ℕ) (table : Table) → meaning (f name) (renamed_table f table) ≡ meaning name table
   meaning_kept name [] = refl
   meaning_kept name (e ∷ table) =
       ap (λ (t : Bool). cond t (Some e.1) (meaning (f name) (renamed_table f table))) (is.apart name e.0) ∙ ap (cond (bytes_eq name e.0) (Some e.1)) (meaning_kept name table)
 
-  known_kept : (p : Procedures) (n : Names) (name : List ℕ) → known (renamed_procedures f p) (renamed_names f n) (f name) ≡ known p n name
+  pub known_kept : (p : Procedures) (n : Names) (name : List ℕ) → known (renamed_procedures f p) (renamed_names f n) (f name) ≡ known p n name
   known_kept p n name =
       ap (λ (x : Option Binding). or_else x (or_else (meaning (f name) (renamed_table f n.constants)) (meaning (f name) (renamed_table f p.table)))) (meaning_kept name n.registers)
       ∙ ap (λ (x : Option Binding). or_else (meaning name n.registers) (or_else x (meaning (f name) (renamed_table f p.table)))) (meaning_kept name n.constants)
@@ -39,7 +39,7 @@ module _ (f : List ℕ → List ℕ) (is : IsRenaming f) where
       ap (λ (t : Bool). cond t (named front (f word) (known (renamed_procedures f p) (renamed_names f n) (f word)) a) (Ok (with_word front (f word)))) (is.names word ∙ e)
       ∙ ap (λ (w : List ℕ). Ok (with_word front w)) (is.others word e) ∙ h
 
-  word_kept : (p : Procedures) (n : Names) (a : Expected) (front word text : List ℕ) → word_says p n a front word ≡ Ok text → word_says (renamed_procedures f p) (renamed_names f n) a front (renamed_word f a word) ≡ Ok text
+  pub word_kept : (p : Procedures) (n : Names) (a : Expected) (front word text : List ℕ) → word_says p n a front word ≡ Ok text → word_says (renamed_procedures f p) (renamed_names f n) a front (renamed_word f a word) ≡ Ok text
   word_kept p n asked.Nothing front word text e = e
   word_kept p n a front word text e = either_kept p n a front word text (is_name word) refl e
 

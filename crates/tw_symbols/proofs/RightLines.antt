@@ -5,7 +5,8 @@ use Rattle.std.specs.Result.{IsErr}
 use Rattle.std.specs.Str.{bytes_eq}
 use Rattle.std.proofs.lemmas.Bool.Decides.{eqb_tells}
 use Rattle.std.proofs.lemmas.List.{get_or-set_other, get_or-set_same, length-set}
-use Rattle.tw_symbols.proofs.TextNames.{AreTaken, Bor, IsTaken, Line, Names, Procedures, Said, Table, append-nil, length-map, line_words, no_names, now, procedures_of, seen_entry, seen_names, seen_procedures, seen_table, slice_get, take_all, take_at, taken_says, texts, unwrap_or}
+use Rattle.tw_symbols.proofs.TextNames.{AreTaken, Bor, IsTaken, Line, Names, Procedures, Said, Table, Worded, append-nil, ended, length-map, line_words, no_names, now, procedures_of, seen_entry, seen_names, seen_procedures, seen_table, slice_get, take_all, take_at, taken_says, texts, unwrap_or}
+use Rattle.tw_symbols.specs.Answers.{is_plainly_blank}
 use Rattle.tw_symbols.specs.Registers.{last_name, names_after_line}
 use Rattle.tw_symbols.specs.RightNames.{AreLast, IsReady, begins_procedure, kept_entries, last_right, noted, registers_of, right_name}
 use Rattle.tw_symbols.specs.declared.meaning.Bank.TheVariants as bank
@@ -16,6 +17,8 @@ use Rattle.tw_symbols.specs.declared.names.Names as code
 use Rattle.tw_symbols.specs.declared.right_names.Reader.{Reader}
 use Rattle.tw_symbols.proofs.NameSteps.{IsStep, taken_step}
 use Rattle.tw_symbols.proofs.RegisterNames.{Entries, goes, one_more, or_entry, other_number, refuses, same_number}
+use Rattle.tw_symbols.proofs.BlankLines.{blank_says, blank_taken}
+use Rattle.tw_symbols.proofs.Taking.{taken_once}
 use Rattle.tw_symbols.proofs.Walk.{taken_at}
 
 -- ---- the last names of a table
@@ -202,3 +205,14 @@ module _ (names : ℕ → ℕ → List ℕ) (ls before others : List (List ℕ))
           ),
           λ j low. last.1 j low ∙ sym (known j) ∙ ap (λ (m : ℕ). names m j) (sym at),
         )
+
+    -- after a line without words
+    pub blank_read : (text : List ℕ) → is_plainly_blank line ≡ true → text ≡ r.plain.items ++ ended line
+        → (((xs : List Line) × AreTaken xs ls × ((l k : ℕ) → number < l → names l k ≡ last_right (registers_of (names_after_line (seen_procedures r.procedures) l (number + 1) (seen_names r.names) text (drop number xs))) k)) × AreLast (texts r.rights.items) (seen_table r.names.registers.entries))
+        × ((k : ℕ) → k < 16 → get_or (texts r.rights.items) k [] ≡ names number k)
+    blank_read text blank e =
+        let table = seen_table r.names.registers.entries in
+        let rights = texts r.rights.items in
+        line_read r.names text (length table) rights rights (blank_says (seen_procedures r.procedures) number (seen_names r.names) r.plain.items text line blank e)
+        (λ t is last. subst (λ (l : Line). (length table ≡ length (kept_entries (begins_procedure (line_words l)) table)) × AreLast rights (kept_entries (begins_procedure (line_words l)) table)) (taken_once (Worded [] line) t line (blank_taken line blank) is) (refl, last))
+        (λ _. ready.1)

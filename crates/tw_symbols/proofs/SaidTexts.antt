@@ -129,7 +129,8 @@ all_filtered Q (w ∷ ws) h = either (AllKept Q) (is_unnamed w) (w ∷ filter is
 all_types : (Q : List ℕ → Type 0) (ws : List (List ℕ)) → AllKept Q ws → AllKept Q (value_types ws)
 all_types Q [] h = tt
 all_types Q (w ∷ ws) h =
-    either (AllKept Q) (bytes_eq w (codes "val")) (take 1 ws ++ value_types ws) (value_types ws) (all_kept Q (take 1 ws) (value_types ws) (all_taken Q 1 ws h.1) (all_types Q ws h.1)) (all_types Q ws h.1)
+    either (AllKept Q) (bytes_eq w (codes "val")) (filter is_unnamed (take 1 ws) ++ value_types ws) (value_types ws)
+    (all_kept Q (filter is_unnamed (take 1 ws)) (value_types ws) (all_filtered Q (take 1 ws) (all_taken Q 1 ws h.1)) (all_types Q ws h.1)) (all_types Q ws h.1)
 
 all_parameters : (Q : List ℕ → Type 0) (ws : List (List ℕ)) → AllKept Q ws → AllKept Q (parameters ws)
 all_parameters Q ws h = either (AllKept Q) (is_some (procedure_name ws)) (drop 2 ws) (drop 1 ws) (all_left Q 2 ws h) (all_left Q 1 ws h)

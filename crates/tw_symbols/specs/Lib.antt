@@ -5,6 +5,7 @@ pub mod Meanings
 pub mod LineExpansion
 pub mod Expansion
 pub mod Theorems
+pub mod Renaming
 -- The name of a register, printed beside its number.
 pub mod Registers
 -- The names of procedures, for messages.

@@ -247,10 +247,10 @@ procedure_name words = None
 abbrev pub parameters : List (List ℕ) → List (List ℕ)
 parameters words = if is_some (procedure_name words) then drop 2 words else drop 1 words
 
--- returns the words after each `val`
+-- returns the words after each `val`, except a name and `:`, which is no type
 abbrev pub value_types : List (List ℕ) → List (List ℕ)
 value_types [] = []
-value_types (word ∷ words) = if bytes_eq word (codes "val") then take 1 words ++ value_types words else value_types words
+value_types (word ∷ words) = if bytes_eq word (codes "val") then filter is_unnamed (take 1 words) ++ value_types words else value_types words
 
 -- returns whether the procedure of this name begins at this line
 abbrev pub begins_at : Procedures → ℕ → Option Binding → Bool

@@ -9,7 +9,7 @@ ghost use Rattle.tw_symbols.specs.LineExpansion.{line_says};
 ghost use Rattle.tw_symbols.specs.Seen.{seen_names, seen_procedures, texts};
 ghost use Rattle.tw_symbols.specs.Expansion.{HasNames, IsFirstRejection, ExpandsTo, ended, lines_say, taken_says};
 
-use crate::line::take_line;
+use crate::line::{is_plainly_blank, take_line};
 use crate::line_expansion::{is_names_line, put_line};
 use crate::names::Names;
 use crate::operand_text::put_ended;
@@ -143,7 +143,11 @@ fn expanded_lines<'a>(
     let mut out = Vec::new(alloc);
     let mut names = Names::new(alloc, procedures.hash);
     for (index, line) in text.lines().enumerate() {
-        names = put_numbered_line(alloc, procedures, index + 1, names, &mut out, line)?;
+        if is_plainly_blank(line) {
+            put_ended(&mut out, line.as_bytes())?;
+        } else {
+            names = put_numbered_line(alloc, procedures, index + 1, names, &mut out, line)?;
+        }
     }
     Ok(out)
 }

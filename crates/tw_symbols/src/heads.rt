@@ -1,9 +1,9 @@
 //! The words of a procedure's head.
 
-ghost use Rattle.std.specs.Prelude.{◌≡◌, IfOk};
+ghost use Rattle.std.specs.Prelude.{◌≡◌, ◌∷◌, [], IfOk, MatchOption, filter, take};
 ghost use Rattle.std.specs.List.{filter_map};
 ghost use Rattle.std.specs.Option.{option_map};
-ghost use Rattle.tw_symbols.specs.LineExpansion.{bank_of_mode, parameters, procedure_name, value_types};
+ghost use Rattle.tw_symbols.specs.LineExpansion.{bank_of_mode, is_unnamed, parameters, procedure_name, value_types};
 ghost use Rattle.tw_symbols.specs.Seen.{now, texts};
 
 use crate::meaning::Bank;
@@ -67,7 +67,17 @@ pub fn parameters<'b, 'a>(words: &'b [&'a [u8]]) -> &'b [&'a [u8]]
     }
 }
 
-/// Returns the words after each `val`.
+/// Returns the first word, unless it is a name and `:`.
+fn first_unnamed<'a>(words: &[&'a [u8]]) -> Option<&'a [u8]>
+    ensures { MatchOption result (filter is_unnamed (take 1 (texts words.now)) ≡ []) (λ word. filter is_unnamed (take 1 (texts words.now)) ≡ word.now ∷ []) }
+{
+    match words {
+        [word, ..] if before_colon(word).is_none() => Some(*word),
+        _ => None,
+    }
+}
+
+/// Returns the words after each `val`, except a name and `:`, which is no type.
 pub fn value_types<'a>(alloc: Global, words: &[&'a [u8]]) -> Result<Vec<&'a [u8]>, AllocError>
     ensures { IfOk result (λ types. texts types.items ≡ value_types (texts words.now)) }
 {
@@ -75,8 +85,8 @@ pub fn value_types<'a>(alloc: Global, words: &[&'a [u8]]) -> Result<Vec<&'a [u8]
     let mut rest = words;
     while let [word, others @ ..] = rest {
         if *word == b"val".as_slice() {
-            if let Some(ty) = others.first() {
-                types.push(*ty)?;
+            if let Some(ty) = first_unnamed(others) {
+                types.push(ty)?;
             }
         }
         rest = others;

@@ -31,5 +31,6 @@ pub use right_names::{RightNames, put_named};
 pub use symbols::Symbols;
 pub use theorems::{
     as_many_lines, expands_to_itself, expands_to_one, in_utf8, listed_by_place, names_differ,
-    names_stay, not_both, one_first_rejection, renamed_alike, uses_are_registers,
+    names_stay, not_both, one_first_rejection, renamed_alike, texts_renamed_alike,
+    uses_are_registers,
 };

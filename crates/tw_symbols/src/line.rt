@@ -65,7 +65,7 @@ fn broken<'a>(mut words: Vec<&'a [u8]>, rest: &'a [u8]) -> Result<ParsedLine<'a>
 }
 
 /// Returns whether the first byte says that a line has no word. Most bytes of a long text may be line ends or begin comments.
-fn is_plainly_blank(line: &str) -> bool
+pub fn is_plainly_blank(line: &str) -> bool
     ensures { result ≡ is_plainly_blank line.now }
 {
     match line.as_bytes() {

@@ -1,15 +1,17 @@
 //! The names of right registers, line by line.
 
-ghost use Rattle.std.specs.Prelude.{◌≡◌, ◌+◌, ◌<◌, ◌++◌, ◌∷◌, [], ℕ, List, IfOk, OnOk, Some, get_or, length, slice_get, slice_set, take};
+ghost use Rattle.std.specs.Prelude.{◌≡◌, ◌+◌, ◌<◌, ◌++◌, ◌∷◌, [], ℕ, true, List, IfOk, OnOk, Some, get_or, length, slice_get, slice_set, take};
 ghost use Rattle.std.specs.Str.Lines.{lines};
+ghost use Rattle.tw_symbols.specs.Answers.{is_plainly_blank};
 ghost use Rattle.tw_symbols.specs.Lines.{IsTaken, Line, line_words};
 ghost use Rattle.tw_symbols.specs.RightNames.{AreLast, AreRightNames, HasRead, IsReady, Knows, begins_procedure, kept_entries, known_names, named_text, names_of, noted, right_number, unnamed, with_right};
 ghost use Rattle.tw_symbols.specs.Seen.{seen_table, texts};
 
 use crate::expansion::is_named;
-use crate::line::take_line;
+use crate::line::{is_plainly_blank, take_line};
 use crate::meaning::{Bank, Binding};
 use crate::names::{Names, Table};
+use crate::operand_text::put_ended;
 use crate::procedures::{Procedures, procedures_of};
 use crate::registers::{cut, names_after};
 use crate::symbols::put_bracketed;
@@ -182,6 +184,15 @@ fn read_next<'a>(
     }
 }
 
+/// Keeps a line without words, which names nothing.
+fn keep_blank(reader: &mut Reader<'_>, line: &str) -> Result<(), AllocError>
+    ensures { (names : ℕ → ℕ → List ℕ) (ls before others : List (List ℕ)) (number : ℕ) → is_plainly_blank line.now ≡ true → IsReady names ls (length before) (Some reader.old) → ls ≡ before ++ line.now ∷ others → number ≡ length before + 1
+        → OnOk result (IsReady names ls number (Some reader.new) × ((register : ℕ) → register < 16 → names_of (Some reader.new) register ≡ names number register)) }
+{
+    put_ended(&mut reader.plain, line.as_bytes())?;
+    Ok(())
+}
+
 impl<'a> RightNames<'a> {
     /// Returns a reader without names, for a program that wasn't read from a text.
     pub fn none() -> RightNames<'a>
@@ -211,17 +222,26 @@ impl<'a> RightNames<'a> {
     }
 
     /// Reads the line of this number, the next one.
-    pub fn after(
-        self,
-        alloc: Global,
-        number: usize,
-        line: &'a str,
-    ) -> Result<RightNames<'a>, AllocError>
-        ensures { (names : ℕ → ℕ → List ℕ) (ls before others : List (List ℕ)) → HasRead names ls (length before) self.entry → ls ≡ before ++ line.entry.now ∷ others → number ≡ length before + 1
-            → IfOk result (λ r. HasRead names ls number r × Knows (names number) r) }
+    pub fn read(&mut self, alloc: Global, number: usize, line: &'a str) -> Result<(), AllocError>
+        ensures { (names : ℕ → ℕ → List ℕ) (ls before others : List (List ℕ)) → HasRead names ls (length before) self.old → ls ≡ before ++ line.entry.now ∷ others → number ≡ length before + 1
+            → OnOk result (HasRead names ls number self.new × Knows (names number) self.new) }
     {
-        let reader = read_next(alloc, self.reader, number, line)?;
-        Ok(RightNames { reader })
+        if is_plainly_blank(line) {
+            return self.read_blank(line);
+        }
+        self.reader = read_next(alloc, self.reader.take(), number, line)?;
+        Ok(())
+    }
+
+    /// Like `read`, for a line without words. The names stay in their place.
+    fn read_blank(&mut self, line: &str) -> Result<(), AllocError>
+        ensures { (names : ℕ → ℕ → List ℕ) (ls before others : List (List ℕ)) (number : ℕ) → is_plainly_blank line.now ≡ true → HasRead names ls (length before) self.old → ls ≡ before ++ line.now ∷ others → number ≡ length before + 1
+            → OnOk result (HasRead names ls number self.new × Knows (names number) self.new) }
+    {
+        match &mut self.reader {
+            Some(reader) => keep_blank(reader, line),
+            None => Ok(()),
+        }
     }
 
     /// Returns the name of a right register, or nothing if it has none.

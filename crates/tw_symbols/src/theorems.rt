@@ -1,5 +1,6 @@
 //! Theorems about all texts.
 
+ghost use Rattle.tw_symbols.specs.Renaming.{TextsRenamedAlike};
 ghost use Rattle.tw_symbols.specs.Theorems.{AsManyLines, InUtf8, ListedByPlace, NamesDiffer, NamesStay, NotBoth, OneFirstRejection, RenamedAlike, ExpandsToItself, ExpandsToOne, UsesAreRegisters};
 
 /// Proves that a text has at most one expansion.
@@ -55,4 +56,9 @@ pub fn uses_are_registers()
 /// Proves that operands expand alike if each name is replaced by another for the same thing.
 pub fn renamed_alike()
     ensures { RenamedAlike }
+{}
+
+/// Proves that a text expands to the same after each of its names was replaced by another for the same thing.
+pub fn texts_renamed_alike()
+    ensures { TextsRenamedAlike }
 {}

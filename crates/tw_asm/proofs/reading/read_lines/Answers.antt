@@ -1,8 +1,9 @@
-use Rattle.std.proofs.Common.{map, rules}
+use Rattle.std.proofs.Common.{None, map, refl, rules, sym, ◌∙◌}
 use Rattle.tw_asm.proofs.AsmNames.{err_from_is_err_and, lines, seen_reading}
 use Rattle.std.proofs.lemmas.Iterator.Consumers.{YieldsList-at, YieldsList-end, YieldsList-from_enumerate, YieldsList-so_far, YieldsList-turn}
 use Rattle.std.proofs.lemmas.Iterator.Splits.{YieldsList-from_lines}
 use Rattle.tw_asm.proofs.Steps.{items_more, line_stopped, lines_end}
+use Rattle.tw_asm.proofs.Blank.{no_words}
 use Rattle.tw_lexer.proofs.LineLoops.{line_turn}
 use Rattle.tw_asm.proofs.reading.read_lines.Goals as goal
 
@@ -14,6 +15,17 @@ returns-in_err-reading c =
     let p = err_from_is_err_and c.from_residual.result c.from_residual.ensures.1 in
     rw (p.1, p.2) (line_stopped c.args.text.now (map (λ item. item.1.now) c.loop-index.yielded) c.in-Some.line.now c.in-Some.index (seen_reading c.loop-index.reading) c.in_err-reading.field-0.0 at c.loop-index.invariant.read c.in_err-reading.ensures)
 
+pub loop-index-preserved-then-not-is_plainly_blank : goal.loop-index-preserved-then-not-is_plainly_blank
+loop-index-preserved-then-not-is_plainly_blank c =
+    let road = YieldsList-at c.into_iter-index-iterator.ensures.into_iter_gives (YieldsList-from_enumerate (YieldsList-at c.enumerate-index-items.ensures.source (YieldsList-from_lines c.args.text.now c.lines.ensures.rest)) c.enumerate-index-items.ensures.count) in
+    let t = YieldsList-turn road c.loop-index.yielded _ c.loop-index.yielded_by _ _ (c.in-Some.index, c.in-Some.line) c.in-Some.is c.next.ensures.steps in
+    let at = line_turn (lines c.args.text.now) c.loop-index.yielded c.in-Some.index c.in-Some.line.now (YieldsList-so_far road c.loop-index.yielded _ c.loop-index.yielded_by) t.0 t.1 in
+    record {
+      next = search rules;
+      finite = search rules;
+      read = items_more c.loop-index.yielded (c.in-Some.index, c.in-Some.line) (seen_reading c.loop-index.reading) (seen_reading c.in_ok-reading.reading) at.index_is c.loop-index.invariant.read c.in_ok-reading.ensures;
+    }
+
 pub loop-index-preserved : goal.loop-index-preserved
 loop-index-preserved c =
     let road = YieldsList-at c.into_iter-index-iterator.ensures.into_iter_gives (YieldsList-from_enumerate (YieldsList-at c.enumerate-index-items.ensures.source (YieldsList-from_lines c.args.text.now c.lines.ensures.rest)) c.enumerate-index-items.ensures.count) in
@@ -22,7 +34,8 @@ loop-index-preserved c =
     record {
       next = search rules;
       finite = search rules;
-      read = items_more c.loop-index.yielded (c.in-Some.index, c.in-Some.line) (seen_reading c.loop-index.reading) (seen_reading c.in_ok-reading.reading) at.index_is c.loop-index.invariant.read c.in_ok-reading.ensures;
+      read = items_more c.loop-index.yielded (c.in-Some.index, c.in-Some.line) (seen_reading c.loop-index.reading) (seen_reading c.loop-index.reading) at.index_is c.loop-index.invariant.read
+          (None, no_words c.in-Some.line.now (sym c.is_plainly_blank.ensures ∙ c.if-not-is_plainly_blank.false), refl);
     }
 
 pub returns : goal.returns
