@@ -15,8 +15,8 @@ _tw() {
         package:*) COMPREPLY=($(compgen -W "deb wheel crate tar" -- "$word")) ;;
         asm:-*) COMPREPLY=($(compgen -W "--names --plain --help" -- "$word")) ;;
         disasm:-*) COMPREPLY=($(compgen -W "--text --places --help" -- "$word")) ;;
-        check:-*) COMPREPLY=($(compgen -W "--text --places --bounds --help" -- "$word")) ;;
-        run:-*) COMPREPLY=($(compgen -W "--engines --servers --workers --limit --from --to --trace --stats --json --picture --in-turn --quiet --text --inputs --help" -- "$word")) ;;
+        check:-*) COMPREPLY=($(compgen -W "--text --places --bounds --limit --most-tasks --most-instructions --most-data --most-budget --help" -- "$word")) ;;
+        run:-*) COMPREPLY=($(compgen -W "--engines --servers --workers --limit --from --to --trace --stats --json --picture --most-tasks --most-instructions --most-data --most-budget --in-turn --quiet --text --inputs --help" -- "$word")) ;;
         replay:-*) COMPREPLY=($(compgen -W "--engines --servers --workers --stats --text --inputs --help" -- "$word")) ;;
         picture:-*) COMPREPLY=($(compgen -W "--engines --servers --workers --from --to --text --inputs --help" -- "$word")) ;;
         explain:-*) COMPREPLY=($(compgen -W "--help" -- "$word")) ;;

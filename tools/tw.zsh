@@ -15,8 +15,8 @@ case $words[2]:$PREFIX in
     package:*) compadd -- deb wheel crate tar ;;
     asm:-*) compadd -- --names --plain --help ;;
     disasm:-*) compadd -- --text --places --help ;;
-    check:-*) compadd -- --text --places --bounds --help ;;
-    run:-*) compadd -- --engines --servers --workers --limit --from --to --trace --stats --json --picture --in-turn --quiet --text --inputs --help ;;
+    check:-*) compadd -- --text --places --bounds --limit --most-tasks --most-instructions --most-data --most-budget --help ;;
+    run:-*) compadd -- --engines --servers --workers --limit --from --to --trace --stats --json --picture --most-tasks --most-instructions --most-data --most-budget --in-turn --quiet --text --inputs --help ;;
     replay:-*) compadd -- --engines --servers --workers --stats --text --inputs --help ;;
     picture:-*) compadd -- --engines --servers --workers --from --to --text --inputs --help ;;
     explain:-*) compadd -- --help ;;

@@ -206,8 +206,8 @@ pub never_refused : (asked : Asked) (order : Order) (number : RefusedWord) → I
 never_refused (Assembles what) order number is_asked h = h
 never_refused (Disassembles source listed) order number is_asked h = h
 never_refused (Checks source requested) order number is_asked h = h
-never_refused (Runs source answer layout most traced turns (Some words)) order number (run, is, answer_is, layout_is, limit_is, trace_is, turns_is, spelled) h = none_refused words run.inputs number spelled h
-never_refused (Runs source answer layout most traced turns None) order number is_asked h = h
+never_refused (Runs source answer layout caps most traced turns (Some words)) order number (run, is, answer_is, layout_is, caps_is, limit_is, trace_is, turns_is, spelled) h = none_refused words run.inputs number spelled h
+never_refused (Runs source answer layout caps most traced turns None) order number is_asked h = h
 never_refused (Replays source answer layout (Some words)) order number (replay, is, answer_is, layout_is, spelled) h = none_refused words replay.inputs number spelled h
 never_refused (Replays source answer layout None) order number is_asked h = h
 never_refused (Explains explained) order number is_asked h = h
@@ -216,8 +216,8 @@ pub one_refused : (asked : Asked) (number other : RefusedWord) → IsRefusedInpu
 one_refused (Assembles what) number other h k = absurd h
 one_refused (Disassembles source listed) number other h k = absurd h
 one_refused (Checks source requested) number other h k = absurd h
-one_refused (Runs source answer layout most traced turns (Some words)) number other h k = one_refused_word words number other h k
-one_refused (Runs source answer layout most traced turns None) number other h k = absurd h
+one_refused (Runs source answer layout caps most traced turns (Some words)) number other h k = one_refused_word words number other h k
+one_refused (Runs source answer layout caps most traced turns None) number other h k = absurd h
 one_refused (Replays source answer layout (Some words)) number other h k = one_refused_word words number other h k
 one_refused (Replays source answer layout None) number other h k = absurd h
 one_refused (Explains explained) number other h k = absurd h

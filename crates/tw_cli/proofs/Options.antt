@@ -23,10 +23,12 @@ use Rattle.tw_lexer.specs.Number.{IsRead, SpellsDigits}
 use Rattle.tw_lexer.specs.declared.numbers.TokenError.{TokenError}
 use Rattle.tw_lexer.specs.declared.numbers.TokenError.TheVariants.{Form, Limit}
 use Rattle.tw_types.specs.Layout.{ActorCounts}
-use Rattle.tw_cli.specs.Options.{HasActors, HasStretch, NumberOption, actor_options, engines, first_shown, inputs, is_given, last_shown, limit, number_in, number_of, number_options, option_faults, servers, stretch_options, workers}
+use Rattle.tw_cli.specs.Options.{HasActors, HasCaps, HasStretch, bounds_faults, cap_options, check_options, given_bounds, given_check, given_places, named_limit, NumberOption, actor_options, engines, first_shown, inputs, is_given, last_shown, limit, number_in, number_of, number_options, option_faults, servers, stretch_options, workers}
 use Rattle.tw_cli.specs.Order.{HasReason, IsRequest}
-use Rattle.tw_cli.specs.CommandLine.{Asked, drawing_faults, given_words, input_faults, picture_faults, replay_faults, run_faults, stretch_faults}
+use Rattle.tw_cli.specs.CommandLine.{Asked, check_faults, drawing_faults, given_words, input_faults, picture_faults, replay_faults, run_faults, stretch_faults}
 use Rattle.tw_cli.specs.declared.command.NoOrder.TheVariants.{Refused}
+use Rattle.tw_cli.specs.declared.caps.Caps.{Caps}
+use Rattle.tw_cli.specs.declared.checks.BoundsOf.{BoundsOf}
 use Rattle.tw_cli.specs.declared.shown.EventRange.{EventRange}
 
 -- ---- the digits
@@ -141,12 +143,52 @@ has_conflict kinds asked e = has_kind ArgumentConflict kinds asked other e
 pub events_backward : (rows : List Row) (s : EventRange) → HasStretch rows s → nat_lt s.to s.from ≡ true → stretch_faults rows ≡ ArgumentConflict ∷ []
 events_backward rows s h back = rw (h.0, h.1, back) refl
 
+-- options with numbers have no fault
+numbers_fit : (rows : List Row) (layout : ActorCounts) (most : ℕ) (s : EventRange) → HasActors rows layout → Some most ≡ number_of limit rows → HasStretch rows s → option_faults number_options rows ≡ []
+numbers_fit rows layout most s actors is shown = rw (actors.0, actors.1, actors.2, sym is, shown.0, shown.1) refl
+
+pub caps_fit : (rows : List Row) (caps : Caps) → HasCaps rows caps → option_faults cap_options rows ≡ []
+caps_fit rows caps capped = rw (capped.0, capped.1, capped.2, capped.3) refl
+
+-- a wrong cap is wrong with `run`, if the other options are right
+pub caps_refused : (rows : List Row) (layout : ActorCounts) (most : ℕ) (s : EventRange) → HasActors rows layout → Some most ≡ number_of limit rows → HasStretch rows s → option_faults cap_options rows ≡ ValueValidation ∷ [] → run_faults rows ≡ ValueValidation ∷ []
+caps_refused rows layout most s actors is shown wrong =
+    ap (λ (k : Kinds). or_else k (or_else (option_faults cap_options rows) (or_else (picture_faults rows) (input_faults rows)))) (numbers_fit rows layout most s actors is shown)
+    ∙ ap (λ (k : Kinds). or_else k (or_else (picture_faults rows) (input_faults rows))) wrong
+
+-- ---- the options of `check`
+
+pub no_check_limit : (rows : List Row) → None ≡ number_of limit rows → check_faults rows ≡ ValueValidation ∷ []
+no_check_limit rows e = ap (λ (k : Kinds). or_else k (bounds_faults rows)) (one_refused check_options rows 0 (omega arith) (sym e))
+
+pub no_check_caps : (rows : List Row) (most : ℕ) → Some most ≡ number_of limit rows → option_faults cap_options rows ≡ ValueValidation ∷ [] → check_faults rows ≡ ValueValidation ∷ []
+no_check_caps rows most is e =
+    let same : option_faults check_options rows ≡ option_faults cap_options rows = rw (sym is) refl in
+    ap (λ (k : Kinds). or_else k (bounds_faults rows)) (same ∙ e)
+
+check_fits : (rows : List Row) (most : ℕ) (caps : Caps) → Some most ≡ number_of limit rows → HasCaps rows caps → option_faults check_options rows ≡ []
+check_fits rows most caps is capped = rw (sym is, capped.0, capped.1, capped.2, capped.3) refl
+
+-- the rest is whose bounds are printed
+pub only_bounds : (rows : List Row) (most : ℕ) (caps : Caps) → Some most ≡ number_of limit rows → HasCaps rows caps → check_faults rows ≡ bounds_faults rows
+only_bounds rows most caps is capped = ap (λ (k : Kinds). or_else k (bounds_faults rows)) (check_fits rows most caps is capped)
+
+pub given_check_is : (rows : List Row) (most : ℕ) (caps : Caps) (whose : BoundsOf) → HasCaps rows caps → Some whose ≡ given_bounds rows
+    → record { places = given_places rows; bounds = whose; limit = named_limit rows; caps = caps } ≡ given_check rows
+given_check_is rows most caps whose capped is = rw (sym is, capped.0, capped.1, capped.2, capped.3) refl
+
+pub wrong_bounds : (rows : List Row) → None ≡ given_bounds rows → bounds_faults rows ≡ ValueValidation ∷ []
+wrong_bounds rows e = ap (λ (o : Option BoundsOf). cond (is_some o) [] (ValueValidation ∷ [])) (sym e)
+
+pub right_bounds : (rows : List Row) (whose : BoundsOf) → Some whose ≡ given_bounds rows → bounds_faults rows ≡ []
+right_bounds rows whose e = ap (λ (o : Option BoundsOf). cond (is_some o) [] (ValueValidation ∷ [])) (sym e)
+
 -- what is wrong with it is wrong with `run`, if the options are right
-pub picture_refused : (rows : List Row) (layout : ActorCounts) (most : ℕ) (s : EventRange) → HasActors rows layout → Some most ≡ number_of limit rows → HasStretch rows s → picture_faults rows ≡ ArgumentConflict ∷ []
+pub picture_refused : (rows : List Row) (layout : ActorCounts) (most : ℕ) (s : EventRange) (caps : Caps) → HasActors rows layout → Some most ≡ number_of limit rows → HasStretch rows s → HasCaps rows caps → picture_faults rows ≡ ArgumentConflict ∷ []
     → run_faults rows ≡ ArgumentConflict ∷ []
-picture_refused rows layout most s actors is shown refused =
-    let fit : option_faults number_options rows ≡ [] = rw (actors.0, actors.1, actors.2, sym is, shown.0, shown.1) refl in
-    ap (λ (k : Kinds). or_else k (or_else (picture_faults rows) (input_faults rows))) fit
+picture_refused rows layout most s caps actors is shown capped refused =
+    ap (λ (k : Kinds). or_else k (or_else (option_faults cap_options rows) (or_else (picture_faults rows) (input_faults rows)))) (numbers_fit rows layout most s actors is shown)
+    ∙ ap (λ (k : Kinds). or_else k (or_else (picture_faults rows) (input_faults rows))) (caps_fit rows caps capped)
     ∙ ap (λ (k : Kinds). or_else k (input_faults rows)) refused
 
 -- it is wrong with `picture` too
@@ -166,7 +208,7 @@ both_refused rows asked read given = has_conflict (input_faults rows) asked (rw 
 
 -- a fault of an option is a fault of the command; without one, a fault of the inputs is
 pub run_refused : (rows : List Row) → option_faults number_options rows ≡ ValueValidation ∷ [] → run_faults rows ≡ ValueValidation ∷ []
-run_refused rows e = ap (λ (k : Kinds). or_else k (or_else (picture_faults rows) (input_faults rows))) e
+run_refused rows e = ap (λ (k : Kinds). or_else k (or_else (option_faults cap_options rows) (or_else (picture_faults rows) (input_faults rows)))) e
 
 pub replay_refused : (rows : List Row) → option_faults actor_options rows ≡ ValueValidation ∷ [] → replay_faults rows ≡ ValueValidation ∷ []
 replay_refused rows e = ap (λ (k : Kinds). or_else k (input_faults rows)) e

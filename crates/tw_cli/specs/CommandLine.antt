@@ -8,7 +8,7 @@ use Rattle.clap.specs.declared.error.ErrorKind.TheVariants.{ArgumentConflict}
 use Rattle.tw_types.specs.declared.input.Input.{Input}
 use Rattle.tw_types.specs.Layout.{ActorCounts}
 use Rattle.tw_cli.specs.InputWords.{AreSpelled, IsRefusedWord, RefusedWord}
-use Rattle.tw_cli.specs.Options.{NumberOption, actor_options, given_actors, given_assembling, first_shown, flag_rule, in_turn, inputs, bounds, given_check, checking, is_given, json, last_shown, limit, names, number_options, option_faults, option_rule, picture, picture_options, places, given_places, plain, quiet, given_source, stats, stretch_options, given_range, text, requested, trace}
+use Rattle.tw_cli.specs.Options.{NumberOption, actor_options, given_actors, given_assembling, first_shown, flag_rule, in_turn, inputs, bounds_rule, bounds_faults, cap_options, check_options, given_caps, given_check, checking, is_given, json, last_shown, limit, names, number_options, option_faults, option_rule, picture, picture_options, places, given_places, plain, quiet, given_source, stats, stretch_options, given_range, text, requested, trace}
 use Rattle.tw_cli.specs.Explanations.{IsMeaningOf, number_faults, number_rule, number_word}
 use Rattle.tw_cli.specs.declared.command.Answer.{Answer}
 use Rattle.tw_cli.specs.declared.command.Answer.TheVariants.{Numbers, Picture, Report}
@@ -18,7 +18,9 @@ use Rattle.tw_cli.specs.declared.command.Order.{Order}
 use Rattle.tw_cli.specs.declared.command.Assembling.{Assembling}
 use Rattle.tw_cli.specs.declared.command.InputsOrder.TheVariants.{ToReplay, ToRun}
 use Rattle.tw_cli.specs.declared.command.Order.TheVariants.{Assemble, Inputs, Program, Replay}
-use Rattle.tw_cli.specs.declared.command.CheckOrder.{CheckOrder}
+use Rattle.tw_cli.specs.declared.caps.Caps.{Caps}
+use Rattle.tw_cli.specs.declared.checks.BoundsOf.TheVariants.{NoBounds}
+use Rattle.tw_cli.specs.declared.checks.CheckOrder.{CheckOrder}
 use Rattle.tw_cli.specs.declared.command.Places.{Places}
 use Rattle.tw_cli.specs.declared.command.Places.TheVariants.{Hidden}
 use Rattle.tw_cli.specs.declared.command.ProgramOrder.TheVariants.{Disassemble, Verified}
@@ -34,6 +36,10 @@ use Rattle.tw_cli.specs.declared.command.Source.TheVariants.{Hex}
 abbrev pub plain_line : Text → App
 plain_line name = new_app name
 
+-- a command with options for caps
+abbrev pub capped_line : App → App
+capped_line line = fold with_rule line (map (λ o. option_rule o.name) cap_options)
+
 -- the command that assembles: symbolic assembly may be read, and expanded text written
 abbrev pub asm_line : App
 asm_line = with_rule (with_rule (new_app (codes "asm")) (flag_rule names)) (flag_rule plain)
@@ -44,7 +50,7 @@ program_line name = with_rule (with_rule (new_app name) (flag_rule text)) (flag_
 
 -- the command that verifies
 abbrev pub check_line : App
-check_line = with_rule (program_line (codes "check")) (flag_rule bounds)
+check_line = capped_line (with_rule (with_rule (program_line (codes "check")) bounds_rule) (option_rule limit.name))
 
 abbrev pub explain_line : App
 explain_line = with_rule (new_app (codes "explain")) number_rule
@@ -70,7 +76,7 @@ abbrev pub written_line : App
 written_line = flags_line (numbers_line (codes "run") number_options) (trace ∷ stats ∷ json ∷ picture ∷ [])
 
 abbrev pub run_line : App
-run_line = reading_line (flags_line written_line (in_turn ∷ quiet ∷ []))
+run_line = reading_line (flags_line (capped_line written_line) (in_turn ∷ quiet ∷ []))
 
 -- the commands that are given a trace
 abbrev pub replay_line : App
@@ -113,7 +119,7 @@ pub data Asked : Type 0 where
   Assembles : Assembling → Asked
   Disassembles : Source → Places → Asked
   Checks : Source → CheckOrder → Asked
-  Runs : Source → RunAnswer → ActorCounts → ℕ → Bool → Bool → Option (List Text) → Asked
+  Runs : Source → RunAnswer → ActorCounts → Caps → ℕ → Bool → Bool → Option (List Text) → Asked
   Replays : Source → Answer → ActorCounts → Option (List Text) → Asked
   Explains : Text → Asked
 
@@ -130,14 +136,14 @@ run_answer rows = if is_given picture rows then written.Picture (given_range row
 -- returns the request of `run`, from what clap found after it
 abbrev pub run_asked : List Row → Asked
 run_asked rows =
-    Runs (given_source rows) (run_answer rows) (given_actors rows) (requested limit rows) (is_given trace rows) (is_given in_turn rows) (listed_words rows)
+    Runs (given_source rows) (run_answer rows) (given_actors rows) (given_caps rows) (requested limit rows) (is_given trace rows) (is_given in_turn rows) (listed_words rows)
 
 -- returns the request of `replay` or `picture`, from what clap found after it
 abbrev pub replay_asked : Answer → List Row → Asked
 replay_asked answer rows = Replays (given_source rows) answer (given_actors rows) (listed_words rows)
 
 abbrev pub asked_of : Option (Text × List Row) → Asked
-asked_of None = Checks Hex (checking Hidden false)
+asked_of None = Checks Hex (checking Hidden NoBounds)
 asked_of (Some named) =
     if bytes_eq named.0 (codes "run") then run_asked named.1 else
     if bytes_eq named.0 (codes "replay") then replay_asked (given_answer named.1) named.1 else
@@ -145,7 +151,8 @@ asked_of (Some named) =
     if bytes_eq named.0 (codes "asm") then Assembles (given_assembling named.1) else
     if bytes_eq named.0 (codes "disasm") then Disassembles (given_source named.1) (given_places named.1) else
     if bytes_eq named.0 (codes "explain") then Explains (number_word named.1) else
-    Checks (given_source named.1) (given_check named.1)
+    if bytes_eq named.0 (codes "check") then Checks (given_source named.1) (given_check named.1) else
+    Checks Hex (checking Hidden NoBounds)
 
 -- returns what the program's arguments request
 abbrev pub asked_by_words : List Text → Asked
@@ -153,7 +160,7 @@ asked_by_words words = asked_of (subcommand_of command_line words)
 
 -- return how a program is run, or a trace replayed, with these inputs
 abbrev pub run_with : RunOptions → List Input → RunOrder
-run_with options given = record { answer = options.answer; layout = options.layout; limit = options.limit; trace = options.trace; in_turn = options.in_turn; inputs = given }
+run_with options given = record { answer = options.answer; layout = options.layout; limit = options.limit; caps = options.caps; trace = options.trace; in_turn = options.in_turn; inputs = given }
 
 abbrev pub replay_with : ReplayOptions → List Input → ReplayOrder
 replay_with options given = record { answer = options.answer; layout = options.layout; inputs = given }
@@ -163,11 +170,11 @@ abbrev pub IsAsked : Asked → Order → Type 0
 IsAsked (Assembles what) order = order ≡ Assemble what
 IsAsked (Disassembles source listed) order = order ≡ Program source (Disassemble listed)
 IsAsked (Checks source requested) order = order ≡ Program source (Verified (Check requested))
-IsAsked (Runs source answer layout most traced turns (Some words)) order =
+IsAsked (Runs source answer layout caps most traced turns (Some words)) order =
     (run : RunOrder) × (order ≡ Program source (Verified (Run run)))
-    × (run.answer ≡ answer) × (run.layout ≡ layout) × (run.limit ≡ most) × (run.trace ≡ traced) × (run.in_turn ≡ turns) × AreSpelled run.inputs words
-IsAsked (Runs source answer layout most traced turns None) order =
-    (run : RunOptions) × (order ≡ Inputs source (ToRun run)) × (run.answer ≡ answer) × (run.layout ≡ layout) × (run.limit ≡ most) × (run.trace ≡ traced) × (run.in_turn ≡ turns)
+    × (run.answer ≡ answer) × (run.layout ≡ layout) × (run.caps ≡ caps) × (run.limit ≡ most) × (run.trace ≡ traced) × (run.in_turn ≡ turns) × AreSpelled run.inputs words
+IsAsked (Runs source answer layout caps most traced turns None) order =
+    (run : RunOptions) × (order ≡ Inputs source (ToRun run)) × (run.answer ≡ answer) × (run.layout ≡ layout) × (run.caps ≡ caps) × (run.limit ≡ most) × (run.trace ≡ traced) × (run.in_turn ≡ turns)
 IsAsked (Replays source answer layout (Some words)) order =
     (replay : ReplayOrder) × (order ≡ Replay source replay) × (replay.answer ≡ answer) × (replay.layout ≡ layout) × AreSpelled replay.inputs words
 IsAsked (Replays source answer layout None) order =
@@ -179,8 +186,8 @@ abbrev pub IsRefusedInput : Asked → RefusedWord → Type 0
 IsRefusedInput (Assembles what) refused = ⊥
 IsRefusedInput (Disassembles source listed) refused = ⊥
 IsRefusedInput (Checks source requested) refused = ⊥
-IsRefusedInput (Runs source answer layout most traced turns (Some words)) refused = IsRefusedWord words refused
-IsRefusedInput (Runs source answer layout most traced turns None) refused = ⊥
+IsRefusedInput (Runs source answer layout caps most traced turns (Some words)) refused = IsRefusedWord words refused
+IsRefusedInput (Runs source answer layout caps most traced turns None) refused = ⊥
 IsRefusedInput (Replays source answer layout (Some words)) refused = IsRefusedWord words refused
 IsRefusedInput (Replays source answer layout None) refused = ⊥
 IsRefusedInput (Explains other) refused = ⊥
@@ -190,7 +197,7 @@ abbrev pub IsExplained : Asked → List ℕ → Type 0
 IsExplained (Assembles what) explanation = ⊥
 IsExplained (Disassembles source listed) explanation = ⊥
 IsExplained (Checks source requested) explanation = ⊥
-IsExplained (Runs source answer layout most traced turns words) explanation = ⊥
+IsExplained (Runs source answer layout caps most traced turns words) explanation = ⊥
 IsExplained (Replays source answer layout words) explanation = ⊥
 IsExplained (Explains number) explanation = IsMeaningOf number explanation
 
@@ -226,7 +233,10 @@ picture_faults rows = if is_given picture rows then drawn_faults rows else if is
 
 -- return the faults of `run`, `replay` and `picture`
 abbrev pub run_faults : List Row → Kinds
-run_faults rows = or_else (option_faults number_options rows) (or_else (picture_faults rows) (input_faults rows))
+run_faults rows = or_else (option_faults number_options rows) (or_else (option_faults cap_options rows) (or_else (picture_faults rows) (input_faults rows)))
+
+abbrev pub check_faults : List Row → Kinds
+check_faults rows = or_else (option_faults check_options rows) (bounds_faults rows)
 
 abbrev pub replay_faults : List Row → Kinds
 replay_faults rows = or_else (option_faults actor_options rows) (input_faults rows)
@@ -242,6 +252,7 @@ faults_after (Some named) =
     if bytes_eq named.0 (codes "replay") then replay_faults named.1 else
     if bytes_eq named.0 (codes "picture") then drawing_faults named.1 else
     if bytes_eq named.0 (codes "explain") then number_faults (number_word named.1) else
+    if bytes_eq named.0 (codes "check") then check_faults named.1 else
     []
 
 -- returns no faults if the arguments are accepted; clap's own faults come before the others

@@ -12,7 +12,7 @@ use Rattle.clap.specs.declared.error.ErrorKind.TheVariants.{ValueValidation}
 abbrev pub session_numbers : List Text
 session_numbers =
     codes "H01" ∷ codes "H02" ∷ codes "H03" ∷ codes "O01" ∷ codes "O02" ∷ codes "O03" ∷ codes "O04" ∷ codes "O05" ∷
-    codes "O06" ∷ codes "E01" ∷ codes "X01" ∷ []
+    codes "O06" ∷ codes "O07" ∷ codes "E01" ∷ codes "X01" ∷ []
 
 -- the codes of assembly text
 abbrev pub assembly_numbers : List Text

@@ -15,7 +15,7 @@ abbrev pub turned : Asked → Asked
 turned (Assembles what) = Assembles what
 turned (Disassembles source listed) = Disassembles source listed
 turned (Checks source listed) = Checks source listed
-turned (Runs source answer layout most traced turns words) = Runs source answer layout most traced true words
+turned (Runs source answer layout caps most traced turns words) = Runs source answer layout caps most traced true words
 turned (Replays source answer layout words) = Replays source answer layout words
 turned (Explains number) = Explains number
 

@@ -8,7 +8,10 @@ use Rattle.tw_types.specs.Layout.{ActorCounts}
 use Rattle.tw_cli.specs.declared.command.Assembling.{Assembling}
 use Rattle.tw_cli.specs.declared.command.Assembling.TheVariants.{Names, Plain}
 use Rattle.tw_cli.specs.declared.command.Assembling.TheVariants as assembling
-use Rattle.tw_cli.specs.declared.command.CheckOrder.{CheckOrder}
+use Rattle.tw_cli.specs.declared.caps.Caps.{Caps}
+use Rattle.tw_cli.specs.declared.checks.BoundsOf.{BoundsOf}
+use Rattle.tw_cli.specs.declared.checks.BoundsOf.TheVariants.{NoBounds, OfMain, OfEach}
+use Rattle.tw_cli.specs.declared.checks.CheckOrder.{CheckOrder}
 use Rattle.tw_cli.specs.declared.command.Places.{Places}
 use Rattle.tw_cli.specs.declared.command.Places.TheVariants.{Hidden, Shown}
 use Rattle.tw_cli.specs.declared.command.Source.{Source}
@@ -60,6 +63,26 @@ picture_options = engines ∷ servers ∷ workers ∷ first_shown ∷ last_shown
 abbrev pub number_options : List NumberOption
 number_options = engines ∷ servers ∷ workers ∷ limit ∷ first_shown ∷ last_shown ∷ []
 
+-- caps on a run: a program whose bounds are larger isn't admitted
+abbrev pub greatest_cap : ℕ
+greatest_cap = 18446744073709551615
+
+abbrev pub most_tasks : NumberOption
+most_tasks = record { name = codes "most-tasks"; most = greatest_cap; default = greatest_cap }
+
+abbrev pub most_instructions : NumberOption
+most_instructions = record { name = codes "most-instructions"; most = greatest_cap; default = greatest_cap }
+
+abbrev pub most_data : NumberOption
+most_data = record { name = codes "most-data"; most = greatest_cap; default = greatest_cap }
+
+abbrev pub most_budget : NumberOption
+most_budget = record { name = codes "most-budget"; most = greatest_cap; default = greatest_cap }
+
+-- the options of `run` and `check` for caps
+abbrev pub cap_options : List NumberOption
+cap_options = most_tasks ∷ most_instructions ∷ most_data ∷ most_budget ∷ []
+
 -- the flag of `run`: the trace is written before the report
 abbrev pub trace : Text
 trace = codes "trace"
@@ -103,7 +126,7 @@ places = codes "places"
 abbrev pub inputs : Text
 inputs = codes "inputs"
 
--- the flag of `check`: bounds of whole runs are printed after the budgets
+-- the option of `check`: bounds of whole runs are printed after the budgets, main's or those of each procedure
 abbrev pub bounds : Text
 bounds = codes "bounds"
 
@@ -114,6 +137,10 @@ option_rule name = record (new_rule name) { long = Some name }
 -- returns how clap is set up for a flag of this name
 abbrev pub flag_rule : Text → Rule
 flag_rule name = record (option_rule name) { action = Some SetTrue }
+
+-- returns how clap is set up for `--bounds`, which has the value `main` if none is given
+abbrev pub bounds_rule : Rule
+bounds_rule = record (option_rule bounds) { range = Some (record { start_inclusive = 0; end_inclusive = 1 }); missing = codes "main" ∷ [] }
 
 -- returns the number from 1 to `most` that decimal digits encode; they may begin with zeros
 abbrev pub number_in : ℕ → Text → Option ℕ
@@ -140,13 +167,6 @@ given_assembling rows = if is_given plain rows then Plain else if is_given names
 -- returns whether the places of instructions are listed
 abbrev pub given_places : List Row → Places
 given_places rows = if is_given places rows then Shown else Hidden
-
--- return what a check prints in addition to the budgets
-abbrev pub checking : Places → Bool → CheckOrder
-checking listed bounded = record { places = listed; bounds = bounded }
-
-abbrev pub given_check : List Row → CheckOrder
-given_check rows = checking (given_places rows) (is_given bounds rows)
 
 -- returns the fault if one of these options has no number
 abbrev pub option_faults : List NumberOption → List Row → Kinds
@@ -176,3 +196,46 @@ stretch from to = record { from = from; to = to }
 
 abbrev pub given_range : List Row → EventRange
 given_range rows = stretch (requested first_shown rows) (requested last_shown rows)
+
+-- ---- caps, and what a check prints
+
+-- holds if each cap has a number, and these are the numbers
+abbrev pub HasCaps : List Row → Caps → Type 0
+HasCaps rows caps =
+    (number_of most_tasks rows ≡ Some caps.tasks) × (number_of most_instructions rows ≡ Some caps.instructions) × (number_of most_data rows ≡ Some caps.«data») × (number_of most_budget rows ≡ Some caps.budget)
+
+abbrev pub capped : ℕ → ℕ → ℕ → ℕ → Caps
+capped tasks instructions new_data budget = record { tasks = tasks; instructions = instructions; «data» = new_data; budget = budget }
+
+-- the caps without options
+abbrev pub uncapped : Caps
+uncapped = capped greatest_cap greatest_cap greatest_cap greatest_cap
+
+abbrev pub given_caps : List Row → Caps
+given_caps rows = capped (requested most_tasks rows) (requested most_instructions rows) (requested most_data rows) (requested most_budget rows)
+
+-- returns whose bounds the value of `--bounds` requests; none if it is neither `main` nor `all`
+abbrev pub bounds_in : Text → Option BoundsOf
+bounds_in text = if bytes_eq text (codes "main") then Some OfMain else if bytes_eq text (codes "all") then Some OfEach else None
+
+abbrev pub given_bounds : List Row → Option BoundsOf
+given_bounds rows = option_map_or bounds_in (first_of bounds rows) (Some NoBounds)
+
+-- returns the limit, if the option is given
+abbrev pub named_limit : List Row → Option ℕ
+named_limit rows = if is_some (first_of limit.name rows) then Some (requested limit rows) else None
+
+-- return what a check prints in addition to the budgets, and which programs it admits
+abbrev pub checking : Places → BoundsOf → CheckOrder
+checking listed bounded = record { places = listed; bounds = bounded; limit = None; caps = uncapped }
+
+abbrev pub given_check : List Row → CheckOrder
+given_check rows = record { places = given_places rows; bounds = unwrap_or (given_bounds rows) NoBounds; limit = named_limit rows; caps = given_caps rows }
+
+-- the options of `check` that take numbers
+abbrev pub check_options : List NumberOption
+check_options = limit ∷ cap_options
+
+-- returns the fault of `check`, if it has one
+abbrev pub bounds_faults : List Row → Kinds
+bounds_faults rows = if is_some (given_bounds rows) then [] else ValueValidation ∷ []

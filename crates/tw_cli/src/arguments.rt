@@ -3,12 +3,13 @@
 ghost use Rattle.std.specs.Prelude.{◌≡◌, false, IfOk};
 ghost use Rattle.clap.specs.Words.{app_of, rule_of};
 ghost use Rattle.clap.specs.declared.Command.TheViews.{out-Command};
-ghost use Rattle.tw_cli.specs.CommandLine.{asm_line, check_line, explain_line, input_rule, plain_line, program_line};
-ghost use Rattle.tw_cli.specs.Options.{flag_rule, inputs, option_rule, places, text};
+ghost use Rattle.tw_cli.specs.CommandLine.{asm_line, capped_line, check_line, explain_line, input_rule, plain_line, program_line};
+ghost use Rattle.tw_cli.specs.Options.{bounds_rule, flag_rule, inputs, option_rule, places, text};
 ghost use Rattle.tw_cli.specs.Explanations.{number_rule};
 
 use crate::help::{
-    ASM, BOUNDS_HELP, CHECK, CommandHelp, EXPLAIN, INPUT_HELP, INPUTS_HELP, NAMES_HELP,
+    ASM, BOUNDS_HELP, CHECK, CommandHelp, EXPLAIN, INPUT_HELP, INPUTS_HELP, LIMIT_HELP,
+    MOST_BUDGET_HELP, MOST_DATA_HELP, MOST_INSTRUCTIONS_HELP, MOST_TASKS_HELP, NAMES_HELP,
     NUMBER_HELP, PLACES_HELP, PLAIN_HELP, TEXT_HELP,
 };
 use clap::{Arg, ArgAction, Command};
@@ -92,13 +93,41 @@ pub(crate) fn program_command<'a>(
     Ok(whole)
 }
 
+/// Makes the option for bounds of whole runs. Its value may be left out.
+fn bounds_arg<'a>(alloc: Global) -> Arg<'a>
+    ensures rule { rule_of result ≡ bounds_rule }
+    ensures local { result.global ≡ false }
+{
+    option_arg(alloc, "bounds", BOUNDS_HELP)
+        .num_args(0..=1)
+        .default_missing_value("main")
+}
+
+/// Adds the options for caps on runs.
+pub(crate) fn capped_command<'a>(
+    alloc: Global,
+    command: Command<'a>,
+) -> Result<Command<'a>, AllocError>
+    requires local { (out-Command command).has_globals ≡ false }
+    ensures app { IfOk result (λ c. app_of c ≡ capped_line (app_of command.entry)) }
+    ensures local { IfOk result (λ c. (out-Command c).has_globals ≡ false) }
+{
+    let tasks = command.arg(option_arg(alloc, "most-tasks", MOST_TASKS_HELP))?;
+    let instructions = tasks.arg(option_arg(alloc, "most-instructions", MOST_INSTRUCTIONS_HELP))?;
+    let data = instructions.arg(option_arg(alloc, "most-data", MOST_DATA_HELP))?;
+    let whole = data.arg(option_arg(alloc, "most-budget", MOST_BUDGET_HELP))?;
+    Ok(whole)
+}
+
 /// Makes the command that verifies a program.
 pub(crate) fn check_command<'a>(alloc: Global) -> Result<Command<'a>, AllocError>
     ensures app { IfOk result (λ c. app_of c ≡ check_line) }
     ensures local { IfOk result (λ c. (out-Command c).has_globals ≡ false) }
 {
     let reading = program_command(alloc, "check", &CHECK)?;
-    let whole = reading.arg(flag_arg(alloc, "bounds", BOUNDS_HELP))?;
+    let bounds = reading.arg(bounds_arg(alloc))?;
+    let limit = bounds.arg(option_arg(alloc, "limit", LIMIT_HELP))?;
+    let whole = capped_command(alloc, limit)?;
     Ok(whole)
 }
 

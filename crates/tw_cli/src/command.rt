@@ -8,9 +8,11 @@ ghost use Rattle.tw_cli.specs.Options.{actor_options, number_options};
 ghost use Rattle.tw_cli.specs.declared.command.NoOrder.TheVariants.{NoMemory};
 
 use crate::arguments::{
-    asm_command, check_command, explain_command, flag_arg, input_arg, inputs_arg, option_arg,
-    plain_command, program_command, text_arg,
+    asm_command, capped_command, check_command, explain_command, flag_arg, input_arg, inputs_arg,
+    option_arg, plain_command, program_command, text_arg,
 };
+use crate::caps::Caps;
+use crate::checks::CheckOrder;
 use crate::help::{
     ABOUT, CommandHelp, DISASM, ENGINES_HELP, FROM_HELP, IN_TURN_HELP, JSON_HELP, LIMIT_HELP,
     PICTURE, PICTURE_HELP, QUIET_HELP, REPLAY, RUN, SERVERS_HELP, STATS_HELP, TO_HELP, TRACE_HELP,
@@ -31,6 +33,8 @@ pub struct RunOrder {
     pub layout: Layout,
     /// The maximum number of events.
     pub limit: EventLimit,
+    /// The caps above which the program isn't admitted.
+    pub caps: Caps,
     /// Whether the trace is written before the report.
     pub trace: bool,
     /// Whether all actors run in one thread.
@@ -44,15 +48,6 @@ pub struct RunOrder {
 pub enum Places {
     Hidden,
     Shown,
-}
-
-/// The output of a check in addition to the budgets.
-#[derive(Clone, Copy)]
-pub struct CheckOrder {
-    /// Whether the instructions are listed before the budgets.
-    pub places: Places,
-    /// Whether the bounds of whole runs are printed after the budgets.
-    pub bounds: bool,
 }
 
 /// An action on an accepted program.
@@ -137,6 +132,8 @@ pub struct RunOptions {
     pub layout: Layout,
     /// The maximum number of events.
     pub limit: EventLimit,
+    /// The caps above which the program isn't admitted.
+    pub caps: Caps,
     /// Whether the trace is written before the report.
     pub trace: bool,
     /// Whether all actors run in one thread.
@@ -160,6 +157,7 @@ impl RunOptions {
             answer: self.answer,
             layout: self.layout,
             limit: self.limit,
+            caps: self.caps,
             trace: self.trace,
             in_turn: self.in_turn,
             inputs,
@@ -289,7 +287,8 @@ fn run_command<'a>(alloc: Global) -> Result<Command<'a>, AllocError>
     ensures local { IfOk result (λ c. (out-Command c).has_globals ≡ false) }
 {
     let written = written_run(alloc)?;
-    let in_turn = written.arg(flag_arg(alloc, "in-turn", IN_TURN_HELP))?;
+    let capped = capped_command(alloc, written)?;
+    let in_turn = capped.arg(flag_arg(alloc, "in-turn", IN_TURN_HELP))?;
     let quiet = in_turn.arg(flag_arg(alloc, "quiet", QUIET_HELP))?;
     let whole = reading_command(alloc, quiet)?;
     Ok(whole)

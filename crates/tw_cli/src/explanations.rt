@@ -27,7 +27,7 @@ pub(crate) struct Explanation {
 
 /// The codes of input, openings, traces and runs.
 #[rattlefmt::skip]
-const SESSION: [Explanation; 11] = [
+const SESSION: [Explanation; 12] = [
     Explanation { number: "H01",
         meaning: "the input isn't hex text",
         asked: "two hexadecimal digits a byte, with nothing between them except spaces, tabs and line ends",
@@ -73,6 +73,11 @@ const SESSION: [Explanation; 11] = [
         asked: "what V16 requires",
         mistake: "as at V16",
         mending: "as at V16; see `tw explain V16`" },
+    Explanation { number: "O07",
+        meaning: "the program's bounds are above a cap, so it isn't admitted",
+        asked: "bounds of at most --most-tasks, --most-instructions, --most-data and --most-budget",
+        mistake: "a loop of more iterations than its inputs need, or a procedure that starts itself, without a small --limit",
+        mending: "make loops shorter, give a smaller --limit, or a larger cap; `tw check --bounds --limit 1000` prints the bounds" },
     Explanation { number: "E01",
         meaning: "a line of the trace is no event",
         asked: "take w0, local w0 3, call w0, end w0, ask e0 1 0, deliver s0 2 1 0 or release e0 1",

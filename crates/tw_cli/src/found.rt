@@ -8,11 +8,11 @@ ghost use Rattle.tw_cli.specs.CommandLine.{given_answer, given_words, input_faul
 ghost use Rattle.tw_cli.specs.declared.command.Answer.{Answer as Answers};
 ghost use Rattle.tw_cli.specs.InputWords.{AreSpelled};
 ghost use Rattle.tw_cli.specs.reading.Inputs.{HasInputs};
-ghost use Rattle.tw_cli.specs.Options.{HasActors, actor_options, given_assembling, given_check, checking, is_given, limit, number_of, option_faults, given_places, given_source};
+ghost use Rattle.tw_cli.specs.Options.{HasActors, actor_options, given_assembling, is_given, limit, number_of, option_faults, given_places, given_source};
 ghost use Rattle.std.specs.Int.{IsInRange};
 ghost use Rattle.tw_cli.specs.Order.{HasReason, IsInputReason};
 
-use crate::command::{Answer, Assembling, CheckOrder, NoOrder, Places, Source};
+use crate::command::{Answer, Assembling, NoOrder, Places, Source};
 use crate::input_diagnostics::refused_word;
 use crate::input_words::input_of;
 use crate::limit::EventLimit;
@@ -85,26 +85,6 @@ pub(crate) fn places_given(matches: &ArgMatches<'_>) -> Places
         Places::Shown
     } else {
         Places::Hidden
-    }
-}
-
-/// Returns what a check prints in addition to the budgets.
-pub(crate) fn check_given(matches: &ArgMatches<'_>) -> CheckOrder
-    ensures { result ≡ given_check (rows_of (found_of matches.now)) }
-{
-    CheckOrder {
-        places: places_given(matches),
-        bounds: flag_given(matches, "bounds"),
-    }
-}
-
-/// Returns the order of a check without options, which prints the budgets alone.
-pub(crate) fn bare_check() -> CheckOrder
-    ensures { result ≡ checking Places.Hidden false }
-{
-    CheckOrder {
-        places: Places::Hidden,
-        bounds: false,
     }
 }
 

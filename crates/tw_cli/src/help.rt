@@ -42,7 +42,11 @@ If the program is accepted, a line for each procedure says how many instructions
 line how many engines and workers its targets need.
 With --bounds, more lines bound what a whole run does, whatever its inputs and actors: `bound tasks 9`, and likewise
 instructions, data, rules and events; `over` is more than 1,000,000,000,000. Such a run ends within its bound of events. If
-calls lead back to their procedure there are no bounds, and a line names one such call.
+calls lead back to their procedure there are no bounds, and a line names one such call. With --bounds=all, a line for each
+procedure bounds what a task of it does with all tasks that it leads to. With --limit, lines such as `limited tasks 100`
+bound what a run with at most that number of events does; they also hold if there are no other bounds.
+With --most-tasks, --most-instructions, --most-data or --most-budget, a program is rejected as O07 if its bound is larger, or
+that by --limit if it is smaller; a line for each names the bound. No bound, or `over`, is larger than any number but the last.
 With --places a listing of the program precedes these lines. It is that of `tw disasm --places`, or for text input has the
 text's own lines. After each instruction it has what the right registers hold before it, such as `d0 write int`; in a rejected
 program, up to the rejected place.
@@ -63,6 +67,8 @@ With --inputs the inputs are read instead: after the program a line `inputs`, th
 end. An input is its whole line; empty lines are skipped. No input is an argument then.
 Options may come before, after or between the inputs. --trace, --in-turn, --stats, --picture, --quiet, --text and --inputs
 take no value; the others take a number in decimal digits.
+With --most-tasks, --most-instructions, --most-data or --most-budget, a program is rejected before it runs, as O07, if its bound
+and that by --limit are larger; see `tw check --help`. So a run that begins stays below.
 The report has a line for each output, then one for each member if it is a container, and ends with how the run ended.
 With --trace the trace precedes the report: a line `events`, a line for each event, in order, and a line `end`. The program's
 hex text, a line end and this output can be piped into `tw replay`, with the same inputs, engines, servers and workers.
@@ -114,7 +120,7 @@ Exit status: 0 quiet or still running, 1 rejected or an event that isn't enabled
 
 pub(crate) const EXPLAIN: CommandHelp<'static> = CommandHelp {
     about: "Explains the code of an error or a trap",
-    whole: "A code is what an error line of another command names: H01 to H03, A01 to A07, N01 to N07, F01 to F09, V01 to V18, O01 to O06,
+    whole: "A code is what an error line of another command names: H01 to H03, A01 to A07, N01 to N07, F01 to F09, V01 to V18, O01 to O07,
 E01, X01 or C1 to C15. Small letters are accepted, and V4 for V04. The output says what the code means, what is required, the
 usual mistake and its correction. Without a code all are listed, each with what it means.
 Exit status: 0 explained, 2 command line rejected or no such code, 5 out of memory, 7 a write failed.",
@@ -126,13 +132,24 @@ pub(crate) const SERVERS_HELP: &str = "How many servers: 1 to 4 (default: 1)";
 
 pub(crate) const WORKERS_HELP: &str = "How many workers: 1 to 16 (default: 1)";
 
-pub(crate) const LIMIT_HELP: &str = "The maximum number of events: 1 to 1000000 (default: 10000)";
+pub(crate) const LIMIT_HELP: &str =
+    "The maximum number of events: 1 to 1000000 (default of run: 10000)";
+
+pub(crate) const MOST_TASKS_HELP: &str =
+    "Reject a program whose run may take more tasks: 1 to 18446744073709551615";
+
+pub(crate) const MOST_INSTRUCTIONS_HELP: &str =
+    "Reject a program whose run may execute more instructions";
+
+pub(crate) const MOST_DATA_HELP: &str = "Reject a program whose run may make more data by NEW";
+
+pub(crate) const MOST_BUDGET_HELP: &str = "Reject a program with a larger budget of one task";
 
 pub(crate) const TRACE_HELP: &str =
     "Write the trace before the report: a line `events`, a line for each event, a line `end`";
 
 pub(crate) const IN_TURN_HELP: &str =
-    "Run in one thread, in which the actors take turns: the same trace each time";
+    "Run in one thread, in which the actors take turns in a fixed order";
 
 pub(crate) const INPUT_HELP: &str =
     "An input: int:, text:, ints:, texts:, tints: or ttexts:, and its value";
@@ -167,7 +184,7 @@ pub(crate) const PLAIN_HELP: &str =
     "Write the assembly text to which symbolic assembly expands instead of hex text";
 
 pub(crate) const BOUNDS_HELP: &str =
-    "Print bounds of whole runs: tasks, instructions, data, rules, events";
+    "Print bounds of whole runs: tasks, instructions, data, rules, events; with =all, of each procedure";
 
 pub(crate) const PLACES_HELP: &str = "List the instructions, each with its place";
 

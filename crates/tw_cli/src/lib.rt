@@ -4,6 +4,8 @@
 #![tactic(auto)]
 
 mod arguments;
+mod caps;
+mod checks;
 mod command;
 mod explained_names;
 mod explained_programs;
@@ -20,9 +22,11 @@ mod shown;
 mod theorems;
 mod wrong_words;
 
+pub use caps::Caps;
+pub use checks::{BoundsOf, CheckOrder};
 pub use command::{
-    Answer, Assembling, CheckOrder, InputsOrder, NoOrder, Order, Places, ProgramOrder,
-    ReplayOptions, ReplayOrder, RunAnswer, RunOptions, RunOrder, Source, VerifiedOrder,
+    Answer, Assembling, InputsOrder, NoOrder, Order, Places, ProgramOrder, ReplayOptions,
+    ReplayOrder, RunAnswer, RunOptions, RunOrder, Source, VerifiedOrder,
 };
 pub use found::inputs_of;
 pub use input_words::input_of;

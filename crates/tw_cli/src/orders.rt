@@ -2,24 +2,26 @@
 
 ghost use Rattle.std.specs.Prelude.{◌≡◌, [], map, IfOk, IfErr, MatchOption, string_bytes};
 ghost use Rattle.clap.specs.Words.{found_of, kind_of, rows_of, subcommand_rows_of};
-ghost use Rattle.tw_cli.specs.CommandLine.{Explains, IsAsked, asked_by_words, asked_of, drawing_faults, faults_after, replay_asked, replay_faults, run_asked, run_faults, word_faults};
+ghost use Rattle.tw_cli.specs.CommandLine.{Checks, Explains, IsAsked, asked_by_words, asked_of, check_faults, drawing_faults, faults_after, replay_asked, replay_faults, run_asked, run_faults, word_faults};
 ghost use Rattle.tw_cli.specs.declared.command.Answer.{Answer as Answers};
 ghost use Rattle.tw_cli.specs.declared.command.Order.TheVariants.{Program};
 ghost use Rattle.tw_cli.specs.declared.command.ProgramOrder.TheVariants.{Verified};
 ghost use Rattle.tw_cli.specs.reading.Runs.{IsRunBy};
-ghost use Rattle.tw_cli.specs.Options.{given_range};
+ghost use Rattle.tw_cli.specs.Options.{given_check, given_range, given_source};
 ghost use Rattle.tw_cli.specs.Explanations.{number_faults, number_word};
 ghost use Rattle.tw_cli.specs.Order.{HasReason, IsReason};
 ghost use Rattle.tw_cli.specs.declared.command.NoOrder.TheVariants.{Refused};
 
+use crate::caps::caps_given;
+use crate::checks::{bare_check, check_given};
 use crate::command::{
     Answer, InputsOrder, NoOrder, Order, ProgramOrder, ReplayOptions, RunOptions, Source,
     VerifiedOrder, command,
 };
 use crate::explanations::explained;
 use crate::found::{
-    answer_given, assembling_given, bare_check, check_given, flag_given, inputs_given,
-    layout_given, limit_given, places_given, source_given,
+    answer_given, assembling_given, flag_given, inputs_given, layout_given, limit_given,
+    places_given, source_given,
 };
 use crate::shown::{event_range_given, run_answer};
 use clap::error::ErrorKind;
@@ -48,6 +50,7 @@ fn run_options(matches: &ArgMatches<'_>) -> Option<RunOptions>
     let layout = layout_given(matches)?;
     let limit = limit_given(matches)?;
     let stretch = event_range_given(matches)?;
+    let caps = caps_given(matches)?;
     let Ok(answer) = run_answer(matches, stretch) else {
         return None;
     };
@@ -55,6 +58,7 @@ fn run_options(matches: &ArgMatches<'_>) -> Option<RunOptions>
         answer,
         layout,
         limit,
+        caps,
         trace: flag_given(matches, "trace"),
         in_turn: flag_given(matches, "in-turn"),
     })
@@ -149,6 +153,19 @@ fn verified_order(source: Source, order: VerifiedOrder) -> Order
     Order::Program(source, ProgramOrder::Verified(order))
 }
 
+/// Returns the order of `check`, from what clap found after it.
+fn check_order(matches: &ArgMatches<'_>) -> Result<Order, NoOrder>
+    ensures taken { IfOk result (λ order. (check_faults (rows_of (found_of matches.now)) ≡ [])
+        × IsAsked (Checks (given_source (rows_of (found_of matches.now))) (given_check (rows_of (found_of matches.now)))) order) }
+    ensures refused { IfErr result
+        (HasReason (check_faults (rows_of (found_of matches.now))) (Checks (given_source (rows_of (found_of matches.now))) (given_check (rows_of (found_of matches.now))))) }
+{
+    match check_given(matches) {
+        Some(order) => Ok(verified_order(source_given(matches), VerifiedOrder::Check(order))),
+        None => Err(NoOrder::Refused),
+    }
+}
+
 pub(crate) fn order_of(alloc: Global, matches: &ArgMatches<'_>) -> Result<Order, NoOrder>
     ensures taken { IfOk result (λ order. (faults_after (subcommand_rows_of matches.now) ≡ [])
         × IsAsked (asked_of (subcommand_rows_of matches.now)) order) }
@@ -165,11 +182,8 @@ pub(crate) fn order_of(alloc: Global, matches: &ArgMatches<'_>) -> Result<Order,
             ProgramOrder::Disassemble(places_given(given)),
         )),
         Some(("explain", given)) => explained_order(alloc, given),
-        Some((_, given)) => Ok(verified_order(
-            source_given(given),
-            VerifiedOrder::Check(check_given(given)),
-        )),
-        None => Ok(verified_order(Source::Hex, VerifiedOrder::Check(bare_check()))),
+        Some(("check", given)) => check_order(given),
+        _ => Ok(verified_order(Source::Hex, VerifiedOrder::Check(bare_check()))),
     }
 }
 

@@ -53,7 +53,7 @@ pub(crate) fn event_range_given(matches: &ArgMatches<'_>) -> Option<EventRange>
     })
 }
 
-fn is_named(matches: &ArgMatches<'_>, name: &str) -> bool
+pub(crate) fn is_named(matches: &ArgMatches<'_>, name: &str) -> bool
     ensures { result ≡ is_some (first_of name.now (rows_of (found_of matches.now))) }
 {
     matches.get_str(name).is_some()

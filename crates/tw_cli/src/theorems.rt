@@ -6,9 +6,10 @@ ghost use Rattle.tw_cli.specs.CommandLine.{Assembles, Checks, Disassembles, Expl
 ghost use Rattle.tw_cli.specs.declared.command.Answer.TheVariants.{Numbers, Picture, Report};
 ghost use Rattle.tw_cli.specs.declared.command.RunAnswer.TheVariants as written;
 ghost use Rattle.tw_cli.specs.declared.command.Assembling.TheVariants.{Names, Plain, Text};
+ghost use Rattle.tw_cli.specs.declared.checks.BoundsOf.TheVariants.{NoBounds, OfEach, OfMain};
 ghost use Rattle.tw_cli.specs.declared.command.Places.TheVariants.{Hidden, Shown};
 ghost use Rattle.tw_cli.specs.declared.command.Source.TheVariants.{Assembly, Hex};
-ghost use Rattle.tw_cli.specs.Options.{actors, checking, stretch};
+ghost use Rattle.tw_cli.specs.Options.{actors, capped, checking, stretch, uncapped};
 ghost use Rattle.tw_cli.specs.Explanations.{meant};
 ghost use Rattle.tw_cli.specs.InputWords.{OneInput, OneRefusedWord};
 
@@ -19,46 +20,53 @@ pub fn commands_are_taken()
     ensures plain { (word_faults (codes "asm" ∷ codes "--names" ∷ codes "--plain" ∷ []) ≡ [])
         × (asked_by_words (codes "asm" ∷ codes "--names" ∷ codes "--plain" ∷ []) ≡ Assembles Plain) }
     ensures disasm { (word_faults (codes "disasm" ∷ []) ≡ []) × (asked_by_words (codes "disasm" ∷ []) ≡ Disassembles Hex Hidden) }
-    ensures check { (word_faults (codes "check" ∷ []) ≡ []) × (asked_by_words (codes "check" ∷ []) ≡ Checks Hex (checking Hidden false)) }
+    ensures check { (word_faults (codes "check" ∷ []) ≡ []) × (asked_by_words (codes "check" ∷ []) ≡ Checks Hex (checking Hidden NoBounds)) }
     ensures bounds { (word_faults (codes "check" ∷ codes "--bounds" ∷ codes "--text" ∷ []) ≡ [])
-        × (asked_by_words (codes "check" ∷ codes "--bounds" ∷ codes "--text" ∷ []) ≡ Checks Assembly (checking Hidden true)) }
+        × (asked_by_words (codes "check" ∷ codes "--bounds" ∷ codes "--text" ∷ []) ≡ Checks Assembly (checking Hidden OfMain)) }
+    ensures all_bounds { (word_faults (codes "check" ∷ codes "--bounds=all" ∷ codes "--limit" ∷ codes "9" ∷ []) ≡ [])
+        × (asked_by_words (codes "check" ∷ codes "--bounds=all" ∷ codes "--limit" ∷ codes "9" ∷ []) ≡ Checks Hex (record (checking Hidden OfEach) { limit = Some 9 })) }
+    ensures check_caps { (word_faults (codes "check" ∷ codes "--most-tasks" ∷ codes "9" ∷ []) ≡ [])
+        × (asked_by_words (codes "check" ∷ codes "--most-tasks" ∷ codes "9" ∷ []) ≡ Checks Hex (record (checking Hidden NoBounds) { caps = capped 9 18446744073709551615 18446744073709551615 18446744073709551615 })) }
+    ensures run_caps { (word_faults (codes "run" ∷ codes "--most-instructions=7" ∷ codes "--most-budget" ∷ codes "8" ∷ []) ≡ [])
+        × (asked_by_words (codes "run" ∷ codes "--most-instructions=7" ∷ codes "--most-budget" ∷ codes "8" ∷ [])
+        ≡ Runs Hex written.Report (actors 1 1 1) (capped 18446744073709551615 7 18446744073709551615 8) 10000 false false (Some [])) }
     ensures run { (word_faults (codes "run" ∷ []) ≡ [])
-        × (asked_by_words (codes "run" ∷ []) ≡ Runs Hex written.Report (actors 1 1 1) 10000 false false (Some [])) }
+        × (asked_by_words (codes "run" ∷ []) ≡ Runs Hex written.Report (actors 1 1 1) uncapped 10000 false false (Some [])) }
     ensures inputs { (word_faults (codes "run" ∷ codes "int:7" ∷ codes "text:a" ∷ []) ≡ [])
         × (asked_by_words (codes "run" ∷ codes "int:7" ∷ codes "text:a" ∷ [])
-        ≡ Runs Hex written.Report (actors 1 1 1) 10000 false false (Some (codes "int:7" ∷ codes "text:a" ∷ []))) }
+        ≡ Runs Hex written.Report (actors 1 1 1) uncapped 10000 false false (Some (codes "int:7" ∷ codes "text:a" ∷ []))) }
     ensures first { (rest : List ℕ) → (word_faults (codes "run" ∷ (105 ∷ rest) ∷ []) ≡ [])
-        × (asked_by_words (codes "run" ∷ (105 ∷ rest) ∷ []) ≡ Runs Hex written.Report (actors 1 1 1) 10000 false false (Some ((105 ∷ rest) ∷ []))) }
+        × (asked_by_words (codes "run" ∷ (105 ∷ rest) ∷ []) ≡ Runs Hex written.Report (actors 1 1 1) uncapped 10000 false false (Some ((105 ∷ rest) ∷ []))) }
     ensures before { (word_faults (codes "run" ∷ codes "--workers" ∷ codes "16" ∷ codes "int:7" ∷ []) ≡ [])
         × (asked_by_words (codes "run" ∷ codes "--workers" ∷ codes "16" ∷ codes "int:7" ∷ [])
-        ≡ Runs Hex written.Report (actors 1 1 16) 10000 false false (Some (codes "int:7" ∷ []))) }
+        ≡ Runs Hex written.Report (actors 1 1 16) uncapped 10000 false false (Some (codes "int:7" ∷ []))) }
     ensures between { (word_faults (codes "run" ∷ codes "int:7" ∷ codes "--servers=3" ∷ codes "int:8" ∷ []) ≡ [])
         × (asked_by_words (codes "run" ∷ codes "int:7" ∷ codes "--servers=3" ∷ codes "int:8" ∷ [])
-        ≡ Runs Hex written.Report (actors 1 3 1) 10000 false false (Some (codes "int:7" ∷ codes "int:8" ∷ []))) }
+        ≡ Runs Hex written.Report (actors 1 3 1) uncapped 10000 false false (Some (codes "int:7" ∷ codes "int:8" ∷ []))) }
     ensures following { (word_faults (codes "run" ∷ codes "int:7" ∷ codes "--limit" ∷ codes "9" ∷ codes "--engines=2" ∷ [])
         ≡ [])
         × (asked_by_words (codes "run" ∷ codes "int:7" ∷ codes "--limit" ∷ codes "9" ∷ codes "--engines=2" ∷ [])
-        ≡ Runs Hex written.Report (actors 2 1 1) 9 false false (Some (codes "int:7" ∷ []))) }
+        ≡ Runs Hex written.Report (actors 2 1 1) uncapped 9 false false (Some (codes "int:7" ∷ []))) }
     ensures trace { (word_faults (codes "run" ∷ codes "--trace" ∷ codes "int:7" ∷ []) ≡ [])
         × (asked_by_words (codes "run" ∷ codes "--trace" ∷ codes "int:7" ∷ [])
-        ≡ Runs Hex written.Report (actors 1 1 1) 10000 true false (Some (codes "int:7" ∷ []))) }
+        ≡ Runs Hex written.Report (actors 1 1 1) uncapped 10000 true false (Some (codes "int:7" ∷ []))) }
     ensures in_turn { (word_faults (codes "run" ∷ codes "--in-turn" ∷ codes "int:7" ∷ []) ≡ [])
         × (asked_by_words (codes "run" ∷ codes "--in-turn" ∷ codes "int:7" ∷ [])
-        ≡ Runs Hex written.Report (actors 1 1 1) 10000 false true (Some (codes "int:7" ∷ []))) }
+        ≡ Runs Hex written.Report (actors 1 1 1) uncapped 10000 false true (Some (codes "int:7" ∷ []))) }
     ensures run_stats { (word_faults (codes "run" ∷ codes "--stats" ∷ codes "--trace" ∷ []) ≡ [])
-        × (asked_by_words (codes "run" ∷ codes "--stats" ∷ codes "--trace" ∷ []) ≡ Runs Hex written.Numbers (actors 1 1 1) 10000 true false (Some [])) }
+        × (asked_by_words (codes "run" ∷ codes "--stats" ∷ codes "--trace" ∷ []) ≡ Runs Hex written.Numbers (actors 1 1 1) uncapped 10000 true false (Some [])) }
     ensures run_json { (word_faults (codes "run" ∷ codes "--json" ∷ []) ≡ [])
-        × (asked_by_words (codes "run" ∷ codes "--json" ∷ []) ≡ Runs Hex written.Json (actors 1 1 1) 10000 false false (Some [])) }
+        × (asked_by_words (codes "run" ∷ codes "--json" ∷ []) ≡ Runs Hex written.Json (actors 1 1 1) uncapped 10000 false false (Some [])) }
     ensures run_picture { (word_faults (codes "run" ∷ codes "--picture" ∷ codes "--in-turn" ∷ []) ≡ [])
-        × (asked_by_words (codes "run" ∷ codes "--picture" ∷ codes "--in-turn" ∷ []) ≡ Runs Hex (written.Picture (stretch 1 4294967295)) (actors 1 1 1) 10000 false true (Some [])) }
+        × (asked_by_words (codes "run" ∷ codes "--picture" ∷ codes "--in-turn" ∷ []) ≡ Runs Hex (written.Picture (stretch 1 4294967295)) (actors 1 1 1) uncapped 10000 false true (Some [])) }
     ensures run_stretch { (word_faults (codes "run" ∷ codes "--from=5" ∷ codes "--picture" ∷ codes "--to" ∷ codes "9" ∷ []) ≡ [])
         × (asked_by_words (codes "run" ∷ codes "--from=5" ∷ codes "--picture" ∷ codes "--to" ∷ codes "9" ∷ [])
-        ≡ Runs Hex (written.Picture (stretch 5 9)) (actors 1 1 1) 10000 false false (Some [])) }
+        ≡ Runs Hex (written.Picture (stretch 5 9)) (actors 1 1 1) uncapped 10000 false false (Some [])) }
     ensures quiet { (word_faults (codes "run" ∷ codes "--quiet" ∷ []) ≡ [])
         × (asked_by_words (codes "run" ∷ codes "--quiet" ∷ []) ≡ asked_by_words (codes "run" ∷ [])) }
     ensures last { (word_faults (codes "run" ∷ codes "int:7" ∷ codes "--limit" ∷ codes "100" ∷ codes "--trace" ∷ []) ≡ [])
         × (asked_by_words (codes "run" ∷ codes "int:7" ∷ codes "--limit" ∷ codes "100" ∷ codes "--trace" ∷ [])
-        ≡ Runs Hex written.Report (actors 1 1 1) 100 true false (Some (codes "int:7" ∷ []))) }
+        ≡ Runs Hex written.Report (actors 1 1 1) uncapped 100 true false (Some (codes "int:7" ∷ []))) }
     ensures replay { (word_faults (codes "replay" ∷ codes "--workers" ∷ codes "2" ∷ codes "int:7" ∷ []) ≡ [])
         × (asked_by_words (codes "replay" ∷ codes "--workers" ∷ codes "2" ∷ codes "int:7" ∷ [])
         ≡ Replays Hex Report (actors 1 1 2) (Some (codes "int:7" ∷ []))) }
@@ -69,18 +77,18 @@ pub fn commands_are_taken()
         × (asked_by_words (codes "picture" ∷ codes "--from" ∷ codes "3" ∷ codes "--to=3" ∷ [])
         ≡ Replays Hex (Picture (stretch 3 3)) (actors 1 1 1) (Some [])) }
     ensures text { (word_faults (codes "check" ∷ codes "--text" ∷ []) ≡ [])
-        × (asked_by_words (codes "check" ∷ codes "--text" ∷ []) ≡ Checks Assembly (checking Hidden false)) }
+        × (asked_by_words (codes "check" ∷ codes "--text" ∷ []) ≡ Checks Assembly (checking Hidden NoBounds)) }
     ensures places { (word_faults (codes "check" ∷ codes "--places" ∷ codes "--text" ∷ []) ≡ [])
-        × (asked_by_words (codes "check" ∷ codes "--places" ∷ codes "--text" ∷ []) ≡ Checks Assembly (checking Shown false)) }
+        × (asked_by_words (codes "check" ∷ codes "--places" ∷ codes "--text" ∷ []) ≡ Checks Assembly (checking Shown NoBounds)) }
     ensures disasm_places { (word_faults (codes "disasm" ∷ codes "--places" ∷ []) ≡ [])
         × (asked_by_words (codes "disasm" ∷ codes "--places" ∷ []) ≡ Disassembles Hex Shown) }
     ensures run_text { (word_faults (codes "run" ∷ codes "int:7" ∷ codes "--text" ∷ []) ≡ [])
         × (asked_by_words (codes "run" ∷ codes "int:7" ∷ codes "--text" ∷ [])
-        ≡ Runs Assembly written.Report (actors 1 1 1) 10000 false false (Some (codes "int:7" ∷ []))) }
+        ≡ Runs Assembly written.Report (actors 1 1 1) uncapped 10000 false false (Some (codes "int:7" ∷ []))) }
     ensures replay_text { (word_faults (codes "replay" ∷ codes "--text" ∷ []) ≡ [])
         × (asked_by_words (codes "replay" ∷ codes "--text" ∷ []) ≡ Replays Assembly Report (actors 1 1 1) (Some [])) }
     ensures run_inputs { (word_faults (codes "run" ∷ codes "--inputs" ∷ codes "--text" ∷ []) ≡ [])
-        × (asked_by_words (codes "run" ∷ codes "--inputs" ∷ codes "--text" ∷ []) ≡ Runs Assembly written.Report (actors 1 1 1) 10000 false false None) }
+        × (asked_by_words (codes "run" ∷ codes "--inputs" ∷ codes "--text" ∷ []) ≡ Runs Assembly written.Report (actors 1 1 1) uncapped 10000 false false None) }
     ensures replay_stats { (word_faults (codes "replay" ∷ codes "--stats" ∷ []) ≡ [])
         × (asked_by_words (codes "replay" ∷ codes "--stats" ∷ []) ≡ Replays Hex Numbers (actors 1 1 1) (Some [])) }
     ensures replay_inputs { (word_faults (codes "replay" ∷ codes "--inputs" ∷ []) ≡ [])
@@ -119,6 +127,9 @@ pub fn strangers_are_refused()
     ensures past_event { word_faults (codes "run" ∷ codes "--picture" ∷ codes "--to" ∷ codes "4294967296" ∷ []) ≡ ValueValidation ∷ [] }
     ensures replay_stretch { word_faults (codes "replay" ∷ codes "--from" ∷ codes "1" ∷ []) ≡ UnknownArgument ∷ [] }
     ensures places { word_faults (codes "run" ∷ codes "--places" ∷ []) ≡ UnknownArgument ∷ [] }
+    ensures bounds_of { word_faults (codes "check" ∷ codes "--bounds=main.1" ∷ []) ≡ ValueValidation ∷ [] }
+    ensures no_cap { word_faults (codes "run" ∷ codes "--most-data" ∷ codes "0" ∷ []) ≡ ValueValidation ∷ [] }
+    ensures replay_caps { word_faults (codes "replay" ∷ codes "--most-data" ∷ codes "1" ∷ []) ≡ UnknownArgument ∷ [] }
     ensures bounds { word_faults (codes "disasm" ∷ codes "--bounds" ∷ []) ≡ UnknownArgument ∷ [] }
     ensures traces { word_faults (codes "run" ∷ codes "--trace" ∷ codes "--trace" ∷ []) ≡ ArgumentConflict ∷ [] }
     ensures value { word_faults (codes "run" ∷ codes "--trace=true" ∷ []) ≡ TooManyValues ∷ [] }

@@ -6,6 +6,8 @@ ghost use Rattle.tw_cli.specs.CommandLine.{Asked, word_faults};
 ghost use Rattle.tw_cli.specs.Complaint.{HasComplaint};
 ghost use Rattle.tw_cli.specs.Order.{HasReason};
 
+use crate::caps::caps_given;
+use crate::checks::check_given;
 use crate::command::{NoOrder, command};
 use crate::found::{flag_given, number_given};
 use crate::orders::{order_of, reason_of};
@@ -27,6 +29,8 @@ fn range_line(given: &ArgMatches<'_>) -> Option<&'static str> {
         Some("error: --limit takes a number from 1 to 1000000\n")
     } else if event_range_given(given).is_none() {
         Some("error: --from and --to take numbers from 1 to 4294967295\n")
+    } else if caps_given(given).is_none() {
+        Some("error: --most-tasks and its like take numbers from 1 to 18446744073709551615\n")
     } else {
         None
     }
@@ -55,6 +59,9 @@ fn conflict_of(command: &str, given: &ArgMatches<'_>) -> Option<Conflict> {
 fn other_line(command: &str, given: &ArgMatches<'_>) -> &'static str {
     if let Some(conflict) = conflict_of(command, given) {
         return conflict_line(conflict);
+    }
+    if command == "check" && check_given(given).is_none() {
+        return "error: --bounds takes no value, or main, or all\n";
     }
     if flag_given(given, "inputs") {
         "error: with --inputs all inputs are read, and none is an argument\n"

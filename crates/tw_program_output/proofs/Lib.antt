@@ -10,3 +10,5 @@ pub mod NamedTexts
 pub mod LineListings
 pub mod Faults
 mod ReplyNames
+pub mod Admissions
+mod Circles

@@ -1,13 +1,20 @@
 -- Output of `check --bounds` about a program's runs.
-use Rattle.std.specs.Prelude.{◌≡◌, ◌⊎◌, ℕ, Bool, true, false, List, [], ◌++◌, codes, decimal, Option, Some, None, slice_get}
+use Rattle.std.specs.Prelude.{◌≡◌, ◌⊎◌, ℕ, zero, suc, List, [], ◌++◌, codes, decimal, length, Option, Some, None, slice_get}
 use Rattle.tw_code.specs.declared.procedure.Procedure.{Procedure}
 use Rattle.tw_bounds.specs.Bounds.{CallsEnd}
 use Rattle.tw_bounds.specs.Circles.{IsCircle}
+use Rattle.tw_bounds.specs.Limited.{AreLimitedBounds}
 use Rattle.tw_bounds.specs.Reports.{AreRunBounds}
 use Rattle.tw_bounds.specs.declared.bound.Bound.{Bound}
 use Rattle.tw_bounds.specs.declared.bound.Bound.TheVariants.{AtMost, Over, Endless}
 use Rattle.tw_bounds.specs.declared.bound.RunBounds.{RunBounds}
 use Rattle.tw_bounds.specs.declared.circles.Circle.{Circle}
+use Rattle.tw_bounds.specs.declared.limited.LimitedBounds.{LimitedBounds}
+use Rattle.tw_cli.specs.declared.checks.BoundsOf.{BoundsOf}
+use Rattle.tw_cli.specs.declared.checks.BoundsOf.TheVariants.{NoBounds, OfMain, OfEach}
+use Rattle.tw_cli.specs.declared.checks.CheckOrder.{CheckOrder}
+use Rattle.tw_symbols.specs.Symbols.{AreSymbols, bracketed, name_at}
+use Rattle.tw_program_output.specs.Text.{IsPlaceText}
 
 abbrev pub bound_text : Option Bound → List ℕ
 bound_text None = codes "none"
@@ -31,13 +38,84 @@ bound_lines bounds =
 abbrev pub circle_line : Circle → List ℕ
 circle_line circle = codes "bound none: procedure " ++ (decimal circle.procedure ++ (codes " at place " ++ (decimal circle.place ++ codes " leads back to itself\n")))
 
--- holds for main's bounds if its calls end; else for a call to which they lead, and which leads back to its own procedure
-abbrev pub IsBoundsText : List Procedure → List ℕ → Type 0
-IsBoundsText program text =
-    (CallsEnd program 0 × ((bounds : RunBounds) × AreRunBounds program bounds × (text ≡ bound_lines bounds)))
-    ⊎ ((circle : Circle) × IsCircle program circle × (text ≡ circle_line circle))
+-- holds for a call to which main's calls lead, and which leads back to its own procedure; its line of the text follows
+abbrev pub IsCircleText : Option (List ℕ) → List Procedure → List ℕ → Type 0
+IsCircleText source program text =
+    (circle : Circle) × (more : List ℕ) × IsCircle program circle × IsPlaceText source circle.procedure circle.place more × (text ≡ circle_line circle ++ more)
 
--- holds for nothing, or for main's bounds if they are requested
-abbrev pub MayPrintBounds : Bool → List Procedure → List ℕ → Type 0
-MayPrintBounds false program lines = lines ≡ []
-MayPrintBounds true program lines = IsBoundsText program lines
+-- holds for main's bounds if its calls end; else for a call that leads back
+abbrev pub IsBoundsText : Option (List ℕ) → List Procedure → List ℕ → Type 0
+IsBoundsText source program text =
+    (CallsEnd program 0 × ((bounds : RunBounds) × AreRunBounds program bounds × (text ≡ bound_lines bounds))) ⊎ IsCircleText source program text
+
+-- ---- the bounds of each procedure
+
+-- returns a bound of a procedure after its kind
+abbrev pub bound_part : List ℕ → List Bound → ℕ → List ℕ
+bound_part kind bounds number = kind ++ bound_text (slice_get bounds number)
+
+abbrev pub bound_parts : RunBounds → ℕ → List ℕ
+bound_parts bounds number =
+    bound_part (codes " tasks ") bounds.tasks.items number
+    ++ (bound_part (codes " instructions ") bounds.instructions.items number
+    ++ (bound_part (codes " data ") bounds.data.items number
+    ++ (bound_part (codes " rules ") bounds.rules.items number
+    ++ bound_part (codes " events ") bounds.events.items number)))
+
+-- returns the bounds of a procedure's tasks in one line, and its name in brackets if it has one
+abbrev pub bound_row : List ℕ → RunBounds → ℕ → List ℕ
+bound_row name bounds number = codes "bounds " ++ (decimal number ++ (bound_parts bounds number ++ (bracketed name ++ codes "\n")))
+
+-- returns the lines of the first procedures
+abbrev pub bound_rows : List (List ℕ) → RunBounds → ℕ → List ℕ
+bound_rows names bounds zero = []
+bound_rows names bounds (suc number) = bound_rows names bounds number ++ bound_row (name_at names number) bounds number
+
+-- holds for nothing if main's calls end; else for a call that leads back
+abbrev pub IsWhyEndless : Option (List ℕ) → List Procedure → List ℕ → Type 0
+IsWhyEndless source program text = (CallsEnd program 0 × (text ≡ [])) ⊎ IsCircleText source program text
+
+-- holds for the bounds of each procedure, with the names that the text gives
+abbrev pub IsEachBoundsText : Option (List ℕ) → List Procedure → List ℕ → Type 0
+IsEachBoundsText source program text =
+    (names : List (List ℕ)) × (bounds : RunBounds) × (why : List ℕ) × AreSymbols source names × AreRunBounds program bounds × IsWhyEndless source program why × (text ≡ bound_rows names bounds (length program) ++ why)
+
+-- ---- the bounds by a limit
+
+abbrev pub limited_line : List ℕ → Bound → List ℕ
+limited_line kind bound = codes "limited " ++ (kind ++ (codes " " ++ (bound_text (Some bound) ++ codes "\n")))
+
+abbrev pub limited_lines : LimitedBounds → List ℕ
+limited_lines bounds =
+    limited_line (codes "tasks") bounds.tasks
+    ++ (limited_line (codes "instructions") bounds.instructions
+    ++ (limited_line (codes "data") bounds.data
+    ++ (limited_line (codes "rules") bounds.rules
+    ++ limited_line (codes "events") bounds.events)))
+
+-- holds for the bounds of runs with at most so many events, if there is a limit
+abbrev pub IsLimitedText : Option ℕ → List Procedure → List ℕ → Type 0
+IsLimitedText None program text = text ≡ []
+IsLimitedText (Some limit) program text = (bounds : LimitedBounds) × AreLimitedBounds program limit bounds × (text ≡ limited_lines bounds)
+
+-- ---- what is requested
+
+-- returns the limit, if bounds are requested
+abbrev pub limit_for : BoundsOf → Option ℕ → Option ℕ
+limit_for NoBounds limit = None
+limit_for OfMain limit = limit
+limit_for OfEach limit = limit
+
+abbrev pub requested_limit : CheckOrder → Option ℕ
+requested_limit order = limit_for order.bounds order.limit
+
+-- holds for the bounds of these procedures
+abbrev pub IsTextOf : BoundsOf → Option (List ℕ) → List Procedure → List ℕ → Type 0
+IsTextOf NoBounds source program text = text ≡ []
+IsTextOf OfMain source program text = IsBoundsText source program text
+IsTextOf OfEach source program text = IsEachBoundsText source program text
+
+-- holds for the bounds that are requested, followed by those of the limit if there are any
+abbrev pub MayPrintBounds : CheckOrder → Option (List ℕ) → List Procedure → List ℕ → Type 0
+MayPrintBounds order source program text =
+    (lines : List ℕ) × (more : List ℕ) × IsTextOf order.bounds source program lines × IsLimitedText (requested_limit order) program more × (text ≡ lines ++ more)

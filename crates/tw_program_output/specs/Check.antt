@@ -7,10 +7,11 @@ use Rattle.tw_code.specs.accepting.Flow.{flows}
 use Rattle.tw_code.specs.accepting.Needs.{needed}
 use Rattle.tw_code.specs.accepting.Walk.{IsBudget}
 use Rattle.tw_code.specs.accepting.WellTyped.{IsFirstRejection}
-use Rattle.tw_cli.specs.declared.command.CheckOrder.{CheckOrder}
+use Rattle.tw_cli.specs.declared.checks.CheckOrder.{CheckOrder}
 use Rattle.tw_cli.specs.declared.command.Places.{Places}
 use Rattle.tw_cli.specs.declared.command.Places.TheVariants.{Hidden, Shown}
 use Rattle.tw_symbols.specs.Symbols.{AreSymbols, bracketed, name_at}
+use Rattle.tw_program_output.specs.Admission.{RepliesIfAdmitted}
 use Rattle.tw_program_output.specs.Bounds.{MayPrintBounds}
 use Rattle.tw_program_output.specs.Lines.{verify_line}
 use Rattle.tw_program_output.specs.Listing.{IsListing, IsRefusedListing}
@@ -51,10 +52,10 @@ IsChecked Shown source program text =
 -- holds for the check and what else is requested
 abbrev pub IsPrintedByCheck : CheckOrder → Option (List ℕ) → List Procedure → List ℕ → Type 0
 IsPrintedByCheck order source program text =
-    (check : List ℕ) × (lines : List ℕ) × IsChecked order.places source program check × MayPrintBounds order.bounds program lines × (text ≡ check ++ lines)
+    (check : List ℕ) × (lines : List ℕ) × IsChecked order.places source program check × MayPrintBounds order source program lines × (text ≡ check ++ lines)
 
 abbrev pub RepliesByCheck : CheckOrder → Option (List ℕ) → List Procedure → Reply → Type 0
-RepliesByCheck order source program r = (text : List ℕ) × IsPrintedByCheck order source program text × (r ≡ reply text Success)
+RepliesByCheck order source program r = RepliesIfAdmitted program order.limit order.caps r ((text : List ℕ) × IsPrintedByCheck order source program text × (r ≡ reply text Success))
 
 -- holds for what precedes an error: the program's listing if that is requested
 abbrev pub IsListedBefore : Places → Option (List ℕ) → List Procedure → ℕ → ℕ → List ℕ → Type 0

@@ -42,6 +42,17 @@ IsLineAt all number trimmed = (line : List ℕ) × (slice_get all (number - 1) �
 abbrev pub IsLineOf : List ℕ → ℕ → List ℕ → Type 0
 IsLineOf text number trimmed = IsLineAt (lines text) number trimmed
 
+-- holds for the line from which the instruction at a place comes, as it is written, with its procedure's name
+abbrev pub IsPlaceLine : List ℕ → ℕ → ℕ → List ℕ → Type 0
+IsPlaceLine text procedure place more =
+    (plain : List ℕ) × (number : ℕ) × (line : List ℕ) × (names : List (List ℕ)) × ExpandsTo text plain × ComesFrom plain procedure place number × IsLineOf text number line
+    × AreNames text names × (more ≡ line_in_text (name_at names procedure) number line)
+
+-- holds for that line; without a text there is none
+abbrev pub IsPlaceText : Option (List ℕ) → ℕ → ℕ → List ℕ → Type 0
+IsPlaceText None procedure place more = more ≡ []
+IsPlaceText (Some text) procedure place more = IsPlaceLine text procedure place more
+
 -- ---- details of an error
 
 -- holds for the line from which the instruction at the rejected place comes, as it is written, with its procedure's name; then for the reason, in

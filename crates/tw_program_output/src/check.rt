@@ -2,7 +2,7 @@
 
 ghost use Rattle.std.specs.Prelude.{◌≡◌, ◌++◌, ℕ, List, IfOk, OnOk, decimal};
 ghost use Rattle.tw_code.specs.accepting.WellTyped.{IsFirstRejection};
-ghost use Rattle.tw_program_output.specs.Check.{AreProcedureLines, IsCheckText, IsChecked, IsRefused, IsPrintedByCheck, IsListedBefore, kind_text, needs_line, procedure_line};
+ghost use Rattle.tw_program_output.specs.Check.{AreProcedureLines, IsCheckText, IsChecked, IsRefused, IsPrintedByCheck, RepliesByCheck, IsListedBefore, kind_text, needs_line, procedure_line};
 ghost use Rattle.tw_cli.specs.declared.command.Places.TheVariants.{Shown};
 ghost use Rattle.tw_symbols.specs.Symbols.{name_at};
 ghost use Rattle.tw_program_output.specs.Listing.{IsListing, IsRefusedListing};
@@ -10,7 +10,9 @@ ghost use Rattle.tw_program_output.specs.Reply.{reply};
 ghost use Rattle.tw_program_output.specs.Source.{MayBeSource, text_of};
 ghost use Rattle.tw_verify.specs.Rejection.{verify_error_code};
 
+use crate::admission::{excess_reply, excess_text};
 use crate::bounds::put_requested_bounds;
+use crate::close::Close;
 use crate::lines::put_verify_line;
 use crate::listing::{refused_text, typed_text};
 use crate::reply::{Reply, refused_by};
@@ -150,7 +152,7 @@ fn budgets_text(
 }
 
 /// Returns the output of a check of an accepted program: its budgets, and what else is requested.
-pub fn checked_text(
+fn checked_text(
     alloc: Global,
     source: &Option<SourceText<'_>>,
     order: CheckOrder,
@@ -160,8 +162,28 @@ pub fn checked_text(
     ensures { IfOk result (λ text. IsPrintedByCheck order (text_of source.now) verified.now.program text.items) }
 {
     let mut text = budgets_text(alloc, source, order.places, verified)?;
-    put_requested_bounds(alloc, &mut text, order.bounds, verified)?;
+    put_requested_bounds(alloc, &mut text, source, order, verified)?;
     Ok(text)
+}
+
+/// Returns the reply to the check of an accepted program.
+pub fn checked_reply(
+    alloc: Global,
+    source: &Option<SourceText<'_>>,
+    order: CheckOrder,
+    verified: &Verified,
+) -> Result<Reply, AllocError>
+    requires { MayBeSource source.now verified.now.program }
+    ensures { IfOk result (λ r. RepliesByCheck order (text_of source.now) verified.now.program (reply r.text.items r.close)) }
+{
+    let lines = excess_text(alloc, verified, order.limit, order.caps)?;
+    if lines.is_empty() {
+        return Ok(Reply {
+            text: checked_text(alloc, source, order, verified)?,
+            close: Close::Success,
+        });
+    }
+    excess_reply(alloc, &lines)
 }
 
 /// Returns what precedes an error: the listing, if it is requested.

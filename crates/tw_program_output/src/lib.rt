@@ -1,6 +1,7 @@
 //! Output about programs: what is assembled, checks, listings, and errors with their diagnostics.
 #![tactic(auto)]
 
+mod admission;
 mod assembled;
 mod bounds;
 mod check;
@@ -16,8 +17,9 @@ mod source;
 mod text_lines;
 mod text_listing;
 
+pub use admission::{excess_reply, excess_text};
 pub use assembled::assembled_reply;
-pub use check::{checked_text, rejection_reply};
+pub use check::{checked_reply, rejection_reply};
 pub use close::Close;
 pub use inputs::{input_parts, input_word_reply, refused_words_reply};
 pub use lines::put_opening_line;

@@ -10,7 +10,7 @@ ghost use Rattle.tw_symbols.specs.Expansion.{ExpandsTo};
 ghost use Rattle.tw_symbols.specs.Symbols.{AreSymbols};
 ghost use Rattle.tw_diagnostics.specs.Reasons.{PrintsReason, shape_line};
 ghost use Rattle.tw_diagnostics.specs.LineRole.{IsFirstHead};
-ghost use Rattle.tw_program_output.specs.Text.{AreDetailsOf, IsLineOf, AreMainDetails, ArePlaceDetails, AreTextDetails, in_name, line_in_text, text_line};
+ghost use Rattle.tw_program_output.specs.Text.{AreDetailsOf, IsLineOf, AreMainDetails, ArePlaceDetails, AreTextDetails, IsPlaceLine, IsPlaceText, in_name, line_in_text, text_line};
 
 use crate::text_lines::TextLines;
 use std::alloc::{AllocError, Global};
@@ -135,6 +135,41 @@ pub fn put_text_line(
     put(out, ": ")?;
     put_shortened(out, line.as_bytes())?;
     put(out, "\n")
+}
+
+/// Adds the line from which an instruction comes.
+fn put_source_line(
+    alloc: Global,
+    out: &mut Vec<u8>,
+    source: &SourceText<'_>,
+    procedure: usize,
+    place: usize,
+) -> Result<(), AllocError>
+    ensures { (program : List Section) → OnOk result (IsSourceAt source.now program procedure place
+        → (more : List ℕ) × IsPlaceLine source.now.text.now procedure place more × (out.new.items ≡ out.old.items ++ more)) }
+{
+    let Some((number, line)) = source_line(source, procedure, place) else {
+        return Ok(());
+    };
+    let names = Symbols::of(alloc, source.text)?;
+    put_line_in(alloc, out, names.procedure(procedure), number, line)
+}
+
+/// Adds the line from which an instruction comes. Without a text there is none.
+pub fn put_place_line(
+    alloc: Global,
+    out: &mut Vec<u8>,
+    source: &Option<SourceText<'_>>,
+    procedure: usize,
+    place: usize,
+) -> Result<(), AllocError>
+    ensures { (program : List Section) → OnOk result (MayBeSourceAt source.now program procedure place
+        → (more : List ℕ) × IsPlaceText (text_of source.now) procedure place more × (out.new.items ≡ out.old.items ++ more)) }
+{
+    match source {
+        Some(source) => put_source_line(alloc, out, source, procedure, place),
+        None => Ok(()),
+    }
 }
 
 /// Adds why an instruction is rejected, with the register's name beside its number.

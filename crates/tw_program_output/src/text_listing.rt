@@ -134,7 +134,7 @@ fn said_text(
         instructions: 0,
     };
     for (index, (line, own)) in text.lines().zip(plain.lines()).enumerate() {
-        names = names.after(alloc, index + 1, line)?;
+        names.read(alloc, index + 1, line)?;
         let says = line_role(alloc, own)?;
         put_role_line(alloc, &mut out, &names, all, counts, line, says)?;
         counts = counts.advanced(says);

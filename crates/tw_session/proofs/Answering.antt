@@ -73,7 +73,7 @@ not_refused : (asked : Asked) (text : List ℕ) (number : RefusedWord) → IsExp
 not_refused (Assembles what) text number e r = e
 not_refused (Disassembles source listed) text number e r = e
 not_refused (Checks source printed) text number e r = e
-not_refused (Runs source answer layout most traced turns words) text number e r = e
+not_refused (Runs source answer layout caps most traced turns words) text number e r = e
 not_refused (Replays source answer layout words) text number e r = e
 not_refused (Explains explained) text number e r = r
 

@@ -11,7 +11,10 @@ ghost use Rattle.tw_code.specs.accepting.WellTyped.{IsAccepted};
 use std::alloc::{AllocError, Global};
 use tw_cli::{Places, ProgramOrder, RunOrder, VerifiedOrder};
 use tw_code::Program;
-use tw_program_output::{Close, Reply, SourceText, checked_text, disassembled, rejection_reply};
+use tw_program_output::{
+    Close, Reply, SourceText, checked_reply, disassembled, excess_reply, excess_text,
+    rejection_reply,
+};
 use tw_verify::{Verified, VerifyError, verify};
 
 /// An accepted program that is to be run, and its order.
@@ -28,6 +31,24 @@ pub enum ProgramAction {
     Run(RunRequest),
 }
 
+/// Returns the run of an accepted program, or the reply that a bound is above its cap.
+fn admitted_run(
+    alloc: Global,
+    source: &Option<SourceText<'_>>,
+    order: RunOrder,
+    verified: Verified,
+) -> Result<ProgramAction, AllocError>
+    requires { MayBeSource source.now verified.program }
+    ensures { IfOk result (Leads (λ run. run ≡ order) source.now (RepliesByAccepted (text_of source.now) (Run order) verified.program)) }
+{
+    let lines = excess_text(alloc, &verified, Some(order.limit), order.caps)?;
+    if lines.is_empty() {
+        return Ok(ProgramAction::Run(RunRequest { order, verified }));
+    }
+    let reply = excess_reply(alloc, &lines)?;
+    Ok(ProgramAction::Finished(reply))
+}
+
 /// Executes an order for an accepted program, up to its run.
 fn accepted_reply(
     alloc: Global,
@@ -40,11 +61,11 @@ fn accepted_reply(
     ensures { IfOk result (Leads (λ run. order ≡ Run run) source.now (RepliesByAccepted (text_of source.now) order verified.program)) }
 {
     match order {
-        VerifiedOrder::Check(order) => Ok(ProgramAction::Finished(Reply {
-            text: checked_text(alloc, source, order, &verified)?,
-            close: Close::Success,
-        })),
-        VerifiedOrder::Run(order) => Ok(ProgramAction::Run(RunRequest { order, verified })),
+        VerifiedOrder::Check(order) => {
+            let reply = checked_reply(alloc, source, order, &verified)?;
+            Ok(ProgramAction::Finished(reply))
+        }
+        VerifiedOrder::Run(order) => admitted_run(alloc, source, order, verified),
     }
 }
 

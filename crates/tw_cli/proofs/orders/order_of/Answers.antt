@@ -9,3 +9,17 @@ returns-in-Some-explain-default-clause-refused c =
     let named : subcommand_rows_of c.args.matches.now ≡ Some (codes "explain", given) =
     both_had _ _ _ _ _ c.in-Some-explain-default.ensures.name c.in-Some-explain-default.ensures.rows ∙ ap (λ (name : Text). Some (name, given)) c.in-Some-explain-default.is-explain in
     rw named c.explained_order.ensures.refused
+
+pub returns-in-Some-run-default-clause-refused : goal.returns-in-Some-run-default-clause-refused
+returns-in-Some-run-default-clause-refused c =
+    let given = rows_of (found_of c.in-Some-run-default.given.now) in
+    let named : subcommand_rows_of c.args.matches.now ≡ Some (codes "run", given) =
+    both_had _ _ _ _ _ c.in-Some-run-default.ensures.name c.in-Some-run-default.ensures.rows ∙ ap (λ (name : Text). Some (name, given)) c.in-Some-run-default.is-run in
+    rw named c.run_order.ensures.refused
+
+pub returns-in-Some-check-default-clause-refused : goal.returns-in-Some-check-default-clause-refused
+returns-in-Some-check-default-clause-refused c =
+    let given = rows_of (found_of c.in-Some-check-default.given.now) in
+    let named : subcommand_rows_of c.args.matches.now ≡ Some (codes "check", given) =
+    both_had _ _ _ _ _ c.in-Some-check-default.ensures.name c.in-Some-check-default.ensures.rows ∙ ap (λ (name : Text). Some (name, given)) c.in-Some-check-default.is-check in
+    rw named c.check_order.ensures.refused

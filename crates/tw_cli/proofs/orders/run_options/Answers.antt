@@ -1,6 +1,6 @@
 use Rattle.clap.specs.Words.{found_of, rows_of}
 use Rattle.tw_cli.specs.CommandLine.{run_asked}
-use Rattle.tw_cli.proofs.Options.{actors_refused, events_refused, has_conflict, has_fault, limit_refused, picture_refused, run_refused}
+use Rattle.tw_cli.proofs.Options.{actors_refused, caps_refused, events_refused, has_conflict, has_fault, limit_refused, picture_refused, run_refused}
 use Rattle.tw_cli.proofs.orders.run_options.Goals as goal
 
 pub returns-in_err-layout : goal.returns-in_err-layout
@@ -18,7 +18,12 @@ returns-in_err-stretch c =
     let rows = rows_of (found_of c.args.matches.now) in
     rw c.from_residual-in_err-stretch.ensures (has_fault _ (run_asked rows) (run_refused rows (events_refused rows c.in_err-stretch.ensures)))
 
+pub returns-in_err-caps : goal.returns-in_err-caps
+returns-in_err-caps c =
+    let rows = rows_of (found_of c.args.matches.now) in
+    rw c.from_residual-in_err-caps.ensures (has_fault _ (run_asked rows) (caps_refused rows c.in_ok-layout.layout c.in_ok-limit.limit c.in_ok-stretch.stretch c.in_ok-layout.ensures c.in_ok-limit.ensures c.in_ok-stretch.ensures c.in_err-caps.ensures))
+
 pub returns-in_default : goal.returns-in_default
 returns-in_default c =
     let rows = rows_of (found_of c.args.matches.now) in
-    has_conflict _ (run_asked rows) (picture_refused rows c.in_ok-layout.layout c.in_ok-limit.limit c.in_ok-stretch.stretch c.in_ok-layout.ensures c.in_ok-limit.ensures c.in_ok-stretch.ensures c.in_default.ensures.refused)
+    has_conflict _ (run_asked rows) (picture_refused rows c.in_ok-layout.layout c.in_ok-limit.limit c.in_ok-stretch.stretch c.in_ok-caps.caps c.in_ok-layout.ensures c.in_ok-limit.ensures c.in_ok-stretch.ensures c.in_ok-caps.ensures c.in_default.ensures.refused)

@@ -1,4 +1,4 @@
-use Rattle.std.proofs.Common.{◌++◌, ◌∙◌, ℕ, List, ap, codes}
+use Rattle.std.proofs.Common.{◌++◌, ◌∙◌, List, ap, codes}
 use Rattle.tw_bounds.specs.declared.bound.Bound.{Bound}
 use Rattle.tw_program_output.specs.Bounds.{bound_line}
 use Rattle.tw_program_output.proofs.BoundLines.{five_more}

@@ -1,4 +1,3 @@
-use Rattle.std.proofs.Common.{refl}
 use Rattle.tw_program_output.proofs.check.checked_text.Goals as goal
 
 pub returns : goal.returns

@@ -25,7 +25,7 @@ loop-index-preserved c =
     let h = c.loop-index.invariant.listed in
     let pairs = pairs_in items in
     let number : c.in-Some.index + 1 ≡ length (written_in pairs) + 1 = ap (λ (n : ℕ). n + 1) at.index_is in
-    let read = c.in_ok-names-2.ensures h.0 xs (written_in pairs) at.others h.2 at.parts number in
+    let read = c.in_ok-read.ensures h.0 xs (written_in pairs) at.others h.2 at.parts number in
     let more : pairs_in (items ++ item ∷ []) ≡ pairs ++ item.1 ∷ [] = map-append (λ (i : ℕ × (Bor (List ℕ) × Bor (List ℕ))). i.1) items (item ∷ []) in
     let ls : written_in (pairs_in (items ++ item ∷ [])) ≡ written_in pairs ++ c.in-Some.line.now ∷ [] = ap written_in more ∙ map-append (λ (p : Bor (List ℕ) × Bor (List ℕ)). p.0.now) pairs (item.1 ∷ []) in
     let owns : own_in (pairs_in (items ++ item ∷ [])) ≡ own_in pairs ++ c.in-Some.own.now ∷ [] = ap own_in more ∙ map-append (λ (p : Bor (List ℕ) × Bor (List ℕ)). p.1.now) pairs (item.1 ∷ []) in
@@ -36,10 +36,10 @@ loop-index-preserved c =
       listed = (
         h.0,
         h.1,
-        subst (λ (n : ℕ). HasRead h.0 xs n c.in_ok-names-2.names) count read.0,
+        subst (λ (n : ℕ). HasRead h.0 xs n c.read.new.self) count read.0,
         subst (λ (ws : List (List ℕ)). AreLinesListed h.0 typings ws (own_in (pairs_in (items ++ item ∷ []))) c.advanced-counts.result c.put_role_line.new.out.items) (sym ls)
             (subst (λ (os : List (List ℕ)). AreLinesListed h.0 typings (written_in pairs ++ c.in-Some.line.now ∷ []) os c.advanced-counts.result c.put_role_line.new.out.items) (sym owns)
-            (line_listed h.0 typings (written_in pairs) (own_in pairs) c.in-Some.line.now c.in-Some.own.now (known_names c.in_ok-names-2.names) c.loop-index.counts c.advanced-counts.result c.loop-index.out.items c.put_role_line.new.out.items c.in_ok-says.says (pairs_length pairs)
+            (line_listed h.0 typings (written_in pairs) (own_in pairs) c.in-Some.line.now c.in-Some.own.now (known_names c.read.new.self) c.loop-index.counts c.advanced-counts.result c.loop-index.out.items c.put_role_line.new.out.items c.in_ok-says.says (pairs_length pairs)
             h.3 (λ k low. read.1 k low ∙ ap (λ (n : ℕ). h.0 n k) number) c.in_ok-says.ensures c.in_ok-put_role_line.ensures c.advanced-counts.ensures)),
       );
     }

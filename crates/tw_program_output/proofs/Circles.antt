@@ -1,0 +1,32 @@
+-- The line of the call that leads back to its own procedure.
+use Rattle.std.proofs.Common.{◌≡◌, ◌∙◌, ◌⊎◌, ℕ, List, Option, Some, None, ap, sym, subst, inl, inr}
+use Rattle.std.specs.Option.{option_and_then}
+use Rattle.std.specs.Prelude.{slice_get}
+use Rattle.tw_asm.specs.Origins.{instr_at}
+use Rattle.tw_code.specs.declared.instr.Action.{Action}
+use Rattle.tw_code.specs.declared.instr.Instr.{Instr}
+use Rattle.tw_code.specs.declared.instr.Instr.TheVariants as instr
+use Rattle.tw_code.specs.declared.procedure.Procedure.{Procedure}
+use Rattle.tw_bounds.specs.Circles.{IsCircle}
+use Rattle.tw_bounds.specs.declared.circles.Circle.{Circle}
+use Rattle.tw_program_output.specs.Source.{MayBeSource, MayBeSourceAt}
+use Rattle.tw_program_output.specs.declared.source.SourceText.{SourceText}
+
+some_there : (program : List Procedure) (k place : ℕ) (p : Procedure) (i : Instr) → slice_get program k ≡ Some p → slice_get p.code place ≡ Some i → instr_at program k place ≡ None → ⊥
+some_there program k place p i here there none =
+    let found : instr_at program k place ≡ Some i = ap (λ (o : Option Procedure). option_and_then (λ (q : Procedure). slice_get q.code place) o) here ∙ there in
+    let both : Some i ≡ None = sym found ∙ none in
+    cc
+
+called_there : (program : List Procedure) (k place : ℕ) (p : Procedure) (action : Action) → slice_get program k ≡ Some p → ((slice_get p.code place ≡ Some (instr.Rule action)) ⊎ (slice_get p.code place ≡ Some (instr.Put action))) → instr_at program k place ≡ None → ⊥
+called_there program k place p action here (inl rule) = some_there program k place p (instr.Rule action) here rule
+called_there program k place p action here (inr put) = some_there program k place p (instr.Put action) here put
+
+circle_there : (program : List Procedure) (circle : Circle) → IsCircle program circle → instr_at program circle.procedure circle.place ≡ None → ⊥
+circle_there program circle is =
+    let call = is.call in
+    subst (λ (n : ℕ). instr_at program circle.procedure n ≡ None → ⊥) is.at (called_there program circle.procedure call.1 call.0 call.2 call.3 call.4)
+
+pub source_at : (source : Option SourceText) (program : List Procedure) (circle : Circle) → MayBeSource source program → IsCircle program circle → MayBeSourceAt source program circle.procedure circle.place
+source_at None program circle h is = tt
+source_at (Some source) program circle h is = (h.1, circle_there program circle is, h.3)

@@ -1,0 +1,154 @@
+//! Rejects programs whose bounds are above a cap.
+
+ghost use Rattle.std.specs.Prelude.{◌≡◌, ◌++◌, [], true, IfOk, OnOk, codes};
+ghost use Rattle.tw_program_output.specs.Admission.{AreExcessLines, StaysWithinCaps, excess, excess_bound, excess_line, excess_lines, has_cap, is_within};
+ghost use Rattle.tw_program_output.specs.Reply.{reply};
+
+use crate::close::Close;
+use crate::reply::{Reply, refused_by};
+use std::alloc::{AllocError, Global};
+use tw_bounds::{Bound, LimitedBounds, largest_budget, least_bounds};
+use tw_cli::{Caps, EventLimit};
+use tw_lexer::{put, put_numbered};
+use tw_verify::Verified;
+
+/// Returns whether a bound is at most a cap.
+fn is_within(bound: Bound, most: u64) -> bool
+    ensures { result ≡ is_within bound most }
+{
+    match bound {
+        Bound::AtMost(number) => number <= most,
+        Bound::Over | Bound::Endless => u64::MAX <= most,
+    }
+}
+
+/// Adds a bound that is above its cap.
+fn put_excess_bound(alloc: Global, out: &mut Vec<u8>, bound: Bound) -> Result<(), AllocError>
+    ensures { OnOk result (out.new.items ≡ out.old.items ++ excess_bound bound) }
+{
+    match bound {
+        Bound::AtMost(number) => put_numbered(alloc, out, "bound ", number as usize),
+        Bound::Over => put(out, "bound over 1000000000000"),
+        Bound::Endless => put(out, "no bound"),
+    }
+}
+
+/// Adds the line for a bound that is above its cap.
+fn put_excess_line(
+    alloc: Global,
+    out: &mut Vec<u8>,
+    kind: &str,
+    bound: Bound,
+    most: u64,
+) -> Result<(), AllocError>
+    ensures { OnOk result (out.new.items ≡ out.old.items ++ excess_line kind.now bound most) }
+{
+    put(out, kind)?;
+    put(out, ": ")?;
+    put_excess_bound(alloc, out, bound)?;
+    put_numbered(alloc, out, ", at most ", most as usize)?;
+    put(out, "\n")
+}
+
+/// Adds the line for a bound, if it is above its cap.
+fn put_excess(
+    alloc: Global,
+    out: &mut Vec<u8>,
+    kind: &str,
+    bound: Bound,
+    most: u64,
+) -> Result<(), AllocError>
+    ensures { OnOk result (out.new.items ≡ out.old.items ++ excess kind.now bound most) }
+{
+    if is_within(bound, most) {
+        Ok(())
+    } else {
+        put_excess_line(alloc, out, kind, bound, most)
+    }
+}
+
+/// Adds the lines for the bounds that are above their caps.
+fn put_excess_lines(
+    alloc: Global,
+    out: &mut Vec<u8>,
+    caps: Caps,
+    bounds: LimitedBounds,
+    budget: u64,
+) -> Result<(), AllocError>
+    ensures { OnOk result (out.new.items ≡ out.old.items ++ excess_lines caps bounds budget) }
+{
+    put_excess(alloc, out, "tasks", bounds.tasks, caps.tasks)?;
+    put_excess(
+        alloc,
+        out,
+        "instructions",
+        bounds.instructions,
+        caps.instructions,
+    )?;
+    put_excess(alloc, out, "data", bounds.data, caps.data)?;
+    put_excess(alloc, out, "budget", Bound::AtMost(budget), caps.budget)
+}
+
+/// Returns whether a cap is given.
+fn has_cap(caps: Caps) -> bool
+    ensures { result ≡ has_cap caps }
+{
+    caps.tasks < u64::MAX
+        || caps.instructions < u64::MAX
+        || caps.data < u64::MAX
+        || caps.budget < u64::MAX
+}
+
+/// Returns the limit as a number of events.
+fn events_in(limit: Option<EventLimit>) -> Option<u32>
+    ensures { result ≡ limit }
+{
+    match limit {
+        Some(most) => Some(most.events() as u32),
+        None => None,
+    }
+}
+
+/// Returns the lines for the bounds of the program that are above their caps.
+fn capped_text(
+    alloc: Global,
+    verified: &Verified,
+    limit: Option<EventLimit>,
+    caps: Caps,
+) -> Result<Vec<u8>, AllocError>
+    ensures lines { IfOk result (λ text. AreExcessLines true verified.now.program limit caps text.items) }
+    ensures admitted { IfOk result (λ text. text.items ≡ [] → StaysWithinCaps verified.now.program limit caps) }
+{
+    let bounds = least_bounds(alloc, verified, events_in(limit))?;
+    let mut text = Vec::new(alloc);
+    put_excess_lines(alloc, &mut text, caps, bounds, largest_budget(verified))?;
+    Ok(text)
+}
+
+/// Returns the lines for the bounds of the program that are above their caps, if a cap is given. The program is admitted if there are
+/// none.
+pub fn excess_text(
+    alloc: Global,
+    verified: &Verified,
+    limit: Option<EventLimit>,
+    caps: Caps,
+) -> Result<Vec<u8>, AllocError>
+    ensures lines { IfOk result (λ text. AreExcessLines (has_cap caps) verified.now.program limit caps text.items) }
+    ensures admitted { IfOk result (λ text. text.items ≡ [] → StaysWithinCaps verified.now.program limit caps) }
+{
+    if has_cap(caps) {
+        capped_text(alloc, verified, limit, caps)
+    } else {
+        Ok(Vec::new(alloc))
+    }
+}
+
+/// Returns the reply to a program that isn't admitted, with these lines.
+pub fn excess_reply(alloc: Global, lines: &[u8]) -> Result<Reply, AllocError>
+    ensures { IfOk result (λ r. reply r.text.items r.close ≡ reply (codes "refused O07\n" ++ lines.now) Close.Refused) }
+{
+    let mut text = Vec::new(alloc);
+    put(&mut text, "refused O07\n")?;
+    text.extend_from_slice(lines)?;
+    Ok(refused_by(text))
+}
