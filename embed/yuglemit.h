@@ -25,7 +25,7 @@ extern "C" {
 #endif
 
 /* The version: 1,000,000 times major, 1,000 times minor, and patch. The call returns that of the library. */
-#define YUGLEMIT_VERSION_NUMBER 13000
+#define YUGLEMIT_VERSION_NUMBER 14000
 uint32_t yuglemit_version(void);
 
 /* Writes the output of the command `tw` with these arguments and this input; `tw --help` lists the arguments. All are UTF-8, and each ends
@@ -69,6 +69,7 @@ void yuglemit_verify(const uint8_t *bytes, size_t length, yuglemit_verdict *verd
 enum {
     YUGLEMIT_DONE = 0,
     YUGLEMIT_NO_CONTAINER = 'C', /* the handle is empty or holds something else, or a container of other types */
+    YUGLEMIT_NO_END = 'E',     /* the run was stopped, or memory ran out, so it has no JSON line */
     YUGLEMIT_NO_STOP = 'F',    /* the handle of a stop flag is empty or holds something else */
     YUGLEMIT_NO_INPUTS = 'I',  /* the handle of inputs holds something else */
     YUGLEMIT_NO_LAYOUT = 'L',  /* engines and servers are 1 to 4, workers 1 to 16 */
@@ -79,6 +80,7 @@ enum {
     YUGLEMIT_NO_ROOM = 'S',    /* the buffer is shorter than the text */
     YUGLEMIT_NO_TEXT = 'T',    /* the value isn't a text */
     YUGLEMIT_NO_UTF8 = 'U',    /* the bytes aren't UTF-8 */
+    YUGLEMIT_NO_STRING = 'W',  /* the handle of a text is empty or holds something else */
     YUGLEMIT_NO_INDEX = 'X'    /* there is none of this index */
 };
 
@@ -87,6 +89,7 @@ typedef struct yuglemit_inputs { void *at; } yuglemit_inputs;
 typedef struct yuglemit_report { void *at; } yuglemit_report;
 typedef struct yuglemit_container { void *at; } yuglemit_container;
 typedef struct yuglemit_stop { void *at; } yuglemit_stop;
+typedef struct yuglemit_text { void *at; } yuglemit_text;
 
 /* Decodes and verifies the bytes of a program. If verdict->letter is 0, the handle holds the program; else it is as it was. */
 void yuglemit_load(const uint8_t *bytes, size_t length, yuglemit_program *program, yuglemit_verdict *verdict);
@@ -111,6 +114,30 @@ uint8_t yuglemit_program_procedures(yuglemit_program *program, size_t *count);
 
 /* Writes the most instructions that one task of a procedure executes. */
 uint8_t yuglemit_program_budget(yuglemit_program *program, size_t procedure, uint64_t *budget);
+
+typedef struct yuglemit_procedure {
+    size_t parameters; /* their number */
+    uint8_t kind;      /* 'c' control; 'l' leaf */
+} yuglemit_procedure;
+
+typedef struct yuglemit_parameter {
+    uint8_t mode;      /* 'v' a value; 'c' a read right on a closed datum; 'r' a read right; 'w' a write right */
+    uint8_t depth;     /* the number of containers around the scalar */
+    uint8_t scalar;    /* 'i' an integer; 't' a text */
+    uint8_t by;        /* the subscripts of the outermost container: 'i', 't', or 0 if there is none */
+    uint8_t by_second; /* likewise of the containers in it */
+    uint8_t by_third;  /* and of those in these */
+} yuglemit_parameter;
+
+/* How many actors a run needs at least. It always needs an engine and a server. */
+typedef struct yuglemit_needs { uint8_t engines, workers; } yuglemit_needs;
+
+uint8_t yuglemit_program_procedure(yuglemit_program *program, size_t procedure, yuglemit_procedure *found);
+uint8_t yuglemit_program_parameter(yuglemit_program *program, size_t procedure, size_t index, yuglemit_parameter *found);
+uint8_t yuglemit_program_needs(yuglemit_program *program, yuglemit_needs *needs);
+
+/* Finds the name that an assembly text gives the procedure of this number. The name is empty if the text gives none. */
+uint8_t yuglemit_source_name(const uint8_t *source, size_t length, size_t procedure, yuglemit_text *name);
 
 /* Append an input, by the order of main's parameters. An empty handle has no input; a run doesn't change it. A text is copied. Inputs that
  * don't fit main are refused by the run; a text that is longer than 4,096 bytes is one of them. */
@@ -182,12 +209,26 @@ uint8_t yuglemit_report_text(yuglemit_report *report, size_t output, uint8_t *ro
 uint8_t yuglemit_report_member_text(yuglemit_report *report, size_t output, size_t place, uint8_t *room, size_t room_length);
 uint8_t yuglemit_report_subscript_text(yuglemit_report *report, size_t output, size_t place, uint8_t *room, size_t room_length);
 
+/* Writes how many instructions the run executed; UINT64_MAX if they were more. */
+uint8_t yuglemit_report_instructions(yuglemit_report *report, uint64_t *count);
+
+/* Print a report as `tw run` prints that of a program's bytes, the events as `tw run --trace` does, and the line of `tw run --json`. The handle
+ * of the text holds what is printed. The run isn't made again. */
+uint8_t yuglemit_print_report(yuglemit_report *report, yuglemit_text *text);
+uint8_t yuglemit_print_trace(yuglemit_report *report, yuglemit_text *text);
+uint8_t yuglemit_print_json(yuglemit_report *report, yuglemit_text *text);
+
+/* Write the length of a text in bytes, and the text to the start of `room`, if it fits; the rest of `room` stays. */
+uint8_t yuglemit_text_length(yuglemit_text *text, size_t *length);
+uint8_t yuglemit_text_copy(yuglemit_text *text, uint8_t *room, size_t room_length);
+
 /* Free what a handle holds; an empty one is allowed. The handle isn't used after that. */
 void yuglemit_program_free(yuglemit_program program);
 void yuglemit_inputs_free(yuglemit_inputs inputs);
 void yuglemit_container_free(yuglemit_container container);
 void yuglemit_stop_free(yuglemit_stop stop);
 void yuglemit_report_free(yuglemit_report report);
+void yuglemit_text_free(yuglemit_text text);
 
 #ifdef __cplusplus
 }

@@ -1,12 +1,11 @@
-//! Exports the calls of `tw_handles`.
+//! Exports the calls of `tw_handles` that load and run programs.
 
 ghost use Rattle.std.specs.Prelude.{◌≡◌};
 ghost use Rattle.tw_handles.specs.Asking.{IsBudgetOf, IsCountOf, IsShared};
 ghost use Rattle.tw_handles.specs.Containers.{IsBegun, IsContainerAdded, IsMemberAdded, WithText, container_in, empty_by};
 ghost use Rattle.tw_handles.specs.Loading.{IsLoaded, IsSourceLoaded};
-ghost use Rattle.tw_handles.specs.Members.{IsMember, IsMemberText, IsSubscriptText};
-ghost use Rattle.tw_handles.specs.Reading.{IsEnding, IsOutput, IsOutputText};
 ghost use Rattle.tw_handles.specs.Running.{IsAdded, IsRun};
+ghost use Rattle.tw_handles.specs.Shape.{AreNeeds, IsNameRead, IsParameter, IsSection};
 ghost use Rattle.tw_handles.specs.Stops.{IsRaised, IsStopMade, IsStopShared};
 ghost use Rattle.tw_handles.specs.declared.container.NewMember.TheVariants as member;
 ghost use Rattle.tw_verdict.specs.Format.{format_of};
@@ -14,7 +13,7 @@ ghost use Rattle.tw_verdict.specs.Verdict.{IsVerdict};
 ghost use Rattle.tw_types.specs.declared.input.Input.TheVariants as input;
 
 use std::alloc::Global;
-use tw_handles::{Ending, Handle, Item, Member, Options, SourceVerdict, Verdict};
+use tw_handles::{Handle, Needs, Options, Parameter, Section, SourceVerdict, Verdict};
 
 /// Exports `tw_handles::load`.
 #[unsafe(no_mangle)]
@@ -82,6 +81,61 @@ pub extern "C" fn yuglemit_program_budget(
     ensures is { IsBudgetOf program.old.held procedure budget.old budget.new result }
 {
     tw_handles::budget(alloc, program, procedure, budget)
+}
+
+/// Exports `tw_handles::describe_procedure`.
+#[unsafe(no_mangle)]
+pub extern "C" fn yuglemit_program_procedure(
+    alloc: Global,
+    program: &mut Handle,
+    procedure: usize,
+    section: &mut Section,
+) -> u8
+    ensures kept { program.new.held ≡ program.old.held }
+    ensures is { IsSection program.old.held procedure section.old section.new result }
+{
+    tw_handles::describe_procedure(alloc, program, procedure, section)
+}
+
+/// Exports `tw_handles::describe_parameter`.
+#[unsafe(no_mangle)]
+pub extern "C" fn yuglemit_program_parameter(
+    alloc: Global,
+    program: &mut Handle,
+    procedure: usize,
+    index: usize,
+    parameter: &mut Parameter,
+) -> u8
+    ensures kept { program.new.held ≡ program.old.held }
+    ensures is { IsParameter program.old.held procedure index parameter.old parameter.new result }
+{
+    tw_handles::describe_parameter(alloc, program, procedure, index, parameter)
+}
+
+/// Exports `tw_handles::read_needs`.
+#[unsafe(no_mangle)]
+pub extern "C" fn yuglemit_program_needs(
+    alloc: Global,
+    program: &mut Handle,
+    needs: &mut Needs,
+) -> u8
+    ensures kept { program.new.held ≡ program.old.held }
+    ensures is { AreNeeds program.old.held needs.old needs.new result }
+{
+    tw_handles::read_needs(alloc, program, needs)
+}
+
+/// Exports `tw_handles::source_name`.
+#[unsafe(no_mangle)]
+pub extern "C" fn yuglemit_source_name(
+    alloc: Global,
+    source: &[u8],
+    procedure: usize,
+    text: &mut Handle,
+) -> u8
+    ensures { IsNameRead source.now procedure text.old.held text.new.held result }
+{
+    tw_handles::source_name(alloc, source, procedure, text)
 }
 
 /// Exports `tw_handles::input_int`.
@@ -230,92 +284,6 @@ pub extern "C" fn yuglemit_run(
     tw_handles::run(alloc, program, inputs, options, stop, report)
 }
 
-/// Exports `tw_handles::report_ending`.
-#[unsafe(no_mangle)]
-pub extern "C" fn yuglemit_report_ending(
-    alloc: Global,
-    report: &mut Handle,
-    ending: &mut Ending,
-) -> u8
-    ensures kept { report.new.held ≡ report.old.held }
-    ensures is { IsEnding report.old.held ending.old ending.new result }
-{
-    tw_handles::report_ending(alloc, report, ending)
-}
-
-/// Exports `tw_handles::output`.
-#[unsafe(no_mangle)]
-pub extern "C" fn yuglemit_report_output(
-    alloc: Global,
-    report: &mut Handle,
-    index: usize,
-    item: &mut Item,
-) -> u8
-    ensures kept { report.new.held ≡ report.old.held }
-    ensures is { IsOutput report.old.held index item.old item.new result }
-{
-    tw_handles::output(alloc, report, index, item)
-}
-
-/// Exports `tw_handles::output_text`.
-#[unsafe(no_mangle)]
-pub extern "C" fn yuglemit_report_text(
-    alloc: Global,
-    report: &mut Handle,
-    index: usize,
-    room: &mut [u8],
-) -> u8
-    ensures kept { report.new.held ≡ report.old.held }
-    ensures is { IsOutputText report.old.held index room.old room.new result }
-{
-    tw_handles::output_text(alloc, report, index, room)
-}
-
-/// Exports `tw_handles::output_member`.
-#[unsafe(no_mangle)]
-pub extern "C" fn yuglemit_report_member(
-    alloc: Global,
-    report: &mut Handle,
-    index: usize,
-    place: usize,
-    member: &mut Member,
-) -> u8
-    ensures kept { report.new.held ≡ report.old.held }
-    ensures is { IsMember report.old.held index place member.old member.new result }
-{
-    tw_handles::output_member(alloc, report, index, place, member)
-}
-
-/// Exports `tw_handles::member_text`.
-#[unsafe(no_mangle)]
-pub extern "C" fn yuglemit_report_member_text(
-    alloc: Global,
-    report: &mut Handle,
-    index: usize,
-    place: usize,
-    room: &mut [u8],
-) -> u8
-    ensures kept { report.new.held ≡ report.old.held }
-    ensures is { IsMemberText report.old.held index place room.old room.new result }
-{
-    tw_handles::member_text(alloc, report, index, place, room)
-}
-
-/// Exports `tw_handles::subscript_text`.
-#[unsafe(no_mangle)]
-pub extern "C" fn yuglemit_report_subscript_text(
-    alloc: Global,
-    report: &mut Handle,
-    index: usize,
-    place: usize,
-    room: &mut [u8],
-) -> u8
-    ensures kept { report.new.held ≡ report.old.held }
-    ensures is { IsSubscriptText report.old.held index place room.old room.new result }
-{
-    tw_handles::subscript_text(alloc, report, index, place, room)
-}
-
 /// Frees the contents of a program's handle.
 #[unsafe(no_mangle)]
 pub extern "C" fn yuglemit_program_free(program: Handle) {
@@ -338,10 +306,4 @@ pub extern "C" fn yuglemit_container_free(container: Handle) {
 #[unsafe(no_mangle)]
 pub extern "C" fn yuglemit_stop_free(stop: Handle) {
     stop.drop();
-}
-
-/// Frees the contents of a report's handle.
-#[unsafe(no_mangle)]
-pub extern "C" fn yuglemit_report_free(report: Handle) {
-    report.drop();
 }

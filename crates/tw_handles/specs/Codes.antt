@@ -51,3 +51,11 @@ no_room = 83
 -- the letter T
 abbrev pub no_text : ℕ
 no_text = 84
+
+-- E
+abbrev pub no_end : ℕ
+no_end = 69
+
+-- W
+abbrev pub no_string : ℕ
+no_string = 87

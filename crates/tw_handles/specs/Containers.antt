@@ -11,7 +11,7 @@ use Rattle.tw_handles.specs.declared.container.Container.TheVariants.{Ints, Text
 use Rattle.tw_handles.specs.declared.container.NewMember.{NewMember}
 use Rattle.tw_handles.specs.declared.container.NewMember.TheVariants as member
 use Rattle.tw_handles.specs.declared.held.Held.{Held}
-use Rattle.tw_handles.specs.declared.held.Held.TheVariants.{Program, Inputs, Container, Report, Stop}
+use Rattle.tw_handles.specs.declared.held.Held.TheVariants.{Program, Inputs, Container, Report, Stop, Text}
 
 -- the input that it is to be
 abbrev pub input_of : container.Container → Input
@@ -34,6 +34,7 @@ container_in (Some (Inputs inputs)) = None
 container_in (Some (Container members)) = Some (input_of members)
 container_in (Some (Report left)) = None
 container_in (Some (Stop flag)) = None
+container_in (Some (Text text)) = None
 
 -- the handle holds this container, or an allocation failed
 abbrev pub IsBegun : Input → Option Held → Option Held → ℕ → Type 0

@@ -12,7 +12,11 @@ pub mod Members
 pub mod Reading
 -- Inputs and runs.
 pub mod Running
+-- Procedures and parameters of a loaded program.
+pub mod Shape
 -- The memory of a handle.
 pub mod Slot
 -- Stop flags.
 pub mod Stops
+-- Texts of reports and sources.
+pub mod Texts

@@ -10,7 +10,7 @@ use Rattle.tw_verdict.specs.declared.format.Format.{Format}
 use Rattle.tw_verdict.specs.declared.text.SourceVerdict.{SourceVerdict}
 use Rattle.tw_verify.specs.Typed.{TypedProgram}
 use Rattle.tw_handles.specs.declared.held.Held.{Held}
-use Rattle.tw_handles.specs.declared.held.Held.TheVariants.{Program, Inputs, Container, Report, Stop}
+use Rattle.tw_handles.specs.declared.held.Held.TheVariants.{Program, Inputs, Container, Report, Stop, Text}
 
 -- returns the loaded program of a handle
 abbrev pub program_in : Option Held → Option TypedProgram
@@ -20,6 +20,7 @@ program_in (Some (Inputs inputs)) = None
 program_in (Some (Container container)) = None
 program_in (Some (Report left)) = None
 program_in (Some (Stop flag)) = None
+program_in (Some (Text text)) = None
 
 -- returns the inputs of a handle; a null handle has no inputs
 abbrev pub inputs_in : Option Held → Option (List Input)
@@ -29,6 +30,7 @@ inputs_in (Some (Inputs inputs)) = Some inputs.items
 inputs_in (Some (Container container)) = None
 inputs_in (Some (Report left)) = None
 inputs_in (Some (Stop flag)) = None
+inputs_in (Some (Text text)) = None
 
 -- returns the result of a run, from a report's handle
 abbrev pub report_in : Option Held → Option StoppableResult
@@ -38,6 +40,7 @@ report_in (Some (Inputs inputs)) = None
 report_in (Some (Container container)) = None
 report_in (Some (Report left)) = Some left
 report_in (Some (Stop flag)) = None
+report_in (Some (Text text)) = None
 
 -- whether there is a stop flag; a null handle is none
 abbrev pub stop_in : Option Held → Option Bool
@@ -47,6 +50,7 @@ stop_in (Some (Inputs inputs)) = None
 stop_in (Some (Container container)) = None
 stop_in (Some (Report left)) = None
 stop_in (Some (Stop flag)) = Some true
+stop_in (Some (Text text)) = None
 
 -- holds if the handle holds the program of the bytes and the letter is 0, or the contents are unchanged
 abbrev pub IsLoaded : List ℕ → Option Held → Option Held → ℕ → Type 0

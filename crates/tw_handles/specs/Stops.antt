@@ -3,7 +3,7 @@ use Rattle.std.specs.Prelude.{◌≡◌, ◌⊎◌, ℕ, true, Option, Some, Non
 use Rattle.tw_handles.specs.Asking.{Fails}
 use Rattle.tw_handles.specs.Codes.{done, no_memory, no_stop}
 use Rattle.tw_handles.specs.declared.held.Held.{Held}
-use Rattle.tw_handles.specs.declared.held.Held.TheVariants.{Program, Inputs, Container, Report, Stop}
+use Rattle.tw_handles.specs.declared.held.Held.TheVariants.{Program, Inputs, Container, Report, Stop, Text}
 use Rattle.tw_handles.specs.Loading.{stop_in}
 
 -- the handle holds a flag, or an allocation failed
@@ -18,6 +18,7 @@ WithFlag (Some (Inputs inputs)) Without With = Without
 WithFlag (Some (Container container)) Without With = Without
 WithFlag (Some (Report left)) Without With = Without
 WithFlag (Some (Stop flag)) Without With = With
+WithFlag (Some (Text text)) Without With = Without
 
 -- the other handle holds a flag too
 abbrev pub IsStopShared : Option Held → Option Held → Option Held → ℕ → Type 0

@@ -4,6 +4,8 @@
 pub(crate) const DONE: u8 = 0;
 /// The handle holds no container, or one of other types.
 pub(crate) const NO_CONTAINER: u8 = b'C';
+/// The run has no end: it was stopped, or memory ran out.
+pub(crate) const NO_END: u8 = b'E';
 /// The handle holds no stop flag.
 pub(crate) const NO_STOP: u8 = b'F';
 /// The handle holds a program or a report, not inputs.
@@ -26,3 +28,5 @@ pub(crate) const NO_TEXT: u8 = b'T';
 pub(crate) const NO_UTF8: u8 = b'U';
 /// There is no item with this index.
 pub(crate) const NO_INDEX: u8 = b'X';
+/// The handle holds no text.
+pub(crate) const NO_STRING: u8 = b'W';

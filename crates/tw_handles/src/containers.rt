@@ -31,7 +31,8 @@ fn add_held(held: &mut Held, member: NewMember) -> u8
 {
     match held {
         Held::Container(container) => container.push(member),
-        Held::Program(_) | Held::Inputs(_) | Held::Report(_) | Held::Stop(_) => codes::NO_CONTAINER,
+        Held::Program(_) | Held::Inputs(_) | Held::Report(_) | Held::Stop(_) | Held::Text(_) =>
+            codes::NO_CONTAINER,
     }
 }
 
@@ -102,7 +103,8 @@ fn move_into(alloc: Global, inputs: &mut Held, container: &mut Container) -> u8
             Ok(()) => codes::DONE,
             Err(_) => codes::NO_MEMORY,
         },
-        Held::Program(_) | Held::Container(_) | Held::Report(_) | Held::Stop(_) => codes::NO_INPUTS,
+        Held::Program(_) | Held::Container(_) | Held::Report(_) | Held::Stop(_) | Held::Text(_) =>
+            codes::NO_INPUTS,
     }
 }
 
@@ -122,7 +124,8 @@ fn move_held(alloc: Global, inputs: &mut Handle, held: &mut Held) -> u8
 {
     match held {
         Held::Container(container) => move_container(alloc, inputs, container),
-        Held::Program(_) | Held::Inputs(_) | Held::Report(_) | Held::Stop(_) => codes::NO_CONTAINER,
+        Held::Program(_) | Held::Inputs(_) | Held::Report(_) | Held::Stop(_) | Held::Text(_) =>
+            codes::NO_CONTAINER,
     }
 }
 

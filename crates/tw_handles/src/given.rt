@@ -45,7 +45,8 @@ fn add_held(held: &mut Held, input: Input) -> u8
             Ok(()) => codes::DONE,
             Err(_) => codes::NO_MEMORY,
         },
-        Held::Program(_) | Held::Container(_) | Held::Report(_) | Held::Stop(_) => codes::NO_INPUTS,
+        Held::Program(_) | Held::Container(_) | Held::Report(_) | Held::Stop(_) | Held::Text(_) =>
+            codes::NO_INPUTS,
     }
 }
 

@@ -7,7 +7,7 @@ use tw_in_turn::StoppableResult;
 use tw_types::Input;
 use tw_verify::Verified;
 
-/// A loaded program, the inputs of a run, a container among them, the report of a run, or a stop flag.
+/// A loaded program, the inputs of a run, a container among them, the report of a run, a stop flag, or a text.
 #[derive(Drop)]
 pub enum Held {
     /// An accepted program, shared by all handles that `share` made from one.
@@ -20,4 +20,6 @@ pub enum Held {
     Report(StoppableResult),
     /// A stop flag, shared by its handles: a number other than 0 stops a run.
     Stop(Arc<AtomicU32>),
+    /// A text that a call made.
+    Text(Vec<u8>),
 }

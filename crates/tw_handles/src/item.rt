@@ -28,7 +28,7 @@ pub struct Item {
 }
 
 /// Returns the letter of a scalar type.
-fn letter_of(ty: Scalar) -> u8
+pub(crate) fn letter_of(ty: Scalar) -> u8
     ensures { result ≡ letter_of_type ty }
 {
     match ty {
@@ -141,7 +141,7 @@ pub(crate) fn value_of(datum: Option<&Datum>) -> Option<&Value>
 }
 
 /// Writes a text to the start of a buffer, or returns `NO_ROOM` if it doesn't fit.
-fn fill(text: &[u8], room: &mut [u8]) -> u8
+pub(crate) fn fill(text: &[u8], room: &mut [u8]) -> u8
     ensures { IsFilled text.now room.old room.new result }
 {
     let length = text.len();

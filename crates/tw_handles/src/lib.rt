@@ -11,10 +11,13 @@ mod item;
 mod loading;
 mod loose;
 mod members;
+mod printing;
 mod program;
 mod report;
 mod running;
+mod shape;
 mod stopping;
+mod texts;
 
 pub use containers::{
     container_new, input_container, put_int, put_int_by_text, put_text, put_text_by_text,
@@ -24,8 +27,13 @@ pub use handle::Handle;
 pub use item::Item;
 pub use loading::{load, load_source};
 pub use members::{Member, member_text, output_member, subscript_text};
+pub use printing::{instructions, print_json, print_report, print_trace};
 pub use program::{budget, procedures, share};
 pub use report::{Ending, output, output_text, report_ending};
 pub use running::{Options, run};
+pub use shape::{
+    Needs, Parameter, Section, describe_parameter, describe_procedure, read_needs, source_name,
+};
 pub use stopping::{stop_lower, stop_new, stop_raise, stop_share};
+pub use texts::{text_copy, text_length};
 pub use tw_verdict::{SourceVerdict, Verdict};

@@ -55,7 +55,8 @@ fn member_held(held: &Held, index: usize, place: usize, member: &mut Member) -> 
 {
     match held {
         Held::Report(left) => member_in(final_of(left), index, place, member),
-        Held::Program(_) | Held::Inputs(_) | Held::Stop(_) | Held::Container(_) => codes::NO_REPORT,
+        Held::Program(_) | Held::Inputs(_) | Held::Stop(_) | Held::Container(_) | Held::Text(_) =>
+            codes::NO_REPORT,
     }
 }
 
@@ -92,7 +93,8 @@ fn member_text_held(held: &Held, index: usize, place: usize, room: &mut [u8]) ->
 {
     match held {
         Held::Report(left) => member_text_in(final_of(left), index, place, room),
-        Held::Program(_) | Held::Inputs(_) | Held::Stop(_) | Held::Container(_) => codes::NO_REPORT,
+        Held::Program(_) | Held::Inputs(_) | Held::Stop(_) | Held::Container(_) | Held::Text(_) =>
+            codes::NO_REPORT,
     }
 }
 
@@ -129,7 +131,8 @@ fn subscript_text_held(held: &Held, index: usize, place: usize, room: &mut [u8])
 {
     match held {
         Held::Report(left) => subscript_text_in(final_of(left), index, place, room),
-        Held::Program(_) | Held::Inputs(_) | Held::Stop(_) | Held::Container(_) => codes::NO_REPORT,
+        Held::Program(_) | Held::Inputs(_) | Held::Stop(_) | Held::Container(_) | Held::Text(_) =>
+            codes::NO_REPORT,
     }
 }
 

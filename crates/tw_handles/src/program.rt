@@ -32,7 +32,8 @@ fn share_held(alloc: Global, held: &Held, other: &mut Handle) -> u8
 {
     match held {
         Held::Program(verified) => share_program(alloc, verified, other),
-        Held::Inputs(_) | Held::Report(_) | Held::Stop(_) | Held::Container(_) => codes::NO_PROGRAM,
+        Held::Inputs(_) | Held::Report(_) | Held::Stop(_) | Held::Container(_) | Held::Text(_) =>
+            codes::NO_PROGRAM,
     }
 }
 
@@ -66,7 +67,8 @@ fn budget_held(held: &Held, procedure: usize, budget: &mut u64) -> u8
 {
     match held {
         Held::Program(verified) => budget_in(verified, procedure, budget),
-        Held::Inputs(_) | Held::Report(_) | Held::Stop(_) | Held::Container(_) => codes::NO_PROGRAM,
+        Held::Inputs(_) | Held::Report(_) | Held::Stop(_) | Held::Container(_) | Held::Text(_) =>
+            codes::NO_PROGRAM,
     }
 }
 
@@ -92,7 +94,8 @@ fn count_held(held: &Held, count: &mut usize) -> u8
             *count = verified.program().procedures().len();
             codes::DONE
         }
-        Held::Inputs(_) | Held::Report(_) | Held::Stop(_) | Held::Container(_) => codes::NO_PROGRAM,
+        Held::Inputs(_) | Held::Report(_) | Held::Stop(_) | Held::Container(_) | Held::Text(_) =>
+            codes::NO_PROGRAM,
     }
 }
 

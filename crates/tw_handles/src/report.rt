@@ -66,7 +66,7 @@ fn history_in(left: &InTurnResult) -> &History
     }
 }
 
-fn history_of(left: &StoppableResult) -> &History
+pub(crate) fn history_of(left: &StoppableResult) -> &History
     ensures { result.now ≡ history_is left.now }
 {
     match left {
@@ -134,7 +134,8 @@ fn ending_held(held: &Held, ending: &mut Ending) -> u8
             *ending = ending_of(left);
             codes::DONE
         }
-        Held::Program(_) | Held::Inputs(_) | Held::Stop(_) | Held::Container(_) => codes::NO_REPORT,
+        Held::Program(_) | Held::Inputs(_) | Held::Stop(_) | Held::Container(_) | Held::Text(_) =>
+            codes::NO_REPORT,
     }
 }
 
@@ -168,7 +169,8 @@ fn output_held(held: &Held, index: usize, item: &mut Item) -> u8
 {
     match held {
         Held::Report(left) => output_in(final_of(left), index, item),
-        Held::Program(_) | Held::Inputs(_) | Held::Stop(_) | Held::Container(_) => codes::NO_REPORT,
+        Held::Program(_) | Held::Inputs(_) | Held::Stop(_) | Held::Container(_) | Held::Text(_) =>
+            codes::NO_REPORT,
     }
 }
 
@@ -201,7 +203,8 @@ fn text_held(held: &Held, index: usize, room: &mut [u8]) -> u8
 {
     match held {
         Held::Report(left) => text_in(final_of(left), index, room),
-        Held::Program(_) | Held::Inputs(_) | Held::Stop(_) | Held::Container(_) => codes::NO_REPORT,
+        Held::Program(_) | Held::Inputs(_) | Held::Stop(_) | Held::Container(_) | Held::Text(_) =>
+            codes::NO_REPORT,
     }
 }
 

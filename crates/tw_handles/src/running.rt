@@ -83,7 +83,8 @@ fn run_with_held(
 {
     match inputs {
         Held::Inputs(inputs) => run_in(alloc, verified, inputs.as_slice(), options, stop, report),
-        Held::Program(_) | Held::Report(_) | Held::Stop(_) | Held::Container(_) => codes::NO_INPUTS,
+        Held::Program(_) | Held::Report(_) | Held::Stop(_) | Held::Container(_) | Held::Text(_) =>
+            codes::NO_INPUTS,
     }
 }
 
@@ -121,7 +122,8 @@ fn run_held(
 {
     match program {
         Held::Program(verified) => run_with(alloc, verified, inputs, options, stop, report),
-        Held::Inputs(_) | Held::Report(_) | Held::Stop(_) | Held::Container(_) => codes::NO_PROGRAM,
+        Held::Inputs(_) | Held::Report(_) | Held::Stop(_) | Held::Container(_) | Held::Text(_) =>
+            codes::NO_PROGRAM,
     }
 }
 
@@ -175,7 +177,8 @@ fn run_until_held(
 {
     match stop {
         Held::Stop(flag) => run_with_flag(alloc, program, inputs, options, flag, report),
-        Held::Program(_) | Held::Inputs(_) | Held::Report(_) | Held::Container(_) => codes::NO_STOP,
+        Held::Program(_) | Held::Inputs(_) | Held::Report(_) | Held::Container(_) | Held::Text(_) =>
+            codes::NO_STOP,
     }
 }
 

@@ -41,7 +41,8 @@ fn share_held(alloc: Global, held: &Held, other: &mut Handle) -> u8
             Ok(copy) => put_flag(alloc, copy, other),
             Err(_) => codes::NO_MEMORY,
         },
-        Held::Program(_) | Held::Inputs(_) | Held::Report(_) | Held::Container(_) => codes::NO_STOP,
+        Held::Program(_) | Held::Inputs(_) | Held::Report(_) | Held::Container(_) | Held::Text(_) =>
+            codes::NO_STOP,
     }
 }
 
@@ -66,7 +67,8 @@ fn set_held(held: &Held, number: u32) -> u8
             flag.store(number, Ordering::SeqCst);
             codes::DONE
         }
-        Held::Program(_) | Held::Inputs(_) | Held::Report(_) | Held::Container(_) => codes::NO_STOP,
+        Held::Program(_) | Held::Inputs(_) | Held::Report(_) | Held::Container(_) | Held::Text(_) =>
+            codes::NO_STOP,
     }
 }
 

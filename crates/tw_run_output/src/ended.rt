@@ -1,6 +1,6 @@
 //! Output of a run that is over.
 
-ghost use Rattle.std.specs.Prelude.{◌≡◌, ◌++◌, ℕ, List, None, Some, IfOk, OnOk, codes, decimal};
+ghost use Rattle.std.specs.Prelude.{◌≡◌, ◌++◌, ℕ, List, None, Some, IfOk, OnOk, codes, decimal, true};
 ghost use Rattle.tw_types.specs.Outcome.{Went};
 ghost use Rattle.tw_code.specs.machine.Bounds.{AreBelow, opening_bound};
 ghost use Rattle.tw_code.specs.machine.Inputs.{AreInputsOf};
@@ -29,7 +29,7 @@ use tw_report::{put, put_event_line, put_numbered};
 use tw_types::Event;
 use tw_verify::Verified;
 
-/// Returns how a session ends after a run that ended so. No run of a session is stopped, but other callers of `report` may have one that was.
+/// Returns how a session ends after a run that ended so. No run of a session is stopped, but the library's caller may have stopped one.
 fn close_of(closing: Closing) -> Close
     ensures { result ≡ close_of closing }
 {
@@ -71,6 +71,15 @@ fn put_trace(
     put(out, "end\n")
 }
 
+/// Returns the trace: a line for each event, between `events` and `end`.
+pub fn trace(alloc: Global, history: &History) -> Result<Vec<u8>, AllocError>
+    ensures { IfOk result (λ text. text.items ≡ trace_text true history.now.events) }
+{
+    let mut text = Vec::new(alloc);
+    put_trace(alloc, &mut text, true, history)?;
+    Ok(text)
+}
+
 fn put_limit_line(alloc: Global, out: &mut Vec<u8>, events: usize) -> Result<(), AllocError>
     ensures { OnOk result (out.new.items ≡ out.old.items ++ (codes "events " ++ (decimal events ++ codes "; --limit takes up to 1000000\n"))) }
 {
@@ -78,7 +87,7 @@ fn put_limit_line(alloc: Global, out: &mut Vec<u8>, events: usize) -> Result<(),
     put(out, "; --limit takes up to 1000000\n")
 }
 
-/// Adds the line after `limit`, if the program was read from a text.
+/// Adds the line after `limit`, if the program was read from a text. A run that was stopped has none: no session has such a run.
 fn put_limit(
     alloc: Global,
     out: &mut Vec<u8>,

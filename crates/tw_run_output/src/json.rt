@@ -57,7 +57,7 @@ fn instructions_by(event: Event) -> u64
 }
 
 /// Returns how many instructions a trace executes.
-fn instructions_in(history: &History) -> u128
+pub fn instructions_in(history: &History) -> u128
     ensures { result ≡ instructions_in history.now.events }
 {
     let mut sum = 0;

@@ -9,4 +9,5 @@ mod json;
 mod run_details;
 
 pub use end_report::{circle, report};
-pub use ended::{ended_reply, events_of};
+pub use ended::{ended_reply, events_of, trace};
+pub use json::{end_line, instructions_in};

@@ -1,0 +1,165 @@
+//! Exports the calls of `tw_handles` that read reports.
+
+ghost use Rattle.std.specs.Prelude.{◌≡◌};
+ghost use Rattle.tw_handles.specs.Members.{IsMember, IsMemberText, IsSubscriptText};
+ghost use Rattle.tw_handles.specs.Reading.{IsEnding, IsOutput, IsOutputText};
+ghost use Rattle.tw_handles.specs.Texts.{IsInstructionCount, IsJsonPrinted, IsReportPrinted, IsTextCopied, IsTextLength, IsTracePrinted};
+
+use std::alloc::Global;
+use tw_handles::{Ending, Handle, Item, Member};
+
+/// Exports `tw_handles::report_ending`.
+#[unsafe(no_mangle)]
+pub extern "C" fn yuglemit_report_ending(
+    alloc: Global,
+    report: &mut Handle,
+    ending: &mut Ending,
+) -> u8
+    ensures kept { report.new.held ≡ report.old.held }
+    ensures is { IsEnding report.old.held ending.old ending.new result }
+{
+    tw_handles::report_ending(alloc, report, ending)
+}
+
+/// Exports `tw_handles::output`.
+#[unsafe(no_mangle)]
+pub extern "C" fn yuglemit_report_output(
+    alloc: Global,
+    report: &mut Handle,
+    index: usize,
+    item: &mut Item,
+) -> u8
+    ensures kept { report.new.held ≡ report.old.held }
+    ensures is { IsOutput report.old.held index item.old item.new result }
+{
+    tw_handles::output(alloc, report, index, item)
+}
+
+/// Exports `tw_handles::output_text`.
+#[unsafe(no_mangle)]
+pub extern "C" fn yuglemit_report_text(
+    alloc: Global,
+    report: &mut Handle,
+    index: usize,
+    room: &mut [u8],
+) -> u8
+    ensures kept { report.new.held ≡ report.old.held }
+    ensures is { IsOutputText report.old.held index room.old room.new result }
+{
+    tw_handles::output_text(alloc, report, index, room)
+}
+
+/// Exports `tw_handles::output_member`.
+#[unsafe(no_mangle)]
+pub extern "C" fn yuglemit_report_member(
+    alloc: Global,
+    report: &mut Handle,
+    index: usize,
+    place: usize,
+    member: &mut Member,
+) -> u8
+    ensures kept { report.new.held ≡ report.old.held }
+    ensures is { IsMember report.old.held index place member.old member.new result }
+{
+    tw_handles::output_member(alloc, report, index, place, member)
+}
+
+/// Exports `tw_handles::member_text`.
+#[unsafe(no_mangle)]
+pub extern "C" fn yuglemit_report_member_text(
+    alloc: Global,
+    report: &mut Handle,
+    index: usize,
+    place: usize,
+    room: &mut [u8],
+) -> u8
+    ensures kept { report.new.held ≡ report.old.held }
+    ensures is { IsMemberText report.old.held index place room.old room.new result }
+{
+    tw_handles::member_text(alloc, report, index, place, room)
+}
+
+/// Exports `tw_handles::subscript_text`.
+#[unsafe(no_mangle)]
+pub extern "C" fn yuglemit_report_subscript_text(
+    alloc: Global,
+    report: &mut Handle,
+    index: usize,
+    place: usize,
+    room: &mut [u8],
+) -> u8
+    ensures kept { report.new.held ≡ report.old.held }
+    ensures is { IsSubscriptText report.old.held index place room.old room.new result }
+{
+    tw_handles::subscript_text(alloc, report, index, place, room)
+}
+
+/// Exports `tw_handles::instructions`.
+#[unsafe(no_mangle)]
+pub extern "C" fn yuglemit_report_instructions(
+    alloc: Global,
+    report: &mut Handle,
+    count: &mut u64,
+) -> u8
+    ensures kept { report.new.held ≡ report.old.held }
+    ensures is { IsInstructionCount report.old.held count.old count.new result }
+{
+    tw_handles::instructions(alloc, report, count)
+}
+
+/// Exports `tw_handles::print_report`.
+#[unsafe(no_mangle)]
+pub extern "C" fn yuglemit_print_report(alloc: Global, report: &mut Handle, text: &mut Handle) -> u8
+    ensures kept { report.new.held ≡ report.old.held }
+    ensures is { IsReportPrinted report.old.held text.old.held text.new.held result }
+{
+    tw_handles::print_report(alloc, report, text)
+}
+
+/// Exports `tw_handles::print_trace`.
+#[unsafe(no_mangle)]
+pub extern "C" fn yuglemit_print_trace(alloc: Global, report: &mut Handle, text: &mut Handle) -> u8
+    ensures kept { report.new.held ≡ report.old.held }
+    ensures is { IsTracePrinted report.old.held text.old.held text.new.held result }
+{
+    tw_handles::print_trace(alloc, report, text)
+}
+
+/// Exports `tw_handles::print_json`.
+#[unsafe(no_mangle)]
+pub extern "C" fn yuglemit_print_json(alloc: Global, report: &mut Handle, text: &mut Handle) -> u8
+    ensures kept { report.new.held ≡ report.old.held }
+    ensures is { IsJsonPrinted report.old.held text.old.held text.new.held result }
+{
+    tw_handles::print_json(alloc, report, text)
+}
+
+/// Exports `tw_handles::text_length`.
+#[unsafe(no_mangle)]
+pub extern "C" fn yuglemit_text_length(alloc: Global, text: &mut Handle, length: &mut usize) -> u8
+    ensures kept { text.new.held ≡ text.old.held }
+    ensures is { IsTextLength text.old.held length.old length.new result }
+{
+    tw_handles::text_length(alloc, text, length)
+}
+
+/// Exports `tw_handles::text_copy`.
+#[unsafe(no_mangle)]
+pub extern "C" fn yuglemit_text_copy(alloc: Global, text: &mut Handle, room: &mut [u8]) -> u8
+    ensures kept { text.new.held ≡ text.old.held }
+    ensures is { IsTextCopied text.old.held room.old room.new result }
+{
+    tw_handles::text_copy(alloc, text, room)
+}
+
+/// Frees the contents of a report's handle.
+#[unsafe(no_mangle)]
+pub extern "C" fn yuglemit_report_free(report: Handle) {
+    report.drop();
+}
+
+/// Frees the contents of a text's handle.
+#[unsafe(no_mangle)]
+pub extern "C" fn yuglemit_text_free(text: Handle) {
+    text.drop();
+}

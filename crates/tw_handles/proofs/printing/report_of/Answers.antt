@@ -1,0 +1,7 @@
+use Rattle.std.proofs.Common.{IfOk, subst}
+use Rattle.tw_pool.specs.Ends.{FinalView}
+use Rattle.tw_run_output.specs.Ends.{IsEndReport}
+use Rattle.tw_handles.proofs.printing.report_of.Goals as goal
+
+pub returns : goal.returns
+returns c = subst (λ (f : FinalView). IfOk c.report.result (λ text. IsEndReport f text.items)) c.final_of.ensures c.report.ensures

@@ -1,0 +1,94 @@
+-- Calls on the procedures of a loaded program: kinds, parameters, names, and the actors that the program needs.
+use Rattle.std.specs.Prelude.{◌≡◌, ◌⊎◌, ℕ, List, IsUtf8, length, slice_get, Option, Some, None, MatchOption, if◌then◌else◌}
+use Rattle.std.specs.Option.{option_and_then}
+use Rattle.tw_code.specs.accepting.Needs.{needed}
+use Rattle.tw_code.specs.declared.procedure.Procedure.{Procedure}
+use Rattle.tw_symbols.specs.Symbols.{AreNames, name_at}
+use Rattle.tw_types.specs.DataType.{depth_of, element_of, is_container_by, is_scalar}
+use Rattle.tw_types.specs.Nesting.{NestedScalar}
+use Rattle.tw_types.specs.declared.actor.Kind.{Kind}
+use Rattle.tw_types.specs.declared.actor.Kind.TheVariants.{Control, Leaf}
+use Rattle.tw_types.specs.declared.data_type.Scalar.TheVariants as scalar
+use Rattle.tw_types.specs.declared.param.Mode.{Mode}
+use Rattle.tw_types.specs.declared.param.Mode.TheVariants.{Val, Closed, Ref, Write}
+use Rattle.tw_types.specs.declared.param.Param.{Param}
+use Rattle.tw_verify.specs.Typed.{TypedProgram}
+use Rattle.tw_handles.specs.Asking.{Fails}
+use Rattle.tw_handles.specs.Codes.{done, no_index, no_program, no_utf8}
+use Rattle.tw_handles.specs.Loading.{program_in}
+use Rattle.tw_handles.specs.Reading.{letter_of}
+use Rattle.tw_handles.specs.Texts.{IsTextMade}
+use Rattle.tw_handles.specs.declared.held.Held.{Held}
+use Rattle.tw_handles.specs.declared.shape.Needs.{Needs}
+use Rattle.tw_handles.specs.declared.shape.Parameter.{Parameter}
+use Rattle.tw_handles.specs.declared.shape.Section.{Section}
+
+-- returns c or l
+abbrev pub kind_letter : Kind → ℕ
+kind_letter Control = 99
+kind_letter Leaf = 108
+
+abbrev pub section_of : Procedure → Section
+section_of p = record { parameters = length p.params; kind = kind_letter p.kind }
+
+-- holds if this is the procedure with this index, or there is none
+abbrev pub IsSectionIn : TypedProgram → ℕ → Section → Section → ℕ → Type 0
+IsSectionIn verified procedure old new code =
+    MatchOption (slice_get verified.program procedure) (Fails no_index old new code) (λ p. (new ≡ section_of p) × (code ≡ done))
+
+abbrev pub IsSection : Option Held → ℕ → Section → Section → ℕ → Type 0
+IsSection held procedure old new code =
+    MatchOption (program_in held) (Fails no_program old new code) (λ verified. IsSectionIn verified procedure old new code)
+
+-- returns v, c, r or w
+abbrev pub mode_letter : Mode → ℕ
+mode_letter Val = 118
+mode_letter Closed = 99
+mode_letter Ref = 114
+mode_letter Write = 119
+
+-- returns the letter of a container's subscripts, or 0 for a scalar
+abbrev pub by_of : NestedScalar → ℕ
+by_of ty = if is_scalar ty then 0 else (if is_container_by scalar.Text ty then 116 else 105)
+
+abbrev pub by_inside : Option NestedScalar → ℕ
+by_inside None = 0
+by_inside (Some ty) = by_of ty
+
+abbrev pub members_of : Option NestedScalar → Option NestedScalar
+members_of ty = option_and_then element_of ty
+
+abbrev pub parameter_of : Param → Parameter
+parameter_of p =
+    record {
+      mode = mode_letter p.mode;
+      depth = depth_of p.ty;
+      scalar = letter_of p.ty.scalar;
+      by = by_of p.ty;
+      by_second = by_inside (element_of p.ty);
+      by_third = by_inside (members_of (element_of p.ty));
+    }
+
+abbrev pub parameter_at : TypedProgram → ℕ → ℕ → Option Param
+parameter_at verified procedure index = option_and_then (λ (p : Procedure). slice_get p.params index) (slice_get verified.program procedure)
+
+abbrev pub IsParameterIn : TypedProgram → ℕ → ℕ → Parameter → Parameter → ℕ → Type 0
+IsParameterIn verified procedure index old new code =
+    MatchOption (parameter_at verified procedure index) (Fails no_index old new code) (λ p. (new ≡ parameter_of p) × (code ≡ done))
+
+abbrev pub IsParameter : Option Held → ℕ → ℕ → Parameter → Parameter → ℕ → Type 0
+IsParameter held procedure index old new code =
+    MatchOption (program_in held) (Fails no_program old new code) (λ verified. IsParameterIn verified procedure index old new code)
+
+abbrev pub AreNeeds : Option Held → Needs → Needs → ℕ → Type 0
+AreNeeds held old new code =
+    MatchOption (program_in held) (Fails no_program old new code)
+    (λ verified. (new ≡ record { engines = needed Control verified.program; workers = needed Leaf verified.program }) × (code ≡ done))
+
+-- holds for the name that a text gives the procedure of this number, empty if it gives none
+abbrev pub IsNameIn : List ℕ → ℕ → List ℕ → Type 0
+IsNameIn source procedure name = (names : List (List ℕ)) × AreNames source names × (name ≡ name_at names procedure)
+
+abbrev pub IsNameRead : List ℕ → ℕ → Option Held → Option Held → ℕ → Type 0
+IsNameRead source procedure old new code =
+    (IsUtf8 source × IsTextMade (IsNameIn source procedure) old new code) ⊎ ((IsUtf8 source → ⊥) × Fails no_utf8 old new code)

@@ -1,0 +1,66 @@
+-- Texts that calls make of a report or a source. A handle holds such a text, and its bytes are copied from there.
+use Rattle.std.specs.Prelude.{◌≡◌, ◌⊎◌, ℕ, List, length, min, Option, Some, None, MatchOption, true}
+use Rattle.tw_bounds.specs.Runs.{instructions_in}
+use Rattle.tw_in_turn.specs.declared.run.StoppableResult.{StoppableResult}
+use Rattle.tw_run_output.specs.Ends.{IsEndReport}
+use Rattle.tw_run_output.specs.Json.{IsEndLine}
+use Rattle.tw_run_output.specs.Run.{trace_text}
+use Rattle.tw_handles.specs.Asking.{Fails}
+use Rattle.tw_handles.specs.Codes.{done, no_end, no_memory, no_report, no_string}
+use Rattle.tw_handles.specs.Loading.{report_in}
+use Rattle.tw_handles.specs.Reading.{IsFilled, final_of, history_of}
+use Rattle.tw_handles.specs.declared.held.Held.{Held}
+use Rattle.tw_handles.specs.declared.held.Held.TheVariants.{Program, Inputs, Container, Report, Stop, Text}
+
+-- returns the text of a handle
+abbrev pub text_in : Option Held → Option (List ℕ)
+text_in None = None
+text_in (Some (Program verified)) = None
+text_in (Some (Inputs inputs)) = None
+text_in (Some (Container container)) = None
+text_in (Some (Report left)) = None
+text_in (Some (Stop flag)) = None
+text_in (Some (Text text)) = Some text.items
+
+-- holds if the handle holds the text, or an allocation failed
+abbrev pub IsTextKept : List ℕ → Option Held → Option Held → ℕ → Type 0
+IsTextKept text old new code = ((text_in new ≡ Some text) × (code ≡ done)) ⊎ Fails no_memory old new code
+
+-- holds if the handle holds such a text, or an allocation failed
+abbrev pub IsTextMade : (List ℕ → Type 0) → Option Held → Option Held → ℕ → Type 0
+IsTextMade Is old new code = ((text : List ℕ) × Is text × (text_in new ≡ Some text) × (code ≡ done)) ⊎ Fails no_memory old new code
+
+-- ---- texts of a report
+
+abbrev pub IsReportPrinted : Option Held → Option Held → Option Held → ℕ → Type 0
+IsReportPrinted held old new code = MatchOption (report_in held) (Fails no_report old new code) (λ left. IsTextMade (IsEndReport (final_of left)) old new code)
+
+abbrev pub IsTrace : StoppableResult → List ℕ → Type 0
+IsTrace left text = text ≡ trace_text true (history_of left).events
+
+abbrev pub IsTracePrinted : Option Held → Option Held → Option Held → ℕ → Type 0
+IsTracePrinted held old new code = MatchOption (report_in held) (Fails no_report old new code) (λ left. IsTextMade (IsTrace left) old new code)
+
+-- a run that was broken off has no JSON line
+abbrev pub IsJsonIn : StoppableResult → Option Held → Option Held → ℕ → Type 0
+IsJsonIn left old new code =
+    MatchOption (final_of left).closing (Fails no_end old new code) (λ closing. IsTextMade (IsEndLine (final_of left) (history_of left).events closing) old new code)
+
+abbrev pub IsJsonPrinted : Option Held → Option Held → Option Held → ℕ → Type 0
+IsJsonPrinted held old new code = MatchOption (report_in held) (Fails no_report old new code) (λ left. IsJsonIn left old new code)
+
+-- returns the greatest number of 64 bits for a larger one
+abbrev pub capped : ℕ → ℕ
+capped number = min number 18446744073709551615
+
+abbrev pub IsInstructionCount : Option Held → ℕ → ℕ → ℕ → Type 0
+IsInstructionCount held old new code =
+    MatchOption (report_in held) (Fails no_report old new code) (λ left. (new ≡ capped (instructions_in (history_of left).events)) × (code ≡ done))
+
+-- ---- reading a text
+
+abbrev pub IsTextLength : Option Held → ℕ → ℕ → ℕ → Type 0
+IsTextLength held old new code = MatchOption (text_in held) (Fails no_string old new code) (λ text. (new ≡ length text) × (code ≡ done))
+
+abbrev pub IsTextCopied : Option Held → List ℕ → List ℕ → ℕ → Type 0
+IsTextCopied held old new code = MatchOption (text_in held) (Fails no_string old new code) (λ text. IsFilled text old new code)
