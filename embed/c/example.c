@@ -17,7 +17,7 @@ typedef struct bytes {
 static void need(bytes *b, size_t room) {
     if (b->at && room <= b->room) return;
     b->room = room > 2 * b->room ? room : 2 * b->room;
-    b->at = realloc(b->at, b->room ? b->room : 1);
+    b->at = (uint8_t *)realloc(b->at, b->room ? b->room : 1);
     if (!b->at) {
         fputs("memory\n", stderr);
         exit(5);
@@ -67,8 +67,8 @@ static double seconds(void) {
 }
 
 int main(int count, char **word) {
-    bytes words = {0}, text = {0}, input = {0};
-    yuglemit_verdict verdict = {0};
+    bytes words = {NULL, 0, 0}, text = {NULL, 0, 0}, input = {NULL, 0, 0};
+    yuglemit_verdict verdict = {0, 0, 0, 0, 0, 0};
     int status = 0, verifies = count == 2 && !strcmp(word[1], "verify");
     long times = getenv("TIMES") ? atol(getenv("TIMES")) : 1;
     need(&words, 1);

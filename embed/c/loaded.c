@@ -36,7 +36,8 @@ static quoted read_quoted(const char **word) {
     const char *begin = *word + (**word == '"'), *end = strchr(begin, '"');
     if (!end) end = begin + strlen(begin);
     *word = *end ? end + 1 : end;
-    return (quoted){(const uint8_t *)begin, (size_t)(end - begin)};
+    quoted found = {(const uint8_t *)begin, (size_t)(end - begin)};
+    return found;
 }
 
 static int64_t read_number(const char **word) {

@@ -107,6 +107,24 @@ void test_programs() {
     CHECK_THROWS(Error, other.run({7}, options));
 }
 
+// What is printed of a report, without another run, and what is known of a program before it runs.
+void test_printed() {
+    auto program = Program::load(read("pipeline.twn"));
+    Options options;
+    options.engines = options.workers = 2;
+    auto report = program.run({std::int64_t{39}}, options);
+    CHECK(report.text() == "out 0 int 42\nquiet\n" && report.instructions() == 24);
+    CHECK(report.trace().substr(0, 7) == "events\n" && report.json().find("\"outputs\":[42]") != std::string::npos);
+    Stop stop;
+    stop.raise();
+    CHECK_THROWS(std::logic_error, program.run({std::int64_t{39}}, options, stop).json());
+    const auto main = program.procedure(0);
+    CHECK(main.kind == 'c' && main.parameters.size() == 2);
+    CHECK(main.parameters[1].mode == 'w' && main.parameters[1].depth == 0 && main.parameters[1].scalar == 'i' && main.parameters[1].by == 0);
+    CHECK_THROWS(std::out_of_range, program.procedure(program.procedures()));
+    CHECK(procedure_name(read("pipeline.twn"), 0) == "main" && procedure_name(read("pipeline.tw"), 0).empty());
+}
+
 void test_errors() {
     try {
         Program::load("proc control write int\nregs int\nINT v0 7\nRET\n");
@@ -157,6 +175,7 @@ int main(int count, char **word) {
     test_output_containers();
     test_open_outputs();
     test_programs();
+    test_printed();
     test_errors();
     test_stops();
     std::cout << "C++: " << passed << " passed, " << failed << " failed\n";

@@ -84,6 +84,7 @@ using InputsHandle = Handle<yuglemit_inputs, yuglemit_inputs_free>;
 using ContainerHandle = Handle<yuglemit_container, yuglemit_container_free>;
 using StopHandle = Handle<yuglemit_stop, yuglemit_stop_free>;
 using ReportHandle = Handle<yuglemit_report, yuglemit_report_free>;
+using TextHandle = Handle<yuglemit_text, yuglemit_text_free>;
 
 // Throws the error of a call, if there is one.
 inline void done(std::uint8_t code) {
@@ -141,6 +142,15 @@ template <class Call> std::string text_of(std::size_t length, Call call) {
     return text;
 }
 
+// Returns the text that a call puts into a handle.
+template <class Call> std::string made_text(Call call) {
+    TextHandle made;
+    std::size_t length = 0;
+    done(call(made.get()));
+    done(yuglemit_text_length(made.get(), &length));
+    return text_of(length, [&](auto room, auto size) { return yuglemit_text_copy(made.get(), room, size); });
+}
+
 }  // namespace detail
 
 // Stops runs: give it to Program::run, and raise one that shares its flag in another thread.
@@ -169,6 +179,25 @@ public:
     End end() const { return static_cast<End>(ending_.status); }
     std::size_t events() const { return ending_.events; }
     std::size_t output_count() const { return ending_.outputs; }
+
+    // How many instructions the run executed; the greatest number if they were more.
+    std::uint64_t instructions() {
+        std::uint64_t count = 0;
+        detail::done(yuglemit_report_instructions(handle_.get(), &count));
+        return count;
+    }
+
+    // The report as `tw run` prints that of a program's bytes, the events as `tw run --trace` does, and the line of `tw run --json`, which a run
+    // that was stopped hasn't (std::logic_error). The run isn't made again.
+    std::string text() {
+        return detail::made_text([&](auto text) { return yuglemit_print_report(handle_.get(), text); });
+    }
+    std::string trace() {
+        return detail::made_text([&](auto text) { return yuglemit_print_trace(handle_.get(), text); });
+    }
+    std::string json() {
+        return detail::made_text([&](auto text) { return yuglemit_print_json(handle_.get(), text); });
+    }
 
     // Returns whether an output never changes again.
     bool is_closed(std::size_t output) { return item(output).closed != 0; }
@@ -274,6 +303,21 @@ public:
         return count;
     }
 
+    // A procedure: 'c' control or 'l' leaf, and its parameters as in yuglemit_parameter.
+    struct Procedure {
+        char kind;
+        std::vector<yuglemit_parameter> parameters;
+    };
+
+    Procedure procedure(std::size_t number) {
+        yuglemit_procedure found{};
+        detail::done(yuglemit_program_procedure(handle_.get(), number, &found));
+        Procedure procedure{static_cast<char>(found.kind), std::vector<yuglemit_parameter>(found.parameters)};
+        for (std::size_t index = 0; index < found.parameters; index++)
+            detail::done(yuglemit_program_parameter(handle_.get(), number, index, &procedure.parameters[index]));
+        return procedure;
+    }
+
     // The most instructions that one task of a procedure executes.
     std::uint64_t budget(std::size_t procedure) {
         std::uint64_t most = 0;
@@ -326,6 +370,11 @@ inline Reply session(const std::vector<std::string> &words, std::string_view inp
         if (status == 5) throw std::bad_alloc();
         return {status, room};
     }
+}
+
+// Returns the name that an assembly text gives the procedure of this number; it is empty if the text gives none.
+inline std::string procedure_name(std::string_view source, std::size_t procedure) {
+    return detail::made_text([&](auto name) { return yuglemit_source_name(detail::bytes_of(source), source.size(), procedure, name); });
 }
 
 // Returns what the verifier says of a program's bytes.

@@ -10,7 +10,7 @@ from unittest import mock
 import yuglemit
 from yuglemit import Refused
 from yuglemit._program import ask
-from yuglemit._report import read_outputs
+from yuglemit._report import read_end, read_outputs
 
 FORGED = "; at line 3, in procedure 9 at place 77, input 5, event 8, byte 9"
 
@@ -29,6 +29,11 @@ class Outputs(unittest.TestCase):
     def test_members_that_are_unset(self) -> None:
         text = 'out 0 cont int open 2\n  at -1 unset\n  at 4 int 7\nout 1 unset\nlimit\n'
         self.assertEqual(read_outputs(text), ([{-1: None, 4: 7}, None], [0, 1]))
+
+    def test_ends(self) -> None:
+        for line, end in (("quiet", "quiet"), ("stuck 2", "stuck"), ("limit", "limit"), ("running", "running"), ("stopped", "stopped")):
+            self.assertEqual(read_end(f"out 0 unset\n{line}\nevents 3\n"), end)
+        self.assertEqual(read_end("refused O06\n"), "refused")
 
 
 class Positions(unittest.TestCase):

@@ -29,11 +29,19 @@ class Values(unittest.TestCase):
         self.assertEqual(report.outputs[0], 'a\nb,\r,"\\')
 
     def test_a_text_with_a_line_feed_has_no_command_line(self) -> None:
-        """A run takes it as a value; what is made by a command, as a trace, can't."""
+        """A run takes it as a value, and its report is printed; what is made by a command, as a timeline, can't."""
         report = yuglemit.load(same("closed", "text")).run("a\nb")
         self.assertEqual((report.end, report.outputs), ("quiet", ["a\nb"]))
+        self.assertEqual((report.text, report.trace[:7]), ('out 0 text "a\\nb"\nquiet\n', "events\n"))
         with self.assertRaisesRegex(ValueError, "input 1: .*line feed"):
-            _ = report.trace
+            _ = report.timeline()
+
+    def test_texts_of_containers_have_a_trace(self) -> None:
+        """Traces and replays are made by commands, in whose words these texts are quoted."""
+        program, texts = yuglemit.load(Path(__file__).parents[3] / "examples" / "texts.twn"), {1: 'a"b', 2: "\\", 3: '\t,="\x7f\r\n'}
+        report = program.run(texts)
+        self.assertEqual(report.outputs[0], 'a"b,\\,\t,="\x7f\r\n')
+        self.assertEqual(program.replay(report.trace, texts).outputs, report.outputs)
 
     def test_outputs_are_inputs(self) -> None:
         words = yuglemit.load(example("words.twn"))

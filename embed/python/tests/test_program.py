@@ -58,7 +58,7 @@ PUT 0 0 any
 RET
 """
 
-# Interrupts its own run, and prints how long it took until run() raised, and the processor time of the next fifth of a second.
+# Interrupts its own run, and prints how long it took until run() raised, and the processor time until no other thread was left.
 INTERRUPTED = """
 import os, signal, sys, threading, time
 import yuglemit
@@ -75,7 +75,8 @@ try:
     print("not interrupted")
 except KeyboardInterrupt:
     waited, begun = time.perf_counter() - sent[0], time.process_time()
-    time.sleep(0.2)
+    while threading.active_count() > 1:
+        time.sleep(0.01)
     print(waited, time.process_time() - begun)
 """
 
@@ -93,6 +94,11 @@ END
 STORE d0 v0
 RET
 """
+
+
+def setUpModule() -> None:
+    """Makes SIGINT raise KeyboardInterrupt, as it does by default. A shell lets its background jobs ignore it."""
+    signal.signal(signal.SIGINT, signal.default_int_handler)
 
 
 class Programs(unittest.TestCase):
@@ -191,10 +197,26 @@ class Reports(unittest.TestCase):
         with self.assertRaises(ValueError):
             program.replay(kept.trace, 39, engines=2, workers=2).timeline()
 
+    def test_replay_of_some_events(self) -> None:
+        program = yuglemit.load(EXAMPLES / "pipeline.twn")
+        lines = program.run(39).trace.splitlines()
+        report = program.replay("\n".join([*lines[:3], "end\n"]), 39)
+        self.assertEqual((report.end, report.outputs, report.unfinished), ("running", [None], [0]))
+        self.assertEqual(program.replay("\n".join([*lines, ""]), 39).end, "quiet")
+
+    def test_a_report_is_printed_without_another_run(self) -> None:
+        report = yuglemit.load(example("pipeline.twn")).run(39, engines=2, workers=2)
+        with mock.patch("yuglemit._native.session", side_effect=AssertionError("another run")):
+            self.assertEqual((report.instructions, len(report.trace.split("\n"))), (24, 33 + 3))
+            self.assertEqual(report.text, "out 0 int 42\nquiet\n")
+            line = json.loads(report.line or "")
+        self.assertEqual((line["status"], line["outputs"], line["events"], line["instructions"]), ("quiet", [42], 33, 24))
+
     def test_reports_travel(self) -> None:
         report = yuglemit.load(DOUBLE).run(4)
         again = pickle.loads(pickle.dumps(report))
-        self.assertEqual((again.outputs, again.events), ([8], report.events))
+        self.assertEqual((again.outputs, again.events, again.line), ([8], report.events, None))
+        self.assertEqual((again.text, again.trace, again.instructions), (report.text, report.trace, report.instructions))
 
     def test_long_answers(self) -> None:
         """Answers that are longer than the first buffer come whole."""
@@ -225,6 +247,16 @@ class Threads(unittest.TestCase):
                 break
         free = (os.cpu_count() or 1) - os.getloadavg()[0] + 1
         self.assertGreaterEqual(best, 3 if free >= 4 else 1.3, f"load {os.getloadavg()[0]}")
+
+    def test_brief_runs_keep_the_gil(self) -> None:
+        """Threads don't take the GIL from one another for runs of microseconds; for long runs they do."""
+        brief, long = yuglemit.load(DOUBLE), yuglemit.load(SLOW.format(turns=1))
+        self.assertLess(brief.bounds.usual_seconds(), 0.001)
+        self.assertGreater(long.bounds.usual_seconds(), 0.001)
+        with mock.patch("yuglemit._native.library", side_effect=BlockingIOError):
+            self.assertEqual(brief.run(4).outputs, [8])
+            with self.assertRaises(BlockingIOError):
+                long.run()
 
     def test_ctrl_c_stops_a_run(self) -> None:
         """A run of many events ends within a tenth of a second after SIGINT, and its thread works no more. The best of five counts, since

@@ -84,14 +84,17 @@ def _places() -> list[str]:
 _AT = ctypes.POINTER(Handle)
 _BYTES = (ctypes.c_char_p, ctypes.c_size_t)
 _ROOM = (ctypes.c_void_p, ctypes.c_size_t)
-_KINDS = ("program", "inputs", "container", "stop", "report")
+_KINDS = ("program", "inputs", "container", "stop", "report", "text")
 
-# The types of calls that release the GIL, and of those that keep it. The latter return 0 or the letter of an error.
+# The types of calls that release the GIL, and of those that keep it. The latter return 0 or the letter of an error. A run may be either.
 _LONG_CALLS: Dict[str, Tuple[Any, Sequence[Any]]] = {
     "session": (ctypes.c_size_t, (*_BYTES, *_BYTES, *_ROOM, ctypes.POINTER(ctypes.c_uint8))),
     "verify": (None, (*_BYTES, ctypes.POINTER(RawVerdict))),
     "load_source": (None, (*_BYTES, ctypes.c_uint8, _AT, ctypes.POINTER(SourceVerdict))),
     "run": (ctypes.c_uint8, (_AT, _AT, ctypes.POINTER(Options), _AT, _AT)),
+    "print_report": (ctypes.c_uint8, (_AT, _AT)),
+    "print_trace": (ctypes.c_uint8, (_AT, _AT)),
+    "print_json": (ctypes.c_uint8, (_AT, _AT)),
 }
 _SHORT_CALLS: Dict[str, Sequence[Any]] = {
     "program_share": (_AT, _AT),
@@ -106,12 +109,16 @@ _SHORT_CALLS: Dict[str, Sequence[Any]] = {
     "stop_new": (_AT,),
     "stop_share": (_AT, _AT),
     "stop_raise": (_AT,),
+    "run": _LONG_CALLS["run"][1],
     "report_ending": (_AT, ctypes.POINTER(Ending)),
     "report_output": (_AT, ctypes.c_size_t, ctypes.POINTER(Item)),
     "report_member": (_AT, ctypes.c_size_t, ctypes.c_size_t, ctypes.POINTER(Member)),
     "report_text": (_AT, ctypes.c_size_t, *_ROOM),
     "report_member_text": (_AT, ctypes.c_size_t, ctypes.c_size_t, *_ROOM),
     "report_subscript_text": (_AT, ctypes.c_size_t, ctypes.c_size_t, *_ROOM),
+    "report_instructions": (_AT, ctypes.POINTER(ctypes.c_uint64)),
+    "text_length": (_AT, ctypes.POINTER(ctypes.c_size_t)),
+    "text_copy": (_AT, *_ROOM),
 }
 
 

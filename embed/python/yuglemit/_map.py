@@ -27,7 +27,7 @@ Progress = Union[bool, Callable[[int, int], object]]
 def run_chunk(part: Part) -> Done:
     """Makes the runs of one chunk, in whichever process it is: there a program is loaded and verified once, and kept."""
     program, jobs, options = part
-    return [(number, replace(_run_one(program, inputs, options), made=None)) for number, inputs in jobs]
+    return [(number, replace(_run_one(program, inputs, options), made=None, kept=None)) for number, inputs in jobs]
 
 
 def _run_one(program: Program, inputs: Tuple[object, ...], options: Dict[str, Any]) -> Report:
@@ -70,6 +70,7 @@ def map(
 
     An item of `inputs` is the program's input, or a tuple if it takes several. `program` may be as many programs as there are inputs.
     `executor` is any of concurrent.futures: threads, processes, mpi4py's, Dask's; without one, threads of this process, one a processor.
+    Of runs of less than a millisecond processes make several times as many.
     `chunk` is how many runs go to a worker at once; without it, about as many as take a tenth of a second. `options` are those of
     `Program.run`. An input that is refused gives a report whose `error` says why. `progress` shows a bar, of tqdm if it is installed; a
     function is called with the numbers of runs done and of all.

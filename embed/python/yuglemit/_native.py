@@ -2,7 +2,8 @@
 """Calls the library. Only this module and `_library` know how it is called.
 
 A program that is loaded is kept by the library as a handle, and so are inputs, reports and stop flags (embed/yuglemit.h). A handle is used by
-one call at a time. Runs, sessions and loading release the GIL; short calls keep it, since they take less time than a thread needs to get it again.
+one call at a time. Runs, sessions and loading release the GIL; brief runs and other short calls keep it, since they take less time than a thread
+needs to get it again.
 """
 
 from __future__ import annotations
@@ -51,12 +52,13 @@ class Layout(NamedTuple):
 
 
 class Ran(NamedTuple):
-    """A report: the end, the events, the outputs, and the numbers of outputs that are unset or open."""
+    """A report: the end, the events, the outputs, the numbers of outputs that are unset or open, and what the library keeps of it."""
 
     end: str
     events: int
     outputs: List[Output]
     unfinished: List[int]
+    kept: "Kept"
 
 
 class RunError(Exception):
@@ -122,6 +124,47 @@ class Loaded:
         self._idle.append(handle)
 
 
+def _no_report() -> None:
+    """Returns what another process gets of a kept report: nothing."""
+
+
+class Kept:
+    """A report that the library keeps, which it prints without another run. A pickled one is None where it arrives."""
+
+    __slots__ = ("_report", "_lock")
+
+    def __init__(self, report: _Owner) -> None:
+        self._report, self._lock = report, threading.Lock()
+
+    def __reduce__(self) -> Tuple[Callable[[], None], Tuple[()]]:
+        return _no_report, ()
+
+    def printed(self, what: str) -> Optional[str]:
+        """Returns the "report", the "trace" or the "json" line; a run that was broken off has no such line."""
+        text = _owner("text")
+        with self._lock:
+            code = getattr(library(), f"yuglemit_print_{what}")(self._report.at, text.at)
+        if code == ord("E"):
+            return None
+        _done(code)
+        return _read_text(text)
+
+    def instructions(self) -> int:
+        """Returns how many instructions the run executed."""
+        count = ctypes.c_uint64()
+        with self._lock:
+            _done(short().yuglemit_report_instructions(self._report.at, ctypes.byref(count)))
+        return count.value
+
+
+def _read_text(text: _Owner) -> str:
+    length = ctypes.c_size_t()
+    _done(short().yuglemit_text_length(text.at, ctypes.byref(length)))
+    room = ctypes.create_string_buffer(length.value or 1)
+    _done(short().yuglemit_text_copy(text.at, room, length.value))
+    return room.raw[: length.value].decode()
+
+
 class Flag:
     """Stops one run, from another thread or from a signal handler."""
 
@@ -149,6 +192,9 @@ def _verdict_of(raw: RawVerdict) -> Verdict:
 
 
 # ---- Runs
+
+LONG_SECONDS = 0.03  # a run that may take longer is made so that Ctrl-C can stop it
+_BRIEF_SECONDS = 0.001
 
 
 def _add_container(inputs: _Owner, kind: str, members: List[Tuple[Scalar, Scalar]]) -> None:
@@ -181,12 +227,12 @@ def _inputs_of(given: Sequence[Given]) -> _Owner:
     return inputs
 
 
-def _call_run(program: Loaded, inputs: _Owner, layout: Layout, stop: Optional[Flag]) -> _Owner:
-    """Makes a run, and returns the handle of its report; the GIL is released."""
+def _call_run(calls: ctypes.CDLL, program: Loaded, inputs: _Owner, layout: Layout, stop: Optional[Flag]) -> _Owner:
+    """Makes a run by calls that release the GIL or keep it, and returns the handle of its report."""
     options = Options(ctypes.sizeof(Options), layout.limit, layout.engines, layout.servers, layout.workers)
     flag = stop.of_run.at if stop is not None else ctypes.byref(Handle())
     report, own = _owner("report"), program.take()
-    code = library().yuglemit_run(own.at, inputs.at, ctypes.byref(options), flag, report.at)
+    code = calls.yuglemit_run(own.at, inputs.at, ctypes.byref(options), flag, report.at)
     program.give(own)
     if code in (5, ord("M")):
         raise MemoryError("yuglemit: out of memory")
@@ -195,16 +241,18 @@ def _call_run(program: Loaded, inputs: _Owner, layout: Layout, stop: Optional[Fl
     return report
 
 
-def run(program: Loaded, given: Sequence[Given], layout: Layout, stop: Optional[Flag] = None, long: bool = False) -> Ran:
-    """Makes a run of a program on these values; raises RunError if it can't begin.
+def run(program: Loaded, given: Sequence[Given], layout: Layout, stop: Optional[Flag], seconds: float) -> Ran:
+    """Makes a run of a program on these values, of so many seconds at most; raises RunError if it can't begin.
 
-    A run that may be long gives way to Ctrl-C, which only the main thread gets: its flag is raised, so that it ends at its next event.
+    A brief run keeps the GIL, since getting it back from other threads takes longer than the run. A long one gives way to Ctrl-C, which only the
+    main thread gets: its flag is raised, so that it ends at its next event.
     """
     inputs = _inputs_of(given)
-    if long and threading.current_thread() is threading.main_thread():
+    calls = short() if seconds < _BRIEF_SECONDS else library()
+    if seconds > LONG_SECONDS and threading.current_thread() is threading.main_thread():
         flag = stop if stop is not None else Flag()
-        return _ran(_aside(lambda: _call_run(program, inputs, layout, flag), flag.set))
-    return _ran(_call_run(program, inputs, layout, stop))
+        return _ran(_aside(lambda: _call_run(calls, program, inputs, layout, flag), flag.set))
+    return _ran(_call_run(calls, program, inputs, layout, stop))
 
 
 def _ran(report: _Owner) -> Ran:
@@ -219,7 +267,7 @@ def _ran(report: _Owner) -> Ran:
         outputs.append(_output(report, number, item))
         if item.kind not in b"it" and not (item.kind == ord("c") and item.closed):
             unfinished.append(number)
-    return Ran(ENDS[ending.status], ending.events, outputs, unfinished)
+    return Ran(ENDS[ending.status], ending.events, outputs, unfinished, Kept(report))
 
 
 def _output(report: _Owner, number: int, item: Item) -> Output:

@@ -18,7 +18,6 @@ from ._stop import Stop
 
 Source = Union[str, bytes, bytearray, memoryview, "os.PathLike[str]"]
 Bytes = bytes  # in a class that has a property of this name
-_LONG_SECONDS = 0.03  # a run that may take longer is made so that Ctrl-C can stop it
 _MOST_EVENTS = 1_000_000
 
 
@@ -171,7 +170,7 @@ class Program:
         checked = self.given(inputs)
         flag = None if stop is None else stop.flag()
         try:
-            ran = _native.run(self._kept, checked, layout, flag, self.is_long(layout.limit))
+            ran = _native.run(self._kept, checked, layout, flag, self.bounds.usual_seconds(layout.limit))
         except _native.RunError as why:
             raise self._error(why, Made(self, inputs, layout)) from None
         if ran.end == "memory":
@@ -181,7 +180,7 @@ class Program:
 
     def is_long(self, limit: int = DEFAULT_LIMIT) -> bool:
         """Returns whether a run with this limit may take so long that one waits for it."""
-        return self.bounds.usual_seconds(limit) > _LONG_SECONDS
+        return self.bounds.usual_seconds(limit) > _native.LONG_SECONDS
 
     def _error(self, why: _native.RunError, made: Made) -> Exception:
         """Returns the error of a run that can't begin, with the text that `tw run` writes."""
@@ -199,9 +198,10 @@ class Program:
         """Makes a run again, and returns what `tw run` writes with these options."""
         return ask(["run", *made.words(), *options, *self.words(made.inputs)], self._hex, self.is_long(made.layout.limit))
 
-    def report_text(self, made: Made) -> str:
-        """Makes a run again, and returns its report as `tw run` writes it; of a run that is stuck with the lines of rules."""
-        text = self.answer(made)
+    def report_text(self, made: Made, printed: Optional[str]) -> str:
+        """Returns the report of a run as `tw run` writes it. The run is made again if it isn't printed yet, or for the lines of the rules in
+        which it is stuck."""
+        text = printed if printed is not None else self.answer(made)
         if self.source is not None and read_end(text) == "stuck":
             text = ask(["run", "--text", *made.words(), *self.words(made.inputs)], self._data(True), True)
         return text

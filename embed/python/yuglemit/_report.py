@@ -11,7 +11,7 @@ from typing import TYPE_CHECKING, Dict, List, NamedTuple, Optional, Tuple
 
 from ._errors import Refused
 from ._inputs import read_scalar
-from ._native import Layout, Output, Ran
+from ._native import Kept, Layout, Output, Ran
 
 if TYPE_CHECKING:
     from ._program import Program
@@ -120,14 +120,15 @@ class Report:
     kept_events: Optional[int] = field(default=None, repr=False, compare=False)
     kept_text: Optional[str] = field(default=None, repr=False, compare=False)
     kept_trace: Optional[str] = field(default=None, repr=False, compare=False)
+    kept: Optional[Kept] = field(default=None, repr=False, compare=False)
 
     @cached_property
     def text(self) -> str:
-        """The report as `tw run` writes it; the first access makes the run again. One of a run that was stopped ends with `limit`."""
+        """The report as `tw run` writes it. The end of a run that was stopped is `limit`."""
         if self.kept_text is not None:
             return self.kept_text
         made = self._cause()
-        return made.program.report_text(made)
+        return made.program.report_text(made, self._printed("report"))
 
     @property
     def circle(self) -> List[Wait]:
@@ -145,13 +146,21 @@ class Report:
 
     @property
     def instructions(self) -> int:
-        """How many instructions its tasks did. The first access makes the run again and counts."""
-        return self._numbers.instructions
+        """How many instructions its tasks did."""
+        return self.kept.instructions() if self.kept is not None else self._numbers.instructions
 
     @cached_property
     def trace(self) -> str:
-        """The events of the run, which `Program.replay` takes. Unless `trace=True` was given, the first access makes the run again."""
-        return self.kept_trace if self.kept_trace is not None else split_trace(self._again("--trace"))[0]
+        """The events of the run, which `Program.replay` takes."""
+        if self.kept_trace is not None:
+            return self.kept_trace
+        self._cause()
+        printed = self._printed("trace")
+        return printed if printed is not None else split_trace(self._again("--trace"))[0]
+
+    def _printed(self, what: str) -> Optional[str]:
+        """Returns what the library prints of the run, if it keeps the report; `map` and pickled reports make the run again."""
+        return None if self.kept is None or (what == "report" and self.end == "stopped") else self.kept.printed(what)
 
     def timeline(self, first: int = 1, last: int = 4294967295) -> str:
         """Draws the events of the run, from one number to another, as an SVG timeline; it makes the run again."""
@@ -176,6 +185,11 @@ class Report:
         return self if self.kept_events == 0 else replace(self, kept_trace=self.trace)
 
     @property
+    def line(self) -> Optional[str]:
+        """The line of `tw run --json`; None of a run that was stopped, or if the library doesn't keep the report."""
+        return self._printed("json")
+
+    @property
     def json(self) -> str:
         """The report as JSON. A container is an object whose names are its subscripts, a number as its decimal digits."""
         fields: Dict[str, object] = {"end": self.end, "outputs": self.outputs, "unfinished": self.unfinished}
@@ -195,7 +209,7 @@ def split_trace(answer: str) -> Tuple[str, str]:
 
 def report_of(ran: Ran, made: Made) -> Report:
     """Makes the report of a run."""
-    return with_cause(Report(ran.end, ran.outputs, ran.unfinished, kept_events=ran.events), made)
+    return with_cause(Report(ran.end, ran.outputs, ran.unfinished, kept_events=ran.events, kept=ran.kept), made)
 
 
 def with_cause(report: Report, made: Made) -> Report:

@@ -15,6 +15,8 @@ pub enum Error {
     NoLayout,
     /// There is none of this index.
     NoIndex,
+    /// The run was stopped, so it has no JSON line.
+    NoEnd,
     /// An input or a member of one is unset, or a member is of another type than its container.
     NoInput,
     /// An allocation failed.
@@ -69,6 +71,7 @@ impl Display for Error {
             Error::Run(number) => write!(f, "refused O{number:02}"),
             Error::NoLayout => f.write_str("engines and servers are 1 to 4, workers 1 to 16"),
             Error::NoIndex => f.write_str("there is none of this index"),
+            Error::NoEnd => f.write_str("the run was stopped"),
             Error::NoInput => f.write_str("an input is unset, or a member is of another type than its container"),
             Error::NoMemory => f.write_str("out of memory"),
         }

@@ -1,6 +1,6 @@
 // SPDX-License-Identifier: Apache-2.0
 use crate::raw::{self, OfInputs, OfProgram, Owner, done};
-use crate::{Error, Refused, Report, Stop, Value};
+use crate::{Error, Refused, Report, Stop, Type, Value};
 
 /// The format of a program's source.
 #[derive(Clone, Copy, Debug, Default, PartialEq, Eq)]
@@ -30,6 +30,43 @@ impl Default for Options<'_> {
     fn default() -> Self {
         Options { limit: 10_000, engines: 1, servers: 1, workers: 1, stop: None }
     }
+}
+
+/// How a parameter is held.
+#[derive(Clone, Copy, Debug, PartialEq, Eq)]
+pub enum Mode {
+    Value,
+    /// A read right on a closed datum.
+    Closed,
+    /// A read right.
+    Read,
+    Write,
+}
+
+impl Mode {
+    fn of(letter: u8) -> Mode {
+        match letter {
+            b'v' => Mode::Value,
+            b'c' => Mode::Closed,
+            b'r' => Mode::Read,
+            _ => Mode::Write,
+        }
+    }
+}
+
+/// A parameter: a scalar inside containers, of each of which `by` has the type of the subscripts, the outermost first.
+#[derive(Clone, Debug, PartialEq, Eq)]
+pub struct Parameter {
+    pub mode: Mode,
+    pub by: Vec<Type>,
+    pub scalar: Type,
+}
+
+/// A procedure, which runs on an engine if it is a control procedure, else on a worker.
+#[derive(Clone, Debug, PartialEq, Eq)]
+pub struct Procedure {
+    pub is_control: bool,
+    pub parameters: Vec<Parameter>,
 }
 
 /// A program that is verified.
@@ -78,11 +115,35 @@ impl Program {
         (self.engines, self.workers)
     }
 
-    /// Returns for each procedure the most instructions that one of its tasks executes.
-    pub fn budgets(&self) -> Result<Vec<u64>, Error> {
+    /// Returns the procedures, main first.
+    pub fn procedures(&self) -> Result<Vec<Procedure>, Error> {
+        (0..self.procedure_count()?).map(|number| self.procedure(number)).collect()
+    }
+
+    fn procedure_count(&self) -> Result<usize, Error> {
         let mut count = 0;
         done(unsafe { raw::yuglemit_program_procedures(self.owner.at(), &mut count) })?;
-        (0..count).map(|procedure| self.budget(procedure)).collect()
+        Ok(count)
+    }
+
+    fn procedure(&self, number: usize) -> Result<Procedure, Error> {
+        let mut found = raw::Procedure::default();
+        done(unsafe { raw::yuglemit_program_procedure(self.owner.at(), number, &mut found) })?;
+        let parameters = (0..found.parameters).map(|index| self.parameter(number, index)).collect::<Result<_, _>>()?;
+        Ok(Procedure { is_control: found.kind == b'c', parameters })
+    }
+
+    fn parameter(&self, number: usize, index: usize) -> Result<Parameter, Error> {
+        let mut found = raw::Parameter::default();
+        done(unsafe { raw::yuglemit_program_parameter(self.owner.at(), number, index, &mut found) })?;
+        let by = [found.by, found.by_second, found.by_third];
+        let by = by.into_iter().filter(|letter| *letter != 0).map(Type::of).collect();
+        Ok(Parameter { mode: Mode::of(found.mode), by, scalar: Type::of(found.scalar) })
+    }
+
+    /// Returns for each procedure the most instructions that one of its tasks executes.
+    pub fn budgets(&self) -> Result<Vec<u64>, Error> {
+        (0..self.procedure_count()?).map(|procedure| self.budget(procedure)).collect()
     }
 
     fn budget(&self, procedure: usize) -> Result<u64, Error> {

@@ -65,6 +65,24 @@ pub struct Member {
     pub value: Item,
 }
 
+#[repr(C)]
+#[derive(Clone, Copy, Default)]
+pub struct Procedure {
+    pub parameters: usize,
+    pub kind: u8,
+}
+
+#[repr(C)]
+#[derive(Clone, Copy, Default)]
+pub struct Parameter {
+    pub mode: u8,
+    pub depth: u8,
+    pub scalar: u8,
+    pub by: u8,
+    pub by_second: u8,
+    pub by_third: u8,
+}
+
 #[link(name = "yuglemit", kind = "static")]
 unsafe extern "C" {
     pub fn yuglemit_session(words: *const u8, words_length: usize, input: *const u8, input_length: usize, room: *mut u8, room_length: usize, status: *mut u8) -> usize;
@@ -73,6 +91,8 @@ unsafe extern "C" {
     pub fn yuglemit_program_share(program: *mut Handle, other: *mut Handle) -> u8;
     pub fn yuglemit_program_procedures(program: *mut Handle, count: *mut usize) -> u8;
     pub fn yuglemit_program_budget(program: *mut Handle, procedure: usize, budget: *mut u64) -> u8;
+    pub fn yuglemit_program_procedure(program: *mut Handle, procedure: usize, found: *mut Procedure) -> u8;
+    pub fn yuglemit_program_parameter(program: *mut Handle, procedure: usize, index: usize, found: *mut Parameter) -> u8;
     pub fn yuglemit_input_int(inputs: *mut Handle, number: i64) -> u8;
     pub fn yuglemit_input_text(inputs: *mut Handle, text: *const u8, length: usize) -> u8;
     pub fn yuglemit_container_new(container: *mut Handle, by: u8, scalar: u8) -> u8;
@@ -92,11 +112,18 @@ unsafe extern "C" {
     pub fn yuglemit_report_text(report: *mut Handle, output: usize, room: *mut u8, length: usize) -> u8;
     pub fn yuglemit_report_member_text(report: *mut Handle, output: usize, place: usize, room: *mut u8, length: usize) -> u8;
     pub fn yuglemit_report_subscript_text(report: *mut Handle, output: usize, place: usize, room: *mut u8, length: usize) -> u8;
+    pub fn yuglemit_report_instructions(report: *mut Handle, count: *mut u64) -> u8;
+    pub fn yuglemit_print_report(report: *mut Handle, text: *mut Handle) -> u8;
+    pub fn yuglemit_print_trace(report: *mut Handle, text: *mut Handle) -> u8;
+    pub fn yuglemit_print_json(report: *mut Handle, text: *mut Handle) -> u8;
+    pub fn yuglemit_text_length(text: *mut Handle, length: *mut usize) -> u8;
+    pub fn yuglemit_text_copy(text: *mut Handle, room: *mut u8, length: usize) -> u8;
     fn yuglemit_program_free(program: Handle);
     fn yuglemit_inputs_free(inputs: Handle);
     fn yuglemit_container_free(container: Handle);
     fn yuglemit_stop_free(stop: Handle);
     fn yuglemit_report_free(report: Handle);
+    fn yuglemit_text_free(text: Handle);
 }
 
 /// A kind of handle, which is freed by a call of its own.
@@ -109,6 +136,7 @@ pub struct OfInputs;
 pub struct OfContainer;
 pub struct OfStop;
 pub struct OfReport;
+pub struct OfText;
 
 impl Kind for OfProgram {
     const FREE: unsafe extern "C" fn(Handle) = yuglemit_program_free;
@@ -128,6 +156,10 @@ impl Kind for OfStop {
 
 impl Kind for OfReport {
     const FREE: unsafe extern "C" fn(Handle) = yuglemit_report_free;
+}
+
+impl Kind for OfText {
+    const FREE: unsafe extern "C" fn(Handle) = yuglemit_text_free;
 }
 
 /// Owns a handle, which begins empty. The cell makes it `!Sync`, so one thread at a time uses it, and no call is made inside of another.
@@ -164,6 +196,7 @@ pub fn done(code: u8) -> Result<(), Error> {
         1..=4 => Err(Error::Run(code)),
         b'L' => Err(Error::NoLayout),
         b'X' => Err(Error::NoIndex),
+        b'E' => Err(Error::NoEnd),
         _ => unreachable!("no call of this crate can be refused by {}", char::from(code)),
     }
 }

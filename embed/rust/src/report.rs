@@ -1,5 +1,5 @@
 // SPDX-License-Identifier: Apache-2.0
-use crate::raw::{self, Ending, Handle, Item, OfReport, Owner, done};
+use crate::raw::{self, Ending, Handle, Item, OfReport, OfText, Owner, done};
 use crate::{Container, Error, Scalar, Type, Value};
 
 /// How a run ended.
@@ -43,6 +43,38 @@ impl Report {
     /// Returns how many events the run had.
     pub fn events(&self) -> usize {
         self.ending.events
+    }
+
+    /// Returns how many instructions the run executed; the greatest number if they were more.
+    pub fn instructions(&self) -> Result<u64, Error> {
+        let mut count = 0;
+        done(unsafe { raw::yuglemit_report_instructions(self.owner.at(), &mut count) })?;
+        Ok(count)
+    }
+
+    /// Returns the report as `tw run` prints that of a program's bytes. The run isn't made again.
+    pub fn text(&self) -> Result<String, Error> {
+        self.printed(|text| unsafe { raw::yuglemit_print_report(self.owner.at(), text) })
+    }
+
+    /// Returns the events as `tw run --trace` prints them.
+    pub fn trace(&self) -> Result<String, Error> {
+        self.printed(|text| unsafe { raw::yuglemit_print_trace(self.owner.at(), text) })
+    }
+
+    /// Returns the line of `tw run --json`, which a run that was stopped hasn't.
+    pub fn json(&self) -> Result<String, Error> {
+        self.printed(|text| unsafe { raw::yuglemit_print_json(self.owner.at(), text) })
+    }
+
+    /// Returns the text that a call puts into a handle.
+    fn printed(&self, call: impl Fn(*mut Handle) -> u8) -> Result<String, Error> {
+        let (made, mut length) = (Owner::<OfText>::new(), 0);
+        done(call(made.at()))?;
+        done(unsafe { raw::yuglemit_text_length(made.at(), &mut length) })?;
+        let mut room = vec![0; length];
+        done(unsafe { raw::yuglemit_text_copy(made.at(), room.as_mut_ptr(), length) })?;
+        Ok(String::from_utf8(room).expect("texts are UTF-8"))
     }
 
     /// Returns all outputs of main.

@@ -4,7 +4,7 @@ use std::collections::BTreeMap;
 use std::fs;
 use std::thread;
 
-use yuglemit::{Container, End, Error, Format, Options, Program, Stop, Type, Value, Verdict};
+use yuglemit::{Container, End, Error, Format, Mode, Options, Parameter, Program, Stop, Type, Value, Verdict};
 
 const ENDLESS: &str = "proc control\nregs int int\nINT v1 1\nREPEAT 5\nREPEAT 1000\nADD v0 v0 v1 no\nno:\nEND\nEND\nPUT 0 0 any\nRET\n";
 const REFUSED: &str = "proc control write int\nregs int\nINT v0 7\nRET\n";
@@ -134,5 +134,27 @@ fn budgets_and_needs() -> Result<(), Error> {
     assert_eq!((program.budgets()?, program.needs()), (vec![4], (0, 0)));
     let Some(program) = example("for_one_worker.twn") else { return Ok(()) };
     assert_eq!(program.needs(), (0, 2));
+    Ok(())
+}
+
+#[test]
+fn reports_are_printed() -> Result<(), Error> {
+    let program = same("int");
+    let report = program.run(&[7.into()])?;
+    assert_eq!((report.text()?.as_str(), report.instructions()?), ("out 0 int 7\nquiet\n", 4));
+    assert!(report.trace()?.starts_with("events\n") && report.json()?.contains("\"outputs\":[7]"));
+    let stop = Stop::new()?;
+    stop.raise();
+    let report = program.run_with(&[7.into()], &Options { stop: Some(&stop), ..Options::default() })?;
+    assert_eq!((report.json(), report.instructions()?), (Err(Error::NoEnd), 0));
+    Ok(())
+}
+
+#[test]
+fn procedures_have_parameters() -> Result<(), Error> {
+    let main = sized("tcont text").procedures()?.swap_remove(0);
+    let input = Parameter { mode: Mode::Closed, by: vec![Type::Text], scalar: Type::Text };
+    let output = Parameter { mode: Mode::Write, by: vec![], scalar: Type::Int };
+    assert_eq!((main.is_control, main.parameters), (true, vec![input, output]));
     Ok(())
 }

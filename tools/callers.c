@@ -1,0 +1,230 @@
+/* SPDX-License-Identifier: Apache-2.0 */
+/* Makes large and hostile calls over handles: `callers PROGRAM [SIZE]`, where PROGRAM holds the bytes of examples/read_number.twn and SIZE is how
+ * many bytes the large sources have, 16 MiB if it isn't given. Refuses each request for memory in turn too. Links with
+ * `-Wl,--wrap=malloc,--wrap=realloc,--wrap=free`, so that it counts what the library asks for and frees. Prints each check that fails, and their
+ * number; ends with status 1 if one did. tools/callers.sh compiles and runs it. */
+#include "../embed/yuglemit.h"
+#include <stdio.h>
+#include <stdlib.h>
+#include <string.h>
+
+enum { MANY = 900000, LIMIT = 10000, MOST_REQUESTS = 100000 };
+
+static uint8_t program_bytes[1 << 16];
+static size_t program_length, large_length = 16 << 20;
+static int checks, failures;
+
+static void check(int holds, const char *what) {
+    checks++;
+    if (holds) return;
+    failures++;
+    printf("FAILS %s\n", what);
+}
+
+/* ---- Memory that is counted, and refused */
+
+void *__real_malloc(size_t size);
+void *__real_realloc(void *old, size_t size);
+void __real_free(void *old);
+
+static long held;                 /* blocks that aren't freed yet */
+static unsigned long requests, refused; /* the number of requests so far, and that of the one that is refused; 0: none */
+
+static int is_refused(void) { return ++requests == refused; }
+
+void *__wrap_malloc(size_t size) {
+    void *block = is_refused() ? NULL : __real_malloc(size);
+    held += block != NULL;
+    return block;
+}
+
+void *__wrap_realloc(void *old, size_t size) {
+    void *block = is_refused() ? NULL : __real_realloc(old, size);
+    held += !old && block;
+    return block;
+}
+
+void __wrap_free(void *old) {
+    held -= old != NULL;
+    __real_free(old);
+}
+
+/* ---- All handles of a run */
+
+typedef struct handles {
+    yuglemit_program program, other;
+    yuglemit_inputs inputs;
+    yuglemit_container container;
+    yuglemit_stop stop;
+    yuglemit_report report;
+    yuglemit_text text;
+} handles;
+
+static void free_all(handles *all) {
+    yuglemit_program_free(all->program);
+    yuglemit_program_free(all->other);
+    yuglemit_inputs_free(all->inputs);
+    yuglemit_container_free(all->container);
+    yuglemit_stop_free(all->stop);
+    yuglemit_report_free(all->report);
+    yuglemit_text_free(all->text);
+    memset(all, 0, sizeof *all);
+}
+
+static uint8_t run(handles *all) {
+    yuglemit_options options = YUGLEMIT_OPTIONS;
+    options.limit = LIMIT;
+    return yuglemit_run(&all->program, &all->inputs, &options, &all->stop, &all->report);
+}
+
+static uint8_t load(handles *all, const uint8_t *source, size_t length, uint8_t format) {
+    yuglemit_source_verdict verdict;
+    yuglemit_load_source(source, length, format, &all->program, &verdict);
+    return verdict.verdict.letter;
+}
+
+/* ---- Each request for memory is refused in turn */
+
+static int is_memory(uint8_t code) { return code == 0 || code == YUGLEMIT_NO_MEMORY || code == 5; }
+
+/* Makes every kind of handle, as far as memory allows. Returns whether each call was done or said that memory ran out. */
+static int make_all(handles *all) {
+    static const uint8_t digits[] = "41", source[] = "names\nproc control main(w: write int)\nregs n: int\nINT n 7\nSTORE w n\nRET\n";
+    handles other = {{NULL}, {NULL}, {NULL}, {NULL}, {NULL}, {NULL}, {NULL}};
+    yuglemit_ending ending = {0, 0, 0};
+    int holds = is_memory(load(all, program_bytes, program_length, YUGLEMIT_ANY_FORMAT)) && is_memory(load(&other, source, sizeof source - 1, YUGLEMIT_TEXT));
+    holds = holds && is_memory(yuglemit_source_name(source, sizeof source - 1, 0, &all->text)) && is_memory(yuglemit_stop_new(&all->stop));
+    holds = holds && is_memory(yuglemit_container_new(&all->container, 't', 't'));
+    if (all->container.at) holds = holds && is_memory(yuglemit_member_text_by_text(&all->container, digits, 2, digits, 2)) && is_memory(yuglemit_input_container(&other.inputs, &all->container));
+    if (all->program.at) holds = holds && is_memory(yuglemit_program_share(&all->program, &all->other));
+    if (all->program.at && is_memory(yuglemit_input_text(&all->inputs, digits, 2)) && all->inputs.at) {
+        uint8_t code = run(all);
+        holds = holds && (is_memory(code) || code == 1) && (code == 0) == (all->report.at != NULL);
+    }
+    if (all->report.at) {
+        holds = holds && yuglemit_report_ending(&all->report, &ending) == 0 && is_memory(yuglemit_print_report(&all->report, &all->text));
+        holds = holds && is_memory(yuglemit_print_trace(&all->report, &all->text));
+        uint8_t code = yuglemit_print_json(&all->report, &all->text);
+        holds = holds && (is_memory(code) || (code == YUGLEMIT_NO_END && ending.status == 5));
+    }
+    free_all(&other);
+    return holds;
+}
+
+static void check_refused(void) {
+    handles all = {{NULL}, {NULL}, {NULL}, {NULL}, {NULL}, {NULL}, {NULL}};
+    long before = held;
+    for (unsigned long number = 1; number <= MOST_REQUESTS; number++) {
+        requests = 0, refused = number;
+        int holds = make_all(&all);
+        unsigned long made = requests;
+        refused = 0;
+        free_all(&all);
+        if (!holds || held != before) printf("request %lu of %lu\n", number, made);
+        check(holds, "a refused request is out of memory");
+        check(held == before, "nothing is left after a refused request");
+        if (made < number) return;
+    }
+    check(0, "the requests end");
+}
+
+/* ---- Lengths of 0, with a pointer and without */
+
+static void check_empty(void) {
+    static uint8_t none[1] = {9};
+    uint8_t *pointers[] = {none, NULL};
+    for (int k = 0; k < 2; k++) {
+        handles all = {{NULL}, {NULL}, {NULL}, {NULL}, {NULL}, {NULL}, {NULL}};
+        uint8_t *p = pointers[k], status = 9;
+        static const uint8_t formats[] = {YUGLEMIT_ANY_FORMAT, YUGLEMIT_BYTES, YUGLEMIT_HEX, YUGLEMIT_TEXT, 'x'};
+        for (size_t f = 0; f < sizeof formats; f++) check(load(&all, p, 0, formats[f]) != 0 && !all.program.at, "no source");
+        check(yuglemit_session(p, 0, p, 0, p, 0, &status) > 0 && status == 2, "a session without words");
+        check(yuglemit_input_text(&all.inputs, p, 0) == 0 && all.inputs.at, "an empty text");
+        check(yuglemit_container_new(&all.container, 't', 't') == 0 && yuglemit_member_text_by_text(&all.container, p, 0, p, 0) == 0, "an empty subscript");
+        check(yuglemit_source_name(p, 0, 0, &all.text) == 0 && all.text.at, "the name in no source");
+        check(yuglemit_text_copy(&all.text, p, 0) == 0 && none[0] == 9, "an empty text is copied");
+        free_all(&all);
+    }
+}
+
+/* ---- Many inputs, many members, long texts */
+
+static void check_many(void) {
+    handles all = {{NULL}, {NULL}, {NULL}, {NULL}, {NULL}, {NULL}, {NULL}};
+    check(load(&all, program_bytes, program_length, YUGLEMIT_BYTES) == 0, "the program");
+    int wrong = 0;
+    for (int k = 0; k < MANY; k++) wrong += yuglemit_input_int(&all.inputs, k) != 0;
+    check(wrong == 0 && run(&all) == 1 && !all.report.at, "O01: 900,000 inputs");
+    yuglemit_inputs_free(all.inputs);
+    all.inputs.at = NULL;
+    check(yuglemit_container_new(&all.container, 'i', 'i') == 0, "a container");
+    for (int k = 0; k < MANY; k++) wrong += yuglemit_member_int(&all.container, k, -k) != 0;
+    check(wrong == 0 && yuglemit_input_container(&all.inputs, &all.container) == 0, "900,000 members");
+    check(run(&all) == 2 && !all.report.at, "O02: they are no text");
+    free_all(&all);
+}
+
+static void check_long_text(const uint8_t *text, size_t length) {
+    handles all = {{NULL}, {NULL}, {NULL}, {NULL}, {NULL}, {NULL}, {NULL}};
+    check(load(&all, program_bytes, program_length, YUGLEMIT_BYTES) == 0, "the program");
+    check(yuglemit_input_text(&all.inputs, text, length) == 0 && run(&all) == 2 && !all.report.at, "O02: a text that is too long");
+    check(yuglemit_container_new(&all.container, 't', 't') == 0 && yuglemit_member_text_by_text(&all.container, text, length, text, length) == 0, "a long member");
+    free_all(&all);
+}
+
+/* ---- Large sources of each shape */
+
+static void check_source(const uint8_t *source, size_t length, const char *shape) {
+    static const uint8_t formats[] = {YUGLEMIT_ANY_FORMAT, YUGLEMIT_BYTES, YUGLEMIT_HEX, YUGLEMIT_TEXT};
+    handles all = {{NULL}, {NULL}, {NULL}, {NULL}, {NULL}, {NULL}, {NULL}};
+    yuglemit_verdict verdict;
+    for (size_t f = 0; f < sizeof formats; f++) check(load(&all, source, length, formats[f]) != 0 && !all.program.at, shape);
+    yuglemit_verify(source, length, &verdict);
+    check(verdict.letter != 0, shape);
+    uint8_t code = yuglemit_source_name(source, length, 3, &all.text);
+    check((code == 0) == (all.text.at != NULL) && (code == 0 || code == YUGLEMIT_NO_UTF8), shape);
+    free_all(&all);
+}
+
+static const char *const shapes[] = {
+    "a", "\n", " ", "\t\r\n", "0", "54", "5 ", "(", ";", "\xff", "\xc3\xa9", "\xed\xa0\x80", "proc control\n", "proc leaf x(a: val int)\nregs\nRET\n",
+    "names\n", "const a 7\n", "REPEAT 2\n", "END\n", "cont ", "INT v0 7 ", "label:\n", "TWB\x01", "545742", "-9", "\"",
+};
+
+static void fill(uint8_t *room, size_t length, const char *shape) {
+    size_t one = strlen(shape);
+    for (size_t k = 0; k < length; k++) room[k] = (uint8_t)shape[k % one];
+}
+
+static void check_large(void) {
+    uint8_t *room = __real_malloc(large_length);
+    if (!room) {
+        check(0, "memory for the large sources");
+        return;
+    }
+    for (size_t k = 0; k < sizeof shapes / sizeof *shapes; k++) {
+        fill(room, large_length, shapes[k]);
+        check_source(room, large_length, shapes[k]);
+    }
+    memset(room, 0, large_length);
+    check_source(room, large_length, "zeros");
+    fill(room, large_length, "a");
+    check_long_text(room, large_length);
+    __real_free(room);
+}
+
+int main(int argc, char **argv) {
+    FILE *file = argc >= 2 ? fopen(argv[1], "rb") : NULL;
+    if (!file) return 2;
+    program_length = fread(program_bytes, 1, sizeof program_bytes, file);
+    fclose(file);
+    if (argc > 2) large_length = strtoul(argv[2], NULL, 10);
+    long before = held;
+    check_empty();
+    check_many();
+    check_refused();
+    check_large();
+    check(held == before, "nothing is left");
+    printf("%d checks, %d failed\n", checks, failures);
+    return failures > 0;
+}
