@@ -69,7 +69,7 @@ fn turn<K: Drop, T: Table<K>, R: Wait>(
     talk.hear(answer.said, answer.number);
     talk.left = talk.left.saturating_sub(1);
     for index in before..table.count(actor) {
-        if let Some(event) = table.told(actor, index) {
+        if let Some(event) = table.reported(actor, index) {
             talk.text.event(&event);
         }
     }

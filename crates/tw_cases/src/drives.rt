@@ -60,7 +60,7 @@ fn driven_by<N: Named, R: Wait + Clock>(
     let server = drive_first(rt, alloc, &host, &mut seats);
     let worker = drive_first(rt, alloc, &host, &mut seats);
     is_well &= host.events_so_far().is_none();
-    is_well &= host.late_wakes(rt) == 0;
+    is_well &= host.missed_wakes(rt) == 0;
     let closed = host.close(seats);
     if is_well {
         Some((engine | server | worker, closed))

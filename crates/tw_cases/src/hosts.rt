@@ -6,7 +6,7 @@ ghost use Rattle.tw_host.specs.Seats.{actor_count};
 use crate::complaint::Complaint;
 use crate::courses::{Course, Talk, turned};
 use crate::given::Given;
-use crate::machine::steps_all;
+use crate::machine::replay_all;
 use crate::tables::{Pooled, Seated, over};
 use crate::text::Text;
 use std::alloc::Global;
@@ -132,7 +132,7 @@ fn run_host<'a, N: Named, M: Named, R: Wait>(
     let (mut first, mut second) = open_hosts::<N, M>(alloc, blank, second, verified, given)?;
     let Talk { mut text, .. } = turned(rt, alloc, &mut first, &mut second, given.layout, course);
     let _end = second.close();
-    let late = first.late_wakes(rt);
+    let late = first.missed_wakes(rt);
     first.reorder(given.order);
     put_closed(&mut text, &first.close());
     put_late(&mut text, late);
@@ -240,7 +240,7 @@ pub fn steps_history(
     for index in 0..history.len() {
         events.push(history.event(index))?;
     }
-    steps_all(alloc, bytes, given, events.as_slice())
+    replay_all(alloc, bytes, given, events.as_slice())
 }
 
 /// Checks that a pool completed its steps, that the host has the same output, and that the reference machine makes all events.

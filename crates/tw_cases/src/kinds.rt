@@ -36,15 +36,11 @@ pub fn case_text<H: AllocGlobal + Files + Threads + Wait + Clock + Sync>(
     book: &Book,
     fields: &str,
 ) -> Result<String, Complaint> {
-    let (kind, given) = first_field(fields);
-    let (kind, words) = kind.split_once(' ').unwrap_or((kind, ""));
+    let (first, given) = first_field(fields);
+    let (kind, words) = first.split_once(' ').unwrap_or((first, ""));
     match kind {
         "tw" | "called" | "ends" | "scarce" | "cuts" => session_kind(rt, book, kind, words, given),
-        "stream" => {
-            let (streams, words) = words.split_once(' ').unwrap_or((words, ""));
-            // Takes the last arm there: a kind of stream is no kind of case.
-            session_kind(rt, book, streams, words, given)
-        }
+        "stream" => stream_kind(rt, book, words, given),
         "phrases" => phrases_text(rt, words, given),
         "errors" => errors_text(rt, words),
         "shown" => shown_text(rt, given),
@@ -76,9 +72,22 @@ fn session_kind<H: AllocGlobal + Threads + Wait + Clock + Sync>(
         "called" => called_text(rt, words, input),
         "ends" => ends_text(rt, words, input),
         "scarce" => scarce_text(rt, words, input),
-        "cuts" => cuts_text(rt, words, input),
-        _ => stream_text(rt, kind, words, input),
+        // `cuts`
+        _ => cuts_text(rt, words, input),
     }
+}
+
+/// Runs a case of a session whose streams are of the kind that the first word names.
+fn stream_kind<H: AllocGlobal + Threads + Wait + Clock + Sync>(
+    rt: &H,
+    book: &Book,
+    words: &str,
+    input: &str,
+) -> Result<String, Complaint> {
+    let (streams, words) = words.split_once(' ').unwrap_or((words, ""));
+    let words = read_words(rt.alloc(), words)?;
+    let input = read_input(rt.alloc(), book, input)?;
+    stream_text(rt, streams, words.as_slice(), input.as_slice())
 }
 
 /// Runs a case with a program's bytes, then perhaps events or a script.
@@ -157,7 +166,7 @@ fn static_kind(
     }
     match kind {
         "decode" => decode_text(alloc, bytes),
-        "fronts" => prefixes_text(alloc, bytes),
+        "prefixes" => prefixes_text(alloc, bytes),
         "verify" => verify_text(alloc, bytes),
         "open" => open_text(alloc, words, bytes),
         "part" => part_text(alloc, words, bytes),

@@ -30,46 +30,47 @@ fn opened(alloc: Global, words: &str, bytes: &[u8]) -> Result<Plain, Complaint>
     }
 }
 
+/// Opens the machine and executes the events.
 fn run(alloc: Global, words: &str, bytes: &[u8], events: &str) -> Result<Course, Complaint> {
     let events = read_events(alloc, events)?;
     let plain = opened(alloc, words, bytes)?;
     played(alloc, plain, events.as_slice())
 }
 
-/// Returns the result of the last event, and before it each earlier event that failed.
+/// Returns a line for each earlier event that failed, and the last event's result.
 pub fn machine_text(
     alloc: Global,
     words: &str,
     bytes: &[u8],
     events: &str,
 ) -> Result<String, Complaint> {
-    let played = run(alloc, words, bytes, events)?;
+    let course = run(alloc, words, bytes, events)?;
     let mut text = Text::new(alloc);
-    match played.answers.as_slice().split_last() {
+    match course.answers.as_slice().split_last() {
         Some((last, others)) => {
-            put_refused(&mut text, others);
-            put_answer(&mut text, *last);
+            put_failures(&mut text, others);
+            put_result(&mut text, *last);
             text.into_line()
         }
         None => Err(Complaint::NoEvents),
     }
 }
 
-/// Adds those of the first events that failed.
-fn put_refused(text: &mut Text, answers: &[Result<(), Stopped>]) {
+/// Adds a line for each of these events that failed.
+fn put_failures(text: &mut Text, results: &[Result<(), Stopped>]) {
     let mut number = 0_u64;
-    for answer in answers {
+    for result in results {
         number = number.saturating_add(1);
-        if answer.is_err() {
+        if result.is_err() {
             text.number("event ", number);
             text.put(" ");
-            put_answer(text, *answer);
+            put_result(text, *result);
         }
     }
 }
 
-fn put_answer(text: &mut Text, answer: Result<(), Stopped>) {
-    match answer {
+fn put_result(text: &mut Text, outcome: Result<(), Stopped>) {
+    match outcome {
         Ok(()) => text.put("went\n"),
         Err(Stopped::NotEnabled) => text.put("not enabled\n"),
         Err(Stopped::Trap(cause)) => {
@@ -80,17 +81,17 @@ fn put_answer(text: &mut Text, answer: Result<(), Stopped>) {
     }
 }
 
-/// Returns the events that failed, and the final state.
+/// Returns a line for each event that failed, and the final state.
 pub fn state_text(
     alloc: Global,
     words: &str,
     bytes: &[u8],
     events: &str,
 ) -> Result<String, Complaint> {
-    let played = run(alloc, words, bytes, events)?;
+    let course = run(alloc, words, bytes, events)?;
     let mut text = Text::new(alloc);
-    put_refused(&mut text, played.answers.as_slice());
-    put_state(&mut text, played.plain.state());
+    put_failures(&mut text, course.answers.as_slice());
+    put_state(&mut text, course.plain.state());
     text.into_line()
 }
 
@@ -102,8 +103,8 @@ pub fn steps_text(
     events: &str,
 ) -> Result<String, Complaint> {
     let most = most.parse::<u64>()?;
-    let played = run(alloc, "", bytes, events)?;
-    let steps = local_steps(alloc, &played.plain, most)?;
+    let course = run(alloc, "", bytes, events)?;
+    let steps = local_steps(alloc, &course.plain, most)?;
     Ok(steps.to_string(alloc)?)
 }
 
@@ -114,7 +115,7 @@ fn local_steps(alloc: Global, plain: &Plain, most: u64) -> Result<u64, Complaint
     }
 }
 
-/// Returns `opened` and the layout, or the error, whose Debug and Display forms are the same. The program is returned in both cases.
+/// Returns `opened` and the layout, or the error. Complains if the program that `Plain::open` returns has other bytes.
 pub fn open_text(alloc: Global, inputs: &str, bytes: &[u8]) -> Result<String, Complaint> {
     let layout = layout_of((1, 1, 1))?;
     let inputs = read_inputs(alloc, inputs)?;
@@ -133,8 +134,8 @@ pub fn open_text(alloc: Global, inputs: &str, bytes: &[u8]) -> Result<String, Co
     }
 }
 
-/// Replays all events on the machine of a program.
-pub fn steps_all(
+/// Executes all events on the machine of a program. Complains if one fails.
+pub fn replay_all(
     alloc: Global,
     bytes: &[u8],
     given: &Given,

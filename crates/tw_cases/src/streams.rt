@@ -289,24 +289,30 @@ fn unworded(alloc: Global, kind: ErrorKind) -> Text {
     text
 }
 
-/// Runs a session with these arguments and streams of this kind.
-fn streamed<H: AllocGlobal + Threads + Wait + Clock + Sync>(
+/// Runs a session whose reader is slow and never fails.
+fn slowly<H: AllocGlobal + Threads + Wait + Clock + Sync>(
     rt: &H,
-    kind: &str,
     words: &[String],
     input: &[u8],
 ) -> Text {
-    match kind {
-        "slow" => over_source(
-            rt,
-            words,
-            Source {
-                rest: input,
-                calls: 1_000,
-                kind: ErrorKind::TimedOut,
-                is_slow: true,
-            },
-        ),
+    let source = Source {
+        rest: input,
+        calls: 1_000,
+        kind: ErrorKind::TimedOut,
+        is_slow: true,
+    };
+    over_source(rt, words, source)
+}
+
+/// Runs a session with these arguments and streams of this kind, and returns its output as one line.
+pub fn stream_text<H: AllocGlobal + Threads + Wait + Clock + Sync>(
+    rt: &H,
+    streams: &str,
+    words: &[String],
+    input: &[u8],
+) -> Result<String, Complaint> {
+    let text = match streams {
+        "slow" => slowly(rt, words, input),
         "timed_out" => failing(rt, words, input, ErrorKind::TimedOut),
         "out_of_memory" => failing(rt, words, input, ErrorKind::OutOfMemory),
         "endless" => without_end(rt, words),
@@ -315,16 +321,8 @@ fn streamed<H: AllocGlobal + Threads + Wait + Clock + Sync>(
         "unflushed" => handed(rt, words, input, false),
         "steady" => steady(rt, words, input),
         "no_words" => unworded(rt.alloc(), ErrorKind::InvalidData),
-        _ => unworded(rt.alloc(), ErrorKind::OutOfMemory),
-    }
-}
-
-/// Like `streamed`, but returns one line.
-pub fn stream_text<H: AllocGlobal + Threads + Wait + Clock + Sync>(
-    rt: &H,
-    kind: &str,
-    words: &[String],
-    input: &[u8],
-) -> Result<String, Complaint> {
-    streamed(rt, kind, words, input).into_line()
+        "no_memory_for_words" => unworded(rt.alloc(), ErrorKind::OutOfMemory),
+        _ => return Err(Complaint::UnknownKind),
+    };
+    text.into_line()
 }

@@ -154,7 +154,7 @@ pub trait Table<K> {
     fn stop<R: Wait>(&mut self, rt: &R);
 
     /// Returns the event of this index among those that are reported to an actor.
-    fn told(&self, actor: Actor, index: usize) -> Option<Event>;
+    fn reported(&self, actor: Actor, index: usize) -> Option<Event>;
 
     /// Returns how many events are reported to an actor.
     fn count(&self, actor: Actor) -> usize;
@@ -203,7 +203,7 @@ impl<'a, N: Named> Table<Kept<'a, N>> for Pooled<'a, N> {
         self.pool.stop();
     }
 
-    fn told(&self, _actor: Actor, index: usize) -> Option<Event> {
+    fn reported(&self, _actor: Actor, index: usize) -> Option<Event> {
         let history = self.pool.history();
         if index < history.len() {
             Some(history.event(index))
@@ -268,8 +268,8 @@ impl<'a, M: Named, N: Named> Seated<'a, M, N> {
     }
 
     /// Returns how many wakes were lost.
-    pub fn late_wakes<R: Wait>(&self, rt: &R) -> u64 {
-        self.host.late_wakes(rt)
+    pub fn missed_wakes<R: Wait>(&self, rt: &R) -> u64 {
+        self.host.missed_wakes(rt)
     }
 
     pub fn close(self) -> Closed {
@@ -302,11 +302,11 @@ impl<'a, M: Named, N: Named> Table<Kept<'a, N>> for Seated<'a, M, N> {
         self.host.stop(rt);
     }
 
-    fn told(&self, actor: Actor, index: usize) -> Option<Event> {
+    fn reported(&self, actor: Actor, index: usize) -> Option<Event> {
         let place = place_of(self.seats.as_slice(), actor)?;
-        let told = self.seats[place].told();
-        if index < told.len() {
-            Some(told.event(index))
+        let events = self.seats[place].events();
+        if index < events.len() {
+            Some(events.event(index))
         } else {
             None
         }
@@ -314,7 +314,7 @@ impl<'a, M: Named, N: Named> Table<Kept<'a, N>> for Seated<'a, M, N> {
 
     fn count(&self, actor: Actor) -> usize {
         match place_of(self.seats.as_slice(), actor) {
-            Some(place) => self.seats[place].told().len(),
+            Some(place) => self.seats[place].events().len(),
             None => 0,
         }
     }

@@ -111,7 +111,7 @@ impl Gate for Watch {
         self.change(actor, task, 0, &self.after);
     }
 
-    fn late_wakes(&self, late: u64) {
+    fn missed_wakes(&self, late: u64) {
         self.late.store(late, Ordering::SeqCst);
     }
 }

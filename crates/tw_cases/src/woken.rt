@@ -74,7 +74,7 @@ impl Gate for Onlooker {
         }
     }
 
-    fn late_wakes(&self, late: u64) {
+    fn missed_wakes(&self, late: u64) {
         self.late.store(late, Ordering::SeqCst);
     }
 }
