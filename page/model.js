@@ -61,7 +61,7 @@ function describe(run, event) {
         case "end": return `${who} ends task ${event.task}, ${called}`;
         case "local": return `${who} computes: ${event.count > 1 ? `${event.count} instructions` : statement(run, event.lines[0])}${event.refused && event.count === 1 && /^(ADD|SUB|MUL|DIV|REM|CAT|READI)/.test(statement(run, event.lines[0])) ? ", which has no result, and skips" : ""}`;
         case "ask": return `${who} asks for rule ${event.rule} whether ${data[0]} is closed: ${event.refused ? "not yet, so the rule waits" : "it is"}`;
-        case "deliver": return `${who} tells rule ${event.rule} that ${data[0]} is closed`;
+        case "deliver": return `${who} notifies rule ${event.rule} that ${data[0]} is closed`;
         case "release": return `${who} turns rule ${event.rule} into task ${event.made}: ${called} may begin`;
     }
     const {name, operands} = program[event.procedure].code[event.places[0]];

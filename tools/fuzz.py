@@ -20,6 +20,7 @@ import random
 import sys
 import time
 import traceback
+from collections import Counter
 from dataclasses import dataclass
 from typing import Any
 
@@ -27,6 +28,7 @@ sys.dont_write_bytecode = True
 import fuzz_calls
 import fuzz_handles
 import fuzz_inputs
+import fuzz_reached
 import fuzz_runs
 import fuzz_texts
 import fuzz_verify
@@ -35,6 +37,7 @@ from fuzz_common import Corpus, Failure, Kind, FuzzTest
 
 KINDS: dict[str, Kind] = {
     "check": Kind("budgets, needs and bounds against their definitions, and runs within them", fuzz_runs.make_check),
+    "bounds": Kind("programs with bounds, run to their end with the bounds as limit and caps; which bounds are reached", fuzz_reached.make_bounds, 0.25),
     "run": Kind("runs in turn and in threads against the machine, and their replays", fuzz_runs.make_run),
     "names": Kind("symbolic assembly against the program's bytes, its expansion, and other names", fuzz_texts.make_names),
     "asm": Kind("texts in many forms against the program's bytes; damaged texts", fuzz_texts.make_asm),
@@ -60,10 +63,11 @@ class Shared:
 
     test: Any
     failed: Any
+    marks: Any
 
     @classmethod
     def fresh(cls) -> Shared:
-        return cls(multiprocessing.Value(ctypes.c_int64, -1), multiprocessing.Value(ctypes.c_int64, 0))
+        return cls(multiprocessing.Value(ctypes.c_int64, -1), multiprocessing.Value(ctypes.c_int64, 0), multiprocessing.Array(ctypes.c_char, 1000))
 
 
 def fault_of(test: FuzzTest, library: Library) -> str | None:
@@ -106,6 +110,7 @@ def make_tests(kind: str, seed: str, numbers: range, seconds: float, shared: Sha
     library = Library()
     corpus = Corpus(library)
     end = time.monotonic() + seconds
+    marks: Counter[str] = Counter()
     for number in numbers:
         if time.monotonic() > end or shared.failed.value >= MOST_FAILURES:
             break
@@ -117,7 +122,9 @@ def make_tests(kind: str, seed: str, numbers: range, seconds: float, shared: Sha
         if why is not None:
             shared.failed.value += 1
             print("\n".join(shrunk(Failure(kind, seed, number, test, why), library, SHRINK_SECONDS).lines()), flush=True)
+        marks.update(test.marks)
     show_progress(kind, numbers.stop, numbers.stop)
+    shared.marks.value = "".join(f", {mark} {times}" for mark, times in marks.items()).encode()
 
 
 def watch(process: Any, shared: Shared) -> str | None:
@@ -145,7 +152,7 @@ def run_kind(kind: str, seed: str, numbers: range, seconds: float) -> bool:
     if why is not None:
         print(f"{kind} {seed}, test {shared.test.value}: {why}; tools/fuzz.py {kind} {seed} 1 --only {shared.test.value} makes it alone")
     failed = shared.failed.value + (why is not None)
-    print(f"{kind:<8} {made} tests, {failed} failed, {time.monotonic() - begin:.1f} s", flush=True)
+    print(f"{kind:<8} {made} tests, {failed} failed, {time.monotonic() - begin:.1f} s{shared.marks.value.decode()}", flush=True)
     return not failed
 
 

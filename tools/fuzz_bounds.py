@@ -102,8 +102,9 @@ def reached(program: Program, number: int) -> set[int]:
     return found
 
 
-def has_circle(program: Program) -> bool:
-    return any(number in reached(program, number) for number in {0} | reached(program, 0))
+def has_circle(program: Program, first: int = 0) -> bool:
+    """Whether calls of a procedure lead to a circle."""
+    return any(number in reached(program, number) for number in {first} | reached(program, first))
 
 
 def is_circle(program: Program, number: int, place: int) -> bool:
@@ -115,8 +116,8 @@ def is_circle(program: Program, number: int, place: int) -> bool:
     return number in {callee} | reached(program, callee)
 
 
-def bound(program: Program, weights: Weights) -> int:
-    """Returns the bound of main's task, with all tasks that come of it. The program has no circle of calls."""
+def bound(program: Program, weights: Weights, first: int = 0) -> int:
+    """Returns the bound of a procedure's task, with all tasks that come of it. Its calls lead to no circle."""
     known: dict[int, int] = {}
 
     def of(number: int) -> int:
@@ -135,13 +136,40 @@ def bound(program: Program, weights: Weights) -> int:
         closed = sum(param.mode == CLOSED for param in program.procedures[instr.number(0)].params)
         return called + weights.rule + weights.rule_event * (1 + 2 * closed)
 
-    return of(0)
+    return of(first)
+
+
+def reported(number: int) -> str:
+    """Returns a bound as it is printed."""
+    return "over" if number > OVER else str(number)
 
 
 def bound_lines(program: Program) -> list[str]:
     """Returns the lines of `check --bounds`, for a program without a circle of calls."""
-    found = {name: bound(program, weights) for name, weights in COUNTED.items()}
-    return [f"bound {name} {'over' if number > OVER else number}" for name, number in found.items()]
+    return [f"bound {name} {reported(bound(program, weights))}" for name, weights in COUNTED.items()]
+
+
+def each_lines(program: Program) -> list[str]:
+    """Returns the lines of `check --bounds=all`, except those of a circle."""
+
+    def found(weights: Weights, number: int) -> str:
+        return "none" if has_circle(program, number) else reported(bound(program, weights, number))
+
+    numbers = range(len(program.procedures))
+    return [" ".join(["bounds", str(number), *(f"{name} {found(weights, number)}" for name, weights in COUNTED.items())]) for number in numbers]
+
+
+def limited_lines(program: Program, limit: int) -> list[str]:
+    """Returns the lines of the bounds of runs with so many events at most."""
+    names = {instr.name for procedure in program.procedures for instr in procedure.code}
+    most = {
+        "tasks": limit,
+        "instructions": limit * max(budgets(program)),
+        "data": limit if "NEW" in names else 0,
+        "rules": limit if any(name.startswith("RULE") for name in names) else 0,
+        "events": limit,
+    }
+    return [f"limited {name} {reported(number)}" for name, number in most.items()]
 
 
 def needs(program: Program) -> tuple[int, int]:

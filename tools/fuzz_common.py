@@ -22,6 +22,11 @@ class FuzzTest:
         """Returns what came instead of what was expected, or nothing."""
         raise NotImplementedError
 
+    @property
+    def marks(self) -> Sequence[str]:
+        """Returns what the summary counts of a test that passed."""
+        return ()
+
     def smaller(self) -> Iterator[FuzzTest]:
         """Yields tests with less in them, the ones with the least first."""
         return iter(())

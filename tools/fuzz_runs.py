@@ -7,8 +7,8 @@ from dataclasses import dataclass, replace
 from typing import Iterator
 
 import fuzz_make
-from fuzz_bounds import COUNTED, OVER, bound, bound_lines, budgets, check_lines, has_circle, is_circle, needs
-from fuzz_code import encode
+from fuzz_bounds import COUNTED, OVER, bound, bound_lines, budgets, check_lines, each_lines, has_circle, is_circle, limited_lines, needs
+from fuzz_code import Program, encode
 from fuzz_library import Library
 from fuzz_machine import Event, Layout, Machine, NotEnabled, Trap, actors_of, run_in_turn
 from fuzz_report import (
@@ -28,6 +28,12 @@ def run_test(chance: random.Random, corpus: Corpus) -> RunTest:
     return RunTest(program, inputs, fuzz_make.layout(chance, least), limit)
 
 
+def has_targets(program: Program, layout: Layout) -> bool:
+    """Whether a layout has the actors that a program names."""
+    engines, workers = needs(program)
+    return engines <= layout[0] and workers <= layout[2]
+
+
 # --- Checks
 
 
@@ -44,12 +50,16 @@ class CheckTest(RunTest):
         return check_lines(self.program) + ([] if has_circle(self.program) else bound_lines(self.program))
 
     def check_fault(self, library: Library) -> str | None:
-        lines = library.session(["check", "--bounds"], self.hex)[1].splitlines()
-        if has_circle(self.program):
-            words = lines.pop().split(" ")
-            if words[:3] != ["bound", "none:", "procedure"] or not is_circle(self.program, int(words[3]), int(words[6])):
-                return f"check --bounds: expected a call that leads back, got {' '.join(words)}"
-        return difference("check --bounds", "\n".join(self.expected()), "\n".join(lines))
+        each = [*check_lines(self.program), *each_lines(self.program), *limited_lines(self.program, self.limit)]
+        return self.lines_fault(library, ["--bounds"], self.expected()) or self.lines_fault(library, ["--bounds=all", "--limit", str(self.limit)], each)
+
+    def lines_fault(self, library: Library, options: list[str], expected: list[str]) -> str | None:
+        """Compares what a check prints; if main's calls lead to a circle, one line has to name a call of it."""
+        lines = library.session(["check", *options], self.hex)[1].splitlines()
+        circles = [line for line in lines if line.startswith("bound none: procedure ")]
+        if [is_circle(self.program, *place_in(line)) for line in circles] != [True] * has_circle(self.program):
+            return f"check {' '.join(options)}: expected a call that leads back, got {circles}"
+        return difference(f"check {' '.join(options)}", "\n".join(expected), "\n".join(line for line in lines if line not in circles))
 
     def bounds_fault(self, library: Library) -> str | None:
         """Compares a run's numbers, by the library's trace, with budgets and bounds."""
@@ -78,6 +88,12 @@ class CheckTest(RunTest):
         return self.case_of(["check", "--bounds"], 0, "\n".join(self.expected()))
 
 
+def place_in(line: str) -> tuple[int, int]:
+    """Returns the procedure and place of a line such as `bound none: procedure 2 at place 1 leads back to itself`."""
+    words = line.split(" ")
+    return int(words[3]), int(words[6])
+
+
 def make_check(chance: random.Random, corpus: Corpus) -> FuzzTest:
     return CheckTest(**run_test(chance, corpus).fields)
 
@@ -103,18 +119,13 @@ class InTurnTest(RunTest):
             return None
         status, text = library.session(self.arguments, self.hex)
         if status in (1, 2):
-            return None if text.startswith("refused O03") and not self.has_targets else f"run refused: {text[:200]}"
+            return None if text.startswith("refused O03") and not has_targets(self.program, self.layout) else f"run refused: {text[:200]}"
         machine, expected = self.expected()
         lines, circle = split_circle(text)
         why = difference("run in turn", expected, "\n".join(lines) + "\n") or circle_fault(machine, circle)
         if why is None and (bool(circle) != (status == 3) or status != status_of(machine)):
             why = f"status {status}, expected {status_of(machine)}, with {len(circle)} lines of a circle"
         return why or self.replay_fault(library, text)
-
-    @property
-    def has_targets(self) -> bool:
-        engines, workers = needs(self.program)
-        return engines <= self.layout[0] and workers <= self.layout[2]
 
     def replay_fault(self, library: Library, text: str) -> str | None:
         trace, _, report = text.partition("\nend\n")
@@ -131,7 +142,7 @@ class ThreadsTest(InTurnTest):
     """A run in threads by the program: its trace is one of the machine's, and its report that of the run in turn if no order matters."""
 
     def fault(self, library: Library) -> str | None:
-        if not self.is_accepted(library) or not self.has_targets or any("\0" in word for word in self.words):
+        if not self.is_accepted(library) or not has_targets(self.program, self.layout) or any("\0" in word for word in self.words):
             return None
         words = ["run", "--trace", "--quiet", "--limit", str(self.limit), *self.options, *self.words]
         status, text = library.command(words, self.hex)

@@ -41,6 +41,7 @@ WHOLES: tuple[Whole, ...] = (
     Whole("tw_binary/src/rows.rt", "Opcode", (r"Opcode::NAME\b.* => ",)),
     Whole("tw_asm/src/instructions.rt", "Opcode", (r"Opcode::NAME\b.* => ",)),
     Whole("tw_code/src/sink.rt", "Opcode"),
+    Whole("tw_symbols/proofs/RenamedTexts.antt", "Opcode", (r"^kind_of opcode\.NAME = ",)),
     *(Whole(path, kind) for kind, paths in {
         "LocalInstr": (
             "tw_code/src/sink.rt", "tw_binary/src/rows.rt", "tw_asm/src/instructions.rt",
@@ -70,6 +71,7 @@ PARTS: tuple[str, ...] = (
     "tw_binary/specs/VersionOne.antt", "tw_frame/src/step.rt", "tw_verify/src/quick.rt", "tw_verify/specs/Quick.antt",
     "tw_symbols/src/instruction.rt", "tw_symbols/specs/LineExpansion.antt",
     "tw_bounds/src/weighing.rt", "tw_bounds/specs/Bounds.antt", "tw_bounds/proofs/Paying.antt", "tw_budget/proofs/Sound.antt",
+    "tw_bounds/src/limited.rt", "tw_bounds/specs/Limited.antt", "tw_bounds/proofs/LimitedRuns.antt",
     "tw_soundness/proofs/DataLeft.antt", "tw_soundness/proofs/DataMade.antt", "tw_soundness/proofs/DataNew.antt", "tw_soundness/proofs/DataReads.antt",
     "tw_pool_state/src/data/scalars.rt", "tw_pool_state/src/data/containers.rt", "tw_pool_state/src/data/rights.rt",
     *(f"tw_pool_state/proofs/{name}.antt" for name in ("Copies", "Drops", "Gets", "Inserts", "Looks", "News", "Sizes", "Stores")),

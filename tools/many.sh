@@ -15,6 +15,8 @@ many=$root/examples/many
 tw=$(readlink -f "${TW:-$root/crates/tw_main/out/tw_main}")
 python=${PYTHON:-/usr/bin/python3}
 count=${COUNT:-10000}
+# The first of the three ports of loopback that our own servers of ssh and Slurm listen at.
+port=$((20000 + $$ % 20000))
 PYTHONPATH=$root/embed/python${PYTHONPATH:+:$PYTHONPATH}
 export PYTHONPATH PYTHONDONTWRITEBYTECODE=1
 [ $# -gt 0 ] || set -- scripts threads processes dask mpi parallel ssh slurm
@@ -306,7 +308,7 @@ ssh_runs() {
     installed command -v parallel && installed command -v sshd && installed command -v rsync || return
     PARALLEL_SSH=$room/ssh/ssh
     export PARALLEL_SSH
-    check "ssh: a server on loopback" start_sshd $((20000 + $$ % 20000))
+    check "ssh: a server on loopback" start_sshd "$port"
     check "ssh: five inputs, and nothing stays there" over_ssh
 }
 
@@ -354,7 +356,7 @@ start_slurm() {
     dd if=/dev/urandom of="$room/slurm/munge.key" bs=1024 count=1 2>/dev/null
     chmod 711 "$room" "$room/slurm"
     chmod 400 "$room/slurm/munge.key"
-    slurm_conf $((20000 + $$ % 20000)) >"$room/slurm/slurm.conf"
+    slurm_conf $((port + 1)) >"$room/slurm/slurm.conf"
     SLURM_CONF=$room/slurm/slurm.conf
     export SLURM_CONF
     start munged --foreground --force --key-file="$room/slurm/munge.key" --socket="$room/slurm/munge.sock" --pid-file="$room/slurm/munge.pid" \
@@ -401,58 +403,26 @@ slurm_time() {
     done
 }
 
-slurm() {
-    mkdir -p "$room/slurm/state" "$room/slurm/spool"
-    dd if=/dev/urandom of="$room/slurm/munge.key" bs=1024 count=1 2>/dev/null
-    chmod 711 "$room" "$room/slurm"
-    chmod 400 "$room/slurm/munge.key"
-    slurm_conf $((20000 + $$ % 20000)) >"$room/slurm/slurm.conf"
-    SLURM_CONF=$room/slurm/slurm.conf
-    export SLURM_CONF
-    start munged --foreground --force --key-file="$room/slurm/munge.key" --socket="$room/slurm/munge.sock" --pid-file="$room/slurm/munge.pid" \
-        --log-file="$room/slurm/munge.log" --seed-file="$room/slurm/munge.seed"
-    until_it 20 test -S "$room/slurm/munge.sock"
-    start slurmctld -D
-    start slurmd -D
-    until_it 60 slurm_is_up
+# No number of files precedes the options, and the logs of an earlier array go.
+array_options() {
+    mkdir -p "$room/unnumbered" && touch "$room/unnumbered/slurm-99.log"
+    "$many/array.sh" "$tw" "$program" "$room/few" "$room/unnumbered" --partition=short --hold || return
+    [ "$(squeue -h -r | wc -l)" = 1 ] && [ ! -e "$room/unnumbered/slurm-99.log" ]
+    good=$?
+    scancel -u "$(id -un)"
+    until_it 60 slurm_is_done && return "$good"
 }
 
-# Submits the array, ends one of its jobs and one run in the middle, and submits again what has no answer.
-slurm_scripts() {
-    "$many/array.sh" "$tw" "$program" "$room/inputs" "$room/array" "$@" || return
-    until_it 60 sh -c "ls '$room/array' | grep -q status"
-    scancel --state=RUNNING "$(squeue -h -r -t R -o %i | head -n 1)"
-    until_it 900 slurm_is_done
-    echo "$(answers "$room/array") answers"
-    "$many/array.sh" "$tw" "$program" "$room/inputs" "$room/array" && until_it 900 slurm_is_done
-    table_of "$room/array" >"$room/array.table"
-    same "$room/array.table"
-}
-
-slurm_python() {
-    mkdir -p "$room/python_array"
-    sbatch --array=0-9 --output="$room/python_array/%a.log" --wrap="$python $many/slurm_array.py $program $room/inputs $room/python_array" || return
-    until_it 900 slurm_is_done
-    cat "$room"/python_array/*.table >"$room/python_array.all"
-    same "$room/python_array.all"
-}
-
-slurm_time() {
-    for options in "" "--partition=short" "-p short"; do
-        rm -rf "$room/timed"
-        # shellcheck disable=SC2086
-        "$many/array.sh" "$tw" "$room/other_slow.tw" "$room/few" "$room/timed" 40 --hold $options || return
-        minutes=$(squeue -h -o %M.%l | head -n 1)
-        scancel -u "$(id -un)"
-        until_it 60 slurm_is_done
-        echo "time $minutes"
-        case $minutes in *PartitionTimeLimit*) return 1 ;; esac
-    done
+array_without_inputs() {
+    "$many/array.sh" "$tw" "$program" "$room/nowhere" "$room/none"
+    [ $? = 66 ]
 }
 
 slurm() {
     installed command -v slurmctld && installed command -v munged && installed command -v sbatch || return
     check "slurm: one node" start_slurm
+    check "array.sh: options of sbatch and no number of files" array_options
+    check "array.sh: no inputs" array_without_inputs
     printf 'proc control closed cont int\nregs\nREPEAT 1000\nREPEAT 1000\nREPEAT 900\nEND\nEND\nEND\nDROPR d0\nRET\n' >"$room/other_slow.tw"
     check "slurm: a job's time keeps to the partition's, with options of sbatch and without" slurm_time
     check "slurm: $count inputs by array.sh, more than MaxArraySize jobs of 20, one job ended" slurm_scripts 20 --partition=short

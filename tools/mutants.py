@@ -71,7 +71,7 @@ MUTANTS = (
     Mutant("a_dash_is_a_file", "script", FRONT, '[ "$inputs" = - ] && inputs=/dev/stdin', ":"),
     Mutant("no_hint_of_explain", "script", FRONT, 'say "$me explain ${code%% *} says more" ;;', ": ;;"),
     Mutant("statuses_are_lost", "script", FRONT, "    status=$?\n    cat", "    status=0\n    cat"),
-    Mutant("asm_tells_no_reason", "script", FRONT, '"asm:1:refused A"*)', '"asm:1:refused Z"*)'),
+    Mutant("asm_prints_no_diagnostic", "script", FRONT, '"asm:1:refused A"*)', '"asm:1:refused Z"*)'),
     Mutant("pictures_of_programs_by_replay", "script", FRONT, 'set -- run --picture ${text:+"$text"} "$@"', 'set -- picture ${text:+"$text"} "$@"'),
     Mutant("a_file_after_options_only", "script", FRONT, 'if [ -z "$file" ] && names_file "$before" "$word"; then', 'if [ -z "$file" ] && [ -n "$before" ] && names_file "$before" "$word"; then'),
     Mutant("versions_are_the_programs", "script", "tw", '--version:1 | -V:1) echo "tw $(cat "$root/VERSION")"; exit ;;', "--version:1 | -V:1) echo tw; exit ;;"),
@@ -113,6 +113,7 @@ MUTANTS = (
     Mutant("small_buffers_cut", "python", PYTHON + "_native.py", "        if length <= len(room):\n            return", "        if True:\n            return"),
     Mutant("words_may_have_line_feeds", "python", PYTHON + "_native.py", 'if any("\\n" in word for word in words):', "if False:"),
     Mutant("interrupts_stop_nothing", "python", PYTHON + "_native.py", "        interrupt()\n", ""),
+    Mutant("brief_runs_release_the_gil", "python", PYTHON + "_native.py", "calls = short() if seconds < _BRIEF_SECONDS else library()", "calls = library()"),
     Mutant("open_containers_are_finished", "python", PYTHON + "_native.py", 'item.kind == ord("c") and item.closed', 'item.kind == ord("c")'),
     Mutant("stops_come_too_late", "python", PYTHON + "_stop.py", "        if self._event.is_set():\n", "        if False:\n"),
     # The page: its machine, its bounds, and what it reads of texts and answers.
@@ -185,7 +186,7 @@ def module_of(folder: Path) -> Path:
 
 
 def test(part: str, folder: Path, seconds: float = SECONDS) -> tuple[bool, str]:
-    """Runs the tests of a part for so many seconds at most. Returns whether they pass, and the last line that they wrote."""
+    """Runs the tests of a part for so many seconds at most. Returns whether they pass, and the first that failed or the last line that they wrote."""
     command = TESTS[part]
     if "@LIBRARY@" in command:
         command = command.replace("@LIBRARY@", str(library_of(folder)))
@@ -199,7 +200,8 @@ def test(part: str, folder: Path, seconds: float = SECONDS) -> tuple[bool, str]:
         run.communicate()
         return False, f"longer than {seconds:.0f} s"
     lines = said.decode(errors="replace").strip().splitlines()
-    return run.returncode == 0, lines[-1][:100] if lines else ""
+    failed = [line for line in lines if line.startswith(("FAIL: ", "ERROR: "))]
+    return run.returncode == 0, (failed[:1] or lines[-1:] or [""])[0][:100]
 
 
 def attempt(mutant: Mutant, folder: Path, seconds: float) -> bool:

@@ -117,6 +117,12 @@ harness_with() {
     harness "$@"
 }
 
+# Tests the wheel where there is no network.
+run_wheel() {
+    # shellcheck disable=SC2016
+    harness_with unshare wheel 900 sh -c './tw package wheel && unshare --map-root-user --net embed/python/test.sh "$PWD"/dist/*.whl'
+}
+
 # A clean clone has only the release to answer by, so it is tried if that is of these sources.
 run_released() {
     is_named released || return
@@ -156,8 +162,12 @@ run_harnesses() {
     harness shown 600 tools/shown.sh
     harness json 600 tools/json_runs.py "$program"
     harness progress 300 tools/progress.py
+    harness memory 1800 python3 -B tools/memory.py "$program"
     harness_with "cc rt" loaded 900 tools/loaded.sh
+    # shellcheck disable=SC2046
+    harness_with "cc c++ objcopy" callers 3600 env LIBRARY="${library%/*}" tools/callers.sh $(whole_or_quick "" --quick)
     harness python 900 embed/python/test.sh
+    run_wheel
     harness_with "chromium node cc" page 1800 page/test.sh "$program"
     # shellcheck disable=SC2046
     harness_with "cc c++ cargo rt" embedded 1200 tools/embedded.sh $(whole_or_quick "" "c cpp python")

@@ -157,8 +157,13 @@ class Code(unittest.TestCase):
             source.mkdir(parents=True)
             (source / "b.rt").write_text("/// Calls gone.\npub fn one(x: u8) {}\nenum Two { Three }\n", encoding="utf-8")
             (source / "c.antt").write_text("abbrev pub four : T\nfour = five\n", encoding="utf-8")
+            specs = pathlib.Path(folder, "crates/tw_a/specs/machine")
+            specs.mkdir(parents=True)
+            (specs / "D.antt").write_text("six : T\n", encoding="utf-8")
+            words.code_of.cache_clear()
+            lines = words.markdown_lines(text)
             with mock.patch.object(words, "ROOT", pathlib.Path(folder)):
-                return [(it.line, it.text) for it in words.dead_code("docs/A.md", words.markdown_lines(text))]
+                return [(it.line, it.text) for it in [*words.dead_code("docs/A.md", lines), *words.dead_paths("docs/A.md", lines)]]
 
     def test_what_is_there_is_no_finding(self) -> None:
         self.assertEqual(self.found("In `tw_a/src/b.rt`: `one`, `Two`, and `crates/tw_a/src/c.antt`: `four`. A `gone`.\n"), [])
@@ -171,6 +176,16 @@ class Code(unittest.TestCase):
 
     def test_a_name_that_is_only_used(self) -> None:
         self.assertEqual(self.found("`tw_a/src/c.antt`: `four` → `five`\n"), [(1, "tw_a/src/c.antt has no five")])
+
+    def test_definitions_that_are_there(self) -> None:
+        self.assertEqual(self.found("`tw_a/specs`: `machine`, `machine/D`; `tw_a/specs/machine`: `D`; `tw_a/specs/machine/D`; `tw_a::one`, `tw_a::Two::four`, `tw_a::six`\n"), [])
+
+    def test_definitions_that_arent_there(self) -> None:
+        self.assertEqual(self.found("A.\n\n`tw_a/specs`: `machine`,\n`D` and `E`\n"), [(3, "tw_a/specs has no D"), (3, "tw_a/specs has no E")])
+        self.assertEqual(self.found("`tw_a/specs/D`, `tw_a/specs/machine/E`\n"), [(1, "there is no crates/tw_a/specs/D"), (1, "there is no crates/tw_a/specs/machine/E")])
+
+    def test_paths_that_lead_nowhere(self) -> None:
+        self.assertEqual(self.found("`tw_a::gone`, `tw_a::Two::five` and\n`tw_b::one`\n"), [(1, "tw_a has no gone"), (1, "tw_a has no five"), (2, "tw_b has no one")])
 
 
 class Comments(unittest.TestCase):

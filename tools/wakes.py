@@ -1,32 +1,46 @@
 #!/usr/bin/env python3
 # SPDX-License-Identifier: Apache-2.0
-"""Breaks, one after the other, each place of the host that decides or makes a wake of an idle thread, in a copy of the repository, and runs the
-cases of runs there, unproved (`rt try`). No contract speaks of waking, so each break must be noticed by a case: as `late wakes N`, or since a run
-takes too long. Prints a line for each, ends with `N noticed, M not`, and fails where one isn't, or where a case fails without a break.
+"""Breaks each place of the host that decides or makes a wake of an idle thread, in a copy of the repository, and runs the cases of runs there,
+unproved. No contract speaks of waking, so each break must be noticed by a case: as `late wakes N`, or since a run takes too long.
 
-    tools/wakes.py               all of them, in some two minutes each
+The copy is built once, with all breaks. Each asks whether it is the one that is tried, and the number of that one is written into the program.
+Prints a line for each, ends with `N noticed, M not`, and fails where one isn't, or where a case fails without a break.
+
+    tools/wakes.py               all of them: a build of some three minutes, and half a minute a break
     tools/wakes.py NAME..        these
     tools/wakes.py --list        their names
 """
 from __future__ import annotations
 
+import re
 import shutil
 import subprocess
 import sys
 import tempfile
+import time
 from dataclasses import dataclass
 from pathlib import Path
 
 ROOT = Path(__file__).resolve().parent.parent
 KINDS = ("turns ", "rounds ", "stops ", "drives", "threads ", "woken ")
-SECONDS = 200
+# A run may take as many times as long as the one without a break, or so many seconds if that is more.
+TIMES, SECONDS = 5, 60
+# Is in the program where the number of a break is written.
+MARK = int.from_bytes(b"wakes.py", "little")
+TRIED = f"""//! Which break is tried.
+
+/// Returns whether this break is tried. The number is written over this one in the program.
+#[inline(never)]
+pub fn is_tried(number: u64) -> bool {{
+    number == {MARK}
+}}
+"""
 
 
 @dataclass(frozen=True)
-class Break:
-    """A text that a file has once, and the text in its place in the copy."""
+class Place:
+    """A text that a file has once, and the text in its place in the copy, in which @NAME@ asks whether the break NAME is tried."""
 
-    name: str
     file: str
     old: str
     new: str
@@ -36,32 +50,53 @@ HOST = "crates/tw_host/src/host.rt"
 PARKERS = "crates/tw_host/src/parkers.rt"
 SLEEPERS = "crates/tw_host/src/sleepers.rt"
 WORK = "crates/tw_pool_state/src/work.rt"
-BREAKS = (
-    Break("turns_wake_nobody", HOST, "        self.parkers.unpark(due);\n        answer\n", "        answer\n"),
-    Break("turns_do_not_end", HOST, "            self.progress.end();\n        }\n", "        }\n"),
-    Break("stop_wakes_nobody", HOST, "        self.progress.end();\n        self.parkers.unpark(due);\n", "        self.progress.end();\n"),
-    Break("stop_does_not_end", HOST, "        self.progress.end();\n        self.parkers.unpark(due);\n", "        self.parkers.unpark(due);\n"),
-    Break("nobody_is_unparked", PARKERS, "                parker.unpark();\n", ""),
-    Break("kernel_is_not_called", PARKERS, "            self.state.wake_one();\n", ""),
-    Break("end_wakes_nobody", SLEEPERS, "            return self.asleep;\n", "            return 0;\n"),
-    Break("end_is_not_noted", SLEEPERS, "            self.is_over = true;\n        }\n", "        }\n"),
-    Break("stop_wakes_no_sleeper", SLEEPERS, "        let asleep = self.asleep;\n", "        let asleep = 0;\n"),
-    Break("engine_wakes_no_engine", SLEEPERS, "self.due_engines(pool) | self.due_servers(pool) | self.due_workers(pool)", "self.due_servers(pool) | self.due_workers(pool)"),
-    Break("engine_wakes_no_server", SLEEPERS, "self.due_engines(pool) | self.due_servers(pool) | self.due_workers(pool)", "self.due_engines(pool) | self.due_workers(pool)"),
-    Break("engine_wakes_no_worker", SLEEPERS, "self.due_engines(pool) | self.due_servers(pool) | self.due_workers(pool)", "self.due_engines(pool) | self.due_servers(pool)"),
-    Break("server_wakes_no_engine", SLEEPERS, "Actor::Server(_) => self.due_engines(pool),", "Actor::Server(_) => 0,"),
-    Break("worker_wakes_no_server", SLEEPERS, "                } else {\n                    self.due_servers(pool)\n", "                } else {\n                    0\n"),
-    Break("worker_out_wakes_no_server", SLEEPERS, "                    self.due_servers(pool) | self.due_workers(pool)\n", "                    self.due_workers(pool)\n"),
-    Break("worker_out_wakes_no_worker", SLEEPERS, "                    self.due_servers(pool) | self.due_workers(pool)\n", "                    self.due_servers(pool)\n"),
-    Break("own_work_wakes_nobody", SLEEPERS, "if pool.has_own_work(layout.actor_at(index)) {\n                    due |= own;", "if pool.has_own_work(layout.actor_at(index)) {\n                    due |= 0;"),
-    Break("task_wakes_nobody", SLEEPERS, "                } else if left {\n                    due |= own;", "                } else if left {\n                    due |= 0;"),
-    Break("who_is_out_looks", SLEEPERS, "of_kind & !self.asleep & !self.out == 0", "of_kind & !self.asleep == 0"),
-    Break("releases_wake_nobody", WORK, "self.rules.next_release(engine).is_some()", "false"),
-    Break("notices_wake_nobody", WORK, "self.store.oldest_notice(server).is_some()", "false"),
-    Break("targets_wake_no_engine", WORK, " || self.tasks.has_targeted(actor)", ""),
-    Break("targets_wake_no_worker", WORK, "Actor::Worker(_) => self.tasks.has_targeted(actor)", "Actor::Worker(_) => false"),
-    Break("tasks_wake_nobody", WORK, "self.tasks.has_untargeted(kind)", "false"),
+
+
+def unless(name: str, bits: str) -> str:
+    """Returns the text of bits that are 0 if the break is tried."""
+    return f"(if @{name}@ {{ 0 }} else {{ {bits} }})"
+
+
+PLACES = (
+    Place(HOST, "        self.parkers.unpark(due);\n        answer\n", "        if !@turns_wake_nobody@ {\n            self.parkers.unpark(due);\n        }\n        answer\n"),
+    Place(HOST, "            self.progress.end();\n        }\n", "            if !@turns_do_not_end@ {\n                self.progress.end();\n            }\n        }\n"),
+    Place(
+        HOST,
+        "        self.progress.end();\n        self.parkers.unpark(due);\n",
+        "        if !@stop_does_not_end@ {\n            self.progress.end();\n        }\n        if !@stop_wakes_nobody@ {\n            self.parkers.unpark(due);\n        }\n",
+    ),
+    Place(PARKERS, "                parker.unpark();\n", "                if !@nobody_is_unparked@ {\n                    parker.unpark();\n                }\n"),
+    Place(PARKERS, "            self.state.wake_one();\n", "            if !@kernel_is_not_called@ {\n                self.state.wake_one();\n            }\n"),
+    Place(SLEEPERS, "            return self.asleep;\n", f"            return {unless('end_wakes_nobody', 'self.asleep')};\n"),
+    Place(SLEEPERS, "            self.is_over = true;\n        }\n", "            self.is_over = !@end_is_not_noted@;\n        }\n"),
+    Place(SLEEPERS, "        let asleep = self.asleep;\n", f"        let asleep = {unless('stop_wakes_no_sleeper', 'self.asleep')};\n"),
+    Place(
+        SLEEPERS,
+        "self.due_engines(pool) | self.due_servers(pool) | self.due_workers(pool)",
+        " | ".join(unless(f"engine_wakes_no_{kind}", f"self.due_{kind}s(pool)") for kind in ("engine", "server", "worker")),
+    ),
+    Place(SLEEPERS, "Actor::Server(_) => self.due_engines(pool),", f"Actor::Server(_) => {unless('server_wakes_no_engine', 'self.due_engines(pool)')},"),
+    Place(SLEEPERS, "                } else {\n                    self.due_servers(pool)\n", f"                }} else {{\n                    {unless('worker_wakes_no_server', 'self.due_servers(pool)')}\n"),
+    Place(
+        SLEEPERS,
+        "                    self.due_servers(pool) | self.due_workers(pool)\n",
+        f"                    {unless('worker_out_wakes_no_server', 'self.due_servers(pool)')} | {unless('worker_out_wakes_no_worker', 'self.due_workers(pool)')}\n",
+    ),
+    Place(
+        SLEEPERS,
+        "if pool.has_own_work(layout.actor_at(index)) {\n                    due |= own;",
+        f"if pool.has_own_work(layout.actor_at(index)) {{\n                    due |= {unless('own_work_wakes_nobody', 'own')};",
+    ),
+    Place(SLEEPERS, "                } else if left {\n                    due |= own;", f"                }} else if left {{\n                    due |= {unless('task_wakes_nobody', 'own')};"),
+    Place(SLEEPERS, "of_kind & !self.asleep & !self.out == 0", f"of_kind & !self.asleep & !{unless('who_is_out_looks', 'self.out')} == 0"),
+    Place(WORK, "self.rules.next_release(engine).is_some()", "(!@releases_wake_nobody@ && self.rules.next_release(engine).is_some())"),
+    Place(WORK, "self.store.oldest_notice(server).is_some()", "(!@notices_wake_nobody@ && self.store.oldest_notice(server).is_some())"),
+    Place(WORK, " || self.tasks.has_targeted(actor)", " || (!@targets_wake_no_engine@ && self.tasks.has_targeted(actor))"),
+    Place(WORK, "Actor::Worker(_) => self.tasks.has_targeted(actor)", "Actor::Worker(_) => (!@targets_wake_no_worker@ && self.tasks.has_targeted(actor))"),
+    Place(WORK, "self.tasks.has_untargeted(kind)", "(!@tasks_wake_nobody@ && self.tasks.has_untargeted(kind))"),
 )
+# Break 0 is none.
+BREAKS = ["", *(name for place in PLACES for name in re.findall(r"@(\w+)@", place.new))]
 
 
 def cases() -> str:
@@ -84,48 +119,77 @@ def copy_to(folder: Path) -> None:
                 shutil.copytree(crate / part, folder / "crates" / crate.name / part)
 
 
-def played(folder: Path, given: str, wanted: int) -> tuple[bool, str]:
-    """Says whether all cases have the expected output, and returns the differences otherwise."""
-    run = subprocess.run(
-        ["rt", "try", "--seconds", str(SECONDS)], cwd=folder / "crates/tw_cases", input=given.encode(), stdout=subprocess.PIPE, stderr=subprocess.STDOUT, check=False
-    )
+def add_breaks(folder: Path) -> None:
+    """Puts all breaks into a copy. Exits if a place isn't there once."""
+    for place in PLACES:
+        file = folder / place.file
+        text = file.read_text()
+        if text.count(place.old) != 1:
+            sys.exit(f"wakes.py: {place.old.strip()!r} is {text.count(place.old)} times in {place.file}")
+        asks = re.sub(r"@(\w+)@", lambda found: f"tw_types::is_tried({BREAKS.index(found[1])})", place.new)
+        file.write_text(text.replace(place.old, asks))
+    root = folder / "crates/tw_types/src/lib.rt"
+    (root.parent / "tried.rt").write_text(TRIED)
+    root.write_text(root.read_text().replace("\nmod value;\n", "\nmod tried;\nmod value;\n") + "pub use tried::is_tried;\n")
+
+
+def build(folder: Path) -> bytes:
+    """Returns the program of the cases, which is built unproved."""
+    kit = Path(shutil.which("rt") or sys.exit("wakes.py: the toolchain isn't installed")).resolve().parent.parent
+    program = folder / "tw_cases"
+    subprocess.run([sys.executable, "-B", ROOT / "tools/unverified.py", kit, folder, "tw_cases", program], check=True)
+    made = program.read_bytes()
+    if MARK.to_bytes(8, "little") not in made:
+        sys.exit("wakes.py: the program has no place for the number of a break")
+    return made
+
+
+def played(folder: Path, made: bytes, number: int, given: str, seconds: float) -> tuple[bool, str]:
+    """Runs all cases with a break. Returns whether all have the expected output, and what was said otherwise."""
+    program = folder / f"tw_cases_{number}"
+    program.write_bytes(made.replace(MARK.to_bytes(8, "little"), number.to_bytes(8, "little")))
+    program.chmod(0o755)
+    try:
+        run = subprocess.run([program], cwd=ROOT / "crates/tw_cases/data", input=given.encode(), stdout=subprocess.PIPE, stderr=subprocess.STDOUT, timeout=seconds, check=False)
+    except subprocess.TimeoutExpired:
+        return False, f"longer than {seconds:.0f} s"
+    finally:
+        program.unlink()
     lines = run.stdout.decode(errors="replace").splitlines()
-    good = f"{wanted} cases as wanted" in lines
-    found = [line for line in lines if ": wanted " in line] or lines[-1:]
-    return good, f"{len(found)} lines, first: {found[0][:200] if found else ''}"
-
-
-def tried(folder: Path, broken: Break, given: str, wanted: int) -> bool:
-    """Whether a break is noticed."""
-    file = folder / broken.file
-    text = file.read_text()
-    if text.count(broken.old) != 1:
-        print(f"{broken.name}: its text is {text.count(broken.old)} times in {broken.file}")
-        return False
-    file.write_text(text.replace(broken.old, broken.new))
-    good, found = played(folder, given, wanted)
-    file.write_text(text)
-    print(f"{broken.name}: {'NOT NOTICED' if good else 'noticed, ' + found}", flush=True)
-    return not good
-
-
-def main(names: list[str]) -> int:
-    if names == ["--list"]:
-        print("\n".join(broken.name for broken in BREAKS))
-        return 0
-    chosen = [broken for broken in BREAKS if not names or broken.name in names]
-    given = cases()
     wanted = sum(not line.startswith("let ") for line in given.splitlines())
+    found = lines[:-1] or lines
+    return f"{wanted} cases as wanted" in lines, f"{len(found)} lines, first: {found[0][:160] if found else ''}"
+
+
+def try_breaks(folder: Path, made: bytes, names: list[str]) -> int:
+    """Returns how many of these breaks aren't noticed, or 1 if a case fails without one."""
+    given, begun = cases(), time.monotonic()
+    good, said = played(folder, made, 0, given, 10 * SECONDS)
+    took = time.monotonic() - begun
+    print(f"without a break: {'all cases as wanted' if good else said}, {took:.0f} s", flush=True)
+    if not good:
+        return 1
+    missed = 0
+    for name in names:
+        good, said = played(folder, made, BREAKS.index(name), given, max(SECONDS, TIMES * took))
+        print(f"{name}: {'NOT NOTICED' if good else 'noticed, ' + said}", flush=True)
+        missed += good
+    print(f"{len(names) - missed} noticed, {missed} not")
+    return missed
+
+
+def main(words: list[str]) -> int:
+    if words == ["--list"]:
+        print("\n".join(BREAKS[1:]))
+        return 0
+    unknown = [word for word in words if word not in BREAKS[1:]]
+    if unknown:
+        sys.exit(f"wakes.py: there is no break {unknown[0]}")
     with tempfile.TemporaryDirectory() as room:
-        copy_to(Path(room))
-        good, found = played(Path(room), given, wanted)
-        if not good:
-            print(f"without a break: {found}")
-            return 1
-        print(f"without a break: {wanted} cases as wanted", flush=True)
-        noticed = sum(tried(Path(room), broken, given, wanted) for broken in chosen)
-    print(f"{noticed} noticed, {len(chosen) - noticed} not")
-    return int(noticed != len(chosen))
+        folder = Path(room)
+        copy_to(folder)
+        add_breaks(folder)
+        return 1 if try_breaks(folder, build(folder), words or BREAKS[1:]) else 0
 
 
 if __name__ == "__main__":

@@ -14,6 +14,7 @@ are left out.
 from __future__ import annotations
 
 import ast
+import functools
 import json
 import pathlib
 import posixpath
@@ -319,6 +320,41 @@ def dead_code(path: str, lines: list[Line]) -> Iterator[Finding]:
                 yield Finding(path, number, "code", f"{match[1]} has no {name}")
 
 
+# A folder of definitions in a document, and after a colon files that it has: `tw_host/specs`: `Run`, `Seats`. A file by itself: `tw_host/specs/Run`.
+SPECS = re.compile(r"`(tw_\w+/specs[\w/]*)`(?::((?:,?\s+(?:and\s+)?`[\w/]+`)+))?")
+# A function, theorem or type by its path: `tw_host::Host::open`.
+PATHS = re.compile(r"`(tw_\w+)::(\w+(?:::\w+)*)`")
+
+
+@functools.cache
+def code_of(crate: str) -> str:
+    """Returns all sources, definitions and theorems of a crate as one text."""
+    files = sorted(path for ending in ("rt", "antt") for path in (ROOT / "crates" / crate).rglob(f"*.{ending}"))
+    return "\n".join(path.read_text(encoding="utf-8") for path in files)
+
+
+def dead_specs(folder: str, names: list[str]) -> Iterator[str]:
+    """Says which files of definitions aren't there: a folder or a file, and the files named after it."""
+    place = ROOT / "crates" / folder
+    if not (place.is_dir() or place.with_suffix(".antt").is_file()):
+        yield f"there is no crates/{folder}"
+    for name in names:
+        if not (place / name).is_dir() and not (place / f"{name}.antt").is_file():
+            yield f"{folder} has no {name}"
+
+
+def dead_paths(path: str, lines: list[Line]) -> Iterator[Finding]:
+    """Finds the files of definitions, functions and types that a document names by path and that aren't there."""
+    text = "\n".join(line.text for line in lines)
+    for match in SPECS.finditer(text):
+        for what in dead_specs(match[1], re.findall(r"`([\w/]+)`", match[2] or "")):
+            yield Finding(path, lines[text.count("\n", 0, match.start())].number, "code", what)
+    for match in PATHS.finditer(text):
+        for name in match[2].split("::"):
+            if not defines(code_of(match[1]), name):
+                yield Finding(path, lines[text.count("\n", 0, match.start())].number, "code", f"{match[1]} has no {name}")
+
+
 def markdown_findings(documents: dict[str, list[Line]]) -> Iterator[Finding]:
     """Finds all that is wrong in Markdown."""
     for path, lines in documents.items():
@@ -326,7 +362,7 @@ def markdown_findings(documents: dict[str, list[Line]]) -> Iterator[Finding]:
         yield from wrong_words(path, prose)
         yield from long_sentences(path, prose)
         yield from dead_links(path, documents)
-        yield from [] if path in LOGS else dead_code(path, lines)
+        yield from [] if path in LOGS else [*dead_code(path, lines), *dead_paths(path, lines)]
     yield from repeated(documents)
 
 
