@@ -22,4 +22,4 @@ pub use Rattle.tw_lexer.specs.Digits.{as_is}
 pub use Rattle.tw_asm.specs.reading.Operands.{both, container_in, mode_in, scalar_in}
 pub use Rattle.tw_diagnostics.specs.RegisterCheck.{checks_args, checks_data, checks_left, checks_local, checks_priority, checks_right, checks_value, checks_values, is_left, is_unmet, question_of, first_unmet}
 pub use Rattle.tw_diagnostics.specs.Going.{after_operand, ends_at, first_read, form_at_place, go_on, goes, has_form, is_any, is_goal, is_quoted, only_if}
-pub use Rattle.tw_diagnostics.specs.Stops.{Begin, Ends, IsFirstStop, IsFound, IsStop, IsText, IsReached}
+pub use Rattle.tw_diagnostics.specs.Stops.{Begin, Ends, IsFirstStop, IsFound, IsErrorPosition, IsText, IsReached}

@@ -1,6 +1,6 @@
 -- Why a line is rejected, by what is printed of it.
 use Rattle.std.proofs.Common.{◌≡◌, ◌+◌, ◌++◌, ℕ, Bool, true, false, Bor, List, [], codes, length, Option, None, inl, inr, refl, sym, ap, subst, ◌∙◌}
-use Rattle.tw_diagnostics.proofs.ReasonNames.{Bare, Begins, HasWords, IsExpected, IsFirstStop, IsFirstWord, IsLine, IsStop, LineFault, LinesSay, ParserState, Statement, Version, Word, append-nil, at_start, before_colon, empty, instructions, label_twice, limit, lines, operand, procedures, situation, word}
+use Rattle.tw_diagnostics.proofs.ReasonNames.{Bare, Begins, HasWords, IsExpected, IsFirstStop, IsFirstWord, IsLine, IsErrorPosition, LineFault, LinesSay, ParserState, Statement, Version, Word, append-nil, at_start, before_colon, empty, instructions, label_twice, limit, lines, operand, procedures, situation, word}
 use Rattle.tw_asm.specs.declared.fault.FaultNo.{FaultNo}
 use Rattle.tw_asm.specs.declared.fault.FaultNo.TheVariants as fault
 use Rattle.tw_asm.specs.declared.statement.First.{First}
@@ -32,7 +32,7 @@ abbrev pub first_said : declared.ParserState → ErrorPosition → List ℕ
 first_said now stop = expected_text (stage_text now.stage) stop.found ++ first_hint now.stage now.version (found_word stop.found)
 
 -- the first word, what may begin the line, and which instruction was meant
-pub first_why : (text : List ℕ) (number : ℕ) (line old new : List ℕ) (stop : ErrorPosition) (expected : Bor (List ℕ)) (hint : Hint) (now : declared.ParserState) → IsStop line stop → stop.word ≡ 1
+pub first_why : (text : List ℕ) (number : ℕ) (line old new : List ℕ) (stop : ErrorPosition) (expected : Bor (List ℕ)) (hint : Hint) (now : declared.ParserState) → IsErrorPosition line stop → stop.word ≡ 1
     → expected.now ≡ stage_text now.stage → hint_text hint ≡ first_hint now.stage now.version (found_word stop.found) → IsStateThere text number now
     → new ≡ old ++ stop_line stop (said_text (Expected expected None hint) stop.found) → AddsWhy text fault.Word number line old new
 first_why text number line old new stop expected hint now is one staged hinted reached e =
@@ -67,7 +67,7 @@ known_there text number line now s Holds reached before wrong known =
     let (expected, (first, rest, is_first, is_expected, may), none) = operand_by number s line fault.Operand number wrong refl in
     subst Holds v (known expected first rest is_first (subst (λ (x : Version). IsExpected x expected first) (sym v) is_expected))
 
-pub operand_why : (text : List ℕ) (number : ℕ) (line old new : List ℕ) (stop : ErrorPosition) (say : Diagnostic) (now : declared.ParserState) → IsStop line stop → Known now.version line (λ v. IsFirstStop v line stop) → IsStateThere text number now
+pub operand_why : (text : List ℕ) (number : ℕ) (line old new : List ℕ) (stop : ErrorPosition) (say : Diagnostic) (now : declared.ParserState) → IsErrorPosition line stop → Known now.version line (λ v. IsFirstStop v line stop) → IsStateThere text number now
     → said_text say stop.found ≡ due_said stop.due stop.found → new ≡ old ++ stop_line stop (said_text say stop.found) → AddsWhy text fault.Operand number line old new
 operand_why text number line old new stop say now is known reached said e =
     (stop_line stop (said_text say stop.found), (inr (inl (stop, say, is, refl)), λ s before wrong. (stop, known_there text number line now s (λ v. IsFirstStop v line stop) reached before wrong known, ap (stop_line stop) said)), e)
@@ -82,7 +82,7 @@ no_operand_why text number line old now known reached =
 abbrev pub IsLastOf : List ℕ → ErrorPosition → Type 0
 IsLastOf line stop = (words : List Word) → IsLine words line → stop.word ≡ length words
 
-pub unknown_why : (line old new : List ℕ) (stop : ErrorPosition) (expected : Bor (List ℕ)) (hint : Hint) → IsStop line stop → IsLastOf line stop → expected.now ≡ codes "a label of this procedure" → hint_text hint ≡ []
+pub unknown_why : (line old new : List ℕ) (stop : ErrorPosition) (expected : Bor (List ℕ)) (hint : Hint) → IsErrorPosition line stop → IsLastOf line stop → expected.now ≡ codes "a label of this procedure" → hint_text hint ≡ []
     → new ≡ old ++ stop_line stop (said_text (Expected expected None hint) stop.found) → (text : List ℕ) (number : ℕ) → AddsWhy text fault.UnknownLabel number line old new
 unknown_why line old new stop expected hint is last words none e text number =
     (stop_line stop (said_text (Expected expected None hint) stop.found), (inr (inl (stop, Expected expected None hint, is, refl)), λ ws line_is some. (stop, said_text (Expected expected None hint) stop.found, is, last ws line_is, said, refl)), e)
@@ -96,7 +96,7 @@ label_said stop at expected hint words is none =
     ap (λ (t : List ℕ). expected_text expected.now stop.found ++ (line_text at ++ t)) none ∙ ap (λ (t : List ℕ). expected_text expected.now stop.found ++ t) (append-nil (line_text at))
     ∙ ap (λ (t : List ℕ). expected_text t stop.found ++ line_text at) is
 
-pub backward_why : (text : List ℕ) (number : ℕ) (line old new : List ℕ) (stop : ErrorPosition) (at : Option ℕ) (expected : Bor (List ℕ)) (hint : Hint) → IsStop line stop → IsLastOf line stop → IsLabelBefore text number (found_word stop.found) at
+pub backward_why : (text : List ℕ) (number : ℕ) (line old new : List ℕ) (stop : ErrorPosition) (at : Option ℕ) (expected : Bor (List ℕ)) (hint : Hint) → IsErrorPosition line stop → IsLastOf line stop → IsLabelBefore text number (found_word stop.found) at
     → expected.now ≡ codes "a label after this line" → hint_text hint ≡ []
     → new ≡ old ++ stop_line stop (said_text (Expected expected at hint) stop.found) → AddsWhy text fault.LabelNotForward number line old new
 backward_why text number line old new stop at expected hint is last label words none e =
@@ -104,13 +104,13 @@ backward_why text number line old new stop at expected hint is last label words 
 
 -- ---- A04 and A06: the first word
 
-pub twice_why : (text : List ℕ) (number : ℕ) (line old new : List ℕ) (stop : ErrorPosition) (at : Option ℕ) (expected : Bor (List ℕ)) (hint : Hint) → IsStop line stop → stop.word ≡ 1 → IsTwinBefore text number (before_colon (found_word stop.found)) at
+pub twice_why : (text : List ℕ) (number : ℕ) (line old new : List ℕ) (stop : ErrorPosition) (at : Option ℕ) (expected : Bor (List ℕ)) (hint : Hint) → IsErrorPosition line stop → stop.word ≡ 1 → IsTwinBefore text number (before_colon (found_word stop.found)) at
     → expected.now ≡ codes "a new label" → hint_text hint ≡ []
     → new ≡ old ++ stop_line stop (said_text (Expected expected at hint) stop.found) → AddsWhy text fault.LabelTwice number line old new
 twice_why text number line old new stop at expected hint is one label words none e =
     (stop_line stop (said_text (Expected expected at hint) stop.found), (inr (inl (stop, Expected expected at hint, is, refl)), (stop, at, is, one, label, ap (stop_line stop) (label_said stop at expected hint (codes "a new label") words none))), e)
 
-pub long_why : (text : List ℕ) (number : ℕ) (line old new : List ℕ) (first : ErrorPosition) (most : Bor (List ℕ)) → IsStop line first → first.word ≡ 1 → is_long_label (before_colon (found_word first.found)) ≡ true → most.now ≡ codes "64 bytes"
+pub long_why : (text : List ℕ) (number : ℕ) (line old new : List ℕ) (first : ErrorPosition) (most : Bor (List ℕ)) → IsErrorPosition line first → first.word ≡ 1 → is_long_label (before_colon (found_word first.found)) ≡ true → most.now ≡ codes "64 bytes"
     → new ≡ old ++ stop_line first (said_text (Limit most) first.found) → AddsWhy text fault.Limit number line old new
 long_why text number line old new first most is one long words e = (
   stop_line first (said_text (Limit most) first.found),
@@ -125,7 +125,7 @@ past_line : (line first reason : List ℕ) → IsPast line first reason → IsLi
 past_line line first reason (inl (stop, is, e)) = inr (inl (stop, Limit (literal (limit_of stop.due)), is, e))
 past_line line first reason (inr e) = inr (inr (whole_limit first, e))
 
-pub past_why : (text : List ℕ) (number : ℕ) (line old new : List ℕ) (first : ErrorPosition) → IsStop line first → first.word ≡ 1 → is_long_label (before_colon (found_word first.found)) ≡ false
+pub past_why : (text : List ℕ) (number : ℕ) (line old new : List ℕ) (first : ErrorPosition) → IsErrorPosition line first → first.word ≡ 1 → is_long_label (before_colon (found_word first.found)) ≡ false
     → AddsPast line (found_word first.found) old new → AddsWhy text fault.Limit number line old new
 past_why text number line old new first is one short (reason, past, e) =
     (reason, (past_line line (found_word first.found) reason past, (first, is, one, subst (λ (b : Bool). IsPastFirst line first b reason) (sym short) past)), e)
@@ -143,7 +143,7 @@ no_backward_why text number line old none = ([], (inl refl, λ words is some. ab
 
 -- ---- past a limit
 
-pub past_stop : (line first old new : List ℕ) (stop : ErrorPosition) (most : Bor (List ℕ)) → IsStop line stop → most.now ≡ limit_of stop.due → new ≡ old ++ stop_line stop (said_text (Limit most) stop.found) → AddsPast line first old new
+pub past_stop : (line first old new : List ℕ) (stop : ErrorPosition) (most : Bor (List ℕ)) → IsErrorPosition line stop → most.now ≡ limit_of stop.due → new ≡ old ++ stop_line stop (said_text (Limit most) stop.found) → AddsPast line first old new
 past_stop line first old new stop most is words e =
     (stop_line stop (said_text (Limit most) stop.found), inl (stop, is, ap (λ (t : List ℕ). stop_line stop (limit_text t stop.found)) words), e)
 

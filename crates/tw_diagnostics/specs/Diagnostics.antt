@@ -14,7 +14,7 @@ use Rattle.tw_diagnostics.specs.DueWords.{due_text, limit_of}
 use Rattle.tw_diagnostics.specs.Hints.{first_hint, hint_text, word_hint}
 use Rattle.tw_diagnostics.specs.Labels.{IsLabelBefore, IsTwinBefore}
 use Rattle.tw_diagnostics.specs.LineRole.{stage_of, stage_text}
-use Rattle.tw_diagnostics.specs.Stops.{IsFirstStop, IsStop}
+use Rattle.tw_diagnostics.specs.Stops.{IsFirstStop, IsErrorPosition}
 use Rattle.tw_diagnostics.specs.declared.breaks.Break.{Break}
 use Rattle.tw_diagnostics.specs.declared.breaks.Break.TheVariants.{Unclosed, Escape, AfterQuote}
 use Rattle.tw_diagnostics.specs.declared.due.Due.{Due}
@@ -102,7 +102,7 @@ stop_line stop printed = where_text stop ++ (printed ++ codes "\n")
 abbrev pub IsLineReason : List ℕ → List ℕ → Type 0
 IsLineReason line text =
     (text ≡ [])
-    ⊎ (((stop : ErrorPosition) × (say : Diagnostic) × IsStop line stop × (text ≡ stop_line stop (said_text say stop.found)))
+    ⊎ (((stop : ErrorPosition) × (say : Diagnostic) × IsErrorPosition line stop × (text ≡ stop_line stop (said_text say stop.found)))
     ⊎ ((whole : List ℕ) × (text ≡ whole ++ codes "\n")))
 
 -- ---- by the parser's state before the line
@@ -116,7 +116,7 @@ IsBefore text number s =
 -- holds for A01: the first word, what may begin the line there, and which instruction was meant
 abbrev pub PrintsFirst : ParserState → List ℕ → List ℕ → Type 0
 PrintsFirst s line reason =
-    (stop : ErrorPosition) × IsStop line stop × (stop.word ≡ 1)
+    (stop : ErrorPosition) × IsErrorPosition line stop × (stop.word ≡ 1)
     × (reason ≡ stop_line stop (expected_text (stage_text (stage_of s.stage)) stop.found ++ first_hint (stage_of s.stage) s.version (found_word stop.found)))
 
 -- returns what is printed of the word at which the line stops, by what may come there
@@ -134,7 +134,7 @@ PrintsOperand s line reason = (stop : ErrorPosition) × IsFirstStop s.version li
 abbrev pub PrintsLast : List ℕ → (ErrorPosition → List ℕ → Type 0) → List ℕ → Type 0
 PrintsLast line IsSaid reason =
     (words : List Word) → IsLine words line → words ≢ []
-    → (stop : ErrorPosition) × (text : List ℕ) × IsStop line stop × (stop.word ≡ length words) × IsSaid stop text × (reason ≡ stop_line stop text)
+    → (stop : ErrorPosition) × (text : List ℕ) × IsErrorPosition line stop × (stop.word ≡ length words) × IsSaid stop text × (reason ≡ stop_line stop text)
 
 -- holds for A03: there is no such label
 abbrev pub PrintsUnknown : List ℕ → List ℕ → Type 0
@@ -150,7 +150,7 @@ PrintsBackward text number line reason = PrintsLast line
 -- holds for A04, with the earlier line that has the same label
 abbrev pub PrintsTwice : List ℕ → ℕ → List ℕ → List ℕ → Type 0
 PrintsTwice text number line reason =
-    (stop : ErrorPosition) × (at : Option ℕ) × IsStop line stop × (stop.word ≡ 1) × IsTwinBefore text number (before_colon (found_word stop.found)) at
+    (stop : ErrorPosition) × (at : Option ℕ) × IsErrorPosition line stop × (stop.word ≡ 1) × IsTwinBefore text number (before_colon (found_word stop.found)) at
     × (reason ≡ stop_line stop (expected_text (codes "a new label") stop.found ++ line_text at))
 
 -- returns whether a label is too long (A06)
@@ -168,7 +168,7 @@ whole_limit first =
 -- holds for a word of the line, with the limit of what may come there, or for the limit of the whole
 abbrev pub IsPast : List ℕ → List ℕ → List ℕ → Type 0
 IsPast line first reason =
-    ((stop : ErrorPosition) × IsStop line stop × (reason ≡ stop_line stop (limit_text (limit_of stop.due) stop.found)))
+    ((stop : ErrorPosition) × IsErrorPosition line stop × (reason ≡ stop_line stop (limit_text (limit_of stop.due) stop.found)))
     ⊎ (reason ≡ whole_limit first ++ codes "\n")
 
 abbrev pub AddsPast : List ℕ → List ℕ → List ℕ → List ℕ → Type 0
@@ -180,7 +180,7 @@ IsPastFirst line first true reason = reason ≡ stop_line first (limit_text (cod
 IsPastFirst line first false reason = IsPast line (found_word first.found) reason
 
 abbrev pub PrintsPast : List ℕ → List ℕ → Type 0
-PrintsPast line reason = (first : ErrorPosition) × IsStop line first × (first.word ≡ 1) × IsPastFirst line first (is_long_label (before_colon (found_word first.found))) reason
+PrintsPast line reason = (first : ErrorPosition) × IsErrorPosition line first × (first.word ≡ 1) × IsPastFirst line first (is_long_label (before_colon (found_word first.found))) reason
 
 -- ---- each row is a fault
 

@@ -7,17 +7,17 @@ use Rattle.tw_asm.specs.declared.fault.FaultNo.{FaultNo}
 use Rattle.tw_asm.specs.declared.fault.FaultNo.TheVariants as fault
 use Rattle.tw_lexer.specs.Words.{IsLine, Word}
 use Rattle.tw_diagnostics.specs.Diagnostics.{IsBefore}
-use Rattle.tw_diagnostics.specs.Stops.{IsFirstStop, IsStop}
+use Rattle.tw_diagnostics.specs.Stops.{IsFirstStop, IsErrorPosition}
 use Rattle.tw_diagnostics.specs.declared.error_position.ErrorPosition.{ErrorPosition}
 
 -- the first word
 abbrev pub IsFirstWordOf : List ℕ → Option ErrorPosition → Type 0
 IsFirstWordOf line None = ⊥
-IsFirstWordOf line (Some stop) = IsStop line stop × (stop.word ≡ 1)
+IsFirstWordOf line (Some stop) = IsErrorPosition line stop × (stop.word ≡ 1)
 
 -- the last word of a line that has one
 abbrev pub IsLastWordOf : List ℕ → Option ErrorPosition → Type 0
-IsLastWordOf line at = (words : List Word) → IsLine words line → words ≢ [] → MatchOption at ⊥ (λ stop. IsStop line stop × (stop.word ≡ length words))
+IsLastWordOf line at = (words : List Word) → IsLine words line → words ≢ [] → MatchOption at ⊥ (λ stop. IsErrorPosition line stop × (stop.word ≡ length words))
 
 -- A01 and A04 are at the first word, A03 and A05 at the last, A02 at the first one that can't continue a statement, A06 at one or none
 abbrev pub IsErrorStop : FaultNo → List ℕ → ℕ → List ℕ → Option ErrorPosition → Type 0
@@ -27,7 +27,7 @@ IsErrorStop fault.Operand text number line at =
 IsErrorStop fault.UnknownLabel text number line at = IsLastWordOf line at
 IsErrorStop fault.LabelTwice text number line at = IsFirstWordOf line at
 IsErrorStop fault.LabelNotForward text number line at = IsLastWordOf line at
-IsErrorStop fault.Limit text number line at = IfSome at (IsStop line)
+IsErrorStop fault.Limit text number line at = IfSome at (IsErrorPosition line)
 IsErrorStop fault.NoMemory text number line at = at ≡ None
 
 -- the line of this number, or an empty one if the text has none

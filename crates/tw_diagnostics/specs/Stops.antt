@@ -34,7 +34,7 @@ IsFound (found.Broken broken) rest = IsBroken rest
 -- ---- a position
 
 -- a position in a line: which word it is, from 1, its column, and what is there
-pub record IsStop (line : List ℕ) (stop : ErrorPosition) : Type 0 where
+pub record IsErrorPosition (line : List ℕ) (stop : ErrorPosition) : Type 0 where
   pub before : List Word
   pub front : List ℕ
   pub rest : List ℕ
@@ -62,6 +62,6 @@ Ends version before rest (found.Broken broken) = Unit {0}
 
 -- the first position at which the line doesn't continue as a statement
 pub record IsFirstStop (version : Version) (line : List ℕ) (stop : ErrorPosition) : Type 0 where
-  pub reached : IsStop line stop
+  pub reached : IsErrorPosition line stop
   pub begin : Begin version reached.before
   pub ends : Ends version reached.before reached.rest stop.found

@@ -10,7 +10,7 @@ ghost use Rattle.tw_lexer.specs.Seen.{seen};
 ghost use Rattle.tw_lexer.specs.reading.Next.{IsAfterGap};
 ghost use Rattle.tw_diagnostics.specs.Going.{may_end};
 ghost use Rattle.tw_diagnostics.specs.declared.error_position.Token.TheVariants as found;
-ghost use Rattle.tw_diagnostics.specs.Stops.{Begin, Ends, IsFirstStop, IsFound, IsStop, column_after};
+ghost use Rattle.tw_diagnostics.specs.Stops.{Begin, Ends, IsFirstStop, IsFound, IsErrorPosition, column_after};
 ghost use Rattle.tw_diagnostics.specs.Diagnostics.{found_word, is_long_label};
 ghost use Rattle.tw_lexer.specs.Names.{before_colon};
 
@@ -69,7 +69,7 @@ fn stop_with<'a>(
     requires { before ≤ length line.now }
     ensures word { result.word ≡ before + 1 }
     ensures reached { (words : List AWord) (after : List ℕ) → AreFirstWords words line.entry.now after → IsAfterGap after here.entry.now
-        → before ≡ length words → IsFound found.entry here.entry.now → IsStop line.entry.now result }
+        → before ≡ length words → IsFound found.entry here.entry.now → IsErrorPosition line.entry.now result }
     ensures first { (version : AVersion) (words : List AWord) (after : List ℕ) → AreFirstWords words line.entry.now after → IsAfterGap after here.entry.now
         → before ≡ length words → IsFound found.entry here.entry.now → Begin version words → Ends version words here.entry.now found.entry
         → IsFirstStop version line.entry.now result }
@@ -100,7 +100,7 @@ fn end_stop<'a>(
 ) -> Option<ErrorPosition<'a>>
     requires { before ≤ length line.now }
     ensures reached { (words : List AWord) (after : List ℕ) → AreFirstWords words line.entry.now after → IsAfterGap after here.entry.now
-        → before ≡ length words → IsBlank here.entry.now → IfSome result (IsStop line.entry.now) }
+        → before ≡ length words → IsBlank here.entry.now → IfSome result (IsErrorPosition line.entry.now) }
     ensures first { (words : List AWord) (after : List ℕ) → AreFirstWords words line.entry.now after → IsAfterGap after here.entry.now
         → before ≡ length words → IsBlank here.entry.now → Begin version words → (may_end version ahead.entry.read ≡ false → Ends version words here.entry.now found.End)
         → MatchOption result (may_end version ahead.entry.read ≡ true) (IsFirstStop version line.entry.now) }
@@ -123,7 +123,7 @@ fn position_after<'a>(
 ) -> Result<Option<ErrorPosition<'a>>, AllocError>
     requires utf8 { IsUtf8 after.now }
     requires first { IsFirstWord (Bare first.now) line.now after.now }
-    ensures reached { IfOk result (λ stop. IfSome stop (IsStop line.entry.now)) }
+    ensures reached { IfOk result (λ stop. IfSome stop (IsErrorPosition line.entry.now)) }
     ensures first { ask ≡ Ask.Form → (expected : First) → IsExpected version expected first.entry.now
         → IfOk result (λ stop. MatchOption stop (HasWords version line.entry.now) (IsFirstStop version line.entry.now)) }
 {
@@ -169,7 +169,7 @@ fn found_in<'a>(alloc: Global, here: &'a [u8]) -> Result<Token<'a>, AllocError>
 /// Returns the position of the first word in a line's bytes.
 fn first_word<'a>(alloc: Global, line: &'a [u8]) -> Result<ErrorPosition<'a>, AllocError>
     requires { IsUtf8 line.now }
-    ensures reached { IfOk result (λ stop. IsStop line.entry.now stop) }
+    ensures reached { IfOk result (λ stop. IsErrorPosition line.entry.now stop) }
     ensures word { IfOk result (λ stop. stop.word ≡ 1) }
 {
     let here = without_gap(line);
@@ -179,7 +179,7 @@ fn first_word<'a>(alloc: Global, line: &'a [u8]) -> Result<ErrorPosition<'a>, Al
 
 /// Returns the position of a line's first word. Call it if the line stops there.
 pub(crate) fn first_stop<'a>(alloc: Global, line: &'a str) -> Result<ErrorPosition<'a>, AllocError>
-    ensures reached { IfOk result (λ stop. IsStop line.entry.now stop) }
+    ensures reached { IfOk result (λ stop. IsErrorPosition line.entry.now stop) }
     ensures word { IfOk result (λ stop. stop.word ≡ 1) }
 {
     first_word(alloc, line.as_bytes())
@@ -196,7 +196,7 @@ fn word_stop<'a>(
 ) -> Result<Option<ErrorPosition<'a>>, AllocError>
     requires utf8 { IsUtf8 after.now }
     requires first { IsFirstWord (seen word.now) line.now after.now }
-    ensures reached { IfOk result (λ stop. IfSome stop (IsStop line.entry.now)) }
+    ensures reached { IfOk result (λ stop. IfSome stop (IsErrorPosition line.entry.now)) }
     ensures first { ask ≡ Ask.Form → (expected : First) (word rest : List ℕ) → IsFirstWord (Bare word) line.entry.now rest → IsExpected version expected word
         → IfOk result (λ stop. MatchOption stop (HasWords version line.entry.now) (IsFirstStop version line.entry.now)) }
 {
@@ -214,7 +214,7 @@ fn bytes_stop<'a>(
     line: &'a [u8],
 ) -> Result<Option<ErrorPosition<'a>>, AllocError>
     requires { IsUtf8 line.now }
-    ensures reached { IfOk result (λ stop. IfSome stop (IsStop line.entry.now)) }
+    ensures reached { IfOk result (λ stop. IfSome stop (IsErrorPosition line.entry.now)) }
     ensures first { ask ≡ Ask.Form → (expected : First) (word rest : List ℕ) → IsFirstWord (Bare word) line.entry.now rest → IsExpected version expected word
         → IfOk result (λ stop. MatchOption stop (HasWords version line.entry.now) (IsFirstStop version line.entry.now)) }
 {
@@ -232,7 +232,7 @@ pub(crate) fn line_stop<'a>(
     version: Version,
     line: &'a str,
 ) -> Result<Option<ErrorPosition<'a>>, AllocError>
-    ensures reached { IfOk result (λ stop. IfSome stop (IsStop line.entry.now)) }
+    ensures reached { IfOk result (λ stop. IfSome stop (IsErrorPosition line.entry.now)) }
     ensures first { ask ≡ Ask.Form → (expected : First) (word rest : List ℕ) → IsFirstWord (Bare word) line.entry.now rest → IsExpected version expected word
         → IfOk result (λ stop. MatchOption stop (HasWords version line.entry.now) (IsFirstStop version line.entry.now)) }
 {
@@ -242,7 +242,7 @@ pub(crate) fn line_stop<'a>(
 /// Returns the position of the last word in a line's bytes, if there is one.
 fn last_word<'a>(alloc: Global, line: &'a [u8]) -> Result<Option<ErrorPosition<'a>>, AllocError>
     requires { IsUtf8 line.now }
-    ensures reached { IfOk result (λ stop. IfSome stop (IsStop line.entry.now)) }
+    ensures reached { IfOk result (λ stop. IfSome stop (IsErrorPosition line.entry.now)) }
     ensures last { IfOk result (λ stop. (words : List AWord) → IsLine words line.entry.now → MatchOption stop (words ≡ []) (λ s. s.word ≡ length words)) }
 {
     let mut last = None;
@@ -262,12 +262,12 @@ fn last_word<'a>(alloc: Global, line: &'a [u8]) -> Result<Option<ErrorPosition<'
     }
 }
 
-/// Returns the position of the last word of a line, if there is one.
-pub(crate) fn last_stop<'a>(
+/// Returns where an error at the last word of a line is reported; `None` if the line has no word.
+pub(crate) fn position_of_last_word<'a>(
     alloc: Global,
     line: &'a str,
 ) -> Result<Option<ErrorPosition<'a>>, AllocError>
-    ensures reached { IfOk result (λ stop. IfSome stop (IsStop line.entry.now)) }
+    ensures reached { IfOk result (λ stop. IfSome stop (IsErrorPosition line.entry.now)) }
     ensures last { IfOk result (λ stop. (words : List AWord) → IsLine words line.entry.now → MatchOption stop (words ≡ []) (λ s. s.word ≡ length words)) }
 {
     last_word(alloc, line.as_bytes())

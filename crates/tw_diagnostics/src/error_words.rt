@@ -3,10 +3,10 @@
 ghost use Rattle.std.specs.Prelude.{◌≡◌, IfOk, IfSome};
 ghost use Rattle.tw_asm.specs.declared.fault.FaultNo.TheVariants as fault;
 ghost use Rattle.tw_diagnostics.specs.ErrorWord.{IsErrorStop, IsErrorWord, IsLineOrNone};
-ghost use Rattle.tw_diagnostics.specs.Stops.{IsStop};
+ghost use Rattle.tw_diagnostics.specs.Stops.{IsErrorPosition};
 
 use crate::error_position::{
-    ErrorPosition, first_stop, found_word, is_long_label, last_stop, line_stop,
+    ErrorPosition, first_stop, found_word, is_long_label, line_stop, position_of_last_word,
 };
 use crate::parser_state::situation_before;
 use crate::words::Ask;
@@ -34,7 +34,7 @@ fn limit_stop<'a>(
     number: usize,
     line: &'a str,
 ) -> Result<Option<ErrorPosition<'a>>, AllocError>
-    ensures { IfOk result (λ stop. IfSome stop (IsStop line.entry.now)) }
+    ensures { IfOk result (λ stop. IfSome stop (IsErrorPosition line.entry.now)) }
 {
     let first = first_stop(alloc, line)?;
     if is_long_label(found_word(&first.found)) {
@@ -58,7 +58,7 @@ fn error_stop<'a>(
             Err(_) => Err(AllocError),
         },
         FaultNo::Operand => operand_stop(alloc, text, fault.line, line),
-        FaultNo::UnknownLabel | FaultNo::LabelNotForward => last_stop(alloc, line),
+        FaultNo::UnknownLabel | FaultNo::LabelNotForward => position_of_last_word(alloc, line),
         FaultNo::Limit => limit_stop(alloc, text, fault.line, line),
         FaultNo::NoMemory => Ok(None),
     }

@@ -54,7 +54,7 @@ fn loop_end(code: &[Instr], first: usize) -> Option<usize>
 
 /// Returns whether the END at one place ends the loop that begins at another.
 fn begins_loop(code: &[Instr], begin: usize, place: usize) -> bool
-    requires short { length code.now ≤ 4096 }
+    requires limit { length code.now ≤ 4096 }
     requires inside { begin < length code.now }
     ensures is { IsTrue result → IsEndOf code.now (begin + 1) place }
     ensures none { result ≡ false → IsEndOf code.now (begin + 1) place → ⊥ }
@@ -78,7 +78,7 @@ fn difference_at_end(typings: &[Typing], first: usize, place: usize) -> Option<D
 
 /// Returns what is changed by the loop that begins at one place and ends at another.
 fn change_by(code: &[Instr], typings: &[Typing], begin: usize, place: usize) -> Option<Difference>
-    requires short { length code.now ≤ 4096 }
+    requires limit { length code.now ≤ 4096 }
     requires inside { begin < length code.now }
     ensures { MatchOption result
         ((d : ADifference) → IsChange code.now typings.now (begin + 1) place d → ⊥)

@@ -110,7 +110,7 @@ fn brought(
     place: usize,
     here: &Typing,
 ) -> Option<Difference>
-    requires short { length procedure.now.code ≤ 4096 }
+    requires limit { length procedure.now.code ≤ 4096 }
     requires operands { AllByRecursion IsInstr procedure.now.code }
     requires earlier { before < place }
     ensures { MatchOption result
@@ -143,7 +143,7 @@ fn second_of(
     place: usize,
     here: &Typing,
 ) -> Option<(usize, Difference)>
-    requires short { length procedure.now.code ≤ 4096 }
+    requires limit { length procedure.now.code ≤ 4096 }
     requires operands { AllByRecursion IsInstr procedure.now.code }
     ensures { MatchOption result
         ((before : ℕ) (way : AWay) → BringsNothingElse procedures.now procedure.now typings.now way before place here.now)
@@ -176,14 +176,15 @@ fn second_of(
     None
 }
 
-/// Returns the first place that leads to this one, and the first one that leaves other rights than those here.
+/// Returns the first place that leads to this one, the first one that leaves other rights than those here, and the first register
+/// that differs.
 pub(crate) fn meeting_at(
     procedures: &[Procedure],
     procedure: &Procedure,
     typings: &[Typing],
     place: usize,
 ) -> Option<Meeting>
-    requires short { length procedure.now.code ≤ 4096 }
+    requires limit { length procedure.now.code ≤ 4096 }
     requires operands { AllByRecursion IsInstr procedure.now.code }
     ensures { MatchOption result (HasNoMeeting procedures.now procedure.now typings.now place) (IsMeeting procedures.now procedure.now typings.now place) }
 {

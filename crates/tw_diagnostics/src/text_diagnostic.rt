@@ -8,7 +8,9 @@ ghost use Rattle.tw_diagnostics.specs.declared.error_position.Token.{Token as AF
 
 use crate::diagnostic::{Diagnostic, put_stop, put_whole};
 use crate::due::{Due, limit_of};
-use crate::error_position::{first_stop, found_word, is_long_label, last_stop, line_stop};
+use crate::error_position::{
+    first_stop, found_word, is_long_label, line_stop, position_of_last_word,
+};
 use crate::hints::{Hint, first_hint, word_hint};
 use crate::labels::{label_before, twin_before};
 use crate::parser_state::situation_before;
@@ -71,7 +73,7 @@ fn put_operand(
 fn put_unknown(alloc: Global, out: &mut Vec<u8>, line: &str) -> Result<(), AllocError>
     ensures { OnOk result ((text : List ℕ) (number : ℕ) → AddsWhy text fault.UnknownLabel number line.now out.old.items out.new.items) }
 {
-    match last_stop(alloc, line)? {
+    match position_of_last_word(alloc, line)? {
         Some(stop) => put_stop(
             alloc,
             out,
@@ -112,7 +114,7 @@ fn put_backward(
 ) -> Result<(), AllocError>
     ensures { OnOk result (AddsWhy text.now fault.LabelNotForward number line.now out.old.items out.new.items) }
 {
-    match last_stop(alloc, line)? {
+    match position_of_last_word(alloc, line)? {
         Some(stop) => {
             let at = label_before(alloc, text, number, found_word(&stop.found))?;
             put_stop(

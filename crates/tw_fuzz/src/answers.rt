@@ -40,9 +40,9 @@ impl Word {
     }
 }
 
-/// The value of a scalar.
+/// The value of a scalar, as the calls have it.
 #[derive(Clone, Copy, PartialEq, Eq)]
-pub enum Plain {
+pub enum PlainValue {
     Number(i64),
     Word(Word),
 }
@@ -83,11 +83,11 @@ pub fn done_or_refused(done: Result<(), AllocError>) -> Answer {
     }
 }
 
-/// Returns the value, unless an allocation fails.
-pub fn value_of(alloc: Global, plain: Plain) -> Option<Value> {
+/// Makes the machine's value of a value of the calls; `None` if an allocation fails.
+pub fn value_of(alloc: Global, plain: PlainValue) -> Option<Value> {
     match plain {
-        Plain::Number(number) => Some(Value::Int(number)),
-        Plain::Word(word) => {
+        PlainValue::Number(number) => Some(Value::Int(number)),
+        PlainValue::Word(word) => {
             let string = word.as_str().to_string(alloc).ok()?;
             Some(Value::Text(Text::new(string).ok()?))
         }

@@ -8,7 +8,7 @@ ghost use Rattle.tw_types.specs.Text.{IsText};
 ghost use Rattle.tw_store.specs.Served.{IsHere};
 
 use crate::answers::{
-    Answer, Plain, Word, answer_of, done_or_refused, id_of, if_back, insertion, value_of,
+    Answer, PlainValue, Word, answer_of, done_or_refused, id_of, if_back, insertion, value_of,
 };
 use crate::store_checks::{
     FAR, has_read_room, may_copy_write, may_drop_read, may_drop_write, may_insert, may_look,
@@ -26,7 +26,7 @@ pub enum Call {
     Create(u8, bool),
     /// Makes a container with texts as subscripts around that.
     CreateByText(u8, bool),
-    Set(u64, Plain),
+    Set(u64, PlainValue),
     Retrieve(u64),
     Insert(u64, i64, u64),
     InsertText(u64, Word, u64),
@@ -230,7 +230,7 @@ fn store_value(store: &mut Store, right: WriteRight, value: Value) -> Answer
 }
 
 /// Sets a scalar. If allocating the value fails, drops the right and doesn't change the store.
-fn store_plain(store: &mut Store, alloc: Global, right: WriteRight, plain: Plain) -> Answer
+fn store_plain(store: &mut Store, alloc: Global, right: WriteRight, plain: PlainValue) -> Answer
     requires { IsHere store.old right }
 {
     match value_of(alloc, plain) {

@@ -2,7 +2,7 @@
 
 ghost use Rattle.tw_store.specs.Served.{KnowsPlaces};
 
-use crate::answers::{Answer, Plain};
+use crate::answers::{Answer, PlainValue};
 use crate::calls::{Call, answered};
 use std::alloc::Global;
 use tw_store::{Datum, Store};
@@ -26,7 +26,7 @@ fn filled(alloc: Global, store: &mut Store, factor: i64) -> bool {
 /// Makes the next datum, sets it to the iteration's number, and inserts it at the subscript.
 fn member_added(alloc: Global, store: &mut Store, turn: i64, subscript: i64) -> bool {
     let id = store.next().number();
-    let set = Call::Set(id, Plain::Number(turn));
+    let set = Call::Set(id, PlainValue::Number(turn));
     answers(alloc, store, Call::Create(0, false), Answer::Id(id))
         && answers(alloc, store, set, Answer::Done)
         && answers(alloc, store, Call::Insert(1, subscript, id), Answer::Done)
@@ -129,7 +129,7 @@ fn are_filled_and_freed(alloc: Global, store: &mut Store) -> bool {
 /// Makes the next datum, drops its read and sets it, which frees it. Returns whether all that succeeded, and it is gone.
 fn is_made_and_freed(alloc: Global, store: &mut Store) -> bool {
     let id = store.next().number();
-    let set = Call::Set(id, Plain::Number(0));
+    let set = Call::Set(id, PlainValue::Number(0));
     answers(alloc, store, Call::Create(0, false), Answer::Id(id))
         && answers(alloc, store, Call::DropRead(id), Answer::Done)
         && answers(alloc, store, set, Answer::Done)
@@ -151,7 +151,7 @@ pub fn thousand_in_turn(alloc: Global) -> bool {
 /// Makes the next datum, sets it to the number, reads it and drops its read. Returns whether it was read as it was set, and is gone.
 fn is_read_and_freed(alloc: Global, store: &mut Store, number: i64) -> bool {
     let id = store.next().number();
-    let set = Call::Set(id, Plain::Number(number));
+    let set = Call::Set(id, PlainValue::Number(number));
     answers(alloc, store, Call::Create(0, false), Answer::Id(id))
         && answers(alloc, store, set, Answer::Done)
         && answers(alloc, store, Call::Retrieve(id), Answer::Number(number))

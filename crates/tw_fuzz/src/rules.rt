@@ -340,7 +340,7 @@ pub fn calls_are_the_lists(alloc: Global, calls: u16) -> Option<(&'static str, u
     if let Some(call) = difference {
         Some(("call", call))
     } else if erased.len() != list.len() || !erased.iter().all(|rule| is_erased_of(&list, rule)) {
-        Some(("rules told", erased.len() as u64))
+        Some(("rules left", erased.len() as u64))
     } else {
         None
     }

@@ -5,7 +5,7 @@ use crate::answers::Answer::{
     Barred, Closed, Done, Id, Noted, Nothing, Notice, Number, Present, Refused, Word,
 };
 use crate::answers::Word::{A, Ab, B, Empty};
-use crate::answers::{Answer, Plain};
+use crate::answers::{Answer, PlainValue};
 use crate::calls::Call::{
     Ask, CopyRead, CopyWrite, Create, CreateByText, DropRead, DropWrite, Insert, InsertText, Look,
     LookText, ReserveDatum, ReserveNotices, Retrieve, Set, Size, SubscriptAt, TakeNote, TextAt,
@@ -24,14 +24,14 @@ const CALLS: [(Call, Answer); 133] = [
     (ReserveDatum, Done), (Create(2, false), Id(5)),
     // Three parameters wait for datum 1, whose server gets notices when it is set. Asking for a closed datum makes no notice.
     (Ask(1, 1, 0), Noted), (Ask(1, 2, 1), Noted), (Ask(1, 3, 2), Noted), (Retrieve(1), Barred),
-    (Set(1, Plain::Number(7)), Done), (Ask(1, 4, 3), Closed), (TakeNote(0), Nothing),
+    (Set(1, PlainValue::Number(7)), Done), (Ask(1, 4, 3), Closed), (TakeNote(0), Nothing),
     (TakeNote(1), Notice(1, 1, 0)), (TakeNote(1), Notice(1, 2, 1)), (TakeNote(1), Notice(1, 3, 2)),
-    (TakeNote(1), Nothing), (Retrieve(1), Number(7)), (Set(1, Plain::Number(7)), Barred),
+    (TakeNote(1), Nothing), (Retrieve(1), Number(7)), (Set(1, PlainValue::Number(7)), Barred),
     // Memory for the notices of datum 4.
-    (Ask(4, 5, 0), Noted), (Ask(4, 6, 1), Noted), (ReserveNotices(4), Done), (Set(4, Plain::Number(7)), Done),
+    (Ask(4, 5, 0), Noted), (Ask(4, 6, 1), Noted), (ReserveNotices(4), Done), (Set(4, PlainValue::Number(7)), Done),
     (TakeNote(0), Notice(4, 5, 0)), (TakeNote(0), Notice(4, 6, 1)), (TakeNote(0), Nothing),
     // A text.
-    (Set(2, Plain::Number(7)), Barred), (Set(2, Plain::Word(A)), Done), (Retrieve(2), Word(A)), (Retrieve(2), Word(A)),
+    (Set(2, PlainValue::Number(7)), Barred), (Set(2, PlainValue::Word(A)), Done), (Retrieve(2), Word(A)), (Retrieve(2), Word(A)),
     // Members. A second one at a subscript is returned, and keeps its counts.
     (Insert(3, 5, 2), Barred), (Insert(3, 5, 1), Done), (Insert(3, 5, 4), Present), (Insert(3, 6, 4), Done),
     (Insert(5, -1, 3), Done),
@@ -55,7 +55,7 @@ const CALLS: [(Call, Answer); 133] = [
     (DropRead(4), Done), (Retrieve(4), Number(7)), (DropRead(4), Done), (Retrieve(4), Barred),
     // No number is reused. An int without reads is freed when it is set, and not before.
     (Create(0, false), Id(10)), (DropRead(10), Done), (DropRead(10), Barred), (Ask(10, 1, 0), Noted),
-    (Set(10, Plain::Number(7)), Done), (Ask(10, 1, 0), Barred), (TakeNote(0), Notice(6, 2, 2)),
+    (Set(10, PlainValue::Number(7)), Done), (Ask(10, 1, 0), Barred), (TakeNote(0), Notice(6, 2, 2)),
     (Create(0, true), Id(11)),
     // Members with texts as subscripts, which come in the order of their bytes.
     (CreateByText(0, false), Id(12)), (Insert(12, 5, 7), Barred), (InsertText(12, B, 11), Barred),

@@ -30,7 +30,7 @@ use Rattle.tw_pool.specs.declared.answer.Turn.TheVariants as turn
 use Rattle.tw_pool.specs.Actors.{events_of, same_actor}
 use Rattle.tw_pool.specs.PoolView.{PoolView, with_events}
 use Rattle.tw_pool.specs.Turns.{IsTurn}
-use Rattle.tw_host.specs.Holds.{SeesTurns, AreTurns, HandsOn, IsBrief, RunsHere, SomeTurns, SeesUpTo, Waits, few_instructions}
+use Rattle.tw_host.specs.Holds.{SeesTurns, AreTurns, HasNextResult, IsBrief, RunsHere, SomeTurns, SeesUpTo, IsAtStop, few_instructions}
 use Rattle.tw_host.specs.Run.{Run, run_of}
 use Rattle.tw_host.specs.Sees.{IsAnswerOf, IsDoneOf, SomeTurn, Sees, TurnsOrNot}
 use Rattle.tw_host.specs.declared.locked.Strange.{Strange}
@@ -44,9 +44,9 @@ no_step p at after (suc n) stop went =
     let none : local_steps (suc n) p.code at ≡ NotEnabled = rw (stop.is, stop.other) refl in
     let no : NotEnabled ≡ Went after = sym none ∙ went in cc
 
-never_short : (p : Procedure) (at after : Position) → after ≡ at → IsStop p.code at.place → (short : Bool) → StopsAt short p.code p.registers after.place → short ≡ false
-never_short p at after is stop false stops = refl
-never_short p at after is stop true stops =
+has_memory : (p : Procedure) (at after : Position) → after ≡ at → IsStop p.code at.place → (short : Bool) → StopsAt short p.code p.registers after.place → short ≡ false
+has_memory p at after is stop false stops = refl
+has_memory p at after is stop true stops =
     let both = sym stop.is ∙ (ap (λ (a : Position). slice_get p.code a.place) (sym is) ∙ stops.is) in
     let same : stop.here ≡ instr.Local stops.here = same_Some stop.here (instr.Local stops.here) both in
     let no : None ≡ Some stops.here = sym stop.other ∙ ap local_of same in cc
@@ -56,12 +56,12 @@ pub still : (program : List Procedure) (procedure : ℕ) (before after : Positio
 still program procedure before after steps short p here stop d =
     let same : d.p ≡ p = same_Some d.p p (sym d.here ∙ here) in
     let went : local_steps steps p.code before ≡ Went after = subst (λ (q : Procedure). local_steps steps q.code before ≡ Went after) same d.reached.went in
-    let none = no_step p before after steps stop went in (none.0, never_short p before after none.1 stop short (subst (λ (q : Procedure). StopsAt short q.code q.registers after.place) same d.stops))
+    let none = no_step p before after steps stop went in (none.0, has_memory p before after none.1 stop short (subst (λ (q : Procedure). StopsAt short q.code q.registers after.place) same d.stops))
 
-pub waits_still : (job : JobView) (done : DoneView) → Waits job → done.before ≡ job → IsDone done.before.program.program done.before.procedure done.before.position done.after done.steps done.short
+pub still_at_stop : (job : JobView) (done : DoneView) → IsAtStop job → done.before ≡ job → IsDone done.before.program.program done.before.procedure done.before.position done.after done.steps done.short
     → (done.steps ≡ 0) × (done.short ≡ false)
-waits_still job done waits is d =
-    let there = subst (λ (j : JobView). Waits j) (sym is) waits in
+still_at_stop job done is_at_stop is d =
+    let there = subst (λ (j : JobView). IsAtStop j) (sym is) is_at_stop in
     still done.before.program.program done.before.procedure done.before.position done.after done.steps done.short there.0 there.1 there.2 d
 
 -- ---- a job whose task is brief
@@ -94,7 +94,7 @@ brief_job job b after steps short d =
 
 pub few_here : (job : JobView) (done : DoneView) → RunsHere job → done.before ≡ job → IsDone done.before.program.program done.before.procedure done.before.position done.after done.steps done.short
     → (done.steps ≤ few_instructions) × (done.short ≡ false)
-few_here job done (inl waits) is d = let none = waits_still job done waits is d in (omega (arith, none.0), none.1)
+few_here job done (inl is_at_stop) is d = let none = still_at_stop job done is_at_stop is d in (omega (arith, none.0), none.1)
 few_here job done (inr brief) is d = brief_job done.before (subst (λ (j : JobView). IsBrief j) (sym is) brief) done.after done.steps done.short d
 
 pub none_there : {A : Type 0} (o : Option A) (b : Bool) → b ≡ is_some o → not b ≡ true → o ≡ None
@@ -103,7 +103,7 @@ none_there (Some x) b is holds = let no : false ≡ true = sym (ap not is) ∙ h
 
 -- ---- steps, one after the other
 
-pub next_done : (program : TypedProgram) (answer : Turn) (next : Option DoneView) → IsAnswerOf program answer → HandsOn answer next → IsDoneOf program next
+pub next_done : (program : TypedProgram) (answer : Turn) (next : Option DoneView) → IsAnswerOf program answer → HasNextResult answer next → IsDoneOf program next
 next_done program (turn.Over closing) next is on = absurd on
 next_done program (turn.Foreign done) next is on = absurd on
 next_done program turn.Owed next is on = absurd on
@@ -172,7 +172,7 @@ module _ (old new : PoolView) (actor : Actor) (answer : Turn) (count : ℕ) (a :
 module _ (old : PoolView) (actor : Actor) (given : Option DoneView) (now : PoolView) (owed : Option DoneView) (past : List Turn)
     (so_far : (rest : List Turn) (answer : Turn) (new : PoolView) → AreTurns now actor owed rest answer new → AreTurns old actor given (past ++ rest) answer new) where
   -- one turn more
-  pub on : (first : Turn) (next : Option DoneView) (between : PoolView) → IsTurn now actor owed first between → HandsOn first next
+  pub on : (first : Turn) (next : Option DoneView) (between : PoolView) → IsTurn now actor owed first between → HasNextResult first next
       → (rest : List Turn) (answer : Turn) (new : PoolView) → AreTurns between actor next rest answer new → AreTurns old actor given ((past ++ first ∷ []) ++ rest) answer new
   on first next between t goes rest answer new more =
       subst (λ (turns : List Turn). AreTurns old actor given turns answer new) (sym (append_assoc past (first ∷ []) rest)) (so_far (first ∷ rest) answer new (next, between, t, goes, more))

@@ -23,9 +23,9 @@ use Rattle.tw_host.specs.Sees.{Sees}
 abbrev pub most_turns : ℕ
 most_turns = 64
 
--- holds if the next instruction of a job isn't local
-abbrev pub Waits : JobView → Type 0
-Waits job = (p : Procedure) × (slice_get job.program.program job.procedure ≡ Some p) × IsStop p.code job.position.place
+-- holds if a job makes no step: its next instruction isn't local
+abbrev pub IsAtStop : JobView → Type 0
+IsAtStop job = (p : Procedure) × (slice_get job.program.program job.procedure ≡ Some p) × IsStop p.code job.position.place
 
 -- the greatest budget of a task whose jobs are run under the lock
 abbrev pub few_instructions : ℕ
@@ -44,26 +44,26 @@ pub record IsBrief (job : JobView) : Type 0 where
 
 -- holds for a job that is run under the lock
 abbrev pub RunsHere : JobView → Type 0
-RunsHere job = Waits job ⊎ IsBrief job
+RunsHere job = IsAtStop job ⊎ IsBrief job
 
 -- Holds for what the next step of a batch is passed. After an event that issues no job, and after the end of a task, that is
 -- nothing. After a job whose next instruction isn't local, or whose task is brief, it is the job's `Done`, which has few steps and isn't
 -- short. After any other result the batch ends.
-abbrev pub HandsOn : Turn → Option DoneView → Type 0
-HandsOn (turn.Over closing) next = ⊥
-HandsOn (turn.Foreign done) next = ⊥
-HandsOn turn.Owed next = ⊥
-HandsOn (turn.NoMemory given) next = ⊥
-HandsOn (turn.Run job) next = RunsHere job × ((done : DoneView) × (next ≡ Some done) × (done.before ≡ job) × (done.steps ≤ few_instructions) × (done.short ≡ false))
-HandsOn turn.Ended next = next ≡ None
-HandsOn turn.Went next = next ≡ None
-HandsOn turn.Idle next = ⊥
+abbrev pub HasNextResult : Turn → Option DoneView → Type 0
+HasNextResult (turn.Over closing) next = ⊥
+HasNextResult (turn.Foreign done) next = ⊥
+HasNextResult turn.Owed next = ⊥
+HasNextResult (turn.NoMemory given) next = ⊥
+HasNextResult (turn.Run job) next = RunsHere job × ((done : DoneView) × (next ≡ Some done) × (done.before ≡ job) × (done.steps ≤ few_instructions) × (done.short ≡ false))
+HasNextResult turn.Ended next = next ≡ None
+HasNextResult turn.Went next = next ≡ None
+HasNextResult turn.Idle next = ⊥
 
 -- holds for steps of an actor, each in the state that the one before left: some results after which the batch continues, and the last one
 abbrev pub AreTurns : PoolView → Actor → Option DoneView → List Turn → Turn → PoolView → Type 0
 AreTurns old actor given [] answer new = IsTurn old actor given answer new
 AreTurns old actor given (first ∷ rest) answer new =
-    (next : Option DoneView) × (between : PoolView) × IsTurn old actor given first between × HandsOn first next × AreTurns between actor next rest answer new
+    (next : Option DoneView) × (between : PoolView) × IsTurn old actor given first between × HasNextResult first next × AreTurns between actor next rest answer new
 
 -- some pool of the run, within its limit, in which the actor has `count` events, makes at most `most` such steps, and they append exactly these
 pub record SomeTurns (most : ℕ) (run : Run) (actor : Actor) (count : ℕ) (given : Option DoneView) (answer : Turn) (es : List Event) : Type 0 where

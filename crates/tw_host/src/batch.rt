@@ -5,7 +5,7 @@ ghost use Rattle.tw_types.specs.Actor.{is_in};
 ghost use Rattle.tw_frame.specs.Banks.{HasText};
 ghost use Rattle.tw_frame.specs.Ready.{IsStop};
 ghost use Rattle.tw_pool.specs.declared.answer.Turn.{Turn as ATurn};
-ghost use Rattle.tw_host.specs.Holds.{AreTurns, HandsOn, IsBrief, RunsHere, Waits};
+ghost use Rattle.tw_host.specs.Holds.{AreTurns, HasNextResult, IsBrief, RunsHere, IsAtStop};
 ghost use Rattle.tw_host.specs.Sees.{IsDoneOf};
 
 use std::alloc::Global;
@@ -33,9 +33,9 @@ fn stops_at(code: &[Instr], place: usize) -> bool
     }
 }
 
-/// Returns whether the next instruction of a job isn't local.
-fn waits(job: &Job<'_>) -> bool
-    ensures { result ≡ true → Waits job.now }
+/// Returns whether a job makes no step: whether its next instruction isn't local.
+fn is_at_stop(job: &Job<'_>) -> bool
+    ensures { result ≡ true → IsAtStop job.now }
 {
     let lent = job.lent();
     let procedures = lent.program().program().procedures();
@@ -77,7 +77,7 @@ fn is_brief(job: &Job<'_>) -> bool
 fn runs_here(job: &Job<'_>) -> bool
     ensures { result ≡ true → RunsHere job.now }
 {
-    waits(job) || is_brief(job)
+    is_at_stop(job) || is_brief(job)
 }
 
 /// Runs a job under the lock, and returns its `Done`.
@@ -85,7 +85,7 @@ fn done_at_once<'a>(alloc: Global, job: Job<'a>) -> Done<'a>
     requires { RunsHere job }
     ensures before { result.before ≡ job.entry }
     ensures few { result.steps ≤ 256 }
-    ensures never_short { result.short ≡ false }
+    ensures has_memory { result.short ≡ false }
 {
     let done = job.run(alloc);
     let _steps = done.steps();
@@ -100,9 +100,9 @@ fn has_ended(answer: &Turn<'_>) -> bool {
     }
 }
 
-/// Returns what is passed to the next turn of the batch, or the result with which the batch ends.
-fn handed_on<'a>(alloc: Global, answer: Turn<'a>) -> Result<Option<Done<'a>>, Turn<'a>>
-    ensures on { IfOk result (HandsOn answer.entry) }
+/// Returns the result of a job for the next scheduling step of the batch, if there is one, or the answer with which the batch ends.
+fn next_result<'a>(alloc: Global, answer: Turn<'a>) -> Result<Option<Done<'a>>, Turn<'a>>
+    ensures on { IfOk result (HasNextResult answer.entry) }
     ensures back { IfErr result (λ back. back ≡ answer.entry) }
 {
     match answer {
@@ -137,7 +137,7 @@ pub(crate) fn run_batch<'a>(
         if made >= ENOUGH_TURNS && has_ended(&answer) {
             return answer;
         }
-        match handed_on(alloc, answer) {
+        match next_result(alloc, answer) {
             Ok(next) => given = next,
             Err(answer) => return answer,
         }

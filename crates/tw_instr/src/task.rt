@@ -18,7 +18,7 @@ use std::marker::Model;
 use tw_code::{Action, Procedure};
 use tw_types::{Actor, Cause, DatumId, Kind, Scalar, TaskNo, Value, keep};
 
-/// A task: its procedure with the kind of that, the target if it has one, and at most eight arguments.
+/// A waiting task: its procedure, the kind of that, its priority, its target if it has one, and at most eight arguments.
 #[derive(Drop)]
 pub struct Task {
     kind: Kind,
@@ -30,9 +30,9 @@ pub struct Task {
 
 impl Model for Task {
     ghost use Rattle.std.specs.Prelude.{◌≤◌, map, length};
-    ghost use Rattle.tw_types.specs.Task.{Task as Meaning};
+    ghost use Rattle.tw_types.specs.Task.{Task as TaskView};
 
-    ghost Value = { Meaning };
+    ghost Value = { TaskView };
 
     ghost use Rattle.tw_instr.specs.Arguments.{arg_of};
 
@@ -42,7 +42,7 @@ impl Model for Task {
 }
 
 impl Task {
-    /// Makes main's task, for any engine, with the ids of its rights.
+    /// Makes main's task, for any engine, with the ids of the data on which it gets rights.
     pub fn main(alloc: Global, rights: &[DatumId]) -> Result<Task, AllocError>
         requires { length rights.now ≤ 8 }
         ensures { IfOk result (λ task. task ≡ main_task rights.now) }
@@ -60,7 +60,8 @@ impl Task {
         })
     }
 
-    /// Makes the task of an action on a procedure of this kind, with this priority and these arguments.
+    /// Makes the task that RULE or PUT names. `kind` is its procedure's; `priority` is the action's, read from its register if it is
+    /// computed.
     pub fn of(kind: Kind, action: &Action, priority: i64, args: Vec<Arg>) -> Task
         requires { length args.items ≤ 8 }
         ensures { result ≡ record { kind = kind; procedure = action.now.procedure; priority = priority; target = action.now.target; args = map arg_of args.items } }
@@ -74,7 +75,7 @@ impl Task {
         }
     }
 
-    /// Copies the task, with this kind.
+    /// Copies the task, but with this kind.
     pub fn try_clone(&self, alloc: Global, kind: Kind) -> Result<Task, AllocError>
         ensures { IfOk result (λ copy. copy ≡ record self.now { kind = kind }) }
     {
@@ -113,7 +114,7 @@ impl Task {
         &self.args
     }
 
-    /// Returns whether the actor may take it.
+    /// Returns whether the task may be taken by the actor: whether it is for its number, and the kind fits.
     pub fn is_eligible(&self, actor: Actor) -> bool
         ensures { result ≡ is_eligible actor self.now }
     {
@@ -121,15 +122,20 @@ impl Task {
     }
 
     /// Makes the frame of the task at its start. Its values, in order, fill the first value registers, which must be of their
-    /// types; the others are blank. The ids of its rights fill the first right registers.
-    pub fn begin(&self, alloc: Global, program: &[Procedure], number: u64) -> Result<Frame, Failure>
-        ensures { MayGive (frame_of program.now number self.now) result }
+    /// types, or it traps with `WrongRegister`; the others are blank. The ids of its rights fill the first right registers.
+    pub fn begin(
+        &self,
+        alloc: Global,
+        procedures: &[Procedure],
+        task: u64,
+    ) -> Result<Frame, Failure>
+        ensures { MayGive (frame_of procedures.now task self.now) result }
     {
-        let procedure = procedure_of(program, self.procedure)?;
-        let values = filled(alloc, &self.args, procedure.registers.as_slice())?;
+        let procedure = procedure_of(procedures, self.procedure)?;
+        let values = values_at_start(alloc, &self.args, procedure.registers.as_slice())?;
         let rights = first_rights(&self.args);
-        let number = TaskNo::new(number);
-        Ok(Frame::first(alloc, number, self.procedure, values, rights))
+        let task = TaskNo::new(task);
+        Ok(Frame::first(alloc, task, self.procedure, values, rights))
     }
 }
 
@@ -143,23 +149,23 @@ fn copies_of(alloc: Global, args: &[Arg]) -> Result<Vec<Arg>, AllocError>
     Ok(copies)
 }
 
-fn filled(alloc: Global, args: &[Arg], registers: &[Scalar]) -> Result<Vec<Value>, Failure>
-    ensures { MatchResult result (λ values. filled (values_in (map arg_of args.now)) registers.now ≡ Ok values.items) (MayFail (filled (values_in (map arg_of args.now)) registers.now)) }
+fn values_at_start(alloc: Global, args: &[Arg], types: &[Scalar]) -> Result<Vec<Value>, Failure>
+    ensures { MatchResult result (λ values. filled (values_in (map arg_of args.now)) types.now ≡ Ok values.items) (MayFail (filled (values_in (map arg_of args.now)) types.now)) }
 {
-    let mut values = first_values(alloc, args, registers)?;
-    let others = &registers[values.len()..];
+    let mut values = given_values(alloc, args, types)?;
+    let others = &types[values.len()..];
     add_blanks(alloc, &mut values, others)?;
     Ok(values)
 }
 
-fn first_values(alloc: Global, args: &[Arg], registers: &[Scalar]) -> Result<Vec<Value>, Failure>
-    ensures filled { MatchResult result (λ values. filled (values_in (map arg_of args.now)) registers.now ≡ Ok (values.items ++ map blank_of (drop (length values.items) registers.now))) (MayFail (filled (values_in (map arg_of args.now)) registers.now)) }
-    ensures short { IfOk result (λ values. length values.items ≤ length registers.now) }
+fn given_values(alloc: Global, args: &[Arg], types: &[Scalar]) -> Result<Vec<Value>, Failure>
+    ensures begins { MatchResult result (λ values. filled (values_in (map arg_of args.now)) types.now ≡ Ok (values.items ++ map blank_of (drop (length values.items) types.now))) (MayFail (filled (values_in (map arg_of args.now)) types.now)) }
+    ensures fits { IfOk result (λ values. length values.items ≤ length types.now) }
 {
     let mut values = Vec::new(alloc);
     for arg in args {
         if let Arg::Value(value) = arg {
-            let declared = registers.get(values.len()).copied();
+            let declared = types.get(values.len()).copied();
             if declared != Some(value.scalar()) {
                 return Err(Failure::Trap(Cause::WrongRegister));
             }
@@ -169,14 +175,10 @@ fn first_values(alloc: Global, args: &[Arg], registers: &[Scalar]) -> Result<Vec
     Ok(values)
 }
 
-fn add_blanks(
-    alloc: Global,
-    values: &mut Vec<Value>,
-    registers: &[Scalar],
-) -> Result<(), AllocError>
-    ensures { OnOk result (values.new.items ≡ values.old.items ++ map blank_of registers.now) }
+fn add_blanks(alloc: Global, values: &mut Vec<Value>, types: &[Scalar]) -> Result<(), AllocError>
+    ensures { OnOk result (values.new.items ≡ values.old.items ++ map blank_of types.now) }
 {
-    for ty in registers {
+    for ty in types {
         keep(values, Value::blank(alloc, *ty))?;
     }
     Ok(())
@@ -197,7 +199,7 @@ fn first_rights(args: &[Arg]) -> [Option<DatumId>; 16]
     rights
 }
 
-/// Returns whether a task with this target is for the actor of the number.
+/// Returns whether a task with this target may be taken by the actor of this number, if the kind fits.
 fn is_for(target: Option<u8>, number: u8) -> bool
     ensures { result ≡ is_for target number }
 {

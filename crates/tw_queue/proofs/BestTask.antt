@@ -17,9 +17,9 @@ use Rattle.tw_rights.specs.declared.arg.Arg.{Arg}
 use Rattle.tw_queue.specs.declared.rank.Rank.{Rank}
 use Rattle.tw_queue.specs.declared.waiting.Waiting.{Waiting}
 use Rattle.tw_queue.specs.Ranks.{rank_cmp}
-use Rattle.tw_queue.specs.Lists.{IsBest, IsOwnLane}
-use Rattle.tw_queue.specs.Queues.{IsTarget, handed_out, lane_of}
-use Rattle.tw_queue.specs.Index.{Ranking, IsRankBest}
+use Rattle.tw_queue.specs.QueuesByTarget.{IsBest, IsOwnQueue}
+use Rattle.tw_queue.specs.Queues.{IsTarget, handed_out, queue_of}
+use Rattle.tw_queue.specs.RankIndex.{Ranking, IsRankBest}
 use Rattle.tw_queue.specs.Indexed.{IsIndex, IsEntryAt, rank_of, task_in}
 use Rattle.tw_queue.proofs.Bests.{IsAhead, best_is, best_none}
 use Rattle.tw_types.proofs.Elements.{all_at, contains_none}
@@ -33,14 +33,14 @@ pub record IsBestTask (actor : Actor) (entry : Entries) (tasks : TasksOf Arg) (r
   pub there : entry rank.slot ≡ Some waiting
   pub best_is : best actor tasks ≡ Some (waiting.task.no, task_in waiting)
 
-for_itself : (target : Option ℕ) (number lane : ℕ) → IsTarget target → lane_of target ≡ lane → IsOwnLane number lane → is_for target number ≡ true
-for_itself None number lane few at own = refl
-for_itself (Some t) number lane few at (inl last) = absurd (omega arith)
-for_itself (Some t) number lane few at (inr same) = subst (λ n. nat_eq t n ≡ true) (at ∙ same) (nat_itself t)
+for_itself : (target : Option ℕ) (number queue : ℕ) → IsTarget target → queue_of target ≡ queue → IsOwnQueue number queue → is_for target number ≡ true
+for_itself None number queue few at own = refl
+for_itself (Some t) number queue few at (inl last) = absurd (omega arith)
+for_itself (Some t) number queue few at (inr same) = subst (λ n. nat_eq t n ≡ true) (at ∙ same) (nat_itself t)
 
-own_lane : (target : Option ℕ) (number : ℕ) → is_for target number ≡ true → IsOwnLane number (lane_of target)
-own_lane None number e = inl refl
-own_lane (Some t) number e = inr (nat_same t number e)
+own_queue : (target : Option ℕ) (number : ℕ) → is_for target number ≡ true → IsOwnQueue number (queue_of target)
+own_queue None number e = inl refl
+own_queue (Some t) number e = inr (nat_same t number e)
 
 -- slots decide last
 but_for_slots : (o p q : Ordering) → is_lt (ordering_then o (ordering_then p q)) ≡ false → is_lt (ordering_then o p) ≡ false
@@ -54,12 +54,12 @@ module _ (entry : Entries) (ranks : Ranking) (is : IsIndex entry ranks) (tasks :
   module _ (actor : Actor) (kind : Kind) (number : ℕ) (own : (k : Kind) → may_take actor k ≡ true → k ≡ kind) (may : may_take actor kind ≡ true) (is_number : number_in_kind actor ≡ number) where
     -- the rank of each task that the actor may take is one of those
     candidate : (q : ℕ) (v : Waiting) → entry q ≡ Some v → is_eligible actor (task_in v) ≡ true → Contains (ranks kind 16) (rank_of q v) ⊎ Contains (ranks kind number) (rank_of q v)
-    candidate q v e eligible = by (own_lane v.target number (subst (λ n. is_for v.target n ≡ true) is_number (and_parts (may_take actor v.kind) _ eligible).1))
+    candidate q v e eligible = by (own_queue v.target number (subst (λ n. is_for v.target n ≡ true) is_number (and_parts (may_take actor v.kind) _ eligible).1))
       where
-        there : Contains (ranks kind (lane_of v.target)) (rank_of q v)
-        there = subst (λ k. Contains (ranks k (lane_of v.target)) (rank_of q v)) (own v.kind (and_parts (may_take actor v.kind) _ eligible).0) (is.complete q v e)
+        there : Contains (ranks kind (queue_of v.target)) (rank_of q v)
+        there = subst (λ k. Contains (ranks k (queue_of v.target)) (rank_of q v)) (own v.kind (and_parts (may_take actor v.kind) _ eligible).0) (is.complete q v e)
 
-        by : IsOwnLane number (lane_of v.target) → Contains (ranks kind 16) (rank_of q v) ⊎ Contains (ranks kind number) (rank_of q v)
+        by : IsOwnQueue number (queue_of v.target) → Contains (ranks kind 16) (rank_of q v) ⊎ Contains (ranks kind number) (rank_of q v)
         by (inl any) = inl (subst (λ p. Contains (ranks kind p) (rank_of q v)) any there)
         by (inr same) = inr (subst (λ p. Contains (ranks kind p) (rank_of q v)) same there)
 

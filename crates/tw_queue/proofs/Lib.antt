@@ -1,7 +1,7 @@
 pub mod Kept
 pub mod Bests
 pub mod Order
-pub mod Lanes
+pub mod RunQueues
 pub mod Runs
 pub mod Ranking
 pub mod Rooms

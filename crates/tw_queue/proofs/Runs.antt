@@ -12,8 +12,8 @@ use Rattle.std.proofs.lemmas.List.Elements.{Contains-append_left, Contains-appen
 use Rattle.std.proofs.lemmas.List.Sorted.{IsPermutation-append_right, IsPermutation-middle, IsPermutation-sym, IsPermutation-trans}
 use Rattle.tw_queue.specs.declared.rank.Rank.{Rank}
 use Rattle.tw_queue.specs.Ranks.{rank_cmp}
-use Rattle.tw_queue.specs.Lanes.{IsFirst, IsInFront, IsInOrder}
-use Rattle.tw_queue.proofs.Lanes.{each_at, each_push}
+use Rattle.tw_queue.specs.RunQueues.{IsFirst, IsInFront, IsInOrder}
+use Rattle.tw_queue.proofs.RunQueues.{each_at, each_push}
 use Rattle.tw_queue.proofs.Order.{not_after, not_itself}
 
 -- ---- ranks after a run

@@ -7,8 +7,8 @@ use Rattle.tw_types.specs.Task.{TaskOf, TasksOf}
 use Rattle.tw_rights.specs.declared.arg.Arg.{Arg}
 use Rattle.tw_queue.specs.declared.rank.Rank.{Rank}
 use Rattle.tw_queue.specs.declared.waiting.Waiting.{Waiting}
-use Rattle.tw_queue.specs.Index.{Ranking}
-use Rattle.tw_queue.specs.Queues.{IsTarget, lane_of, waiting}
+use Rattle.tw_queue.specs.RankIndex.{Ranking}
+use Rattle.tw_queue.specs.Queues.{IsTarget, queue_of, waiting}
 
 -- returns the waiting task in a slot
 abbrev pub task_in : Waiting → TaskOf Arg
@@ -29,9 +29,9 @@ rank_of slot w = record { priority = w.priority; number = w.task.no; slot = slot
 
 -- holds if the task in the rank's slot has this kind, this run queue, and the rank's priority and number
 abbrev pub IsEntryAt : Kind → ℕ → Rank → Option Waiting → Type 0
-IsEntryAt kind lane rank None = ⊥
-IsEntryAt kind lane rank (Some w) =
-    (w.kind ≡ kind) × (lane_of w.target ≡ lane) × (w.priority ≡ rank.priority) × (w.task.no ≡ rank.number)
+IsEntryAt kind queue rank None = ⊥
+IsEntryAt kind queue rank (Some w) =
+    (w.kind ≡ kind) × (queue_of w.target ≡ queue) × (w.priority ≡ rank.priority) × (w.task.no ≡ rank.number)
 
 -- holds if no number is in two slots
 abbrev pub AreApart : (ℕ → Option Waiting) → Type 0
@@ -39,10 +39,10 @@ AreApart entry = (p q : ℕ) (v w : Waiting) → entry p ≡ Some v → entry q 
 
 -- each rank is that of the task in its slot, each task has its rank, and no slot and no number is there twice
 pub record IsIndex (entry : ℕ → Option Waiting) (ranks : Ranking) : Type 0 where
-  pub sound : (kind : Kind) (lane : ℕ) (rank : Rank) → Contains (ranks kind lane) rank
-      → IsEntryAt kind lane rank (entry rank.slot)
+  pub sound : (kind : Kind) (queue : ℕ) (rank : Rank) → Contains (ranks kind queue) rank
+      → IsEntryAt kind queue rank (entry rank.slot)
   pub complete : (slot : ℕ) (w : Waiting) → entry slot ≡ Some w
-      → Contains (ranks w.kind (lane_of w.target)) (rank_of slot w)
-  pub distinct : (kind : Kind) (lane : ℕ) → IsDistinct nat_eq (map (λ rank. rank.slot) (ranks kind lane))
+      → Contains (ranks w.kind (queue_of w.target)) (rank_of slot w)
+  pub distinct : (kind : Kind) (queue : ℕ) → IsDistinct nat_eq (map (λ rank. rank.slot) (ranks kind queue))
   pub targets : (slot : ℕ) (w : Waiting) → entry slot ≡ Some w → IsTarget w.target
   pub apart : AreApart entry

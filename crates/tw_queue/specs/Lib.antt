@@ -1,9 +1,9 @@
 -- The definition that a reader has to trust for tw_queue is Queues: the model of the queues and of a task. The rest is in
 -- tw_types: Task. The other files are for private clauses and the invariant.
 pub mod Ranks
-pub mod Lanes
-pub mod Lists
+pub mod RunQueues
+pub mod QueuesByTarget
 pub mod Slots
 pub mod Queues
-pub mod Index
+pub mod RankIndex
 pub mod Indexed

@@ -14,17 +14,17 @@ pub record Queues : Type 0 where
   pub leaf_rooms : List Bool
 
 -- returns the run queue of a target; the one for any actor is after those
-abbrev pub lane_of : Option ℕ → ℕ
-lane_of None = 16
-lane_of (Some target) = target
+abbrev pub queue_of : Option ℕ → ℕ
+queue_of None = 16
+queue_of (Some target) = target
 
 abbrev pub room_at : List Bool → ℕ → Bool
-room_at rooms lane = slice_index_or rooms lane false
+room_at rooms queue = slice_index_or rooms queue false
 
 -- returns whether a task of this kind for this target can be added without an allocation
 abbrev pub room_for : Kind → Option ℕ → Queues → Bool
-room_for Control target queues = room_at queues.control_rooms (lane_of target)
-room_for Leaf target queues = room_at queues.leaf_rooms (lane_of target)
+room_for Control target queues = room_at queues.control_rooms (queue_of target)
+room_for Leaf target queues = room_at queues.leaf_rooms (queue_of target)
 
 -- holds if reserved memory is still there
 abbrev pub IsRoomKept : Queues → Queues → Type 0

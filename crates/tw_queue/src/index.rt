@@ -1,39 +1,39 @@
-//! The ranks of all waiting tasks.
+//! The order of waiting tasks: a rank (priority, number, slot) for each.
 
 ghost use Rattle.std.specs.Prelude.{◌≡◌, ℕ, [], IfNone, IfOk, IfSome, IsOk, OnErr, OnOk, true};
 ghost use Rattle.tw_types.specs.declared.actor.Kind.{Kind};
-ghost use Rattle.tw_queue.specs.Index.{ranks_of, has_room_for, IsRankBest, IsRankAdded, IsRankGone, IsRankRoomKept};
-ghost use Rattle.tw_queue.specs.Queues.{IsTarget, lane_of};
+ghost use Rattle.tw_queue.specs.RankIndex.{ranks_of, has_room_for, IsRankBest, IsRankAdded, IsRankRemoved, KeepsRoom};
+ghost use Rattle.tw_queue.specs.Queues.{IsTarget, queue_of};
 
-use crate::lists::Lists;
+use crate::queues_by_target::QueuesByTarget;
 use crate::rank::Rank;
 use std::alloc::{AllocError, Global};
 use tw_types::{Actor, Kind};
 
 /// The ranks of the tasks of each kind.
 #[derive(Drop)]
-pub struct Index {
-    pub control: Lists,
-    pub leaf: Lists,
+pub struct RankIndex {
+    pub control: QueuesByTarget,
+    pub leaf: QueuesByTarget,
 }
 
-impl Index {
+impl RankIndex {
     /// Makes an index without ranks.
-    pub fn new(alloc: Global) -> Result<Index, AllocError>
-        ensures { IfOk result (λ index. (kind : Kind) (lane : ℕ) → ranks_of index kind lane ≡ []) }
+    pub fn new(alloc: Global) -> Result<RankIndex, AllocError>
+        ensures { IfOk result (λ index. (kind : Kind) (queue : ℕ) → ranks_of index kind queue ≡ []) }
     {
-        let control = Lists::new(alloc)?;
-        let leaf = Lists::new(alloc)?;
-        Ok(Index { control, leaf })
+        let control = QueuesByTarget::new(alloc)?;
+        let leaf = QueuesByTarget::new(alloc)?;
+        Ok(RankIndex { control, leaf })
     }
 
     /// Reserves memory for the rank of one task of this kind and target.
     pub fn reserve(&mut self, kind: Kind, target: Option<u8>) -> Result<(), AllocError>
         requires { IsTarget target }
         ensures same { ranks_of self.new ≡ ranks_of self.old }
-        ensures room { OnOk result (has_room_for kind (lane_of target) self.new ≡ true) }
-        ensures kept { IsRankRoomKept self.old self.new }
-        ensures reserved { has_room_for kind (lane_of target) self.old ≡ true → IsOk result }
+        ensures room { OnOk result (has_room_for kind (queue_of target) self.new ≡ true) }
+        ensures kept { KeepsRoom self.old self.new }
+        ensures reserved { has_room_for kind (queue_of target) self.old ≡ true → IsOk result }
     {
         match kind {
             Kind::Control => self.control.reserve(target),
@@ -44,10 +44,10 @@ impl Index {
     /// Adds the rank of a task.
     pub fn push(&mut self, kind: Kind, target: Option<u8>, rank: Rank) -> Result<(), AllocError>
         requires { IsTarget target }
-        ensures pushed { OnOk result (IsRankAdded kind (lane_of target) rank (ranks_of self.new) (ranks_of self.old)) }
+        ensures pushed { OnOk result (IsRankAdded kind (queue_of target) rank (ranks_of self.old) (ranks_of self.new)) }
         ensures refused { OnErr result (ranks_of self.new ≡ ranks_of self.old) }
-        ensures room { OnErr result (IsRankRoomKept self.old self.new) }
-        ensures reserved { has_room_for kind (lane_of target) self.old ≡ true → IsOk result }
+        ensures kept { OnErr result (KeepsRoom self.old self.new) }
+        ensures reserved { has_room_for kind (queue_of target) self.old ≡ true → IsOk result }
     {
         match kind {
             Kind::Control => self.control.push(target, rank),
@@ -55,7 +55,7 @@ impl Index {
         }
     }
 
-    /// Returns the first of the ranks that an actor may take.
+    /// Returns the best rank among tasks that the actor may take.
     pub fn best(&self, actor: Actor) -> Option<Rank>
         ensures { IsRankBest actor (ranks_of self.now) result }
     {
@@ -66,12 +66,12 @@ impl Index {
         }
     }
 
-    /// Takes the first of the ranks that an actor may take.
+    /// Removes and returns the best rank among tasks that the actor may take.
     pub fn take(&mut self, actor: Actor) -> Option<Rank>
         ensures best { IsRankBest actor (ranks_of self.old) result }
-        ensures taken { IfSome result (λ rank. IsRankGone rank (ranks_of self.old) (ranks_of self.new)) }
+        ensures taken { IfSome result (λ rank. IsRankRemoved rank (ranks_of self.old) (ranks_of self.new)) }
         ensures none { IfNone result (ranks_of self.new ≡ ranks_of self.old) }
-        ensures room { IsRankRoomKept self.old self.new }
+        ensures kept { KeepsRoom self.old self.new }
     {
         match actor {
             Actor::Engine(number) => self.control.take(number),

@@ -2,8 +2,8 @@
 #![tactic(auto)]
 
 mod index;
-mod lists;
 mod queues;
+mod queues_by_target;
 mod rank;
 mod run_queue;
 mod slots;

@@ -7,7 +7,7 @@ ghost use Rattle.std.specs.Option.{option_copied};
 ghost use Rattle.tw_types.specs.Task.{best};
 ghost use Rattle.tw_queue.specs.Queues.{IsRoomKept, IsTarget, handed_out, room_for, waiting, without};
 
-use crate::index::Index;
+use crate::index::RankIndex;
 use crate::rank::Rank;
 use crate::slots::Slots;
 use crate::waiting::Waiting;
@@ -19,7 +19,7 @@ use tw_types::{Actor, Kind};
 /// The waiting tasks, each in a slot, and an index of them by kind, target and rank.
 pub struct TaskQueues {
     tasks: Slots,
-    index: Index,
+    index: RankIndex,
 }
 
 impl Model for TaskQueues {
@@ -34,7 +34,7 @@ impl Model for TaskQueues {
 
     ghost coded = { Prim.hlevel (codes, code {X = TaskOf Arg} {R = nat_cmp} coded_ℕ (Prim.hlevel codes)) };
 
-    ghost use Rattle.tw_queue.specs.Index.{ranks_of, rooms_with};
+    ghost use Rattle.tw_queue.specs.RankIndex.{ranks_of, rooms_with};
     ghost use Rattle.tw_queue.specs.Slots.{slot_at};
     ghost use Rattle.tw_queue.specs.Indexed.{tasks_in, IsIndex};
 
@@ -52,7 +52,7 @@ impl TaskQueues {
     pub fn new(alloc: Global) -> Result<TaskQueues, AllocError>
         ensures { IfOk result (λ queues. queues.tasks ≡ map.empty) }
     {
-        let index = Index::new(alloc)?;
+        let index = RankIndex::new(alloc)?;
         Ok(TaskQueues {
             tasks: Slots::new(alloc),
             index,

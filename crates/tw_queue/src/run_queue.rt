@@ -3,7 +3,7 @@
 ghost use Rattle.std.specs.Prelude.{◌≡◌, ◌++◌, ◌∷◌, [], true, false, IfNone, IfSome, IsOk, OnErr, OnOk};
 ghost use Rattle.std.specs.BinaryHeap.{IsHeap, heap_items};
 ghost use Rattle.std.specs.List.Sorted.{IsPermutation};
-ghost use Rattle.tw_queue.specs.Lanes.{IsFirst, IsInFront, IsInOrder};
+ghost use Rattle.tw_queue.specs.RunQueues.{IsFirst, IsInFront, IsInOrder};
 ghost use Rattle.tw_queue.specs.Ranks.{rank_cmp};
 
 use crate::rank::Rank;
@@ -25,10 +25,10 @@ impl Model for RunQueue {
     ghost use Rattle.std.specs.Prelude.{◌&&◌, ◌++◌, nat_lt};
     ghost use Rattle.std.specs.BinaryHeap.{IsHeap, heap_items, heap_len, heap_capacity};
     ghost use Rattle.std.specs.VecDeque.{deque_len, deque_capacity};
-    ghost use Rattle.tw_queue.specs.Lanes.{LaneSeen, IsInOrder};
+    ghost use Rattle.tw_queue.specs.RunQueues.{RunQueueView, IsInOrder};
     ghost use Rattle.tw_queue.specs.Ranks.{rank_cmp};
 
-    ghost Value = { LaneSeen };
+    ghost Value = { RunQueueView };
 
     ghost view = { λ p. record {
       ranks = p.run.items ++ heap_items p.rest;
@@ -64,7 +64,7 @@ impl RunQueue {
     pub fn push(&mut self, rank: Rank) -> Result<(), AllocError>
         ensures pushed { OnOk result (IsPermutation (rank ∷ self.old.ranks) self.new.ranks) }
         ensures refused { OnErr result (self.new.ranks ≡ self.old.ranks) }
-        ensures room { OnErr result (self.old.has_room ≡ true → self.new.has_room ≡ true) }
+        ensures kept { OnErr result (self.old.has_room ≡ true → self.new.has_room ≡ true) }
         ensures reserved { self.old.has_room ≡ true → IsOk result }
     {
         if is_next(&self.run, rank) {
@@ -91,7 +91,7 @@ impl RunQueue {
         ensures first { IsFirst self.old.ranks result }
         ensures popped { IfSome result (λ rank. IsPermutation self.old.ranks (rank ∷ self.new.ranks)) }
         ensures none { IfNone result (self.new.ranks ≡ self.old.ranks) }
-        ensures room { self.old.has_room ≡ true → self.new.has_room ≡ true }
+        ensures kept { self.old.has_room ≡ true → self.new.has_room ≡ true }
     {
         if is_in_front(&self.run, &self.rest) {
             self.run.pop_front()

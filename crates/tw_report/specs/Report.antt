@@ -22,21 +22,21 @@ use Rattle.tw_code.specs.machine.Pending.{circle}
 use Rattle.tw_code.specs.machine.State.{State}
 use Rattle.tw_report.specs.Lines.{value_text}
 
-abbrev pub scalar_text : Scalar → List ℕ
-scalar_text scalar.Int = codes "int"
-scalar_text scalar.Text = codes "text"
+abbrev pub scalar_word : Scalar → List ℕ
+scalar_word scalar.Int = codes "int"
+scalar_word scalar.Text = codes "text"
 
 abbrev pub closed_text : Bool → List ℕ
 closed_text true = codes " closed "
 closed_text false = codes " open "
 
 -- returns the kind of a container, by the type of its subscripts
-abbrev pub container_text : NestedScalar → List ℕ
-container_text ty = if is_container_by scalar.Text ty then codes "tcont " else codes "cont "
+abbrev pub container_word : NestedScalar → List ℕ
+container_word ty = if is_container_by scalar.Text ty then codes "tcont " else codes "cont "
 
 -- returns the type of a container of scalars, and whether it is closed
 abbrev pub container_head : Datum → List ℕ
-container_head x = container_text x.ty ++ (scalar_text x.ty.scalar ++ closed_text (is_closed x))
+container_head x = container_word x.ty ++ (scalar_word x.ty.scalar ++ closed_text (is_closed x))
 
 abbrev pub content_text : Datum → Content → List ℕ
 content_text x Unset = codes "unset"
@@ -83,7 +83,7 @@ output_texts live k (id ∷ ids) = output_text live k (fin.get live id) ++ outpu
 
 -- returns the report of outputs, from number 0 on, with its last lines
 abbrev pub report : Data → List ℕ → List ℕ → List ℕ
-report live outputs closing = output_texts live 0 outputs ++ closing
+report live outputs last_lines = output_texts live 0 outputs ++ last_lines
 
 -- ---- the last lines
 

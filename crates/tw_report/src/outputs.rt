@@ -4,7 +4,7 @@ ghost use Rattle.std.specs.Prelude.{◌≡◌, ◌++◌, OnOk, option_map};
 ghost use Rattle.std.specs.Option.{option_copied};
 ghost use Rattle.std.specs.FinMap.{entries, get};
 ghost use Rattle.tw_types.specs.StoreCalls.{members_in};
-ghost use Rattle.tw_report.specs.Report.{closed_text, container_head, container_text, datum_text, member_line, member_lines, output_line, output_text, report, scalar_text, subscript_text};
+ghost use Rattle.tw_report.specs.Report.{closed_text, container_head, container_word, datum_text, member_line, member_lines, output_line, output_text, report, scalar_word, subscript_text};
 
 use crate::lines::{put, put_numbered, put_value};
 use crate::report_source::ReportSource;
@@ -13,8 +13,9 @@ use tw_datum::{Datum, Member};
 use tw_lexer::{put_decimal, put_quoted, put_signed};
 use tw_types::{DataType, DatumId, Scalar, Value};
 
-fn scalar_text(scalar: Scalar) -> &'static str
-    ensures { result.now ≡ scalar_text scalar }
+/// Returns the word of a scalar's type.
+fn scalar_word(scalar: Scalar) -> &'static str
+    ensures { result.now ≡ scalar_word scalar }
 {
     match scalar {
         Scalar::Int => "int",
@@ -22,8 +23,9 @@ fn scalar_text(scalar: Scalar) -> &'static str
     }
 }
 
-fn container_text(ty: DataType) -> &'static str
-    ensures { result.now ≡ container_text ty }
+/// Returns the word of a container's type, which depends on the type of its subscripts, and a blank.
+fn container_word(ty: DataType) -> &'static str
+    ensures { result.now ≡ container_word ty }
 {
     if ty.is_container_by(Scalar::Text) {
         "tcont "
@@ -42,12 +44,12 @@ fn closed_text(closed: bool) -> &'static str
 fn put_container_head<M: Member>(out: &mut Vec<u8>, datum: &Datum<M>) -> Result<(), AllocError>
     ensures { OnOk result (out.new.items ≡ out.old.items ++ container_head datum.now.datum) }
 {
-    put(out, container_text(datum.ty()))?;
-    put(out, scalar_text(datum.ty().scalar()))?;
+    put(out, container_word(datum.ty()))?;
+    put(out, scalar_word(datum.ty().scalar()))?;
     put(out, closed_text(datum.closed()))
 }
 
-/// Appends the content of a datum, or that it was freed.
+/// Appends the content of a datum, or `gone` if it was freed.
 fn put_datum<M: Member>(
     alloc: Global,
     out: &mut Vec<u8>,
@@ -68,7 +70,7 @@ fn put_datum<M: Member>(
     put_decimal(alloc, out, datum.len())
 }
 
-/// Appends the line of an output.
+/// Appends the line of an output: its number, and its datum or `gone`.
 fn put_output_line<M: Member>(
     alloc: Global,
     out: &mut Vec<u8>,
@@ -93,7 +95,7 @@ fn put_subscript(alloc: Global, out: &mut Vec<u8>, subscript: &Value) -> Result<
     }
 }
 
-/// Appends the line of a container's member: its subscript, and its datum.
+/// Appends the line of a container's member: its subscript, and its datum or `gone`.
 fn put_member_line<M: Member>(
     alloc: Global,
     out: &mut Vec<u8>,
@@ -101,14 +103,15 @@ fn put_member_line<M: Member>(
 ) -> Result<(), AllocError>
     ensures { OnOk result (out.new.items ≡ out.old.items ++ member_line member.entry.0.now (option_map (λ d. d.datum) (option_copied member.entry.1))) }
 {
+    let (subscript, datum) = member;
     put(out, "  at ")?;
-    put_subscript(alloc, out, member.0)?;
+    put_subscript(alloc, out, subscript)?;
     put(out, " ")?;
-    put_datum(alloc, out, member.1)?;
+    put_datum(alloc, out, datum)?;
     put(out, "\n")
 }
 
-/// Appends the lines of a container's members, by rising subscripts.
+/// Appends the lines of a container's members, in the order of their subscripts: `index` counts the smaller ones.
 fn put_member_lines<T: ReportSource>(
     alloc: Global,
     out: &mut Vec<u8>,
@@ -152,12 +155,12 @@ pub fn put_report<T: ReportSource>(
     alloc: Global,
     out: &mut Vec<u8>,
     source: &T,
-    closing: &[u8],
+    last_lines: &[u8],
 ) -> Result<(), AllocError>
-    ensures { OnOk result (out.new.items ≡ out.old.items ++ report (T.live source.now) (T.ids source.now) closing.now) }
+    ensures { OnOk result (out.new.items ≡ out.old.items ++ report (T.live source.now) (T.ids source.now) last_lines.now) }
 {
     for (number, id) in source.outputs().iter().enumerate() {
         put_output(alloc, out, source, number, *id)?;
     }
-    out.extend_from_slice(closing)
+    out.extend_from_slice(last_lines)
 }

@@ -37,7 +37,7 @@ pub fn report_state(alloc: Global, plain: &Plain) -> Result<Vec<u8>, AllocError>
     ensures { IfOk result (λ text. text.items ≡ state_report plain.now.program plain.now.state) }
 {
     let mut text = Vec::new(alloc);
-    let closing = ending_text(alloc, plain.ending(), circle_state(alloc, plain)?)?;
-    put_report(alloc, &mut text, plain.state(), &closing)?;
+    let last_lines = ending_text(alloc, plain.ending(), circle_state(alloc, plain)?)?;
+    put_report(alloc, &mut text, plain.state(), &last_lines)?;
     Ok(text)
 }

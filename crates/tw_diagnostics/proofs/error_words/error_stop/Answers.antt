@@ -6,8 +6,8 @@ use Rattle.tw_diagnostics.proofs.error_words.error_stop.Goals as goal
 
 pub returns-in-UnknownLabel : goal.returns-in-UnknownLabel
 returns-in-UnknownLabel c =
-    let Is : FaultNo → Type 0 = λ which. IfOk c.last_stop.result (IsErrorStop which c.args.text.now c.args.fault.line c.args.line.now) in
-    let last = last_is c.args.line.now c.last_stop.result c.last_stop.ensures.reached c.last_stop.ensures.last in
+    let Is : FaultNo → Type 0 = λ which. IfOk c.position_of_last_word.result (IsErrorStop which c.args.text.now c.args.fault.line c.args.line.now) in
+    let last = last_is c.args.line.now c.position_of_last_word.result c.position_of_last_word.ensures.reached c.position_of_last_word.ensures.last in
     elim c.in-UnknownLabel.is [
       | inl e ↦ subst Is (sym e) last
       | inr e ↦ subst Is (sym e) last

@@ -3,7 +3,7 @@ use Rattle.std.specs.Option.{option_copied}
 use Rattle.std.specs.declared.option.Option.TheVariants.{None, Some}
 use Rattle.tw_types.specs.Task.{best}
 use Rattle.tw_queue.specs.Queues.{handed_out}
-use Rattle.tw_queue.specs.Index.{ranks_of}
+use Rattle.tw_queue.specs.RankIndex.{ranks_of}
 use Rattle.tw_queue.specs.Indexed.{tasks_in}
 use Rattle.tw_queue.specs.Slots.{slot_at}
 use Rattle.tw_queue.proofs.Entries.{seen}

@@ -3,10 +3,10 @@ use Rattle.std.specs.declared.option.Option.TheVariants.{None, Some}
 use Rattle.std.specs.FinMap as map
 use Rattle.std.specs.List.Sorted.{IsPermutation}
 use Rattle.tw_queue.specs.declared.waiting.Waiting.{Waiting}
-use Rattle.tw_queue.specs.Index.{ranks_of}
+use Rattle.tw_queue.specs.RankIndex.{ranks_of}
 use Rattle.tw_queue.specs.Indexed.{IsIndex, tasks_in}
 use Rattle.tw_queue.specs.Slots.{IsChangedAt, slot_at}
-use Rattle.tw_queue.specs.Queues.{lane_of, room_for, waiting}
+use Rattle.tw_queue.specs.Queues.{queue_of, room_for, waiting}
 use Rattle.tw_queue.proofs.Entries.{apart_put, fresh, tasks_put, updated}
 use Rattle.tw_queue.proofs.Indexing.{put_index, ranked}
 use Rattle.tw_queue.proofs.Rooms.{rank_room, room_still, slot_room}
@@ -15,7 +15,7 @@ use Rattle.tw_queue.proofs.queues.TaskQueues.put.Goals as goal
 pub returns-in_default-clause-room : goal.returns-in_default-clause-room
 returns-in_default-clause-room c = λ kind target room.
     room_still (tasks_in c.self.inside.tasks.slots) (tasks_in c.reserve.new.self.slots) c.self.inside.tasks.has_room c.reserve.new.self.has_room c.self.inside.index c.self.inside.index
-    c.reserve.ensures.kept (λ k lane there. there) kind target (subst (λ q. room_for kind target q ≡ true) (sym c.self.view_is) room)
+    c.reserve.ensures.kept (λ k queue there. there) kind target (subst (λ q. room_for kind target q ≡ true) (sym c.self.view_is) room)
 
 pub returns-in_default-clause-reserved : goal.returns-in_default-clause-reserved
 returns-in_default-clause-reserved c = λ room.
@@ -30,7 +30,7 @@ returns-in_default-push-clause-reserved c = λ room.
 pub returns-in_default-push-clause-room : goal.returns-in_default-push-clause-room
 returns-in_default-push-clause-room c = λ kind target room.
     room_still (tasks_in c.self.inside.tasks.slots) (tasks_in c.reserve.new.self.slots) c.self.inside.tasks.has_room c.reserve.new.self.has_room c.self.inside.index c.push.new.self
-    c.reserve.ensures.kept c.in_default-push.ensures.room kind target (subst (λ q. room_for kind target q ≡ true) (sym c.self.view_is) room)
+    c.reserve.ensures.kept c.in_default-push.ensures.kept kind target (subst (λ q. room_for kind target q ≡ true) (sym c.self.view_is) room)
 
 pub invariant_of-self-2 : goal.invariant_of-self-2
 invariant_of-self-2 c =
@@ -46,8 +46,8 @@ invariant_of-self-2 c =
     let none : map.get (tasks_in ready) c.args.task.no ≡ None =
     ap (λ slots. map.get (tasks_in slots) c.args.task.no) c.reserve.ensures.same ∙ ap (λ q. map.get q.tasks c.args.task.no) c.self.view_is ∙ c.requires.new in
     let pushed = c.in-Ok-push.ensures.pushed in
-    let here = subst (λ n. IsPermutation (ranked kept n slot ∷ less c.args.kind (lane_of c.args.target)) (more c.args.kind (lane_of c.args.target))) c.number-number.ensures pushed.here in
-    put_index (slot_at ready) (slot_at new) less more is c.args.kind (lane_of c.args.target) slot w pushed.others here (updated slot (Some w) ready new changed) c.next-slot.ensures.free refl refl
+    let here = subst (λ n. IsPermutation (ranked kept n slot ∷ less c.args.kind (queue_of c.args.target)) (more c.args.kind (queue_of c.args.target))) c.number-number.ensures pushed.here in
+    put_index (slot_at ready) (slot_at new) less more is c.args.kind (queue_of c.args.target) slot w pushed.others here (updated slot (Some w) ready new changed) c.next-slot.ensures.free refl refl
     c.requires.target (apart_put slot w ready new is.apart (fresh ready is.apart c.args.task.no none) changed)
 
 pub returns-clause-put : goal.returns-clause-put

@@ -10,7 +10,7 @@ no_room e = cc
 pub returns-in_err-reserve-clause-kept : goal.returns-in_err-reserve-clause-kept
 returns-in_err-reserve-clause-kept c = λ kind target room.
     room_still (tasks_in c.self.inside.tasks.slots) (tasks_in c.reserve.new.self.slots) c.self.inside.tasks.has_room c.reserve.new.self.has_room c.self.inside.index c.self.inside.index
-    c.reserve.ensures.kept (λ k lane there. there) kind target (subst (λ q. room_for kind target q ≡ true) (sym c.self.view_is) room)
+    c.reserve.ensures.kept (λ k queue there. there) kind target (subst (λ q. room_for kind target q ≡ true) (sym c.self.view_is) room)
 
 pub returns-in_err-reserve-clause-reserved : goal.returns-in_err-reserve-clause-reserved
 returns-in_err-reserve-clause-reserved c = λ room.

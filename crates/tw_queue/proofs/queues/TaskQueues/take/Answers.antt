@@ -1,7 +1,7 @@
 use Rattle.std.proofs.Common.{◌≡◌, true, refl, sym, ap, subst, ◌∙◌, option_map, IsSome}
 use Rattle.std.specs.declared.option.Option.TheVariants.{None, Some}
 use Rattle.tw_types.specs.Task.{best}
-use Rattle.tw_queue.specs.Index.{ranks_of}
+use Rattle.tw_queue.specs.RankIndex.{ranks_of}
 use Rattle.tw_queue.specs.Indexed.{tasks_in}
 use Rattle.tw_queue.specs.Slots.{slot_at}
 use Rattle.tw_queue.specs.Queues.{handed_out, room_for, without}
@@ -27,7 +27,7 @@ pub returns-in_err-rank-clause-room : goal.returns-in_err-rank-clause-room
 returns-in_err-rank-clause-room c = λ kind target all.
     let tasks = tasks_in c.self.inside.tasks.slots in
     let room = c.self.inside.tasks.has_room in
-    room_still tasks tasks room room c.self.inside.index c.take.new.self (λ e. e) c.take.ensures.room kind target
+    room_still tasks tasks room room c.self.inside.index c.take.new.self (λ e. e) c.take.ensures.kept kind target
     (subst (λ q. room_for kind target q ≡ true) (sym c.self.view_is) all)
 
 pub take-task-requires : goal.take-task-requires
@@ -67,4 +67,4 @@ returns-clause-rest c =
 pub returns-clause-room : goal.returns-clause-room
 returns-clause-room c = λ kind target all.
     room_still (tasks_in c.self.inside.tasks.slots) (tasks_in c.take-task.new.self.slots) c.self.inside.tasks.has_room c.take-task.new.self.has_room c.self.inside.index c.take.new.self
-    (λ e. c.take-task.ensures.room) c.take.ensures.room kind target (subst (λ q. room_for kind target q ≡ true) (sym c.self.view_is) all)
+    (λ e. c.take-task.ensures.room) c.take.ensures.kept kind target (subst (λ q. room_for kind target q ≡ true) (sym c.self.view_is) all)

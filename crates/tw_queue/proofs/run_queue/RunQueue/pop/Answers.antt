@@ -5,7 +5,7 @@ use Rattle.std.specs.Option.{IfNone, IfSome, IsSome, MatchOption}
 use Rattle.std.specs.BinaryHeap.{heap_items}
 use Rattle.std.specs.List.Sorted.{IsPermutation}
 use Rattle.tw_queue.specs.declared.rank.Rank.{Rank}
-use Rattle.tw_queue.specs.Lanes.{IsFirst}
+use Rattle.tw_queue.specs.RunQueues.{IsFirst}
 use Rattle.tw_queue.proofs.Runs.{rest_gives, rest_less, run_gives}
 use Rattle.tw_queue.proofs.run_queue.RunQueue.pop.Goals as goal
 

@@ -6,7 +6,7 @@ use Rattle.tw_queue.specs.declared.rank.Rank.{Rank}
 use Rattle.tw_queue.specs.Ranks.{rank_cmp}
 
 -- the ranks, in any order; and whether there is memory for one more
-pub record LaneSeen : Type 0 where
+pub record RunQueueView : Type 0 where
   pub ranks : List Rank
   pub has_room : Bool
 

@@ -2,9 +2,9 @@ use Rattle.std.proofs.Common.{◌≡◌, inl, inr, true, false, rules, refl, sub
 use Rattle.std.specs.Ordering.{is_lt}
 use Rattle.std.specs.BinaryHeap.{IsUpperBound}
 use Rattle.tw_queue.specs.Ranks.{rank_cmp}
-use Rattle.tw_queue.specs.Lists.{ranks_at}
+use Rattle.tw_queue.specs.QueuesByTarget.{ranks_at}
 use Rattle.tw_queue.proofs.Order.{not_back, upper_over}
-use Rattle.tw_queue.proofs.lists.Lists.best_lane.Goals as goal
+use Rattle.tw_queue.proofs.queues_by_target.QueuesByTarget.best_queue.Goals as goal
 
 pub returns-then-lt : goal.returns-then-lt
 returns-then-lt c =
@@ -16,8 +16,8 @@ returns-then-lt c =
       inr own,
       first.0.0,
       (
-        upper_over c.in-Some-Some.rank c.in-Some-Some.any (ranks_at c.args.self.now.lanes 16) (not_back c.in-Some-Some.any c.in-Some-Some.rank lower) any.0.1,
-        subst (λ p. IsUpperBound rank_cmp c.in-Some-Some.rank (ranks_at c.args.self.now.lanes p)) own first.0.1,
+        upper_over c.in-Some-Some.rank c.in-Some-Some.any (ranks_at c.args.self.now.queues 16) (not_back c.in-Some-Some.any c.in-Some-Some.rank lower) any.0.1,
+        subst (λ p. IsUpperBound rank_cmp c.in-Some-Some.rank (ranks_at c.args.self.now.queues p)) own first.0.1,
       ),
     )
 
@@ -32,7 +32,7 @@ returns-else-lt c =
       any.0.0,
       (
         any.0.1,
-        upper_over c.in-Some-Some.any c.in-Some-Some.rank (ranks_at c.args.self.now.lanes c.args.number) higher
-            (subst (λ p. IsUpperBound rank_cmp c.in-Some-Some.rank (ranks_at c.args.self.now.lanes p)) own first.0.1),
+        upper_over c.in-Some-Some.any c.in-Some-Some.rank (ranks_at c.args.self.now.queues c.args.number) higher
+            (subst (λ p. IsUpperBound rank_cmp c.in-Some-Some.rank (ranks_at c.args.self.now.queues p)) own first.0.1),
       ),
     )

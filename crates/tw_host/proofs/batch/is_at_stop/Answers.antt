@@ -6,7 +6,7 @@ use Rattle.tw_code.specs.declared.procedure.Procedure.{Procedure}
 use Rattle.tw_frame.specs.Jobs.{JobView}
 use Rattle.tw_frame.specs.Ready.{IsStop}
 use Rattle.tw_verify.specs.Typed.{TypedProgram}
-use Rattle.tw_host.proofs.batch.waits.Goals as goal
+use Rattle.tw_host.proofs.batch.is_at_stop.Goals as goal
 
 pub returns-in-Some : goal.returns-in-Some
 returns-in-Some c = λ holds.

@@ -1,5 +1,5 @@
 use Rattle.tw_queue.proofs.Ranking.{control_gone, leaf_gone}
-use Rattle.tw_queue.proofs.index.Index.take.Goals as goal
+use Rattle.tw_queue.proofs.index.RankIndex.take.Goals as goal
 
 pub returns-in-Engine-clause-taken : goal.returns-in-Engine-clause-taken
 returns-in-Engine-clause-taken c = control_gone c.args.self.now.control c.args.self.now.leaf c.take.new.self c.take.result c.take.ensures.taken

@@ -1,0 +1,9 @@
+use Rattle.std.proofs.Common.{◌≡◌, length, replicate, []}
+use Rattle.tw_queue.specs.QueuesByTarget.{ranks_in}
+use Rattle.tw_queue.proofs.queues_by_target.QueuesByTarget.new.Given as goal
+
+abbrev pub invariant-loop : goal.invariant-loop
+invariant-loop l = record {
+  ranks : ranks_in l.queues.items ≡ replicate l.counter [];
+  count : length l.queues.items ≡ l.counter;
+}
