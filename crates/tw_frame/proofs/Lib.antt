@@ -2,6 +2,7 @@ pub mod Weave
 pub mod Deep
 pub mod Quickly
 pub mod Running
+pub mod Pairs
 pub mod Lending
 pub mod Prefixes
 pub mod Starting

@@ -18,7 +18,7 @@ use std::marker::Model;
 use tw_types::{Actor, TaskNo, Value, ValueRef};
 use tw_verify::Verified;
 
-/// An issued task: its work up to its next instruction that isn't local.
+/// The issued part of a task: its place, values and loops. Its actor runs it up to its next instruction that isn't local.
 #[derive(Drop)]
 pub struct JobState<'a> {
     pub(crate) verified: &'a Verified,
@@ -220,7 +220,7 @@ fn run_in<'a>(
 }
 
 impl<'a> Job<'a> {
-    /// Returns the issued task.
+    /// Returns what was issued: task, place, values and loops.
     pub fn lent(&self) -> &JobState<'a>
         ensures { result.now ≡ self.now }
     {
