@@ -174,7 +174,7 @@ module _ (verified : TypedProgram) (inputs : List Input) (layout : ActorCounts) 
     engine_low : engine < 4
     engine_low = let here = subst (λ (x : PoolView). engine < x.layout.engines) (sym seen) low in let few = h.parts.runnable.counts.few_engines in omega (arith, here, few)
 
-    pub slot_free : get old.running_tasks (Engine engine) ≡ None
+    pub slot_free : get old.running_tasks.tasks (Engine engine) ≡ None
     slot_free = no_task old h.notices (Engine engine) (free_here (Engine engine) free)
 
     pub asks_none : next_ask engine old.rules.rules ≡ None → AsksNone w engine
@@ -265,7 +265,7 @@ module _ (verified : TypedProgram) (inputs : List Input) (layout : ActorCounts) 
   -- ---- an issued job
 
   -- with these events recorded, and a task of the actor's that is issued under its number
-  module _ (actor : Actor) (es : List Event) (new : Parts) (kept : IsKept verified inputs layout traced.limit (traced.events ++ es) new) (f : FrameView) (is_running : get new.running_tasks actor ≡ Some f)
+  module _ (actor : Actor) (es : List Event) (new : Parts) (kept : IsKept verified inputs layout traced.limit (traced.events ++ es) new) (f : FrameView) (is_running : get new.running_tasks.tasks actor ≡ Some f)
       (by_number : f.event_no ≡ length (events_of actor (traced.events ++ es))) where
     abbrev after : State
     after = state_of new kept.notices
@@ -278,7 +278,7 @@ module _ (verified : TypedProgram) (inputs : List Input) (layout : ActorCounts) 
 
     is_lent : lent_to (with_events w es) after actor ≡ Some (job_of f)
     is_lent =
-        let runs : get after.frames actor ≡ Some (bare_frame f) = get_mapped bare_frame new.running_tasks actor ∙ ap (option_map bare_frame) is_running in
+        let runs : get after.frames actor ≡ Some (bare_frame f) = get_mapped bare_frame new.running_tasks.tasks actor ∙ ap (option_map bare_frame) is_running in
         subst (λ (x : PoolView). lent_to (with_events x es) after actor ≡ Some (job_of f)) seen
         (ap (option_map (λ (g : Frame). record { program = verified; task = g.task; procedure = g.procedure; actor = actor; event_no = length (events_of actor (traced.events ++ es)); position = g.position })) runs
         ∙ ap Some (λ i. record { program = sym fits.program i; task = f.task; procedure = f.procedure; actor = sym fits.own i; event_no = sym by_number i; position = f.position }))
@@ -292,7 +292,7 @@ module _ (verified : TypedProgram) (inputs : List Input) (layout : ActorCounts) 
     pub there_here : is_in layout actor ≡ true
     there_here = subst (λ (x : PoolView). is_in x.layout actor ≡ true) (sym seen) there
 
-    pub taker_free : get old.running_tasks actor ≡ None
+    pub taker_free : get old.running_tasks.tasks actor ≡ None
     taker_free = no_task old h.notices actor (free_here actor free)
 
     due_is : (a : Actor) → MayTakeNow w a → (o : Option (ℕ × Task)) → best a state.tasks ≡ o → (due : Event) → IsDueFree w.layout a state due → take_of a o ≡ Some due
@@ -324,7 +324,7 @@ module _ (verified : TypedProgram) (inputs : List Input) (layout : ActorCounts) 
           inr (wanted (Take actor) (record { e = entry_by bare_task takes.e; is = is; texts = takes.texts }), (refl, refl)),
         )
 
-    module _ (t : ℕ × TaskOf Arg) (is : best actor old.tasks.tasks ≡ Some t) (new : Parts) (makes : Makes verified layout (Take actor) old new) (f : FrameView) (is_running : get new.running_tasks actor ≡ Some f)
+    module _ (t : ℕ × TaskOf Arg) (is : best actor old.tasks.tasks ≡ Some t) (new : Parts) (makes : Makes verified layout (Take actor) old new) (f : FrameView) (is_running : get new.running_tasks.tasks actor ≡ Some f)
         (number : f.event_no ≡ length (events_of actor traced.events) + 1) where
       take_goes : Goes verified layout (Take actor) old h.notices new
       take_goes = makes h.notices h.parts

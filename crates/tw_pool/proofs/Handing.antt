@@ -107,7 +107,7 @@ module _ (verified : TypedProgram) (inputs : List Input) (layout : ActorCounts) 
 
   -- the task of the job
   pub record IsIts (f : FrameView) : Type 0 where
-    pub is_running : get old.running_tasks actor ≡ Some f
+    pub is_running : get old.running_tasks.tasks actor ≡ Some f
     pub own : done.before ≡ job_of f
     pub program : done.before.program ≡ verified
 
@@ -115,16 +115,16 @@ module _ (verified : TypedProgram) (inputs : List Input) (layout : ActorCounts) 
   lent_now = subst (λ (x : PoolView). lent_to x here actor ≡ Some done.before) (sym seen) (owed here (has_state verified inputs layout stopped traced old h w seen))
 
   pub its : (f : FrameView) × IsIts f
-  its = by (get old.running_tasks actor) refl
+  its = by (get old.running_tasks.tasks actor) refl
     where
       job_by : Frame → JobView
       job_by g = record { program = verified; task = g.task; procedure = g.procedure; actor = actor; event_no = length (events_of actor traced.events); position = g.position }
 
-      by : (o : Option FrameView) → get old.running_tasks actor ≡ o → (f : FrameView) × IsIts f
+      by : (o : Option FrameView) → get old.running_tasks.tasks actor ≡ o → (f : FrameView) × IsIts f
       by None e =
-          let none : None ≡ Some done.before = sym (ap (option_map job_by) (get_mapped bare_frame old.running_tasks actor ∙ ap (option_map bare_frame) e)) ∙ lent_now in cc
+          let none : None ≡ Some done.before = sym (ap (option_map job_by) (get_mapped bare_frame old.running_tasks.tasks actor ∙ ap (option_map bare_frame) e)) ∙ lent_now in cc
       by (Some f) e =
-          let same : job_by (bare_frame f) ≡ done.before = same_Some _ _ (sym (ap (option_map job_by) (get_mapped bare_frame old.running_tasks actor ∙ ap (option_map bare_frame) e)) ∙ lent_now) in
+          let same : job_by (bare_frame f) ≡ done.before = same_Some _ _ (sym (ap (option_map job_by) (get_mapped bare_frame old.running_tasks.tasks actor ∙ ap (option_map bare_frame) e)) ∙ lent_now) in
           let fits = h.parts.rights_fit.frames actor f e in
           let number = h.lent actor f e in
           let job_is : job_by (bare_frame f) ≡ job_of f = λ i. record { program = sym fits.program i; task = f.task; procedure = f.procedure; actor = sym fits.own i; event_no = sym number i; position = f.position } in
@@ -238,7 +238,7 @@ module _ (verified : TypedProgram) (inputs : List Input) (layout : ActorCounts) 
       ap (λ (j : JobView). option_and_then (λ (p : Procedure). slice_get p.code done.after.place) (slice_get verified.program j.procedure)) (sym its.1.own) ∙ subst (λ (x : PoolView). instr_after x.program.program done ≡ Some i) (sym seen) e in
       let fits_place : IsAtAllocating verified.program (state_of came at.notices) actor = record {
         frame = bare_frame (come its.0 done);
-        runs = get_mapped bare_frame came.running_tasks actor ∙ ap (option_map bare_frame) (get_own (come its.0 done) old.running_tasks actor);
+        runs = get_mapped bare_frame came.running_tasks.tasks actor ∙ ap (option_map bare_frame) (get_own (come its.0 done) old.running_tasks.tasks actor);
         here = i;
         is = here_is;
         takes = takes its.0 owed_now;
@@ -275,8 +275,8 @@ module _ (verified : TypedProgram) (inputs : List Input) (layout : ActorCounts) 
     pub at_two : AreAt verified inputs layout (traced.events ++ (steps_of actor done ++ e ∷ [])) new
     at_two = subst (λ es. AreAt verified inputs layout es new) both_are (then_at verified inputs layout (traced.events ++ option_to_list o) came new c.at e goes)
 
-    pub others_two : (a : Actor) → a ≢ actor → get new.running_tasks a ≡ get old.running_tasks a
-    others_two a h = goes.others a (λ is. h (is ∙ is_own)) ∙ get_other (come its.0 done) old.running_tasks actor a h
+    pub others_two : (a : Actor) → a ≢ actor → get new.running_tasks.tasks a ≡ get old.running_tasks.tasks a
+    others_two a h = goes.others a (λ is. h (is ∙ is_own)) ∙ get_other (come its.0 done) old.running_tasks.tasks actor a h
 
     pub within_two : length (traced.events ++ option_to_list o) < traced.limit → length (traced.events ++ (steps_of actor done ++ e ∷ [])) ≤ traced.limit
     within_two less = let long = ap (λ es. length es) (sym both_are) ∙ length-append (traced.events ++ option_to_list o) (e ∷ []) in omega (arith, long, less)
@@ -297,29 +297,29 @@ module _ (verified : TypedProgram) (inputs : List Input) (layout : ActorCounts) 
     lent = lent_others;
   }
     where
-      gone : get new.running_tasks actor ≡ None
+      gone : get new.running_tasks.tasks actor ≡ None
       gone = no_task new (goes (End actor) refl o c new makes).left actor (end_frames verified.program layout actor (state_of came c.at.notices) (state_of new (goes (End actor) refl o c new makes).left) (goes (End actor) refl o c new makes).step_is)
 
-      lent_others : AreLent (traced.events ++ (steps_of actor done ++ End actor ∷ [])) new.running_tasks
+      lent_others : AreLent (traced.events ++ (steps_of actor done ++ End actor ∷ [])) new.running_tasks.tasks
       lent_others a f is_running = by (same_actor a actor) refl
         where
           by : (b : Bool) → same_actor a actor ≡ b → f.event_no ≡ length (events_of a (traced.events ++ (steps_of actor done ++ End actor ∷ [])))
-          by true is = let no : None ≡ Some f = sym gone ∙ ap (get new.running_tasks) (sym (the_same a actor is)) ∙ is_running in cc
+          by true is = let no : None ≡ Some f = sym gone ∙ ap (get new.running_tasks.tasks) (sym (the_same a actor is)) ∙ is_running in cc
           by false is =
               let other : a ≢ actor = λ e. let yes : true ≡ false = sym (itself actor) ∙ ap (λ x. same_actor x actor) (sym e) ∙ is in cc in
               h.lent a f (sym (others_two (End actor) refl o c new makes a other) ∙ is_running) ∙ sym (others_same a actor other traced.events (steps_of actor done ++ End actor ∷ []) (by_two (End actor) refl o c new makes))
 
   -- ---- issuing again
 
-  module _ (es : List Event) (by : AreBy actor es) (new : Parts) (at : AreAt verified inputs layout (traced.events ++ es) new) (others : (a : Actor) → a ≢ actor → get new.running_tasks a ≡ get old.running_tasks a) (within : length (traced.events ++ es) ≤ traced.limit)
+  module _ (es : List Event) (by : AreBy actor es) (new : Parts) (at : AreAt verified inputs layout (traced.events ++ es) new) (others : (a : Actor) → a ≢ actor → get new.running_tasks.tasks a ≡ get old.running_tasks.tasks a) (within : length (traced.events ++ es) ≤ traced.limit)
       (event_no : ℕ) (number : event_no ≡ length (events_of actor (traced.events ++ es))) (job : JobView) (lent : IsLent new actor event_no job) where
-    lent_all : AreLent (traced.events ++ es) new.running_tasks
+    lent_all : AreLent (traced.events ++ es) new.running_tasks.tasks
     lent_all a f is_running = by_key (same_actor a actor) refl
       where
         by_key : (b : Bool) → same_actor a actor ≡ b → f.event_no ≡ length (events_of a (traced.events ++ es))
         by_key true is =
             let who = the_same a actor is in
-            let one : f ≡ lent.f = same_Some f lent.f (sym is_running ∙ ap (λ x. get new.running_tasks x) who ∙ lent.is_running) in
+            let one : f ≡ lent.f = same_Some f lent.f (sym is_running ∙ ap (λ x. get new.running_tasks.tasks x) who ∙ lent.is_running) in
             ap (λ (x : FrameView). x.event_no) one ∙ lent.number ∙ number ∙ ap (λ x. length (events_of x (traced.events ++ es))) (sym who)
         by_key false is =
             let other : a ≢ actor = λ e. let yes : true ≡ false = sym (itself actor) ∙ ap (λ x. same_actor x actor) (sym e) ∙ is in cc in
@@ -347,12 +347,12 @@ module _ (verified : TypedProgram) (inputs : List Input) (layout : ActorCounts) 
     at_come : AreAt verified inputs layout (traced.events ++ steps_of actor done) new
     at_come = let at = at_steps o c in subst (AreAt verified inputs layout (traced.events ++ steps_of actor done)) (sym (is its.0 owed_now)) (record {
       notices = at.notices;
-      replays = at.replays ∙ ap Went (sym (lent_state came_lent old.running_tasks actor (come its.0 done) event_no refl at.notices));
-      parts = lent_parts came_lent old.running_tasks actor (come its.0 done) event_no refl verified layout at.notices at.parts;
+      replays = at.replays ∙ ap Went (sym (lent_state came_lent old.running_tasks.tasks actor (come its.0 done) event_no refl at.notices));
+      parts = lent_parts came_lent old.running_tasks.tasks actor (come its.0 done) event_no refl verified layout at.notices at.parts;
     })
 
-    others_at : (a : Actor) → a ≢ actor → get new.running_tasks a ≡ get old.running_tasks a
-    others_at a h = ap (λ (p : Parts). get p.running_tasks a) (is its.0 owed_now) ∙ get_other (come (lent_as event_no its.0) done) old.running_tasks actor a h
+    others_at : (a : Actor) → a ≢ actor → get new.running_tasks.tasks a ≡ get old.running_tasks.tasks a
+    others_at a h = ap (λ (p : Parts). get p.running_tasks.tasks a) (is its.0 owed_now) ∙ get_other (come (lent_as event_no its.0) done) old.running_tasks.tasks actor a h
 
     number_is : event_no ≡ length (events_of actor (traced.events ++ steps_of actor done))
     number_is = counted ∙ ap (λ (x : HistoryView). length (events_of actor x.events)) (traced_one o c t t_is)

@@ -26,6 +26,7 @@ use Rattle.tw_frame.specs.Jobs.{FrameView, bare_frame}
 use Rattle.tw_pool_state.specs.Events.{Goes, Untouched}
 use Rattle.tw_pool_state.specs.Fits.{AreParts, IsReached}
 use Rattle.tw_pool_state.specs.Parts.{state_of}
+use Rattle.tw_pool_state.specs.RunningTasks.{RunningView}
 use Rattle.tw_pool_state.specs.declared.parts.Parts.{Parts}
 use Rattle.tw_pool.specs.Actors.{events_of, same_actor}
 use Rattle.tw_pool.specs.Kept.{AreLent, IsKept}
@@ -52,8 +53,8 @@ nothing : {X Y : Type 0} (f : X → Y) (o : Option X) → option_map f o ≡ Non
 nothing f None e = refl
 nothing f (Some x) e = cc
 
-pub no_task : (p : Parts) (notices : Notices) (actor : Actor) → get (state_of p notices).frames actor ≡ None → get p.running_tasks actor ≡ None
-no_task p notices actor e = nothing bare_frame (get p.running_tasks actor) (sym (get_mapped bare_frame p.running_tasks actor) ∙ e)
+pub no_task : (p : Parts) (notices : Notices) (actor : Actor) → get (state_of p notices).frames actor ≡ None → get p.running_tasks.tasks actor ≡ None
+no_task p notices actor e = nothing bare_frame (get p.running_tasks.tasks actor) (sym (get_mapped bare_frame p.running_tasks.tasks actor) ∙ e)
 
 -- ---- the running tasks after these events
 
@@ -74,7 +75,7 @@ module _ (program : List Procedure) (layout : ActorCounts) (s t : State) where
 
 module _ (verified : TypedProgram) (inputs : List Input) (layout : ActorCounts) (limit : ℕ) (history : List Event) (old : Parts) (h : IsKept verified inputs layout limit history old) where
   -- one event more
-  pub one_more : (event : Event) (new : Parts) → Goes verified layout event old h.notices new → length history < limit → AreLent (history ++ event ∷ []) new.running_tasks → IsKept verified inputs layout limit (history ++ event ∷ []) new
+  pub one_more : (event : Event) (new : Parts) → Goes verified layout event old h.notices new → length history < limit → AreLent (history ++ event ∷ []) new.running_tasks.tasks → IsKept verified inputs layout limit (history ++ event ∷ []) new
   one_more event new goes room lent =
       let long = length-append history (event ∷ []) in
       record {
@@ -89,13 +90,13 @@ module _ (verified : TypedProgram) (inputs : List Input) (layout : ActorCounts) 
 
   -- the others' tasks were issued before
   others_lent : (event : Event) (new : Parts) → Goes verified layout event old h.notices new
-      → ((f : FrameView) → get new.running_tasks (actor_of event) ≡ Some f → f.event_no ≡ length (events_of (actor_of event) (history ++ event ∷ []))) → AreLent (history ++ event ∷ []) new.running_tasks
+      → ((f : FrameView) → get new.running_tasks.tasks (actor_of event) ≡ Some f → f.event_no ≡ length (events_of (actor_of event) (history ++ event ∷ []))) → AreLent (history ++ event ∷ []) new.running_tasks.tasks
   others_lent event new goes own actor f at = by (same_actor (actor_of event) actor) refl
     where
       by : (b : Bool) → same_actor (actor_of event) actor ≡ b → f.event_no ≡ length (events_of actor (history ++ event ∷ []))
       by true same =
           let who = the_same (actor_of event) actor same in
-          own f (ap (get new.running_tasks) who ∙ at) ∙ ap (λ a. length (events_of a (history ++ event ∷ []))) who
+          own f (ap (get new.running_tasks.tasks) who ∙ at) ∙ ap (λ a. length (events_of a (history ++ event ∷ []))) who
       by false other =
           let apart : actor ≢ actor_of event = λ e. let yes : true ≡ false = sym (itself actor) ∙ ap (λ a. same_actor a actor) e ∙ other in cc in
           h.lent actor f (sym (goes.others actor apart) ∙ at) ∙ sym (others_count actor history event other)
@@ -104,12 +105,12 @@ module _ (verified : TypedProgram) (inputs : List Input) (layout : ActorCounts) 
   pub made_free : (event : Event) (new : Parts) (goes : Goes verified layout event old h.notices new) → length history < limit
       → get (state_of old h.notices).frames (actor_of event) ≡ None → (state_of new goes.left).frames ≡ (state_of old h.notices).frames → IsKept verified inputs layout limit (history ++ event ∷ []) new
   made_free event new goes room free same =
-      let none : get new.running_tasks (actor_of event) ≡ None = no_task new goes.left (actor_of event) (ap (λ m. get m (actor_of event)) same ∙ free) in
+      let none : get new.running_tasks.tasks (actor_of event) ≡ None = no_task new goes.left (actor_of event) (ap (λ m. get m (actor_of event)) same ∙ free) in
       one_more event new goes room (others_lent event new goes (λ f at. let no : None ≡ Some f = sym none ∙ at in cc))
 
   -- an event whose actor's task is issued under its number
   pub made_lent : (event : Event) (new : Parts) (goes : Goes verified layout event old h.notices new) → length history < limit
-      → ((f : FrameView) → get new.running_tasks (actor_of event) ≡ Some f → f.event_no ≡ length (events_of (actor_of event) (history ++ event ∷ []))) → IsKept verified inputs layout limit (history ++ event ∷ []) new
+      → ((f : FrameView) → get new.running_tasks.tasks (actor_of event) ≡ Some f → f.event_no ≡ length (events_of (actor_of event) (history ++ event ∷ []))) → IsKept verified inputs layout limit (history ++ event ∷ []) new
   made_lent event new goes room own = one_more event new goes room (others_lent event new goes own)
 
   module _ (new : Parts) (u : Untouched old new) where
@@ -120,7 +121,7 @@ module _ (verified : TypedProgram) (inputs : List Input) (layout : ActorCounts) 
       next_rule = u.next_rule i;
       tasks = mapped bare_task (u.tasks i);
       next_task = u.next_task i;
-      frames = mapped bare_frame (u.running_tasks i);
+      frames = mapped bare_frame (u.running_tasks i).tasks;
       notices = h.notices;
       outputs = each (λ (right : Right). right.id) (u.outputs i);
     }
@@ -131,6 +132,7 @@ module _ (verified : TypedProgram) (inputs : List Input) (layout : ActorCounts) 
       law = subst (IsReached verified.program layout) (sym same_state) h.parts.law;
       queued = rw (u.store.queues) h.parts.queued;
       servers = ap length u.store.queues ∙ h.parts.servers;
+      layout_is = ap (λ (r : RunningView). r.layout) u.running_tasks ∙ h.parts.layout_is;
       rights_fit = rw (u.store.places, u.running_tasks, u.tasks, u.rules, u.outputs) h.parts.rights_fit;
     }
 
@@ -143,5 +145,5 @@ module _ (verified : TypedProgram) (inputs : List Input) (layout : ActorCounts) 
       notices = h.notices;
       replays = h.replays ∙ ap Went (sym same_state);
       parts = still_parts;
-      lent = subst (AreLent history) (sym u.running_tasks) h.lent;
+      lent = subst (λ (r : RunningView). AreLent history r.tasks) (sym u.running_tasks) h.lent;
     }

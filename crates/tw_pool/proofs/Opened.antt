@@ -34,5 +34,5 @@ kept verified inputs layout limit p may opens = record {
   notices = set.empty;
   replays = replays_nothing verified inputs layout (state_of p set.empty) opens.state;
   parts = opens.parts;
-  lent = nobody p.running_tasks opens.nobody;
+  lent = nobody p.running_tasks.tasks opens.nobody;
 }

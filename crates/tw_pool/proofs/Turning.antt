@@ -153,10 +153,10 @@ module _ (verified : TypedProgram) (inputs : List Input) (layout : ActorCounts) 
       (subst (λ c. TurnsUnless c w here actor given (Over closing) []) (is here at_here) (refl, refl))
 
   module _ (actor : Actor) where
-    pub is_free : get old.running_tasks actor ≡ None → IsFree w actor
-    is_free none s at = ap (λ (t : State). get t.frames actor) (only_here s at) ∙ get_mapped bare_frame old.running_tasks actor ∙ ap (option_map bare_frame) none
+    pub is_free : get old.running_tasks.tasks actor ≡ None → IsFree w actor
+    is_free none s at = ap (λ (t : State). get t.frames actor) (only_here s at) ∙ get_mapped bare_frame old.running_tasks.tasks actor ∙ ap (option_map bare_frame) none
 
-    module _ (f : FrameView) (is_running : get old.running_tasks actor ≡ Some f) where
+    module _ (f : FrameView) (is_running : get old.running_tasks.tasks actor ≡ Some f) where
       abbrev job_by : Frame → JobView
       job_by g = record { program = verified; task = g.task; procedure = g.procedure; actor = actor; event_no = length (events_of actor traced.events); position = g.position }
 
@@ -166,7 +166,7 @@ module _ (verified : TypedProgram) (inputs : List Input) (layout : ActorCounts) 
           let fits = h.parts.rights_fit.frames actor f is_running in
           let number = h.lent actor f is_running in
           subst (λ (x : PoolView). lent_to x here actor ≡ Some (job_of f)) seen
-          (ap (option_map job_by) (get_mapped bare_frame old.running_tasks actor ∙ ap (option_map bare_frame) is_running)
+          (ap (option_map job_by) (get_mapped bare_frame old.running_tasks.tasks actor ∙ ap (option_map bare_frame) is_running)
           ∙ ap Some (λ i. record { program = sym fits.program i; task = f.task; procedure = f.procedure; actor = sym fits.own i; event_no = sym number i; position = f.position }))
 
       pub program_is : w.program ≡ f.program
@@ -183,10 +183,10 @@ module _ (verified : TypedProgram) (inputs : List Input) (layout : ActorCounts) 
       foreign_line done other = unchanged (λ s. Turns w s actor (lent_to w s actor) (Some done)) (Foreign done)
           (subst (λ j. Turns w here actor j (Some done) (Foreign done) []) (sym lent_is) (inr (other, (refl, refl))))
 
-    pub owed_if : IsSome (get old.running_tasks actor) → IsTurnBy (λ s. Turns w s actor (lent_to w s actor) None) w Owed w
-    owed_if some = by (get old.running_tasks actor) refl some
+    pub owed_if : IsSome (get old.running_tasks.tasks actor) → IsTurnBy (λ s. Turns w s actor (lent_to w s actor) None) w Owed w
+    owed_if some = by (get old.running_tasks.tasks actor) refl some
       where
-        by : (o : Option FrameView) → get old.running_tasks actor ≡ o → IsSome o → IsTurnBy (λ s. Turns w s actor (lent_to w s actor) None) w Owed w
+        by : (o : Option FrameView) → get old.running_tasks.tasks actor ≡ o → IsSome o → IsTurnBy (λ s. Turns w s actor (lent_to w s actor) None) w Owed w
         by None none is = cc
         by (Some f) is_running is = owed_line f is_running
 

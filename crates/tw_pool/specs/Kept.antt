@@ -34,7 +34,7 @@ pub record IsKept (verified : TypedProgram) (inputs : List Input) (layout : Acto
   pub notices : Notices
   pub replays : reached verified.program inputs layout history ≡ Went (state_of p notices)
   pub parts : AreParts verified layout p notices
-  pub lent : AreLent history p.running_tasks
+  pub lent : AreLent history p.running_tasks.tasks
 
 -- holds if this is so in the pool's state
 abbrev pub InState : PoolView → (State → Type 0) → Type 0

@@ -29,7 +29,7 @@ fn closing_of(ending: Ending) -> Closing
 /// Returns whether the actor has a task. Its job is then always issued.
 fn has_task(parts: &Parts<'_>, actor: Actor) -> bool
     requires { HasSlot actor }
-    ensures { MatchBool result (IsSome (get parts.now.running_tasks actor)) (get parts.now.running_tasks actor ≡ None) }
+    ensures { MatchBool result (IsSome (get parts.now.running_tasks.tasks actor)) (get parts.now.running_tasks.tasks actor ≡ None) }
 {
     match parts.running_tasks.get(actor) {
         Some(_frame) => true,

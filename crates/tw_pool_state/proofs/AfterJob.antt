@@ -19,14 +19,14 @@ module _ (old : Parts) (actor : Actor) (done : DoneView) (instr : Instr) (s : Is
   abbrev pub there : Parts
   there = with_done old actor s.f done
 
-  pub runs_there : get there.running_tasks actor ≡ Some (come s.f done)
-  runs_there = get_own old.running_tasks actor (come s.f done)
+  pub runs_there : get there.running_tasks.tasks actor ≡ Some (come s.f done)
+  runs_there = get_own old.running_tasks.tasks actor (come s.f done)
 
   pub slot_there : HasSlot actor
   slot_there = runner_has_slot done.before.program s.layout there s.notices s.parts actor (come s.f done) runs_there
 
   spent_there : s.f.spent + done.steps < 2 ^ 63
-  spent_there = let few = s.small.spent actor (bare_frame (come s.f done)) (seen bare_frame there.running_tasks actor (Some (come s.f done)) runs_there) in omega (arith, few)
+  spent_there = let few = s.small.spent actor (bare_frame (come s.f done)) (seen bare_frame there.running_tasks.tasks actor (Some (come s.f done)) runs_there) in omega (arith, few)
 
   place_there : done.after.place < 2 ^ 63
   place_there = let low = low_place done.before.program.program s.parts.runnable.is s.f.procedure s.q s.here done.after.place instr s.following_is in omega (arith, low)
@@ -37,7 +37,7 @@ module _ (old : Parts) (actor : Actor) (done : DoneView) (instr : Instr) (s : Is
     few = let low = few_params done.before.program.program s.parts.runnable.is action.procedure u.procedure u.is in omega (arith, low, ap length params_is)
 
     pub is_running_ready : (vals : List Value) → each Some vals ≡ named_values done.after.values params action.args → MayBeAt s.f.program.program s.f.procedure (at_next_place done.after)
-        → (x : FrameView) × (get old.running_tasks actor ≡ Some x) × (done.before ≡ job_of x) × (x.spent + done.steps < 2 ^ 63) × (done.after.place < 2 ^ 63) × IsSome (bundled x.held params registers vals)
+        → (x : FrameView) × (get old.running_tasks.tasks actor ≡ Some x) × (done.before ≡ job_of x) × (x.spent + done.steps < 2 ^ 63) × (done.after.place < 2 ^ 63) × IsSome (bundled x.held params registers vals)
         × MayBeAt x.program.program x.procedure (at_next_place done.after)
     is_running_ready vals are fits_place = (
       s.f,
@@ -60,8 +60,8 @@ module _ (old : Parts) (actor : Actor) (done : DoneView) (instr : Instr) (s : Is
   pub here_too : slice_get done.before.program.program f.procedure ≡ Some s.q
   here_too = ap (λ (g : FrameView). slice_get done.before.program.program g.procedure) (sym same_frame) ∙ s.here
 
-  pub runs_too : get (with_done old actor f done).running_tasks actor ≡ Some (come f done)
-  runs_too = get_own old.running_tasks actor (come f done)
+  pub runs_too : get (with_done old actor f done).running_tasks.tasks actor ≡ Some (come f done)
+  runs_too = get_own old.running_tasks.tasks actor (come f done)
 
 module _ (program : List Procedure) (number : ℕ) (callee : Procedure) (found : slice_get program number ≡ Some callee) (procedure : Procedure) (is : slice_get program number ≡ Some procedure) where
   same_callee : callee ≡ procedure

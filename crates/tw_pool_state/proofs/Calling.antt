@@ -1,6 +1,6 @@
 -- An instruction on data, as a call on the parts.
 use Rattle.std.proofs.Common.{map as each, ◌≡◌, ◌<◌, ◌+◌, ℕ, List, Some, None, refl, sym, ap, subst, ◌∙◌, slice_get, slice_index_or, length, arith, inl, inr}
-use Rattle.tw_pool_state.proofs.PartNames.{Actor, ActorCounts, AreAt, AreParts, AreQueued, Call, Context, FrameFits, FrameView, Goes, Held, IsAt, IsDone, IsInstr, IsLive, IsProcedure, IsSmall, MayDo, Notices, Ok, Parts, Procedure, Right, RightsFit, TypedProgram, Went, actor_cmp-IsAntisymmetric, actor_cmp_total, after_context, after_data, asked_at, bare_file, bare_frame, bare_rule, bare_task, data_instr, get, id_of, insert, insert_mapped, kinds_in, length-set, mapped, notice_to, params_of, queued, right_in, sees, server_of, slice_get_within, state_of, typed_after, typings_of, with_notices}
+use Rattle.tw_pool_state.proofs.PartNames.{Actor, ActorCounts, AreAt, AreParts, AreQueued, Call, Context, FrameFits, FrameView, Goes, Held, IsAt, IsDone, IsInstr, IsLive, IsProcedure, IsSmall, MayDo, Notices, Ok, Parts, Procedure, Right, RightsFit, TypedProgram, Went, actor_cmp-IsAntisymmetric, actor_cmp_total, after_context, after_data, asked_at, bare_file, bare_frame, bare_rule, bare_task, data_instr, get, id_of, insert, insert_mapped, kinds_in, length-set, mapped, notice_to, params_of, queued, right_in, sees, server_of, slice_get_within, state_of, typed_after, typings_of, with_notices, with_running}
 use Rattle.tw_types.proofs.Parts.{put_or_before}
 use Rattle.tw_code.specs.declared.instr.DataInstr.{DataInstr}
 use Rattle.tw_code.specs.declared.instr.Instr.TheVariants as instr
@@ -20,9 +20,9 @@ use Rattle.tw_pool_state.proofs.Runners.{get_other, get_own}
 use Rattle.tw_pool_state.proofs.Notifying.{notified}
 
 module _ (verified : TypedProgram) (layout : ActorCounts) (old : Parts) (notices : Notices) (h : AreParts verified layout old notices)
-    (actor : Actor) (f : FrameView) (p : Procedure) (d : DataInstr) (runs : get old.running_tasks actor ≡ Some f) (here : slice_get verified.program f.procedure ≡ Some p) (at : slice_get p.code f.position.place ≡ Some (instr.Data d)) where
-  there : get (mapped bare_frame old.running_tasks) actor ≡ Some (bare_frame f)
-  there = seen bare_frame old.running_tasks actor (Some f) runs
+    (actor : Actor) (f : FrameView) (p : Procedure) (d : DataInstr) (runs : get old.running_tasks.tasks actor ≡ Some f) (here : slice_get verified.program f.procedure ≡ Some p) (at : slice_get p.code f.position.place ≡ Some (instr.Data d)) where
+  there : get (mapped bare_frame old.running_tasks.tasks) actor ≡ Some (bare_frame f)
+  there = seen bare_frame old.running_tasks.tasks actor (Some f) runs
 
   law : IsHeld verified.program (typings_of verified) (state_of old notices)
   law = held verified layout old notices h
@@ -33,7 +33,7 @@ module _ (verified : TypedProgram) (layout : ActorCounts) (old : Parts) (notices
   own_code : IsProcedure p
   own_code = all_found IsProcedure verified.program f.procedure p h.runnable.is.1 here
 
-  module _ (new : Parts) (g : FrameView) (o : IsDone d old.store new.store f g) (running_tasks : new.running_tasks ≡ insert old.running_tasks actor g)
+  module _ (new : Parts) (g : FrameView) (o : IsDone d old.store new.store f g) (running_tasks : new.running_tasks.tasks ≡ insert old.running_tasks.tasks actor g) (layout_is : new.running_tasks.layout ≡ old.running_tasks.layout)
       (rules : new.rules ≡ old.rules) (tasks : new.tasks ≡ old.tasks) (next_task : new.next_task ≡ old.next_task) (outputs : new.outputs ≡ old.outputs) where
     abbrev left : Notices
     left = with_notices notices o.more
@@ -55,7 +55,7 @@ module _ (verified : TypedProgram) (layout : ActorCounts) (old : Parts) (notices
       next_rule = (rules i).next;
       tasks = mapped bare_task (tasks i).tasks;
       next_task = next_task i;
-      frames = (ap (mapped bare_frame) running_tasks ∙ insert_mapped bare_frame actor_cmp_total actor_cmp-IsAntisymmetric old.running_tasks actor g ∙ ap (insert (mapped bare_frame old.running_tasks) actor) frame_is) i;
+      frames = (ap (mapped bare_frame) running_tasks ∙ insert_mapped bare_frame actor_cmp_total actor_cmp-IsAntisymmetric old.running_tasks.tasks actor g ∙ ap (insert (mapped bare_frame old.running_tasks.tasks) actor) frame_is) i;
       notices = left;
       outputs = each (λ (right : Right). right.id) (outputs i);
     }
@@ -100,8 +100,8 @@ module _ (verified : TypedProgram) (layout : ActorCounts) (old : Parts) (notices
           (asked_at verified.program (typings_of verified) h.runnable.is h.runnable.right f.procedure p here f.position.place (instr.Data d) at) ∙ ap kinds_in (sym typing_is);
     }
       where
-        new_there : get (mapped bare_frame new.running_tasks) actor ≡ Some (bare_frame g)
-        new_there = seen bare_frame new.running_tasks actor (Some g) (ap (λ m. get m actor) running_tasks ∙ get_own old.running_tasks actor g)
+        new_there : get (mapped bare_frame new.running_tasks.tasks) actor ≡ Some (bare_frame g)
+        new_there = seen bare_frame new.running_tasks.tasks actor (Some g) (ap (λ m. get m actor) running_tasks ∙ get_own old.running_tasks.tasks actor g)
 
         each_is : (k : ℕ) (x : Held) → slice_index_or g.held k None ≡ Some x → IsAt new.store.places (right_in x)
         each_is k x now = elim (o.own k x now) as (λ _. IsAt new.store.places (right_in x)) [
@@ -116,16 +116,16 @@ module _ (verified : TypedProgram) (layout : ActorCounts) (old : Parts) (notices
         typing_is = ap (λ (n : FrameView). typing_at (typings_of verified) n.procedure g.position.place) o.rest
             ∙ (typed_after verified.program (typings_of verified) h.runnable.is h.runnable.right f.procedure p here f.position.place g.position.place (instr.Data d) o.way at o.onwards).1
 
-    fit_is : RightsFit verified new.store.places new.running_tasks new.tasks.tasks new.rules.rules new.outputs
+    fit_is : RightsFit verified new.store.places new.running_tasks.tasks new.tasks.tasks new.rules.rules new.outputs
     fit_is = record {
-      frames = λ a x is. elim (put_or_before actor_cmp_total actor_cmp-IsAntisymmetric old.running_tasks actor g a x (ap (λ m. get m a) (sym running_tasks) ∙ is)) as (λ _. FrameFits verified new.store.places a x) [
+      frames = λ a x is. elim (put_or_before actor_cmp_total actor_cmp-IsAntisymmetric old.running_tasks.tasks actor g a x (ap (λ m. get m a) (sym running_tasks) ∙ is)) as (λ _. FrameFits verified new.store.places a x) [
         | inl same ↦ subst (λ b. FrameFits verified new.store.places b x) (sym same.0) (subst (FrameFits verified new.store.places actor) same.1 own)
         | inr before ↦ record {
           program = (h.rights_fit.frames a x before).program;
           own = (h.rights_fit.frames a x before).own;
           placed = file_kept old.store.places new.store.places Both kept x.held (λ k id in_it. (
-            register_is_live verified.program (typings_of verified) (state_of old notices) law a (bare_frame x) k id (seen bare_frame old.running_tasks a (Some x) before) in_it,
-            register_is_live verified.program (typings_of verified) (state_of new left) law_new a (bare_frame x) k id (seen bare_frame new.running_tasks a (Some x) is) in_it,
+            register_is_live verified.program (typings_of verified) (state_of old notices) law a (bare_frame x) k id (seen bare_frame old.running_tasks.tasks a (Some x) before) in_it,
+            register_is_live verified.program (typings_of verified) (state_of new left) law_new a (bare_frame x) k id (seen bare_frame new.running_tasks.tasks a (Some x) is) in_it,
           )) (h.rights_fit.frames a x before).placed;
           kinds = (h.rights_fit.frames a x before).kinds;
         }
@@ -149,8 +149,8 @@ module _ (verified : TypedProgram) (layout : ActorCounts) (old : Parts) (notices
     }
 
     pub called : Goes verified layout (Call actor) old notices new
-    called = goes_to verified layout old notices h (Call actor) new left _ goes same_state queues_are.0 (queues_are.1 ∙ h.servers) fit_is
-        (λ other apart. ap (λ m. get m other) running_tasks ∙ get_other old.running_tasks actor g other apart)
+    called = goes_to verified layout old notices h (Call actor) new left _ goes same_state queues_are.0 (queues_are.1 ∙ h.servers) layout_is fit_is
+        (λ other apart. ap (λ m. get m other) running_tasks ∙ get_other old.running_tasks.tasks actor g other apart)
 
   pub may_do : IsSmall (state_of old notices) → MayDo d old.store f
   may_do small = record {
@@ -175,7 +175,7 @@ module _ (verified : TypedProgram) (layout : ActorCounts) (old : Parts) (notices
       spent = small.spent actor (bare_frame f) there;
     };
     fits_place = λ store g o.
-        let new : Parts = record old { store = store; running_tasks = insert old.running_tasks actor g } in
-        let c = called new g o refl refl refl refl refl in
-        may_be_at verified layout new c.left c.parts actor g (get_own old.running_tasks actor g);
+        let new : Parts = record old { store = store; running_tasks = with_running old.running_tasks actor g } in
+        let c = called new g o refl refl refl refl refl refl in
+        may_be_at verified layout new c.left c.parts actor g (get_own old.running_tasks.tasks actor g);
   }

@@ -1,6 +1,6 @@
 -- A server delivers: on the parts.
 use Rattle.std.proofs.Common.{map, ◌≡◌, ◌<◌, ℕ, true, false, nat_lt, nat_eq, List, ◌∷◌, Some, refl, sym, ap, subst, ◌∙◌, length, set, slice_get, option_map, arith}
-use Rattle.tw_pool_state.proofs.PartNames.{ActorCounts, AreParts, AreQueued, Arg, Deliver, Goes, Notice, Notices, Parts, Procedure, Right, Rule, RuleOf, RulesOf, RightsFit, State, TypedProgram, Went, at_stage, bare_frame, bare_rule, bare_task, get, insert, insert_mapped, is_settled, length-set, mapped, nat_cmp-IsAntisymmetric, nat_cmp_total, nat_tests, queue_at, server_of, state_of, with_stage}
+use Rattle.tw_pool_state.proofs.PartNames.{ActorCounts, AreParts, AreQueued, Arg, Deliver, Goes, Notice, Notices, Parts, Procedure, Right, Rule, RuleOf, RulesOf, RightsFit, State, TypedProgram, Went, at_stage, bare_frame, bare_rule, bare_task, get, insert, insert_mapped, is_settled, length-set, mapped, nat_cmp-IsAntisymmetric, nat_cmp_total, nat_tests, queue_at, server_of, state_of, with_stage, RunningView}
 use Rattle.std.specs.FinSet as set_of
 use Rattle.tw_types.specs.declared.stage.Stage.{Stage}
 use Rattle.tw_types.specs.declared.stage.Stage.TheVariants.{Waiting, Ready}
@@ -58,7 +58,7 @@ module _ (verified : TypedProgram) (layout : ActorCounts) (old : Parts) (notices
       next_rule = next_rule i;
       tasks = mapped bare_task (tasks i).tasks;
       next_task = next_task i;
-      frames = mapped bare_frame (running_tasks i);
+      frames = mapped bare_frame (running_tasks i).tasks;
       notices = left;
       outputs = map (λ (right : Right). right.id) (outputs i);
     }
@@ -73,11 +73,11 @@ module _ (verified : TypedProgram) (layout : ActorCounts) (old : Parts) (notices
     delivers = goes_to verified layout old notices h (Deliver server n.datum n.rule n.parameter) new left _ came same_state
         (subst (λ qs. AreQueued qs left) (sym queues) (notes.taken old.store.queues notices h.queued server inside n rest is))
         (ap length queues ∙ length-set old.store.queues server rest ∙ h.servers)
-        fit_is (λ actor other. ap (λ m. get m actor) running_tasks)
+        (ap (λ (r : RunningView). r.layout) running_tasks) fit_is (λ actor other. ap (λ (r : RunningView). get r.tasks actor) running_tasks)
       where
-        staged_fit : RightsFit verified old.store.places old.running_tasks old.tasks.tasks (staged old.rules.rules n.rule n.parameter Ready) old.outputs
-        staged_fit = subst (λ rs. RightsFit verified old.store.places old.running_tasks old.tasks.tasks rs old.outputs) (sym (staged_is old.rules.rules n.rule its.x n.parameter Ready its.there))
-            (fit_staged verified old.store.places old.running_tasks old.tasks.tasks old.rules.rules old.outputs h.rights_fit n.rule its.x n.parameter Ready its.there)
+        staged_fit : RightsFit verified old.store.places old.running_tasks.tasks old.tasks.tasks (staged old.rules.rules n.rule n.parameter Ready) old.outputs
+        staged_fit = subst (λ rs. RightsFit verified old.store.places old.running_tasks.tasks old.tasks.tasks rs old.outputs) (sym (staged_is old.rules.rules n.rule its.x n.parameter Ready its.there))
+            (fit_staged verified old.store.places old.running_tasks.tasks old.tasks.tasks old.rules.rules old.outputs h.rights_fit n.rule its.x n.parameter Ready its.there)
 
-        fit_is : RightsFit verified new.store.places new.running_tasks new.tasks.tasks new.rules.rules new.outputs
+        fit_is : RightsFit verified new.store.places new.running_tasks.tasks new.tasks.tasks new.rules.rules new.outputs
         fit_is = rw (places, running_tasks, tasks, rules, outputs) staged_fit

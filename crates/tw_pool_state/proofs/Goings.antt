@@ -30,9 +30,9 @@ leads old actor f done owed law = record {
 -- ---- local steps
 
 module _ (verified : TypedProgram) (layout : ActorCounts) (old : Parts) (notices : Notices) (h : AreParts verified layout old notices)
-    (actor : Actor) (f : FrameView) (runs : get old.running_tasks actor ≡ Some f) (done : DoneView) (way : Leads verified.program f done) where
-  there : get (mapped bare_frame old.running_tasks) actor ≡ Some (bare_frame f)
-  there = seen bare_frame old.running_tasks actor (Some f) runs
+    (actor : Actor) (f : FrameView) (runs : get old.running_tasks.tasks actor ≡ Some f) (done : DoneView) (way : Leads verified.program f done) where
+  there : get (mapped bare_frame old.running_tasks.tasks) actor ≡ Some (bare_frame f)
+  there = seen bare_frame old.running_tasks.tasks actor (Some f) runs
 
   goes : 0 < done.steps → step verified.program layout (Local actor done.steps) (state_of old notices) ≡ Went (with_frame (state_of old notices) actor (bare_frame (come f done)))
   unfolding step
@@ -48,27 +48,27 @@ module _ (verified : TypedProgram) (layout : ActorCounts) (old : Parts) (notices
       record { program = before.program; own = before.own; placed = before.placed; kinds = before.kinds ∙ ap kinds_in (sym same) }
 
   same_state : state_of (with_done old actor f done) notices ≡ with_frame (state_of old notices) actor (bare_frame (come f done))
-  same_state = ap (λ m. record (state_of old notices) { frames = m }) (insert_mapped bare_frame actor_cmp_total actor_cmp-IsAntisymmetric old.running_tasks actor (come f done))
+  same_state = ap (λ m. record (state_of old notices) { frames = m }) (insert_mapped bare_frame actor_cmp_total actor_cmp-IsAntisymmetric old.running_tasks.tasks actor (come f done))
 
   pub gone : 0 < done.steps → Goes verified layout (Local actor done.steps) old notices (with_done old actor f done)
-  gone some = goes_to verified layout old notices h (Local actor done.steps) (with_done old actor f done) notices _ (goes some) same_state h.queued h.servers
-      (fit_by_actor verified old.store.places old.running_tasks old.tasks.tasks old.rules.rules old.outputs h.rights_fit actor (come f done) fits)
-      (get_other old.running_tasks actor (come f done))
+  gone some = goes_to verified layout old notices h (Local actor done.steps) (with_done old actor f done) notices _ (goes some) same_state h.queued h.servers refl
+      (fit_by_actor verified old.store.places old.running_tasks.tasks old.tasks.tasks old.rules.rules old.outputs h.rights_fit actor (come f done) fits)
+      (get_other old.running_tasks.tasks actor (come f done))
 
 -- without a step its position doesn't change
-pub stayed : (program : List Procedure) (old : Parts) (actor : Actor) (f : FrameView) → get old.running_tasks actor ≡ Some f → (done : DoneView) → Leads program f done → done.steps ≡ 0 → with_done old actor f done ≡ old
+pub stayed : (program : List Procedure) (old : Parts) (actor : Actor) (f : FrameView) → get old.running_tasks.tasks actor ≡ Some f → (done : DoneView) → Leads program f done → done.steps ≡ 0 → with_done old actor f done ≡ old
 stayed program old actor f runs done way none =
     let at : f.position ≡ done.after = same_went f.position done.after (ap (λ n. local_steps n way.p.code f.position) (sym none) ∙ way.steps) in
     let spent : f.spent + done.steps ≡ f.spent = omega (arith, none) in
     let same : come f done ≡ f = λ i. record f { position = sym at i; spent = spent i } in
-    ap (λ m. record old { running_tasks = m }) (ap (insert old.running_tasks actor) same ∙ same_slot old.running_tasks actor f runs)
+    ap (λ (m : TasksByActor). record old { running_tasks = record old.running_tasks { tasks = m } }) (ap (insert old.running_tasks.tasks actor) same ∙ same_slot old.running_tasks.tasks actor f runs)
 
 -- ---- issuing
 
 module _ (verified : TypedProgram) (layout : ActorCounts) (old : Parts) (notices : Notices) (h : AreParts verified layout old notices)
-    (actor : Actor) (f : FrameView) (runs : get old.running_tasks actor ≡ Some f) where
-  in_frames : get (mapped bare_frame old.running_tasks) actor ≡ Some (bare_frame f)
-  in_frames = seen bare_frame old.running_tasks actor (Some f) runs
+    (actor : Actor) (f : FrameView) (runs : get old.running_tasks.tasks actor ≡ Some f) where
+  in_frames : get (mapped bare_frame old.running_tasks.tasks) actor ≡ Some (bare_frame f)
+  in_frames = seen bare_frame old.running_tasks.tasks actor (Some f) runs
 
   -- it may run from there
   pub may_be_at : MayBeAt f.program.program f.procedure f.position
@@ -84,9 +84,9 @@ module _ (verified : TypedProgram) (layout : ActorCounts) (old : Parts) (notices
       (kept_by verified.program (typings_of verified) layout event (state_of old notices) t h.runnable.is h.runnable.right (held verified layout old notices h) goes) actor g now p here)
 
 -- the number under which it is issued isn't in the machine's state
-module _ (new : Parts) (running_tasks : TasksByActor) (actor : Actor) (f : FrameView) (event_no : ℕ) (is_running : new.running_tasks ≡ insert running_tasks actor (lent_as event_no f)) where
+module _ (new : Parts) (running_tasks : TasksByActor) (actor : Actor) (f : FrameView) (event_no : ℕ) (is_running : new.running_tasks.tasks ≡ insert running_tasks actor (lent_as event_no f)) where
   abbrev unlent : Parts
-  unlent = record new { running_tasks = insert running_tasks actor f }
+  unlent = record new { running_tasks = record new.running_tasks { tasks = insert running_tasks actor f } }
 
   pub lent_state : (notices : Notices) → state_of new notices ≡ state_of unlent notices
   lent_state notices = ap (λ m. record (state_of new notices) { frames = m })
@@ -103,6 +103,7 @@ module _ (new : Parts) (running_tasks : TasksByActor) (actor : Actor) (f : Frame
       law = subst (IsReached verified.program layout) (sym (lent_state notices)) h.law;
       queued = h.queued;
       servers = h.servers;
+      layout_is = h.layout_is;
       rights_fit = subst (λ m. RightsFit verified new.store.places m new.tasks.tasks new.rules.rules new.outputs) (again running_tasks actor f (lent_as event_no f) ∙ sym is_running)
           (fit_by_actor verified new.store.places (insert running_tasks actor f) new.tasks.tasks new.rules.rules new.outputs h.rights_fit actor (lent_as event_no f) (record { program = before.program; own = before.own; placed = before.placed; kinds = before.kinds }));
     }

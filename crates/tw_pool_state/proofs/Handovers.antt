@@ -21,7 +21,7 @@ pub few_params : (program : List Procedure) → IsProgram program → (k : ℕ) 
 few_params program is k p here = (all_found IsProcedure program k p is.1 here).params.0.1
 
 module _ (verified : TypedProgram) (layout : ActorCounts) (old : Parts) (notices : Notices) (h : AreParts verified layout old notices)
-    (actor : Actor) (f : FrameView) (p : Procedure) (action : Action) (runs : get old.running_tasks actor ≡ Some f)
+    (actor : Actor) (f : FrameView) (p : Procedure) (action : Action) (runs : get old.running_tasks.tasks actor ≡ Some f)
     (u : IsNamed verified.program p.kind (context_of (state_of old notices) (bare_frame f)) action f.held)
     (vals : List Value) (are : each Some vals ≡ named_values f.position.values u.procedure.params action.args) where
   fits : FrameFits verified old.store.places actor f

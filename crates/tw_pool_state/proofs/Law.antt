@@ -31,9 +31,9 @@ module _ (verified : TypedProgram) (layout : ActorCounts) (p : Parts) (notices :
 
   -- an event, from what it leaves
   pub goes_to : (event : Event) (new : Parts) (left : Notices) (next : State) → step verified.program layout event (state_of p notices) ≡ Went next → state_of new left ≡ next
-      → AreQueued new.store.queues left → length new.store.queues ≡ layout.servers → RightsFit verified new.store.places new.running_tasks new.tasks.tasks new.rules.rules new.outputs
-      → ((actor : Actor) → actor ≢ actor_of event → get new.running_tasks actor ≡ get p.running_tasks actor) → Goes verified layout event p notices new
-  goes_to event new left next step_is same queued servers rights_fit others =
+      → AreQueued new.store.queues left → length new.store.queues ≡ layout.servers → new.running_tasks.layout ≡ p.running_tasks.layout → RightsFit verified new.store.places new.running_tasks.tasks new.tasks.tasks new.rules.rules new.outputs
+      → ((actor : Actor) → actor ≢ actor_of event → get new.running_tasks.tasks actor ≡ get p.running_tasks.tasks actor) → Goes verified layout event p notices new
+  goes_to event new left next step_is same queued servers own rights_fit others =
       let went : step verified.program layout event (state_of p notices) ≡ Went (state_of new left) = step_is ∙ ap Went (sym same) in
       record {
         left = left;
@@ -43,6 +43,7 @@ module _ (verified : TypedProgram) (layout : ActorCounts) (p : Parts) (notices :
           law = after event (state_of new left) went;
           queued = queued;
           servers = servers;
+          layout_is = own ∙ h.layout_is;
           rights_fit = rights_fit;
         };
         others = others;
@@ -55,15 +56,15 @@ has_slot layout (Server number) counts there = let below = ltb-true number layou
 has_slot layout (Worker number) counts there = let below = ltb-true number layout.workers there in omega (arith, below, counts.few_workers)
 
 -- who runs a task
-pub runner_has_slot : (verified : TypedProgram) (layout : ActorCounts) (p : Parts) (notices : Notices) → AreParts verified layout p notices → (actor : Actor) (f : FrameView) → get p.running_tasks actor ≡ Some f → HasSlot actor
+pub runner_has_slot : (verified : TypedProgram) (layout : ActorCounts) (p : Parts) (notices : Notices) → AreParts verified layout p notices → (actor : Actor) (f : FrameView) → get p.running_tasks.tasks actor ≡ Some f → HasSlot actor
 runner_has_slot verified layout p notices h actor f is_running =
-    has_slot layout actor h.runnable.counts ((in_layout verified layout p notices h).frames actor (bare_frame f) (seen bare_frame p.running_tasks actor (Some f) is_running)).there
+    has_slot layout actor h.runnable.counts ((in_layout verified layout p notices h).frames actor (bare_frame f) (seen bare_frame p.running_tasks.tasks actor (Some f) is_running)).there
 
 -- who runs a control task is an engine that rules may have
-pub engine_low : (verified : TypedProgram) (layout : ActorCounts) (p : Parts) (notices : Notices) → AreParts verified layout p notices → (actor : Actor) (f : FrameView) (q : Procedure) → get p.running_tasks actor ≡ Some f
+pub engine_low : (verified : TypedProgram) (layout : ActorCounts) (p : Parts) (notices : Notices) → AreParts verified layout p notices → (actor : Actor) (f : FrameView) (q : Procedure) → get p.running_tasks.tasks actor ≡ Some f
     → slice_get verified.program f.procedure ≡ Some q → is_control q.kind ≡ true → (engine : ℕ) → engine ≡ number_in_kind actor → engine < 4
 engine_low verified layout p notices h actor f q is_running here control engine is =
-    let low = engine_below verified.program layout (state_of p notices) (in_layout verified layout p notices h) actor (bare_frame f) q (seen bare_frame p.running_tasks actor (Some f) is_running) here control in
+    let low = engine_below verified.program layout (state_of p notices) (in_layout verified layout p notices h) actor (bare_frame f) q (seen bare_frame p.running_tasks.tasks actor (Some f) is_running) here control in
     omega (arith, low, is, h.runnable.counts.few_engines)
 
 -- a target of the layout is one that the queues have

@@ -32,12 +32,12 @@ pub record IsNamed (program : List Procedure) (kind : Kind) (c : Context) (actio
   })
 
 module _ (verified : TypedProgram) (layout : ActorCounts) (old : Parts) (notices : Notices) (h : AreParts verified layout old notices)
-    (actor : Actor) (f : FrameView) (p : Procedure) (action : Action) (runs : get old.running_tasks actor ≡ Some f) (here : slice_get verified.program f.procedure ≡ Some p) where
+    (actor : Actor) (f : FrameView) (p : Procedure) (action : Action) (runs : get old.running_tasks.tasks actor ≡ Some f) (here : slice_get verified.program f.procedure ≡ Some p) where
   abbrev pub context : Context
   context = context_of (state_of old notices) (bare_frame f)
 
-  there : get (mapped bare_frame old.running_tasks) actor ≡ Some (bare_frame f)
-  there = seen bare_frame old.running_tasks actor (Some f) runs
+  there : get (mapped bare_frame old.running_tasks.tasks) actor ≡ Some (bare_frame f)
+  there = seen bare_frame old.running_tasks.tasks actor (Some f) runs
 
   abbrev typing : Typing
   typing = typing_at (typings_of verified) f.procedure f.position.place

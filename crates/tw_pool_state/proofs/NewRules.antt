@@ -13,7 +13,7 @@ use Rattle.tw_pool_state.proofs.Naming.{IsNamed, rules}
 use Rattle.tw_pool_state.proofs.Runners.{get_other, get_own}
 
 module _ (verified : TypedProgram) (layout : ActorCounts) (old : Parts) (notices : Notices) (h : AreParts verified layout old notices)
-    (actor : Actor) (f : FrameView) (p : Procedure) (action : Action) (runs : get old.running_tasks actor ≡ Some f) (here : slice_get verified.program f.procedure ≡ Some p)
+    (actor : Actor) (f : FrameView) (p : Procedure) (action : Action) (runs : get old.running_tasks.tasks actor ≡ Some f) (here : slice_get verified.program f.procedure ≡ Some p)
     (at : slice_get p.code f.position.place ≡ Some (instr.Rule action)) where
   pub rule_named : IsNamed verified.program p.kind (context_of (state_of old notices) (bare_frame f)) action f.held
   rule_named = rules verified layout old notices h actor f p action runs here at
@@ -21,14 +21,14 @@ module _ (verified : TypedProgram) (layout : ActorCounts) (old : Parts) (notices
   rule_steps : step verified.program layout (Call actor) (state_of old notices) ≡ Went (with_frame (with_rule (state_of old notices) (new_rule (number_in_kind actor) rule_named.procedure.params (record { kind = rule_named.procedure.kind; procedure = action.procedure; priority = rule_named.priority; target = action.target; args = rule_named.given.args }))) actor (gone_after (bare_frame f) rule_named.given.rights))
   unfolding step
   rule_steps =
-      let t = seen bare_frame old.running_tasks actor (Some f) runs in
+      let t = seen bare_frame old.running_tasks.tasks actor (Some f) runs in
       let g = rule_named.goes in
       rw (t, here, at, g) refl
 
   -- it may run from the place after it
   pub rule_fits : MayBeAt f.program.program f.procedure (at_next_place f.position)
   rule_fits = subst (λ (v : TypedProgram). MayBeAt v.program f.procedure (at_next_place f.position)) (sym (h.rights_fit.frames actor f runs).program)
-      (position_then verified layout old notices h actor f runs (Call actor) _ rule_steps (gone_after (bare_frame f) rule_named.given.rights) (get_own (mapped bare_frame old.running_tasks) actor (gone_after (bare_frame f) rule_named.given.rights)))
+      (position_then verified layout old notices h actor f runs (Call actor) _ rule_steps (gone_after (bare_frame f) rule_named.given.rights) (get_own (mapped bare_frame old.running_tasks.tasks) actor (gone_after (bare_frame f) rule_named.given.rights)))
 
   module _ (vals : List Value) (are : each Some vals ≡ named_values f.position.values rule_named.procedure.params action.args)
       (args : List Arg) (file : List (Option Held)) (over : bundled f.held rule_named.procedure.params action.args vals ≡ Some (record { args = args; file = file })) where
@@ -47,7 +47,7 @@ module _ (verified : TypedProgram) (layout : ActorCounts) (old : Parts) (notices
     fits = fits_after verified layout old notices h actor f p action runs rule_named vals are args file over
         (typed_after verified.program (typings_of verified) h.runnable.is h.runnable.right f.procedure p here f.position.place (f.position.place + 1) (instr.Rule action) Completed at refl).1
 
-    module _ (new : Parts) (ruled : new.rules.rules ≡ insert old.rules.rules old.rules.next rule) (next_rule : new.rules.next ≡ old.rules.next + 1) (running_tasks : new.running_tasks ≡ insert old.running_tasks actor (gone_on f file)) (store : new.store ≡ old.store) (tasks : new.tasks ≡ old.tasks) (next_task : new.next_task ≡ old.next_task) (outputs : new.outputs ≡ old.outputs) where
+    module _ (new : Parts) (ruled : new.rules.rules ≡ insert old.rules.rules old.rules.next rule) (next_rule : new.rules.next ≡ old.rules.next + 1) (running_tasks : new.running_tasks.tasks ≡ insert old.running_tasks.tasks actor (gone_on f file)) (layout_is : new.running_tasks.layout ≡ old.running_tasks.layout) (store : new.store ≡ old.store) (tasks : new.tasks ≡ old.tasks) (next_task : new.next_task ≡ old.next_task) (outputs : new.outputs ≡ old.outputs) where
       same_state : state_of new notices ≡ with_frame (with_rule (state_of old notices) (bare_rule rule)) actor (bare_frame (gone_on f file))
       same_state = λ i. record {
         store = (store i).store;
@@ -55,18 +55,18 @@ module _ (verified : TypedProgram) (layout : ActorCounts) (old : Parts) (notices
         next_rule = next_rule i;
         tasks = mapped bare_task (tasks i).tasks;
         next_task = next_task i;
-        frames = (ap (mapped bare_frame) running_tasks ∙ insert_mapped bare_frame actor_cmp_total actor_cmp-IsAntisymmetric old.running_tasks actor (gone_on f file)) i;
+        frames = (ap (mapped bare_frame) running_tasks ∙ insert_mapped bare_frame actor_cmp_total actor_cmp-IsAntisymmetric old.running_tasks.tasks actor (gone_on f file)) i;
         notices = notices;
         outputs = each (λ (right : Right). right.id) (outputs i);
       }
 
       pub rule_goes : Goes verified layout (Call actor) old notices new
-      rule_goes = goes_to verified layout old notices h (Call actor) new notices _ goes same_state (rw store h.queued) (rw store h.servers) fit_is
-          (λ other apart. ap (λ m. get m other) running_tasks ∙ get_other old.running_tasks actor (gone_on f file) other apart)
+      rule_goes = goes_to verified layout old notices h (Call actor) new notices _ goes same_state (rw store h.queued) (rw store h.servers) layout_is fit_is
+          (λ other apart. ap (λ m. get m other) running_tasks ∙ get_other old.running_tasks.tasks actor (gone_on f file) other apart)
         where
-          ruled_there : RightsFit verified old.store.places old.running_tasks old.tasks.tasks (insert old.rules.rules old.rules.next rule) old.outputs
-          ruled_there = fit_ruled verified old.store.places old.running_tasks old.tasks.tasks old.rules.rules old.outputs h.rights_fit old.rules.next rule
+          ruled_there : RightsFit verified old.store.places old.running_tasks.tasks old.tasks.tasks (insert old.rules.rules old.rules.next rule) old.outputs
+          ruled_there = fit_ruled verified old.store.places old.running_tasks.tasks old.tasks.tasks old.rules.rules old.outputs h.rights_fit old.rules.next rule
               (args_match verified layout old notices h actor f p action runs rule_named vals are args file over)
 
-          fit_is : RightsFit verified new.store.places new.running_tasks new.tasks.tasks new.rules.rules new.outputs
-          fit_is = rw (store, running_tasks, tasks, ruled, outputs) (fit_by_actor verified old.store.places old.running_tasks old.tasks.tasks (insert old.rules.rules old.rules.next rule) old.outputs ruled_there actor (gone_on f file) fits)
+          fit_is : RightsFit verified new.store.places new.running_tasks.tasks new.tasks.tasks new.rules.rules new.outputs
+          fit_is = rw (store, running_tasks, tasks, ruled, outputs) (fit_by_actor verified old.store.places old.running_tasks.tasks old.tasks.tasks (insert old.rules.rules old.rules.next rule) old.outputs ruled_there actor (gone_on f file) fits)

@@ -1,6 +1,6 @@
 -- A program is opened: on the parts.
 use Rattle.std.proofs.Common.{map as each, ◌≡◌, ℕ, pos, zero, suc, false, List, [], ◌∷◌, Some, None, refl, sym, ap, subst, ◌∙◌, length, replicate}
-use Rattle.tw_pool_state.proofs.PartNames.{ActorCounts, AreApart, AreAt, AreQueued, Arg, ArgsMatch, IsLayout, IsMade, IsProgram, IsReached, MainWaits, Notice, OpenedParts, Parts, Places, Procedure, Right, Served, RightsFit, TaskOf, Tasks, TypedProgram, Went, actor_cmp, bare_frame, bare_rule, bare_task, empty_mapped, get-empty, insert, insert_mapped, is_among, length-replicate, mapped, nat_cmp, nat_cmp-IsAntisymmetric, nat_cmp_total, notice_cmp, params_of, queue_at, server_of, state_of, typings_of}
+use Rattle.tw_pool_state.proofs.PartNames.{ActorCounts, AreApart, AreAt, AreQueued, Arg, ArgsMatch, IsLayout, IsMade, IsProgram, IsReached, MainWaits, Notice, OpenedParts, Parts, Places, Procedure, Right, Served, RightsFit, TaskOf, Tasks, TypedProgram, Went, actor_cmp, bare_frame, bare_rule, bare_task, empty_mapped, get-empty, insert, insert_mapped, is_among, length-replicate, mapped, nat_cmp, nat_cmp-IsAntisymmetric, nat_cmp_total, notice_cmp, params_of, queue_at, server_of, state_of, typings_of, RunningView}
 use Rattle.std.specs.FinMap as fin
 use Rattle.std.specs.FinSet as set
 use Rattle.std.specs.FinSet.{contains-empty}
@@ -46,7 +46,7 @@ nothing_fits verified places given h = record {
 }
 
 module _ (verified : TypedProgram) (inputs : List Input) (layout : ActorCounts) (o : OpenedParts) (p : Parts)
-    (made : IsMade layout.servers (main_params verified.program) o (opened nothing_opened (main_params verified.program) inputs)) (waits : MainWaits fin.empty o p) where
+    (made : IsMade layout.servers (main_params verified.program) o (opened nothing_opened (main_params verified.program) inputs)) (waits : MainWaits (record { layout = layout; tasks = fin.empty }) o p) where
   abbrev main : TaskOf Arg
   main = record { kind = Control; procedure = 0; priority = pos 0; target = None; args = o.args }
 
@@ -63,7 +63,7 @@ module _ (verified : TypedProgram) (inputs : List Input) (layout : ActorCounts) 
     next_rule = waits.next_rule i;
     tasks = tasks_are i;
     next_task = waits.next_task i;
-    frames = (ap (mapped bare_frame) waits.running_tasks ∙ empty_mapped bare_frame) i;
+    frames = (ap (λ (r : RunningView). mapped bare_frame r.tasks) waits.running_tasks ∙ empty_mapped bare_frame) i;
     notices = set.empty;
     outputs = (ap (each (λ (r : Right). r.id)) waits.outputs ∙ made.outputs) i;
   }
@@ -71,7 +71,7 @@ module _ (verified : TypedProgram) (inputs : List Input) (layout : ActorCounts) 
   queues_are : p.store.queues ≡ replicate layout.servers []
   queues_are = ap (λ (s : Served). s.queues) waits.store ∙ made.queues
 
-  fits_place : RightsFit verified p.store.places p.running_tasks p.tasks.tasks p.rules.rules p.outputs
+  fits_place : RightsFit verified p.store.places p.running_tasks.tasks p.tasks.tasks p.rules.rules p.outputs
   fits_place =
       let s = waits.store in
       let running_tasks = waits.running_tasks in
@@ -93,7 +93,8 @@ module _ (verified : TypedProgram) (inputs : List Input) (layout : ActorCounts) 
       law = reached_is given;
       queued = subst (λ qs. AreQueued qs set.empty) (sym queues_are) (none_queued layout.servers);
       servers = ap length queues_are ∙ length-replicate layout.servers [];
+      layout_is = ap (λ (r : RunningView). r.layout) waits.running_tasks;
       rights_fit = fits_place;
     };
-    nobody = waits.running_tasks;
+    nobody = ap (λ (r : RunningView). r.tasks) waits.running_tasks;
   }

@@ -66,7 +66,7 @@ pub use Rattle.tw_pool_state.specs.Memory.{AsksOpen, HasThatMany, IsAbsent, IsTe
 pub use Rattle.tw_pool_state.specs.Notes.{AreApart, AreQueued, is_among, is_queued, queue_at}
 pub use Rattle.tw_pool_state.specs.OpenedParts.{Adds, AreBefore, AreForAll, IsMade, MainWaits, MayAdd, OpenedParts}
 pub use Rattle.tw_pool_state.specs.Parts.{state_of}
-pub use Rattle.tw_pool_state.specs.RunningTasks.{AreKept, AreTaskSlots, HasSlot, TasksByActor, actor_of, slot_of, by_actor, by_actor_from}
+pub use Rattle.tw_pool_state.specs.RunningTasks.{AreKept, AreTaskSlots, HasBuffers, HasSlot, RunningView, TasksByActor, actor_of, slot_of, by_actor, by_actor_from, takes_tasks, with_running}
 pub use Rattle.tw_rights.specs.Bare.{bare_arg, bare_file, bare_rule, bare_task}
 pub use Rattle.tw_rights.specs.Held.{id_of}
 pub use Rattle.tw_rights.specs.Kinds.{kind_at, kinds_of}

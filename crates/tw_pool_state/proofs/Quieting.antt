@@ -91,11 +91,11 @@ busy rules engine (inr some) = inr (by (next_release engine rules) refl some)
 -- ---- all of it
 
 pub quiet_by : (p : Parts) (notices : Notices) (engines : ℕ) → AreQueued p.store.queues notices → 0 < length p.store.queues → AreOfEngines engines p.rules.rules
-    → map.len p.running_tasks ≡ 0 → map.len p.tasks.tasks ≡ 0 → ((server : ℕ) → server < length p.store.queues → queue_at p.store.queues server ≡ [])
+    → map.len p.running_tasks.tasks ≡ 0 → map.len p.tasks.tasks ≡ 0 → ((server : ℕ) → server < length p.store.queues → queue_at p.store.queues server ≡ [])
     → ((engine : ℕ) → engine < engines → next_ask engine p.rules.rules ≡ None) → ((engine : ℕ) → engine < engines → next_release engine p.rules.rules ≡ None)
     → is_quiet (state_of p notices) ≡ true
 quiet_by p notices engines q some below frames tasks queues asks releases =
-    let f : map.len (mapped bare_frame p.running_tasks) ≡ 0 = len_mapped bare_frame p.running_tasks ∙ frames in
+    let f : map.len (mapped bare_frame p.running_tasks.tasks) ≡ 0 = len_mapped bare_frame p.running_tasks.tasks ∙ frames in
     let t : map.len (mapped bare_task p.tasks.tasks) ≡ 0 = len_mapped bare_task p.tasks.tasks ∙ tasks in
     let n : set_of.len notices ≡ 0 = silent p.store.queues notices q some queues in
     let a = unasking engines p.rules.rules below asks in
@@ -105,13 +105,13 @@ quiet_by p notices engines q some below frames tasks queues asks releases =
 -- ---- states that aren't quiet
 
 module _ (p : Parts) (notices : Notices) where
-  pub running : (map.len p.running_tasks == 0) ≡ false → is_quiet (state_of p notices) ≡ false
-  running some = let f : (map.len (mapped bare_frame p.running_tasks) == 0) ≡ false = ap (λ n. n == 0) (len_mapped bare_frame p.running_tasks) ∙ some in rw f refl
+  pub running : (map.len p.running_tasks.tasks == 0) ≡ false → is_quiet (state_of p notices) ≡ false
+  running some = let f : (map.len (mapped bare_frame p.running_tasks.tasks) == 0) ≡ false = ap (λ n. n == 0) (len_mapped bare_frame p.running_tasks.tasks) ∙ some in rw f refl
 
   pub waiting : (map.len p.tasks.tasks == 0) ≡ false → is_quiet (state_of p notices) ≡ false
   waiting some =
       let t : (map.len (mapped bare_task p.tasks.tasks) == 0) ≡ false = ap (λ n. n == 0) (len_mapped bare_task p.tasks.tasks) ∙ some in
-      by (map.len (mapped bare_frame p.running_tasks) == 0) t
+      by (map.len (mapped bare_frame p.running_tasks.tasks) == 0) t
     where
       by : (b : Bool) → (map.len (mapped bare_task p.tasks.tasks) == 0) ≡ false
           → (b && ((map.len (mapped bare_task p.tasks.tasks) == 0) && ((set_of.len notices == 0) && has_idle_rules (state_of p notices)))) ≡ false
@@ -136,7 +136,7 @@ module _ (p : Parts) (notices : Notices) where
       let inside = within p.store.queues server n first in
       let there = has p.store.queues notices q server inside n is.rest is.is in
       notified_so (set_of.len notices) (λ none. let no : false ≡ true = sym (ap (λ (s : Notices). set_of.contains s n) (set_of.empty_of_len notices none) ∙ set_of.contains-empty notice_cmp n) ∙ there in cc)
-      (map.len (mapped bare_frame p.running_tasks) == 0) (map.len (mapped bare_task p.tasks.tasks) == 0) (has_idle_rules (state_of p notices))
+      (map.len (mapped bare_frame p.running_tasks.tasks) == 0) (map.len (mapped bare_task p.tasks.tasks) == 0) (has_idle_rules (state_of p notices))
     where
       within : (queues : List (List Notice)) (k : ℕ) (n : Notice) → slice_get (queue_at queues k) 0 ≡ Some n → k < length queues
       within [] k n e = cc
@@ -144,7 +144,7 @@ module _ (p : Parts) (notices : Notices) where
       within (queue ∷ queues) (suc k) n e = let rest = within queues k n e in omega (arith, rest)
 
   pub working : (engine : ℕ) → (is_some (next_ask engine p.rules.rules) ≡ true) ⊎ (is_some (next_release engine p.rules.rules) ≡ true) → is_quiet (state_of p notices) ≡ false
-  working engine some = by (map.len (mapped bare_frame p.running_tasks) == 0) (map.len (mapped bare_task p.tasks.tasks) == 0) (set_of.len notices == 0) (idle (busy p.rules.rules engine some))
+  working engine some = by (map.len (mapped bare_frame p.running_tasks.tasks) == 0) (map.len (mapped bare_task p.tasks.tasks) == 0) (set_of.len notices == 0) (idle (busy p.rules.rules engine some))
     where
       idle : (list_any has_unasked (map.values (mapped bare_rule p.rules.rules)) ≡ true) ⊎ (list_any is_releasable (map.values (mapped bare_rule p.rules.rules)) ≡ true) → has_idle_rules (state_of p notices) ≡ false
       idle (inl a) = rw a refl
@@ -162,7 +162,7 @@ module _ (p : Parts) (notices : Notices) where
 
 -- whether the state is quiet, by whether the rules have work
 pub quiet_or : (p : Parts) (notices : Notices) (engines : ℕ) → AreQueued p.store.queues notices → 0 < length p.store.queues → AreOfEngines engines p.rules.rules
-    → map.len p.running_tasks ≡ 0 → map.len p.tasks.tasks ≡ 0 → ((server : ℕ) → server < length p.store.queues → slice_get (queue_at p.store.queues server) 0 ≡ None)
+    → map.len p.running_tasks.tasks ≡ 0 → map.len p.tasks.tasks ≡ 0 → ((server : ℕ) → server < length p.store.queues → slice_get (queue_at p.store.queues server) 0 ≡ None)
     → (b : Bool) → MatchBool b ((engine : ℕ) × ((is_some (next_ask engine p.rules.rules) ≡ true) ⊎ (is_some (next_release engine p.rules.rules) ≡ true)))
     ((engine : ℕ) → engine < engines → (next_ask engine p.rules.rules ≡ None) × (next_release engine p.rules.rules ≡ None))
     → not b ≡ is_quiet (state_of p notices)

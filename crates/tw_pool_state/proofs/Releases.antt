@@ -1,6 +1,6 @@
 -- An engine releases a rule: on the parts.
 use Rattle.std.proofs.Common.{map, ◌≡◌, ◌≤◌, ◌+◌, ℕ, true, Option, Some, None, refl, sym, ap, subst, ◌∙◌, slice_get, option_map, arith}
-use Rattle.tw_pool_state.proofs.PartNames.{ActorCounts, AreParts, Arg, Goes, Notices, Parts, Procedure, Release, Right, Rule, RightsFit, TaskOf, TypedProgram, Went, bare_arg, bare_frame, bare_rule, bare_task, entries, get, insert, insert_mapped, is_releasable, mapped, nat_cmp-IsAntisymmetric, nat_cmp_total, next_release, remove, remove_mapped, state_of, task_from, with_task}
+use Rattle.tw_pool_state.proofs.PartNames.{ActorCounts, AreParts, Arg, Goes, Notices, Parts, Procedure, Release, Right, Rule, RightsFit, TaskOf, TypedProgram, Went, bare_arg, bare_frame, bare_rule, bare_task, entries, get, insert, insert_mapped, is_releasable, mapped, nat_cmp-IsAntisymmetric, nat_cmp_total, next_release, remove, remove_mapped, state_of, task_from, with_task, RunningView}
 use Rattle.tw_types.specs.declared.actor.Actor.TheVariants.{Engine}
 use Rattle.tw_types.specs.declared.actor.Kind.{Kind}
 use Rattle.tw_code.specs.machine.Machine.{step}
@@ -45,11 +45,11 @@ module _ (verified : TypedProgram) (layout : ActorCounts) (old : Parts) (notices
       target_below layout procedure.0.kind its.x.target h.runnable.counts
       (subst (λ (r : Rule). up_to r.target ≤ count_of layout procedure.0.kind) (sym its.is) (it.target procedure.0 (ap (λ (r : Rule). slice_get verified.program r.procedure) (sym its.is) ∙ procedure.1)))
 
-  module _ (free : get old.running_tasks (Engine engine) ≡ None) where
+  module _ (free : get old.running_tasks.tasks (Engine engine) ≡ None) where
     goes : step verified.program layout (Release engine number) (state_of old notices) ≡ Went (with_task (record (state_of old notices) { rules = remove (mapped bare_rule old.rules.rules) number }) (task_from procedure.0.kind found.rule))
     unfolding step
     goes =
-        let none : get (mapped bare_frame old.running_tasks) (Engine engine) ≡ None = seen bare_frame old.running_tasks (Engine engine) None free in
+        let none : get (mapped bare_frame old.running_tasks.tasks) (Engine engine) ≡ None = seen bare_frame old.running_tasks.tasks (Engine engine) None free in
         let own = found.own in
         let has = found.has in
         let p : slice_get verified.program found.rule.procedure ≡ Some procedure.0 = ap (λ (r : Rule). slice_get verified.program r.procedure) (sym its.is) ∙ procedure.1 in
@@ -73,13 +73,13 @@ module _ (verified : TypedProgram) (layout : ActorCounts) (old : Parts) (notices
         next_rule = next_rule i;
         tasks = new_tasks i;
         next_task = next_task i;
-        frames = mapped bare_frame (running_tasks i);
+        frames = mapped bare_frame (running_tasks i).tasks;
         notices = notices;
         outputs = map (λ (right : Right). right.id) (outputs i);
       }
 
       pub releases : Goes verified layout (Release engine number) old notices new
-      releases = goes_to verified layout old notices h (Release engine number) new notices _ goes same_state (rw store h.queued) (rw store h.servers) fit_is (λ actor other. ap (λ m. get m actor) running_tasks)
+      releases = goes_to verified layout old notices h (Release engine number) new notices _ goes same_state (rw store h.queued) (rw store h.servers) (ap (λ (r : RunningView). r.layout) running_tasks) fit_is (λ actor other. ap (λ (r : RunningView). get r.tasks actor) running_tasks)
         where
-          fit_is : RightsFit verified new.store.places new.running_tasks new.tasks.tasks new.rules.rules new.outputs
-          fit_is = rw (store, running_tasks, tasks, rules, outputs) (fit_released verified old.store.places old.running_tasks old.tasks.tasks old.rules.rules old.outputs h.rights_fit number old.next_task its.x kind its.there)
+          fit_is : RightsFit verified new.store.places new.running_tasks.tasks new.tasks.tasks new.rules.rules new.outputs
+          fit_is = rw (store, running_tasks, tasks, rules, outputs) (fit_released verified old.store.places old.running_tasks.tasks old.tasks.tasks old.rules.rules old.outputs h.rights_fit number old.next_task its.x kind its.there)

@@ -1,6 +1,6 @@
 -- The slots, seen as a finite map by actors.
 use Rattle.std.proofs.Common.{◌≡◌, ◌≢◌, ◌<◌, ◌≤◌, ◌+◌, ◌-◌, ℕ, zero, suc, Bool, true, false, cond, nat_lt, if◌then◌else◌, List, [], ◌∷◌, length, Option, Some, None, is_some, count_by, length-set, refl, sym, ap, subst, ◌∙◌, get_or, set, arith}
-use Rattle.tw_pool_state.proofs.PartNames.{Actor, AreTaskSlots, Equal-is, FinMap, FrameView, HasSlot, TasksByActor, actor_cmp, actor_cmp-IsAntisymmetric, actor_cmp_total, actor_of, eq_by_cmp, find, from_entries, get, get-from_entries, get-insert, get-remove, get_or-set_other, get_or-set_same, insert, len, len-empty, len-insert, nat_tests, remove, same_map, slot_of, by_actor, by_actor_from}
+use Rattle.tw_pool_state.proofs.PartNames.{Actor, ActorCounts, AreTaskSlots, Equal-is, FinMap, FrameView, HasSlot, RunningView, TasksByActor, actor_cmp, actor_cmp-IsAntisymmetric, actor_cmp_total, actor_of, eq_by_cmp, find, from_entries, get, get-from_entries, get-insert, get-remove, get_or-set_other, get_or-set_same, insert, len, len-empty, len-insert, nat_tests, remove, same_map, slot_of, by_actor, by_actor_from}
 use Rattle.std.proofs.lemmas.List.Sums.{sum_by-cons}
 use Rattle.tw_types.specs.declared.actor.Actor.TheVariants.{Engine, Server, Worker}
 use Rattle.tw_types.proofs.Orders.{other_key, own_key}
@@ -155,6 +155,10 @@ module _ (running_tasks : RunningTasks) (taken : ℕ) (all : AreTaskSlots runnin
         many = ap length is ∙ length-set running_tasks task_slot (Some g) ∙ all.many;
         counted = let e = count_set running_tasks task_slot (Some g) inside in omega (arith, e, one, all.counted, ap (count_by is_some) is);
       }
+
+-- other tasks of the layout
+pub with_tasks : (layout : ActorCounts) (tasks : TasksByActor) (old : RunningView) (new : TasksByActor) → layout ≡ old.layout → tasks ≡ new → ◌≡◌ {A = RunningView} (record { layout = layout; tasks = tasks }) (record old { tasks = new })
+with_tasks layout tasks old new same is = λ i. record { layout = same i; tasks = is i }
 
 -- the others' tasks are the same
 pub get_other : (m : TasksByActor) (a : Actor) (f : FrameView) (q : Actor) → q ≢ a → get (insert m a f) q ≡ get m q

@@ -1,6 +1,6 @@
 -- An engine asks: on the parts.
 use Rattle.std.proofs.Common.{map, length, ◌≡◌, ℕ, zero, suc, true, false, if◌then◌else◌, List, [], ◌∷◌, Some, None, refl, sym, ap, subst, ◌∙◌, slice_get, option_map}
-use Rattle.tw_pool_state.proofs.PartNames.{ActorCounts, AreParts, AreQueued, Arg, ArgMatches, ArgsMatch, Ask, AsksOpen, Datum, Goes, IsAt, Mode, Notices, Param, Parts, Places, Read, Right, RightArg, Rule, RightsFit, Store, TypedProgram, Val, Went, Write, at_stage, bare_arg, bare_frame, bare_rule, bare_task, closed_by, entries, get, insert, is_closed, is_closed_mode, is_settled, is_val, mapped, next_ask, params_in, params_of, right_of, same_Some, state_of, subscribed, typings_of, with_stage}
+use Rattle.tw_pool_state.proofs.PartNames.{ActorCounts, AreParts, AreQueued, Arg, ArgMatches, ArgsMatch, Ask, AsksOpen, Datum, Goes, IsAt, Mode, Notices, Param, Parts, Places, Read, Right, RightArg, Rule, RightsFit, Store, TypedProgram, Val, Went, Write, at_stage, bare_arg, bare_frame, bare_rule, bare_task, closed_by, entries, get, insert, is_closed, is_closed_mode, is_settled, is_val, mapped, next_ask, params_in, params_of, right_of, same_Some, state_of, subscribed, typings_of, with_stage, RunningView}
 use Rattle.tw_types.specs.declared.actor.Actor.TheVariants.{Engine}
 use Rattle.tw_types.specs.declared.param.Mode.TheVariants as mode
 use Rattle.tw_types.specs.declared.stage.Stage.{Stage}
@@ -101,11 +101,11 @@ module _ (verified : TypedProgram) (layout : ActorCounts) (old : Parts) (notices
   pub asks_open : closed_by (get old.store.store.live reads.right.id) ≡ false → (ns : Notices) → AsksOpen (state_of old ns) number parameter
   asks_open e ns = record { rule = found.rule; pends = pending; id = reads.right.id; asks = arg_there; x = live.0; live = live.1; not_closed = sym (ap closed_by live.1) ∙ e }
 
-  module _ (free : get old.running_tasks (Engine engine) ≡ None) where
+  module _ (free : get old.running_tasks.tasks (Engine engine) ≡ None) where
     goes : step verified.program layout (Ask engine number parameter) (state_of old notices) ≡ Went (asked (state_of old notices) number found.rule parameter reads.right.id live.0)
     unfolding step
     goes =
-        let none : get (mapped bare_frame old.running_tasks) (Engine engine) ≡ None = seen bare_frame old.running_tasks (Engine engine) None free in
+        let none : get (mapped bare_frame old.running_tasks.tasks) (Engine engine) ≡ None = seen bare_frame old.running_tasks.tasks (Engine engine) None free in
         let own = found.own in
         let has = found.has in
         let arg = arg_there in
@@ -127,20 +127,20 @@ module _ (verified : TypedProgram) (layout : ActorCounts) (old : Parts) (notices
         next_rule = next_rule i;
         tasks = mapped bare_task (tasks i).tasks;
         next_task = next_task i;
-        frames = mapped bare_frame (running_tasks i);
+        frames = mapped bare_frame (running_tasks i).tasks;
         notices = notices;
         outputs = map (λ (right : Right). right.id) (outputs i);
       }
 
       pub asks : Goes verified layout (Ask engine number parameter) old notices new
       asks = goes_to verified layout old notices h (Ask engine number parameter) new notices _ (goes ∙ ap Went leads) same_state
-          (subst (λ qs. AreQueued qs notices) (sym queues) h.queued) (ap length queues ∙ h.servers) fit_is (λ actor other. ap (λ m. get m actor) running_tasks)
+          (subst (λ qs. AreQueued qs notices) (sym queues) h.queued) (ap length queues ∙ h.servers) (ap (λ (r : RunningView). r.layout) running_tasks) fit_is (λ actor other. ap (λ (r : RunningView). get r.tasks actor) running_tasks)
         where
-          staged_fit : RightsFit verified old.store.places old.running_tasks old.tasks.tasks (staged old.rules.rules number parameter stage) old.outputs
-          staged_fit = subst (λ rs. RightsFit verified old.store.places old.running_tasks old.tasks.tasks rs old.outputs) (sym (staged_is old.rules.rules number its.x parameter stage its.there))
-              (fit_staged verified old.store.places old.running_tasks old.tasks.tasks old.rules.rules old.outputs h.rights_fit number its.x parameter stage its.there)
+          staged_fit : RightsFit verified old.store.places old.running_tasks.tasks old.tasks.tasks (staged old.rules.rules number parameter stage) old.outputs
+          staged_fit = subst (λ rs. RightsFit verified old.store.places old.running_tasks.tasks old.tasks.tasks rs old.outputs) (sym (staged_is old.rules.rules number its.x parameter stage its.there))
+              (fit_staged verified old.store.places old.running_tasks.tasks old.tasks.tasks old.rules.rules old.outputs h.rights_fit number its.x parameter stage its.there)
 
-          fit_is : RightsFit verified new.store.places new.running_tasks new.tasks.tasks new.rules.rules new.outputs
+          fit_is : RightsFit verified new.store.places new.running_tasks.tasks new.tasks.tasks new.rules.rules new.outputs
           fit_is = rw (places, running_tasks, tasks, rules, outputs) staged_fit
 
     -- the results in both cases

@@ -1,6 +1,6 @@
 -- An actor takes a task: on the parts.
 use Rattle.std.proofs.Common.{map as each, ◌≡◌, ◌-◌, ℕ, zero, suc, true, List, [], ◌∷◌, ◌++◌, Option, Some, None, Result, Ok, Err, refl, sym, ap, subst, ◌∙◌, slice_get, option_map, length, replicate, option_to_list}
-use Rattle.tw_pool_state.proofs.PartNames.{Actor, ActorCounts, AreParts, ArePlaced, Arg, ArgMatches, ArgsMatch, Begins, Cause, FrameFits, FrameView, Goes, JobView, MayBeAt, MayStart, Notices, Param, Parts, Places, Procedure, Read, Right, RightType, TasksByActor, RightsFit, StartsAsMachine, Take, TaskOf, TasksOf, Trap, TypedProgram, Val, Value, Went, Write, actor_cmp-IsAntisymmetric, actor_cmp_total, bare_arg, bare_file, bare_frame, bare_rule, bare_task, best, entry_by, first_rights, frame_of, get, insert, insert_mapped, is_in, is_write, kinds_in, mapped, nat_cmp-IsAntisymmetric, nat_cmp_total, params_in, remove, remove_mapped, right_of, rights_given, started, state_of, typed_at_start, typings_of, with_frame}
+use Rattle.tw_pool_state.proofs.PartNames.{Actor, ActorCounts, AreParts, ArePlaced, Arg, ArgMatches, ArgsMatch, Begins, Cause, FrameFits, FrameView, Goes, JobView, MayBeAt, MayStart, Notices, Param, Parts, Places, Procedure, Read, Right, RightType, TasksByActor, RightsFit, StartsAsMachine, Take, TaskOf, TasksOf, Trap, TypedProgram, Val, Value, Went, Write, actor_cmp-IsAntisymmetric, actor_cmp_total, bare_arg, bare_file, bare_frame, bare_rule, bare_task, best, entry_by, first_rights, frame_of, get, insert, insert_mapped, is_in, is_write, kinds_in, mapped, nat_cmp-IsAntisymmetric, nat_cmp_total, params_in, remove, remove_mapped, right_of, rights_given, started, state_of, typed_at_start, typings_of, with_frame, with_running}
 use Rattle.tw_types.proofs.Best.{best_waits}
 use Rattle.tw_code.specs.machine.Machine.{step}
 use Rattle.tw_soundness.proofs.Safe.{safe}
@@ -62,7 +62,7 @@ taken verified actor event_no old waiting new left Made Same (Err e) b made same
 -- ---- the task that is taken
 
 module _ (verified : TypedProgram) (layout : ActorCounts) (old : Parts) (notices : Notices) (h : AreParts verified layout old notices)
-    (actor : Actor) (there : is_in layout actor ≡ true) (free : get old.running_tasks actor ≡ None) (e : ℕ × TaskOf Arg) (due : best actor old.tasks.tasks ≡ Some e) where
+    (actor : Actor) (there : is_in layout actor ≡ true) (free : get old.running_tasks.tasks actor ≡ None) (e : ℕ × TaskOf Arg) (due : best actor old.tasks.tasks ≡ Some e) where
   law : IsHeld verified.program (typings_of verified) (state_of old notices)
   law = held verified layout old notices h
 
@@ -75,8 +75,8 @@ module _ (verified : TypedProgram) (layout : ActorCounts) (old : Parts) (notices
   bare_due : best actor (mapped bare_task old.tasks.tasks) ≡ Some (entry_by bare_task e)
   bare_due = best_mapped bare_arg actor old.tasks.tasks ∙ ap (option_map (entry_by bare_task)) due
 
-  none : get (mapped bare_frame old.running_tasks) actor ≡ None
-  none = seen bare_frame old.running_tasks actor None free
+  none : get (mapped bare_frame old.running_tasks.tasks) actor ≡ None
+  none = seen bare_frame old.running_tasks.tasks actor None free
 
   pub procedure : (p : Procedure) × (slice_get verified.program e.1.procedure ≡ Some p)
   procedure = law.types.procedures.tasks e.0 (bare_task e.1) bare_waits
@@ -120,7 +120,7 @@ module _ (verified : TypedProgram) (layout : ActorCounts) (old : Parts) (notices
           ∙ ap kinds_in (sym (typed_at_start verified.program (typings_of verified) h.runnable.is h.runnable.right e.1.procedure procedure.0 procedure.1));
     }
 
-    module _ (event_no : ℕ) (new : Parts) (tasks : new.tasks.tasks ≡ remove old.tasks.tasks e.0) (running_tasks : new.running_tasks ≡ insert old.running_tasks actor (record begun { event_no = event_no })) (store : new.store ≡ old.store) (rules : new.rules ≡ old.rules) (next_task : new.next_task ≡ old.next_task) (outputs : new.outputs ≡ old.outputs) where
+    module _ (event_no : ℕ) (new : Parts) (tasks : new.tasks.tasks ≡ remove old.tasks.tasks e.0) (running_tasks : new.running_tasks.tasks ≡ insert old.running_tasks.tasks actor (record begun { event_no = event_no })) (layout_is : new.running_tasks.layout ≡ old.running_tasks.layout) (store : new.store ≡ old.store) (rules : new.rules ≡ old.rules) (next_task : new.next_task ≡ old.next_task) (outputs : new.outputs ≡ old.outputs) where
       same_state : state_of new notices ≡ with_frame (record (state_of old notices) { tasks = remove (mapped bare_task old.tasks.tasks) e.0 }) actor (bare_frame begun)
       same_state = λ i. record {
         store = (store i).store;
@@ -128,24 +128,24 @@ module _ (verified : TypedProgram) (layout : ActorCounts) (old : Parts) (notices
         next_rule = (rules i).next;
         tasks = (ap (mapped bare_task) tasks ∙ remove_mapped bare_task nat_cmp_total nat_cmp-IsAntisymmetric old.tasks.tasks e.0) i;
         next_task = next_task i;
-        frames = (ap (mapped bare_frame) running_tasks ∙ insert_mapped bare_frame actor_cmp_total actor_cmp-IsAntisymmetric old.running_tasks actor (record begun { event_no = event_no })) i;
+        frames = (ap (mapped bare_frame) running_tasks ∙ insert_mapped bare_frame actor_cmp_total actor_cmp-IsAntisymmetric old.running_tasks.tasks actor (record begun { event_no = event_no })) i;
         notices = notices;
         outputs = each (λ (right : Right). right.id) (outputs i);
       }
 
       pub takes : Goes verified layout (Take actor) old notices new
-      takes = goes_to verified layout old notices h (Take actor) new notices _ goes same_state (rw store h.queued) (rw store h.servers) fit_is
-          (λ other apart. ap (λ m. get m other) running_tasks ∙ get_other old.running_tasks actor (record begun { event_no = event_no }) other apart)
+      takes = goes_to verified layout old notices h (Take actor) new notices _ goes same_state (rw store h.queued) (rw store h.servers) layout_is fit_is
+          (λ other apart. ap (λ m. get m other) running_tasks ∙ get_other old.running_tasks.tasks actor (record begun { event_no = event_no }) other apart)
         where
-          without_it : RightsFit verified old.store.places old.running_tasks (remove old.tasks.tasks e.0) old.rules.rules old.outputs
-          without_it = fit_without verified old.store.places old.running_tasks old.tasks.tasks old.rules.rules old.outputs h.rights_fit e.0
+          without_it : RightsFit verified old.store.places old.running_tasks.tasks (remove old.tasks.tasks e.0) old.rules.rules old.outputs
+          without_it = fit_without verified old.store.places old.running_tasks.tasks old.tasks.tasks old.rules.rules old.outputs h.rights_fit e.0
 
-          fit_is : RightsFit verified new.store.places new.running_tasks new.tasks.tasks new.rules.rules new.outputs
-          fit_is = rw (store, running_tasks, tasks, rules, outputs) (fit_by_actor verified old.store.places old.running_tasks (remove old.tasks.tasks e.0) old.rules.rules old.outputs without_it actor (record begun { event_no = event_no }) (fits event_no))
+          fit_is : RightsFit verified new.store.places new.running_tasks.tasks new.tasks.tasks new.rules.rules new.outputs
+          fit_is = rw (store, running_tasks, tasks, rules, outputs) (fit_by_actor verified old.store.places old.running_tasks.tasks (remove old.tasks.tasks e.0) old.rules.rules old.outputs without_it actor (record begun { event_no = event_no }) (fits event_no))
 
     -- it may run from there
     pub begun_fits : MayBeAt verified.program e.1.procedure begun.position
-    begun_fits = let g = takes 0 next refl refl refl refl refl refl in may_be_at verified layout next g.left g.parts actor begun (get_own old.running_tasks actor begun)
+    begun_fits = let g = takes 0 next refl refl refl refl refl refl refl in may_be_at verified layout next g.left g.parts actor begun (get_own old.running_tasks.tasks actor begun)
       where
         next : Parts
-        next = record old { tasks = record old.tasks { tasks = remove old.tasks.tasks e.0 }; running_tasks = insert old.running_tasks actor begun }
+        next = record old { tasks = record old.tasks { tasks = remove old.tasks.tasks e.0 }; running_tasks = with_running old.running_tasks actor begun }

@@ -2,7 +2,7 @@
 use Rattle.std.specs.Prelude.{◌≡◌, ◌≢◌, ℕ, ◌^◌, Option, Some, None, IsSome, slice_get}
 use Rattle.std.specs.declared.result.Result.{Result}
 use Rattle.std.specs.declared.result.Result.TheVariants.{Ok, Err}
-use Rattle.std.specs.FinMap.{get, insert}
+use Rattle.std.specs.FinMap.{get}
 use Rattle.tw_types.specs.declared.actor.Actor.{Actor}
 use Rattle.tw_types.specs.declared.event.Event.{Event}
 use Rattle.tw_types.specs.Layout.{ActorCounts}
@@ -20,6 +20,7 @@ use Rattle.tw_frame.specs.Jobs.{DoneView, FrameView, JobView, job_of}
 use Rattle.tw_pool_state.specs.Coming.{come}
 use Rattle.tw_pool_state.specs.Fits.{AreParts}
 use Rattle.tw_pool_state.specs.Parts.{state_of}
+use Rattle.tw_pool_state.specs.RunningTasks.{with_running}
 use Rattle.tw_pool_state.specs.declared.parts.Parts.{Parts}
 
 -- ---- events
@@ -29,7 +30,7 @@ pub record Goes (verified : TypedProgram) (layout : ActorCounts) (event : Event)
   pub left : Notices
   pub step_is : step verified.program layout event (state_of old notices) ≡ Went (state_of new left)
   pub parts : AreParts verified layout new left
-  pub others : (actor : Actor) → actor ≢ actor_of event → get new.running_tasks actor ≡ get old.running_tasks actor
+  pub others : (actor : Actor) → actor ≢ actor_of event → get new.running_tasks.tasks actor ≡ get old.running_tasks.tasks actor
 
 -- holds if it does so for any set of notices that has those in the queues
 abbrev pub Makes : TypedProgram → ActorCounts → Event → Parts → Parts → Type 0
@@ -55,11 +56,11 @@ IsTried due Made Same (Err e) = IsSome due × Same
 
 -- returns the parts after the job
 abbrev pub with_done : Parts → Actor → FrameView → DoneView → Parts
-with_done p actor f done = record p { running_tasks = insert p.running_tasks actor (come f done) }
+with_done p actor f done = record p { running_tasks = with_running p.running_tasks actor (come f done) }
 
 -- the `Done` is of the job that was issued last for the actor's task
 pub record IsOwed (p : Parts) (actor : Actor) (f : FrameView) (done : DoneView) : Type 0 where
-  pub is_running : get p.running_tasks actor ≡ Some f
+  pub is_running : get p.running_tasks.tasks actor ≡ Some f
   pub own : done.before ≡ job_of f
 
 -- numbers, counts and spent instructions are small
@@ -87,7 +88,7 @@ MakesAfter event old actor done new = (layout : ActorCounts) (f : FrameView) →
 -- the job is the actor's, issued under this number
 pub record IsLent (p : Parts) (actor : Actor) (event_no : ℕ) (job : JobView) : Type 0 where
   pub f : FrameView
-  pub is_running : get p.running_tasks actor ≡ Some f
+  pub is_running : get p.running_tasks.tasks actor ≡ Some f
   pub number : f.event_no ≡ event_no
   pub job_is : job ≡ job_of f
 

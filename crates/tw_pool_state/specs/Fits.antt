@@ -118,4 +118,5 @@ pub record AreParts (verified : TypedProgram) (layout : ActorCounts) (p : Parts)
   pub law : IsReached verified.program layout (state_of p notices)
   pub queued : AreQueued p.store.queues notices
   pub servers : length p.store.queues ≡ layout.servers
-  pub rights_fit : RightsFit verified p.store.places p.running_tasks p.tasks.tasks p.rules.rules p.outputs
+  pub layout_is : p.running_tasks.layout ≡ layout
+  pub rights_fit : RightsFit verified p.store.places p.running_tasks.tasks p.tasks.tasks p.rules.rules p.outputs

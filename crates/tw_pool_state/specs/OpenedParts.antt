@@ -15,7 +15,7 @@ use Rattle.tw_code.specs.machine.Inputs.{are_inputs_of, input_params}
 use Rattle.tw_code.specs.machine.Opening.{Opened}
 use Rattle.tw_pool_state.specs.Fits.{AreAt, ArgsMatch}
 use Rattle.tw_pool_state.specs.Givens.{AreAllLive}
-use Rattle.tw_pool_state.specs.RunningTasks.{TasksByActor}
+use Rattle.tw_pool_state.specs.RunningTasks.{RunningView}
 use Rattle.tw_pool_state.specs.declared.parts.Parts.{Parts}
 
 -- the data, main's arguments, and the host's rights
@@ -57,7 +57,7 @@ pub record AreForAll (params : List Param) (inputs : List Input) : Type 0 where
   pub fit : are_inputs_of (input_params params) inputs ≡ true
 
 -- main waits with these data, and these tasks run
-pub record MainWaits (running : TasksByActor) (o : OpenedParts) (p : Parts) : Type 0 where
+pub record MainWaits (running : RunningView) (o : OpenedParts) (p : Parts) : Type 0 where
   pub store : p.store ≡ o.store
   pub rules : p.rules.rules ≡ fin.empty
   pub next_rule : p.rules.next ≡ 1

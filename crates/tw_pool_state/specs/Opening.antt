@@ -27,4 +27,4 @@ pub record IsAdded (added : Store) (old new : Served) (right : Right) : Type 0 w
 pub record IsOpening (verified : TypedProgram) (inputs : List Input) (layout : ActorCounts) (p : Parts) : Type 0 where
   pub state : state_of p set.empty ≡ opening verified.program inputs
   pub parts : AreParts verified layout p set.empty
-  pub nobody : p.running_tasks ≡ fin.empty
+  pub nobody : p.running_tasks.tasks ≡ fin.empty

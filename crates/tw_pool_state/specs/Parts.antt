@@ -15,7 +15,7 @@ state_of p notices = record {
   next_rule = p.rules.next;
   tasks = mapped bare_task p.tasks.tasks;
   next_task = p.next_task;
-  frames = mapped bare_frame p.running_tasks;
+  frames = mapped bare_frame p.running_tasks.tasks;
   notices = notices;
   outputs = each (λ right. right.id) p.outputs;
 }

@@ -21,7 +21,7 @@ use tw_types::RuleNo;
 impl<'a> Parts<'a> {
     /// Asks for the next unasked parameter of an engine without a task. Returns the rule and the parameter, or `None` if there is none.
     pub fn ask(&mut self, engine: u8) -> Result<Option<(RuleNo, u8)>, AllocError>
-        requires free { get self.old.running_tasks (Engine engine) ≡ None }
+        requires free { get self.old.running_tasks.tasks (Engine engine) ≡ None }
         requires parts { (verified : TypedProgram) × (layout : ActorCounts) × (notices : Notices) × AreParts verified layout self.old notices }
         ensures asked { IsTried (next_ask engine self.old.rules.rules)
             (λ (q : ℕ × ℕ). (verified : TypedProgram) (layout : ActorCounts) → Makes verified layout (Ask engine q.0 q.1) self.old self.new)

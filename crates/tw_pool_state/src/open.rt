@@ -197,7 +197,7 @@ impl<'a> Parts<'a> {
         ensures { IfOk result (λ p. IsOpening verified.now inputs.now layout p) }
     {
         let params = main_params(verified.program().procedures());
-        let running_tasks = RunningTasks::new(alloc)?;
+        let running_tasks = RunningTasks::new(alloc, layout)?;
         let Ok(queues) = queues_for_main(alloc) else {
             running_tasks.shut();
             return Err(AllocError);

@@ -28,7 +28,7 @@ pub(crate) fn procedure_at(procedures: &[Procedure], number: u8) -> &Procedure
 impl<'a> Parts<'a> {
     /// Releases the next rule of an engine without a task. Returns its number, or `None` if none can be released.
     pub fn release(&mut self, verified: &Verified, engine: u8) -> Result<Option<RuleNo>, AllocError>
-        requires free { get self.old.running_tasks (Engine engine) ≡ None }
+        requires free { get self.old.running_tasks.tasks (Engine engine) ≡ None }
         requires number { self.old.next_task < 2 ^ 63 }
         requires parts { (layout : ActorCounts) × (notices : Notices) × AreParts verified.now layout self.old notices }
         ensures { IsTried (next_release engine self.old.rules.rules)

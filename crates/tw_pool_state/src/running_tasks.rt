@@ -1,18 +1,19 @@
 //! The running tasks, by their actors.
 
-ghost use Rattle.std.specs.Prelude.{◌≡◌, ◌<◌, ◌≤◌, ◌+◌, ◌^◌, ℕ, IfOk, List, OnErr, Option, IsSome, None, Some, length, replicate, slice_index_or, slice_set};
+ghost use Rattle.std.specs.Prelude.{◌≡◌, ◌<◌, ◌≤◌, ◌+◌, ◌^◌, ℕ, IfOk, List, OnErr, Option, IsSome, None, Some, is_some, length, slice_index_or, slice_set, true};
 ghost use Rattle.std.specs.FinMap as map;
-ghost use Rattle.std.specs.FinMap.{get, insert, remove, len};
+ghost use Rattle.std.specs.FinMap.{get, remove, len};
 ghost use Rattle.std.specs.Option.{option_copied};
 ghost use Rattle.tw_rights.specs.declared.held.Held.{Held};
 ghost use Rattle.tw_rights.specs.Bundled.{bundled};
 ghost use Rattle.tw_rights.specs.Roomy.{IsRoom};
+ghost use Rattle.tw_types.specs.Actor.{is_in};
 ghost use Rattle.tw_types.specs.Task.{TaskOf, best};
 ghost use Rattle.tw_rights.specs.declared.arg.Arg.{Arg};
 ghost use Rattle.tw_frame.specs.Drafts.{MayStart};
 ghost use Rattle.tw_code.specs.machine.Position.{at_next_place};
 ghost use Rattle.tw_frame.specs.Jobs.{FrameView, MayBeAt, job_of};
-ghost use Rattle.tw_pool_state.specs.RunningTasks.{HasSlot};
+ghost use Rattle.tw_pool_state.specs.RunningTasks.{HasBuffers, HasSlot, actor_of, takes_tasks, with_running};
 ghost use Rattle.tw_pool_state.specs.Coming.{IsBegun, MayBegin, come, gone_on, lent_as};
 ghost use Rattle.tw_pool_state.specs.Data.{IsLentAnswer, MayDo};
 ghost use Rattle.tw_pool_state.specs.Memory.{TakesTexts};
@@ -26,13 +27,14 @@ use tw_frame::{Done, Frame, FrameBuffers, Job};
 use tw_queue::TaskQueues;
 use tw_rights::{Arg, Bundle};
 use tw_store::Store;
-use tw_types::Actor;
+use tw_types::{Actor, Layout};
 use tw_verify::Verified;
 
 /// A slot for each actor of the greatest layout: engines, servers, workers.
 pub struct RunningTasks<'a> {
+    layout: Layout,
     task_slots: TaskSlots<'a>,
-    /// Memory for a task, for each empty slot.
+    /// Memory for a task, for each empty slot of an engine or a worker of the layout.
     frame_buffers: Vec<Option<FrameBuffers<'a>>>,
     taken: usize,
 }
@@ -42,17 +44,17 @@ impl<'a> Model for RunningTasks<'a> {
     ghost use Rattle.std.specs.FinMap.{code};
     ghost use Rattle.tw_types.specs.Actor.{actor_cmp};
     ghost use Rattle.tw_frame.specs.Jobs.{FrameView};
-    ghost use Rattle.tw_pool_state.specs.RunningTasks.{TasksByActor};
+    ghost use Rattle.tw_pool_state.specs.RunningTasks.{RunningView};
 
-    ghost Value = { TasksByActor };
+    ghost Value = { RunningView };
 
     ghost coded = { Prim.hlevel (codes, code {X = FrameView} {R = actor_cmp} (Prim.hlevel codes) (Prim.hlevel codes)) };
 
     ghost use Rattle.tw_pool_state.specs.RunningTasks.{by_actor, AreKept, AreTaskSlots};
 
-    ghost view = { λ s. by_actor s.task_slots.frames.items };
+    ghost view = { λ s. record { layout = s.layout; tasks = by_actor s.task_slots.frames.items } };
 
-    ghost invariant = { λ s. AreTaskSlots s.task_slots.frames.items s.taken × AreKept s.task_slots.frames.items s.frame_buffers.items };
+    ghost invariant = { λ s. AreTaskSlots s.task_slots.frames.items s.taken × AreKept s.layout s.task_slots.frames.items s.frame_buffers.items };
 }
 
 /// Takes the memory that is there.
@@ -87,17 +89,50 @@ fn put_buffers<'a>(
     }
 }
 
-/// Allocates memory for each slot.
-fn all_frame_buffers<'a>(alloc: Global) -> Result<Vec<Option<FrameBuffers<'a>>>, AllocError>
-    ensures { IfOk result (λ frame_buffers. frame_buffers.items ≡ replicate 24 (Some tt)) }
+/// Returns whether a slot is that of an engine or a worker of the layout.
+fn takes_tasks(layout: Layout, task_slot: usize) -> bool
+    requires { task_slot < 24 }
+    ensures { result ≡ takes_tasks layout (actor_of task_slot) }
+{
+    if task_slot < 4 {
+        task_slot < usize::from(layout.engines())
+    } else if task_slot < 8 {
+        false
+    } else {
+        task_slot - 8 < usize::from(layout.workers())
+    }
+}
+
+/// Allocates memory for a task in the slot, if its actor is one of the layout that takes tasks.
+fn slot_buffers<'a>(
+    alloc: Global,
+    layout: Layout,
+    task_slot: usize,
+) -> Result<Option<FrameBuffers<'a>>, AllocError>
+    requires { task_slot < 24 }
+    ensures { IfOk result (λ room. is_some room ≡ takes_tasks layout (actor_of task_slot)) }
+{
+    if takes_tasks(layout, task_slot) {
+        Ok(Some(FrameBuffers::new(alloc)?))
+    } else {
+        Ok(None)
+    }
+}
+
+/// Allocates memory for the slots of the layout's engines and workers.
+fn all_frame_buffers<'a>(
+    alloc: Global,
+    layout: Layout,
+) -> Result<Vec<Option<FrameBuffers<'a>>>, AllocError>
+    ensures { IfOk result (λ frame_buffers. HasBuffers layout 24 frame_buffers.items) }
 {
     let mut frame_buffers = Vec::with_capacity(alloc, TaskSlots::COUNT)?;
-    for _index in 0..TaskSlots::COUNT {
-        let Ok(room) = FrameBuffers::new(alloc) else {
+    for task_slot in 0..TaskSlots::COUNT {
+        let Ok(room) = slot_buffers(alloc, layout, task_slot) else {
             drop_frame_buffers(frame_buffers);
             return Err(AllocError);
         };
-        frame_buffers.push_reserved(Some(room));
+        frame_buffers.push_reserved(room);
     }
     Ok(frame_buffers)
 }
@@ -113,16 +148,17 @@ fn drop_frame_buffers<'a>(mut frame_buffers: Vec<Option<FrameBuffers<'a>>>) {
 }
 
 impl<'a> RunningTasks<'a> {
-    /// Makes empty slots, with memory for a task in each.
-    pub fn new(alloc: Global) -> Result<RunningTasks<'a>, AllocError>
-        ensures { IfOk result (λ running_tasks. running_tasks ≡ map.empty) }
+    /// Makes empty slots, with memory for a task in each that is of an engine or a worker of the layout.
+    pub fn new(alloc: Global, layout: Layout) -> Result<RunningTasks<'a>, AllocError>
+        ensures { IfOk result (λ running_tasks. running_tasks ≡ record { layout = layout; tasks = map.empty }) }
     {
-        let frame_buffers = all_frame_buffers(alloc)?;
+        let frame_buffers = all_frame_buffers(alloc, layout)?;
         let Ok(task_slots) = TaskSlots::none(alloc) else {
             drop_frame_buffers(frame_buffers);
             return Err(AllocError);
         };
         Ok(RunningTasks {
+            layout,
             task_slots,
             frame_buffers,
             taken: 0,
@@ -132,6 +168,7 @@ impl<'a> RunningTasks<'a> {
     /// Spends every right of every task.
     pub fn shut(self) {
         let RunningTasks {
+            layout: _,
             task_slots,
             frame_buffers,
             taken: _,
@@ -142,7 +179,7 @@ impl<'a> RunningTasks<'a> {
 
     /// Returns the number of running tasks.
     pub fn running(&self) -> usize
-        ensures { result ≡ len self.now }
+        ensures { result ≡ len self.now.tasks }
     {
         self.taken
     }
@@ -150,7 +187,7 @@ impl<'a> RunningTasks<'a> {
     /// Returns the task of an actor, if it has one.
     pub fn get(&self, actor: Actor) -> Option<&Frame<'a>>
         requires { HasSlot actor }
-        ensures { option_copied result ≡ get self.now actor }
+        ensures { option_copied result ≡ get self.now.tasks actor }
     {
         self.task_slots.task_in_slot(actor.place())
     }
@@ -165,10 +202,12 @@ impl<'a> RunningTasks<'a> {
         tasks: &mut TaskQueues,
     ) -> Result<Option<Job<'a>>, AllocError>
         requires task_slot { HasSlot actor }
-        requires empty { get self.old actor ≡ None }
+        requires in_layout { is_in self.old.layout actor ≡ true }
+        requires empty { get self.old.tasks actor ≡ None }
         requires may { (e : ℕ × TaskOf Arg) → best actor tasks.old.tasks ≡ Some e → MayStart verified.now.program e.1.procedure e.1.args }
         requires fits_place { MayBegin verified.now actor tasks.old.tasks }
-        ensures begun { IsBegun verified.now actor event_no self.old tasks.old.tasks self.new tasks.new.tasks result }
+        ensures begun { IsBegun verified.now actor event_no self.old.tasks tasks.old.tasks self.new.tasks tasks.new.tasks result }
+        ensures layout { self.new.layout ≡ self.old.layout }
         ensures memory { OnErr result (TakesTexts verified.now.program (best actor tasks.old.tasks)) }
     {
         let Some(best) = tasks.best(actor) else {
@@ -197,8 +236,8 @@ impl<'a> RunningTasks<'a> {
     /// Ends the actor's task. Its memory, and that of its last `Done`, is for the next one.
     pub(crate) fn end(&mut self, alloc: Global, actor: Actor, done: Done<'a>)
         requires task_slot { HasSlot actor }
-        requires is_running { IsSome (get self.old actor) }
-        ensures { self.new ≡ remove self.old actor }
+        requires is_running { IsSome (get self.old.tasks actor) }
+        ensures { self.new ≡ record self.old { tasks = remove self.old.tasks actor } }
     {
         let number = actor.place();
         let Some(frame) = self.task_slots.take_task(number) else {
@@ -211,9 +250,9 @@ impl<'a> RunningTasks<'a> {
     /// Completes the actor's job, which `done` must be of, and issues the next one.
     pub(crate) fn advance(&mut self, actor: Actor, event_no: u64, done: Done<'a>) -> Job<'a>
         requires task_slot { HasSlot actor }
-        requires is_running { (f : FrameView) × (get self.old actor ≡ Some f) × (done.before ≡ job_of f) × (f.spent < 2 ^ 63) }
-        ensures { (f : FrameView) → get self.old actor ≡ Some f
-            → (self.new ≡ insert self.old actor (lent_as event_no (come f done.entry))) × (result ≡ job_of (lent_as event_no (come f done.entry))) }
+        requires is_running { (f : FrameView) × (get self.old.tasks actor ≡ Some f) × (done.before ≡ job_of f) × (f.spent < 2 ^ 63) }
+        ensures { (f : FrameView) → get self.old.tasks actor ≡ Some f
+            → (self.new ≡ with_running self.old actor (lent_as event_no (come f done.entry))) × (result ≡ job_of (lent_as event_no (come f done.entry))) }
     {
         self.task_slots.advance(actor.place(), event_no, done)
     }
@@ -232,12 +271,12 @@ impl<'a> RunningTasks<'a> {
         requires task_slot { HasSlot actor }
         requires few { length asked.callee.now.params ≤ 8 }
         requires room { IsRoom (length asked.callee.now.params) room }
-        requires is_running { (f : FrameView) × (get self.old actor ≡ Some f) × (done.before ≡ job_of f) × (f.spent + done.steps < 2 ^ 63)
+        requires is_running { (f : FrameView) × (get self.old.tasks actor ≡ Some f) × (done.before ≡ job_of f) × (f.spent + done.steps < 2 ^ 63)
             × (done.after.place < 2 ^ 63) × IsSome (bundled f.held asked.callee.now.params args.now asked.vals.items)
             × MayBeAt f.program.program f.procedure (at_next_place done.after) }
-        ensures { (f : FrameView) → get self.old actor ≡ Some f → (file : List (Option Held))
+        ensures { (f : FrameView) → get self.old.tasks actor ≡ Some f → (file : List (Option Held))
             × (bundled f.held asked.entry.callee.now.params args.now asked.entry.vals.items ≡ Some (record { args = result.0; file = file }))
-            × (self.new ≡ insert self.old actor (lent_as event_no (gone_on (come f done.entry) file))) × (result.1 ≡ job_of (lent_as event_no (gone_on (come f done.entry) file))) }
+            × (self.new ≡ with_running self.old actor (lent_as event_no (gone_on (come f done.entry) file))) × (result.1 ≡ job_of (lent_as event_no (gone_on (come f done.entry) file))) }
     {
         let ActionOperands {
             callee,
@@ -260,8 +299,8 @@ impl<'a> RunningTasks<'a> {
         instr: &DataInstr,
     ) -> Result<Job<'a>, Done<'a>>
         requires task_slot { HasSlot actor }
-        requires is_running { (f : FrameView) × (get self.old actor ≡ Some f) × (done.before ≡ job_of f) × MayDo instr.now store.old (come f done) }
-        ensures { (f : FrameView) → get self.old actor ≡ Some f → (g : FrameView) × (self.new ≡ insert self.old actor g)
+        requires is_running { (f : FrameView) × (get self.old.tasks actor ≡ Some f) × (done.before ≡ job_of f) × MayDo instr.now store.old (come f done) }
+        ensures { (f : FrameView) → get self.old.tasks actor ≡ Some f → (g : FrameView) × (self.new ≡ with_running self.old actor g)
             × IsLentAnswer instr.now store.old store.new f g event_no done.entry result }
     {
         self.task_slots

@@ -29,7 +29,7 @@ impl<'a> Parts<'a> {
         actor: Actor,
         event_no: u64,
     ) -> Result<Option<Job<'a>>, AllocError>
-        requires free { get self.old.running_tasks actor ≡ None }
+        requires free { get self.old.running_tasks.tasks actor ≡ None }
         requires parts { (layout : ActorCounts) × (notices : Notices) × AreParts verified.now layout self.old notices × (is_in layout actor ≡ true) }
         ensures taken { IsTaken (best actor self.old.tasks.tasks)
             (λ (e : ℕ × TaskOf Arg) (job : JobView). IsLent self.new actor event_no job

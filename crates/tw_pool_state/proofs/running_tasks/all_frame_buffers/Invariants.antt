@@ -1,9 +1,10 @@
-use Rattle.std.proofs.Common.{◌≡◌, ◌≤◌, replicate, Some}
+use Rattle.std.proofs.Common.{◌≤◌}
 use Rattle.std.specs.Prelude.{vec_capacity}
+use Rattle.tw_pool_state.proofs.PartNames.{HasBuffers}
 use Rattle.tw_pool_state.proofs.running_tasks.all_frame_buffers.Given as goal
 
-abbrev pub invariant-loop-index : goal.invariant-loop-index
-invariant-loop-index l = record {
+abbrev pub invariant-loop-task_slot : goal.invariant-loop-task_slot
+invariant-loop-task_slot l = record {
   room : 24 ≤ vec_capacity l.frame_buffers;
-  all : l.frame_buffers.items ≡ replicate l._index (Some tt);
+  all : HasBuffers l.layout l.task_slot l.frame_buffers.items;
 }

@@ -1,5 +1,5 @@
-use Rattle.std.proofs.Common.{Some, arith}
-use Rattle.tw_pool_state.proofs.PartNames.{bare_frame, come}
+use Rattle.std.proofs.Common.{Some, ap, arith}
+use Rattle.tw_pool_state.proofs.PartNames.{bare_frame, come, RunningView}
 use Rattle.tw_pool_state.proofs.Fitting.{seen}
 use Rattle.tw_pool_state.proofs.Goings.{is_lent}
 use Rattle.tw_pool_state.proofs.Law.{runner_has_slot}
@@ -11,11 +11,11 @@ advance-requires-clause-task_slot c = let s = c.requires.fits_place in runner_ha
 pub advance-requires-clause-is_running : goal.advance-requires-clause-is_running
 advance-requires-clause-is_running c =
     let s = c.requires.fits_place in
-    let few = s.4.spent c.args.actor (bare_frame s.2) (seen bare_frame c.args.self.now.running_tasks c.args.actor (Some s.2) s.5.is_running) in
+    let few = s.4.spent c.args.actor (bare_frame s.2) (seen bare_frame c.args.self.now.running_tasks.tasks c.args.actor (Some s.2) s.5.is_running) in
     (s.2, s.5.is_running, s.5.own, omega (arith, few))
 
 pub returns-clause-lent : goal.returns-clause-lent
 returns-clause-lent c =
     let s = c.requires.fits_place in
     let came = c.advance.ensures s.2 s.5.is_running in
-    is_lent _ c.args.self.now.running_tasks c.args.actor (come s.2 c.args.done) c.args.event_no came.0 _ came.1
+    is_lent _ c.args.self.now.running_tasks.tasks c.args.actor (come s.2 c.args.done) c.args.event_no (ap (λ (r : RunningView). r.tasks) came.0) _ came.1

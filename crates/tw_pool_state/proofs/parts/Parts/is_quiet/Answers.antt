@@ -8,7 +8,7 @@ use Rattle.tw_pool_state.proofs.parts.Parts.is_quiet.Goals as goal
 
 pub returns-then-running-ne0 : goal.returns-then-running-ne0
 returns-then-running-ne0 c = λ verified notices h.
-    let some : (map.len c.args.self.now.running_tasks == 0) ≡ false = grind (arith, nat_tests, c.running.ensures, c.if-running-ne0.true) in
+    let some : (map.len c.args.self.now.running_tasks.tasks == 0) ≡ false = grind (arith, nat_tests, c.running.ensures, c.if-running-ne0.true) in
     sym (running c.args.self.now notices some)
 
 pub returns-then-len-ne0 : goal.returns-then-len-ne0
@@ -23,7 +23,7 @@ returns-then-has_notice c = λ verified notices h.
 
 pub returns : goal.returns
 returns c = λ verified notices h.
-    let frames : map.len c.args.self.now.running_tasks ≡ 0 = grind (arith, nat_tests, c.running.ensures, c.if-running-ne0.false) in
+    let frames : map.len c.args.self.now.running_tasks.tasks ≡ 0 = grind (arith, nat_tests, c.running.ensures, c.if-running-ne0.false) in
     let tasks : map.len c.args.self.now.tasks.tasks ≡ 0 = grind (arith, nat_tests, c.len.ensures, c.if-len-ne0.false) in
     quiet_or c.args.self.now notices c.args.layout.engines h.queued (omega (arith, h.servers, h.runnable.counts.some_server))
     (λ number r there. ((in_layout verified c.args.layout c.args.self.now notices h).rules number (bare_rule r) (seen bare_rule c.args.self.now.rules.rules number (Some r) there)).engine)

@@ -1,6 +1,6 @@
 use Rattle.std.proofs.Common.{◌≡◌, ℕ, List, ap, subst, ◌∙◌, rules}
 use Rattle.std.specs.FinMap as map
-use Rattle.tw_pool_state.proofs.PartNames.{IsLayout, IsMade, IsProgram, MainWaits, Param, TasksByActor, main_params, nothing_opened, opened}
+use Rattle.tw_pool_state.proofs.PartNames.{IsLayout, IsMade, IsProgram, MainWaits, Param, RunningView, main_params, nothing_opened, opened}
 use Rattle.tw_pool_state.proofs.Openings.{is_opening}
 use Rattle.tw_pool_state.proofs.parts.Parts.open.Goals as goal
 
@@ -15,7 +15,7 @@ returns c =
     let same : params ≡ main_params verified.program = c.main_params-params.ensures ∙ ap main_params (c.procedures.ensures.is ∙ c.program.ensures.is) in
     let servers : c.servers.result ≡ layout.servers = c.servers.ensures in
     let made : IsMade layout.servers params o (opened nothing_opened params inputs) = subst (λ (n : ℕ). IsMade n params o (opened nothing_opened params inputs)) servers c.in-Ok-of.ensures in
-    let waits : MainWaits map.empty o c.begun.result = subst (λ (s : TasksByActor). MainWaits s o c.begun.result) c.in_ok-running_tasks.ensures c.begun.ensures in
+    let waits : MainWaits (record { layout = layout; tasks = map.empty }) o c.begun.result = subst (λ (s : RunningView). MainWaits s o c.begun.result) c.in_ok-running_tasks.ensures c.begun.ensures in
     is_opening verified inputs layout o c.begun.result
     (subst (λ (ps : List Param). IsMade layout.servers ps o (opened nothing_opened ps inputs)) same made) waits
     (subst IsProgram c.program.ensures.is c.procedures.ensures.within) c.program.ensures.right counts c.requires.targets c.requires.given

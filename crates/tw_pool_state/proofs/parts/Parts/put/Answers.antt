@@ -1,6 +1,6 @@
 use Rattle.std.proofs.Common.{◌≡◌, ◌∙◌, Some, refl, sym, ap, arith, to_z, of_z, w64}
 use Rattle.std.proofs.lemmas.Int.{to_z-of_z}
-use Rattle.tw_pool_state.proofs.PartNames.{Call, come, get, gone_on, insert, with_done}
+use Rattle.tw_pool_state.proofs.PartNames.{Call, come, get, gone_on, insert, with_done, RunningView}
 use Rattle.tw_code.specs.declared.instr.Instr.TheVariants as instr
 use Rattle.tw_pool_state.proofs.AfterJob.{few, here_too, in_queue, kind_of_callee, operands, params_of_callee, runs_there, runs_too, slot_there, is_running_ready, so_bundled, so_valued, there}
 use Rattle.tw_pool_state.proofs.Goings.{is_lent, lent_goes}
@@ -68,21 +68,21 @@ returns-clause-put c = λ layout f owed notices h.
     let over = c.take_args-args.ensures f owed.is_running in
     let vals = so_valued c.args.done.after.values c.in-Ok.asked.callee.now.params u.procedure.params params action.args c.in-Ok.asked.vals.items c.in-Ok.ensures.values in
     let bundle = so_bundled f.held c.in-Ok.asked.callee.now.params u.procedure.params params c.as_slice-registers.result.now action.args c.as_slice-registers.ensures c.in-Ok.asked.vals.items (Some (record { args = c.take_args-args.result.0; file = over.0 })) over.1 in
-    let running_tasks = sym (again old.running_tasks c.args.actor (come f c.args.done) (gone_on (come f c.args.done) over.0)) in
+    let running_tasks = sym (again old.running_tasks.tasks c.args.actor (come f c.args.done) (gone_on (come f c.args.done) over.0)) in
     let bits : to_z w64 (of_z w64 c.in-Ok.asked.priority) ≡ c.in-Ok.asked.priority = grind (arith, to_z-of_z) in
     let key : to_z w64 (of_z w64 c.in-Ok.asked.priority) ≡ u.priority = bits ∙ ok_ints c.in-Ok.asked.priority u.priority (sym c.in-Ok.ensures.priority ∙ u.priority_is) in
     let kind = kind_of_callee c.args.done.before.program.program c.args.action.now.procedure c.in-Ok.asked.callee.now c.in-Ok.ensures.callee u.procedure u.is in
-    lent_goes _ old.running_tasks c.args.actor (gone_on (come f c.args.done) over.0) c.args.event_no over.2 program layout (Call c.args.actor) refl (with_done old c.args.actor f c.args.done) notices
+    lent_goes _ old.running_tasks.tasks c.args.actor (gone_on (come f c.args.done) over.0) c.args.event_no (ap (λ (r : RunningView). r.tasks) over.2) program layout (Call c.args.actor) refl (with_done old c.args.actor f c.args.done) notices
     (put_goes program layout (with_done old c.args.actor f c.args.done) notices h c.args.actor (come f c.args.done) s.q action runs here s.following_is c.in-Ok.asked.vals.items vals c.take_args-args.result.0 over.0 bundle _
     (c.in-Ok-put.ensures.put
     ∙ ap (λ z. insert c.reserve.new.self.tasks c.new.result (record { kind = c.in-Ok.asked.callee.now.kind; procedure = action.procedure; priority = z; target = action.target; args = c.take_args-args.result.0 })) key
     ∙ ap (λ k. insert c.reserve.new.self.tasks c.new.result (record { kind = k; procedure = action.procedure; priority = u.priority; target = action.target; args = c.take_args-args.result.0 })) kind
     ∙ ap (λ ts. insert ts c.new.result (record { kind = u.procedure.kind; procedure = action.procedure; priority = u.priority; target = action.target; args = c.take_args-args.result.0 })) c.in-Ok-reserve.ensures.same
     ∙ ap (λ n. insert old.tasks.tasks n (record { kind = u.procedure.kind; procedure = action.procedure; priority = u.priority; target = action.target; args = c.take_args-args.result.0 })) c.new.ensures)
-    refl running_tasks refl refl refl)
+    refl running_tasks (ap (λ (r : RunningView). r.layout) over.2) refl refl refl)
 
 pub returns-clause-lent : goal.returns-clause-lent
 returns-clause-lent c =
     let s = c.requires.fits_place in
     let over = c.take_args-args.ensures s.f s.owed.is_running in
-    is_lent _ c.args.self.now.running_tasks c.args.actor (gone_on (come s.f c.args.done) over.0) c.args.event_no over.2 _ over.3
+    is_lent _ c.args.self.now.running_tasks.tasks c.args.actor (gone_on (come s.f c.args.done) over.0) c.args.event_no (ap (λ (r : RunningView). r.tasks) over.2) _ over.3

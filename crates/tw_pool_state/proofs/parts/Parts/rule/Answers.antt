@@ -1,6 +1,6 @@
 use Rattle.std.proofs.Common.{◌≡◌, ◌∙◌, ◌+◌, Some, refl, sym, ap, arith, to_z, of_z, w64}
 use Rattle.std.proofs.lemmas.Int.{to_z-of_z}
-use Rattle.tw_pool_state.proofs.PartNames.{Call, come, gone_on, insert, number_in_kind, with_done}
+use Rattle.tw_pool_state.proofs.PartNames.{Call, come, gone_on, insert, number_in_kind, with_done, RunningView}
 use Rattle.tw_code.specs.declared.instr.Instr.TheVariants as instr
 use Rattle.tw_rights.specs.Bundled.{bundled}
 use Rattle.tw_rules.specs.Table.{new_rule}
@@ -81,7 +81,7 @@ returns-clause-rule c = λ layout f owed notices h.
     let over = c.take_args-args.ensures f owed.is_running in
     let vals = so_valued c.args.done.after.values c.in-Ok.asked.callee.now.params u.procedure.params params action.args c.in-Ok.asked.vals.items c.in-Ok.ensures.values in
     let bundle = so_bundled f.held c.in-Ok.asked.callee.now.params u.procedure.params params c.as_slice-registers.result.now action.args c.as_slice-registers.ensures c.in-Ok.asked.vals.items (Some (record { args = c.take_args-args.result.0; file = over.0 })) over.1 in
-    let running_tasks = sym (again old.running_tasks c.args.actor (come f c.args.done) (gone_on (come f c.args.done) over.0)) in
+    let running_tasks = sym (again old.running_tasks.tasks c.args.actor (come f c.args.done) (gone_on (come f c.args.done) over.0)) in
     let bits : to_z w64 (of_z w64 c.in-Ok.asked.priority) ≡ c.in-Ok.asked.priority = grind (arith, to_z-of_z) in
     let key : to_z w64 (of_z w64 c.in-Ok.asked.priority) ≡ u.priority = bits ∙ ok_ints c.in-Ok.asked.priority u.priority (sym c.in-Ok.ensures.priority ∙ u.priority_is) in
     let made : c.add.new.self.rules ≡ insert old.rules.rules old.rules.next (rule program layout (with_done old c.args.actor f c.args.done) notices h c.args.actor (come f c.args.done) s.q action runs here s.following_is c.in-Ok.asked.vals.items vals c.take_args-args.result.0 over.0 bundle) =
@@ -91,12 +91,12 @@ returns-clause-rule c = λ layout f owed notices h.
     ∙ ap (λ ps. insert c.reserve.new.self.rules c.reserve.new.self.next (new_rule (number_in_kind c.args.actor) ps (record { procedure = action.procedure; priority = u.priority; target = action.target }) c.take_args-args.result.0)) (c.as_slice-params.ensures ∙ params)
     ∙ ap (λ rs. insert rs c.reserve.new.self.next (new_rule (number_in_kind c.args.actor) u.procedure.params (record { procedure = action.procedure; priority = u.priority; target = action.target }) c.take_args-args.result.0)) c.in-Ok-reserve.ensures.rules
     ∙ ap (λ n. insert old.rules.rules n (new_rule (number_in_kind c.args.actor) u.procedure.params (record { procedure = action.procedure; priority = u.priority; target = action.target }) c.take_args-args.result.0)) c.in-Ok-reserve.ensures.next in
-    lent_goes _ old.running_tasks c.args.actor (gone_on (come f c.args.done) over.0) c.args.event_no over.2 program layout (Call c.args.actor) refl (with_done old c.args.actor f c.args.done) notices
+    lent_goes _ old.running_tasks.tasks c.args.actor (gone_on (come f c.args.done) over.0) c.args.event_no (ap (λ (r : RunningView). r.tasks) over.2) program layout (Call c.args.actor) refl (with_done old c.args.actor f c.args.done) notices
     (rule_goes program layout (with_done old c.args.actor f c.args.done) notices h c.args.actor (come f c.args.done) s.q action runs here s.following_is c.in-Ok.asked.vals.items vals c.take_args-args.result.0 over.0 bundle _
-    made (c.in-Ok-add.ensures.next ∙ ap (λ n. n + 1) c.in-Ok-reserve.ensures.next) running_tasks refl refl refl refl)
+    made (c.in-Ok-add.ensures.next ∙ ap (λ n. n + 1) c.in-Ok-reserve.ensures.next) running_tasks (ap (λ (r : RunningView). r.layout) over.2) refl refl refl refl)
 
 pub returns-clause-lent : goal.returns-clause-lent
 returns-clause-lent c =
     let s = c.requires.fits_place in
     let over = c.take_args-args.ensures s.f s.owed.is_running in
-    is_lent _ c.args.self.now.running_tasks c.args.actor (gone_on (come s.f c.args.done) over.0) c.args.event_no over.2 _ over.3
+    is_lent _ c.args.self.now.running_tasks.tasks c.args.actor (gone_on (come s.f c.args.done) over.0) c.args.event_no (ap (λ (r : RunningView). r.tasks) over.2) _ over.3

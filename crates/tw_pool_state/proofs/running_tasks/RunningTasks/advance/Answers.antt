@@ -1,20 +1,22 @@
+use Rattle.std.proofs.Common.{ap}
 use Rattle.tw_pool_state.specs.Coming.{come, lent_as}
 use Rattle.tw_pool_state.proofs.FrameBufferLists.{still_kept}
-use Rattle.tw_pool_state.proofs.Runners.{changed, is_running_there, still_running}
+use Rattle.tw_pool_state.proofs.PartNames.{RunningView, by_actor, insert}
+use Rattle.tw_pool_state.proofs.Runners.{changed, is_running_there, still_running, with_tasks}
 use Rattle.tw_pool_state.proofs.running_tasks.RunningTasks.advance.Goals as goal
 
 pub advance-requires-clause-is_running : goal.advance-requires-clause-is_running
-advance-requires-clause-is_running c = let m = c.requires.is_running in (m.0, is_running_there c.self.inside.task_slots.frames.items c.self.inside.taken c.self.invariant.0 c.args.self.now c.self.view_is c.args.actor c.requires.task_slot c.place.result c.place.ensures.is m.0 m.1, m.2, m.3)
+advance-requires-clause-is_running c = let m = c.requires.is_running in (m.0, is_running_there c.self.inside.task_slots.frames.items c.self.inside.taken c.self.invariant.0 c.args.self.now.tasks (ap (λ (r : RunningView). r.tasks) c.self.view_is) c.args.actor c.requires.task_slot c.place.result c.place.ensures.is m.0 m.1, m.2, m.3)
 
 pub invariant_of-self : goal.invariant_of-self
 invariant_of-self c =
     let m = c.requires.is_running in
-    let by_actor = (c.advance.ensures m.0 (is_running_there c.self.inside.task_slots.frames.items c.self.inside.taken c.self.invariant.0 c.args.self.now c.self.view_is c.args.actor c.requires.task_slot c.place.result c.place.ensures.is m.0 m.1)).0 in (
-      still_running c.self.inside.task_slots.frames.items c.self.inside.taken c.self.invariant.0 c.args.self.now c.self.view_is c.args.actor c.requires.task_slot c.place.result c.place.ensures.is m.0 (lent_as c.args.event_no (come m.0 c.args.done)) m.1 c.advance.new.self.frames.items by_actor,
-      still_kept c.self.inside.task_slots.frames.items c.self.inside.frame_buffers.items c.self.invariant.1 c.place.result (lent_as c.args.event_no (come m.0 c.args.done)) c.advance.new.self.frames.items by_actor,
+    let is_set = (c.advance.ensures m.0 (is_running_there c.self.inside.task_slots.frames.items c.self.inside.taken c.self.invariant.0 c.args.self.now.tasks (ap (λ (r : RunningView). r.tasks) c.self.view_is) c.args.actor c.requires.task_slot c.place.result c.place.ensures.is m.0 m.1)).0 in (
+      still_running c.self.inside.task_slots.frames.items c.self.inside.taken c.self.invariant.0 c.args.self.now.tasks (ap (λ (r : RunningView). r.tasks) c.self.view_is) c.args.actor c.requires.task_slot c.place.result c.place.ensures.is m.0 (lent_as c.args.event_no (come m.0 c.args.done)) m.1 c.advance.new.self.frames.items is_set,
+      still_kept c.self.inside.layout c.self.inside.task_slots.frames.items c.self.inside.frame_buffers.items c.self.invariant.1 c.place.result c.place.ensures.low (lent_as c.args.event_no (come m.0 c.args.done)) c.advance.new.self.frames.items c.self.invariant.0.many is_set,
     )
 
 pub returns : goal.returns
 returns c = λ f at.
-    let came = c.advance.ensures f (is_running_there c.self.inside.task_slots.frames.items c.self.inside.taken c.self.invariant.0 c.args.self.now c.self.view_is c.args.actor c.requires.task_slot c.place.result c.place.ensures.is f at) in
-    (changed c.self.inside.task_slots.frames.items c.self.inside.taken c.self.invariant.0 c.args.self.now c.self.view_is c.args.actor c.requires.task_slot c.place.result c.place.ensures.is (lent_as c.args.event_no (come f c.args.done)) c.advance.new.self.frames.items came.0, came.1)
+    let came = c.advance.ensures f (is_running_there c.self.inside.task_slots.frames.items c.self.inside.taken c.self.invariant.0 c.args.self.now.tasks (ap (λ (r : RunningView). r.tasks) c.self.view_is) c.args.actor c.requires.task_slot c.place.result c.place.ensures.is f at) in
+    (with_tasks c.self.inside.layout (by_actor c.advance.new.self.frames.items) c.args.self.now (insert c.args.self.now.tasks c.args.actor (lent_as c.args.event_no (come f c.args.done))) (ap (λ (r : RunningView). r.layout) c.self.view_is) (changed c.self.inside.task_slots.frames.items c.self.inside.taken c.self.invariant.0 c.args.self.now.tasks (ap (λ (r : RunningView). r.tasks) c.self.view_is) c.args.actor c.requires.task_slot c.place.result c.place.ensures.is (lent_as c.args.event_no (come f c.args.done)) c.advance.new.self.frames.items came.0), came.1)
