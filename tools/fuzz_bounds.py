@@ -5,7 +5,7 @@ from __future__ import annotations
 from dataclasses import dataclass
 from typing import Callable, Sequence
 
-from fuzz_code import CALLS, CLOSED, Instr, Program
+from fuzz_code import CALLS, CLOSED, TEXT, Instr, Program
 
 OVER = 1_000_000_000_000
 Cost = Callable[[Instr], int]
@@ -70,20 +70,24 @@ def budgets(program: Program) -> list[int]:
 
 @dataclass(frozen=True)
 class Weights:
-    """The weights of what is counted: each task, instruction, NEW, RULE, and event of a rule counts so much."""
+    """The weights of what is counted: each task, instruction, NEW, RULE, event of a rule, and what an instruction adds to the store."""
 
     task: int = 0
     instr: int = 0
     datum: int = 0
     rule: int = 0
     rule_event: int = 0
+    member: int = 0
+    text: int = 0
 
 
 COUNTED = {
     "tasks": Weights(task=1),
     "instructions": Weights(instr=1),
     "data": Weights(datum=1),
+    "members": Weights(member=1),
     "rules": Weights(rule=1),
+    "bytes": Weights(text=4096),
     "events": Weights(task=1, instr=1, rule_event=1),
 }
 
@@ -116,6 +120,11 @@ def is_circle(program: Program, number: int, place: int) -> bool:
     return number in {callee} | reached(program, callee)
 
 
+def adds_text(instr: Instr) -> bool:
+    """Whether an instruction makes a scalar of texts, or a subscript that is a text."""
+    return instr.name == "TINS" or (instr.name == "NEW" and instr.items(2) == (TEXT,))
+
+
 def bound(program: Program, weights: Weights, first: int = 0) -> int:
     """Returns the bound of a procedure's task, with all tasks that come of it. Its calls lead to no circle."""
     known: dict[int, int] = {}
@@ -127,7 +136,9 @@ def bound(program: Program, weights: Weights, first: int = 0) -> int:
 
     def cost(instr: Instr) -> int:
         if instr.name == "NEW":
-            return weights.instr + weights.datum
+            return weights.instr + weights.datum + weights.text * adds_text(instr)
+        if instr.name in ("INS", "TINS"):
+            return weights.instr + weights.member + weights.text * adds_text(instr)
         if instr.name not in CALLS:
             return weights.instr
         called = of(instr.number(0)) + weights.instr
@@ -166,7 +177,9 @@ def limited_lines(program: Program, limit: int) -> list[str]:
         "tasks": limit,
         "instructions": limit * max(budgets(program)),
         "data": limit if "NEW" in names else 0,
+        "members": limit if names & {"INS", "TINS"} else 0,
         "rules": limit if any(name.startswith("RULE") for name in names) else 0,
+        "bytes": 4096 * limit if any(adds_text(instr) for procedure in program.procedures for instr in procedure.code) else 0,
         "events": limit,
     }
     return [f"limited {name} {reported(number)}" for name, number in most.items()]

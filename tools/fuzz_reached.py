@@ -8,16 +8,14 @@ from typing import Sequence
 
 from fuzz_bounds import COUNTED, bound, budgets, has_circle
 from fuzz_library import Library
-from fuzz_machine import Machine
-from fuzz_report import split_trace
-from fuzz_runs import has_targets, run_test
+from fuzz_runs import counted, has_targets, replayed, run_test
 from fuzz_common import Corpus, FuzzTest, RunTest
 
 # Programs with a larger bound of events aren't run.
 MOST_EVENTS = 20_000
 # A random program often has no bound; so many are made until one has.
 TRIES = 40
-CAPPED = ("tasks", "instructions", "data", "budget")
+CAPPED = ("tasks", "instructions", "data", "bytes", "budget")
 
 
 @dataclass(frozen=True)
@@ -59,11 +57,8 @@ class BoundsTest(RunTest):
         status, text = library.session(self.arguments({name: max(most, 1) for name, most in self.caps.items()}), self.hex)
         if status not in (0, 3):
             return f"a run with its bounds as limit and caps: status {status}: {text[-200:]}"
-        machine = Machine(self.program, self.layout)
-        machine.open(list(self.inputs))
-        for event in split_trace(text)[0]:
-            machine.make(event)
-        return self.number_fault(counted(machine))
+        machine, held = replayed(self, text)
+        return self.number_fault({**counted(machine), **held})
 
     def number_fault(self, found: dict[str, int]) -> str | None:
         """Compares a run's numbers with the bounds, and keeps which of them are reached."""
@@ -86,17 +81,6 @@ class BoundsTest(RunTest):
 
     def case(self) -> list[str]:
         return self.case_of(self.arguments(self.caps), 0, "?")
-
-
-def counted(machine: Machine) -> dict[str, int]:
-    """Returns a run's numbers, by the names of the bounds."""
-    return {
-        "tasks": sum(made.event[0] == "take" for made in machine.made),
-        "instructions": sum(machine.spent.values()),
-        "data": machine.next_id - machine.opened,
-        "rules": machine.next_rule - 1,
-        "events": machine.events,
-    }
 
 
 def make_bounds(chance: random.Random, corpus: Corpus) -> FuzzTest:

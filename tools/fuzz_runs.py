@@ -34,6 +34,29 @@ def has_targets(program: Program, layout: Layout) -> bool:
     return engines <= layout[0] and workers <= layout[2]
 
 
+def replayed(test: RunTest, text: str) -> tuple[Machine, dict[str, int]]:
+    """Makes the events of a run's trace. Returns also how much more the store held at any time than at first."""
+    machine = Machine(test.program, test.layout)
+    machine.open(list(test.inputs))
+    first = machine.held()
+    most = dict.fromkeys(first, 0)
+    for event in split_trace(text)[0]:
+        machine.make(event)
+        most = {name: max(most[name], number - first[name]) for name, number in machine.held().items()}
+    return machine, most
+
+
+def counted(machine: Machine) -> dict[str, int]:
+    """Returns a run's numbers, by the names of the bounds."""
+    return {
+        "tasks": sum(made.event[0] == "take" for made in machine.made),
+        "instructions": sum(machine.spent.values()),
+        "data": machine.next_id - machine.opened,
+        "rules": machine.next_rule - 1,
+        "events": machine.events,
+    }
+
+
 # --- Checks
 
 
@@ -66,22 +89,18 @@ class CheckTest(RunTest):
         status, text = library.session(["run", "--in-turn", "--trace", "--limit", "5000", *self.options, *self.words], self.hex)
         if status in (1, 2):
             return f"run refused: {text[:200]}"
-        machine = Machine(self.program, self.layout)
-        machine.open(list(self.inputs))
-        for event in split_trace(text)[0]:
-            machine.make(event)
+        machine, held = replayed(self, text)
         most = budgets(self.program)
         for task, spent in machine.spent.items():
             if spent > most[machine.procedures_of_tasks[task]]:
                 return f"task {task} executed {spent} instructions, more than its budget"
-        return None if has_circle(self.program) else self.over(machine)
+        return None if has_circle(self.program) else self.over(machine, held)
 
-    def over(self, machine: Machine) -> str | None:
-        taken = sum(made.event[0] == "take" for made in machine.made)
-        found = [taken, sum(machine.spent.values()), machine.next_id - machine.opened, machine.next_rule - 1, machine.events]
-        for (name, weights), number in zip(COUNTED.items(), found):
-            if number > min(bound(self.program, weights), OVER):
-                return f"a run has {number} {name}, more than the bound {bound(self.program, weights)}"
+    def over(self, machine: Machine, held: dict[str, int]) -> str | None:
+        found = {**counted(machine), **held}
+        for name, weights in COUNTED.items():
+            if found[name] > min(bound(self.program, weights), OVER):
+                return f"a run has {found[name]} {name}, more than the bound {bound(self.program, weights)}"
         return None
 
     def case(self) -> list[str]:

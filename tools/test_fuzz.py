@@ -26,7 +26,7 @@ import fuzz_inputs
 import fuzz_make
 import fuzz_runs
 from fuzz_assembler import Error, assembled
-from fuzz_bounds import COUNTED, bound_lines, budgets, check_lines, has_circle, is_circle
+from fuzz_bounds import COUNTED, bound, bound_lines, budgets, check_lines, has_circle, is_circle
 from fuzz_code import Fault, Instr, Param, Procedure, Program, decode, disassembled, encode, program_text, quoted, smaller, without
 from fuzz_library import ROOT, Answer, Library, Verdict
 from fuzz_machine import Machine, NotEnabled, Trap, computed, read_int, run_in_turn
@@ -170,7 +170,7 @@ class MachineTest(unittest.TestCase):
 
 class RulesTest(unittest.TestCase):
     def test_bounds_of_the_manual(self) -> None:
-        self.assertEqual(bound_lines(PIPELINE), ["bound tasks 4", "bound instructions 24", "bound data 2", "bound rules 3", "bound events 37"])
+        self.assertEqual(bound_lines(PIPELINE), ["bound tasks 4", "bound instructions 24", "bound data 2", "bound members 0", "bound rules 3", "bound bytes 0", "bound events 37"])
         self.assertEqual(check_lines(PIPELINE)[-1], "needs engines 0 workers 0")
 
     def test_loops_count_as_their_iterations(self) -> None:
@@ -179,13 +179,23 @@ class RulesTest(unittest.TestCase):
     def test_bounds_are_reached_and_not_passed(self) -> None:
         test = fuzz_runs.CheckTest(PIPELINE, (39,), (2, 2, 2), 1000)
         machine = run_in_turn(PIPELINE, [39], (2, 2, 2), 1000)
-        self.assertIsNone(test.over(machine))
-        for less, name in enumerate(["tasks", "instructions", "data", "rules"]):
-            bounds = [4, 24, 2, 3, 37]
-            bounds[less] -= 1
-            table = dict(zip(COUNTED.values(), bounds))
+        held = {"members": 0, "bytes": 0}
+        self.assertIsNone(test.over(machine, held))
+        for name in ("tasks", "instructions", "data", "rules"):
+            bounds = dict(zip(COUNTED, [4, 24, 2, 0, 3, 0, 37]))
+            bounds[name] -= 1
+            table = {weights: bounds[kind] for kind, weights in COUNTED.items()}
             with mock.patch.object(fuzz_runs, "bound", side_effect=lambda program, weights: table[weights]):
-                self.assertIn(f" {name}, more than the bound", str(test.over(machine)))
+                self.assertIn(f" {name}, more than the bound", str(test.over(machine, held)))
+        for name in held:
+            self.assertIn(f" {name}, more than the bound", str(test.over(machine, {**held, name: 1})))
+
+    def test_bounds_of_members_and_bytes(self) -> None:
+        program = main_of(Instr("REPEAT", (3,)), Instr("NEW", (0, 1, (2,))), Instr("END"), Instr("TINS", (2, 0, 1, 0)), Instr("INS", (2, 0, 1, 0)))
+        self.assertEqual([bound(program, COUNTED[name]) for name in ("members", "bytes")], [2, 4 * 4096])
+        machine = Machine(main_of(params=(Param(2, (4, 2)), Param(4, (2,)), Param(2, (3, 1)))), (1, 1, 1))
+        machine.open([{"a": "b", "c": "d"}, {1: 7}])
+        self.assertEqual(machine.held(), {"members": 3, "bytes": 5 * 4096})
 
     def test_circles_of_calls(self) -> None:
         program = Program((main_of(Instr("PUT", (1, 0, 0, ()))).main, main_of(Instr("PUT", (1, 0, 0, ()))).main))

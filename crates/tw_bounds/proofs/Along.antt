@@ -29,7 +29,7 @@ use Rattle.tw_bounds.specs.Bounds.{AreBounds, bound_at}
 use Rattle.tw_bounds.proofs.Numbers.{num_at, of_known}
 use Rattle.tw_bounds.specs.declared.bound.RunBounds.{RunBounds}
 use Rattle.tw_bounds.specs.Reports.{AreRunBounds, IsRunWithin}
-use Rattle.tw_bounds.specs.Runs.{IsBoundOfMain, IsWithinBound, data_alone, events_alone, instructions_alone, instructions_by, instructions_in, rule_events_by, rule_events_in, rules_alone, tasks_alone, tasks_by, tasks_in, weight_made}
+use Rattle.tw_bounds.specs.Runs.{IsBoundOfMain, IsWithinBound, bytes_alone, data_alone, events_alone, instructions_alone, instructions_by, instructions_in, members_alone, rule_events_by, rule_events_in, rules_alone, tasks_alone, tasks_by, tasks_in, weight_made}
 use Rattle.tw_bounds.proofs.Reporting.{main_bound}
 use Rattle.tw_bounds.proofs.Paying.{AreBounded, HasBound, IsPaid, event_paid, frame_owes, owes, rule_owes, task_owes}
 
@@ -121,5 +121,7 @@ module _ (program : List Procedure) (typings : Typings) (is : IsProgram program)
     instructions = λ n at. let h = by_main instructions_alone n (main_bound program instructions_alone bounds.instructions.items n b.instructions at) in omega arith;
     new_data = λ n at. let h = by_main data_alone n (main_bound program data_alone bounds.data.items n b.new_data at) in omega arith;
     rules = λ n at. let h = by_main rules_alone n (main_bound program rules_alone bounds.rules.items n b.rules at) in omega arith;
+    members = λ n at. let h = by_main members_alone n (main_bound program members_alone bounds.members.items n b.members at) in omega arith;
+    bytes = λ n at. let h = by_main bytes_alone n (main_bound program bytes_alone bounds.bytes.items n b.bytes at) in omega arith;
     events = λ n at. few_events program typings is are n (main_bound program events_alone bounds.events.items n b.events at) inputs layout events s given e;
   }

@@ -1,12 +1,10 @@
 -- Following main's calls until one leads back takes at most as many steps as there are procedures.
-use Rattle.std.proofs.Common.{◌≡◌, ◌≢◌, ℕ, Bool, true, false, zero, suc, ◌+◌, ◌<◌, ◌≤◌, List, [], ◌∷◌, ◌++◌, length, length-append, map, Option, Some, None, refl, sym, ap, ◌∙◌, subst, arith, ◌⊎◌, inl, inr, ◌||◌, if◌then◌else◌}
+use Rattle.std.proofs.Common.{◌≡◌, ℕ, Bool, true, false, ◌<◌, List, [], ◌∷◌, ◌++◌, length, Option, Some, None, refl, sym, ap, ◌∙◌, subst, arith, ◌⊎◌, inl, inr, ◌||◌, if◌then◌else◌}
 use Rattle.std.specs.Prelude.{nat_le, slice_get}
 use Rattle.std.specs.Option.{option_flatten, option_map}
 use Rattle.std.specs.List.{AllByRecursion, IsDistinct, list_any}
-use Rattle.std.proofs.lemmas.Bool.{cases_eq, eqb-false, eqb-true}
+use Rattle.std.proofs.lemmas.Bool.{eqb-false, eqb-true}
 use Rattle.std.proofs.Math.Dec.{eqb}
-use Rattle.std.proofs.lemmas.List.{length-map}
-use Rattle.std.proofs.lemmas.List.Folds.{list_any-append}
 use Rattle.std.proofs.lemmas.Map.Steps.{length-le_from_distinct_below}
 use Rattle.std.proofs.lemmas.Option.{same_Some, slice_get-map, slice_get_within, slice_get-get_or}
 use Rattle.tw_code.specs.declared.instr.Instr.{Instr}
@@ -14,9 +12,8 @@ use Rattle.tw_code.specs.declared.instr.Instr.TheVariants as instr
 use Rattle.tw_code.specs.declared.procedure.Procedure.{Procedure}
 use Rattle.tw_bounds.specs.declared.bound.Bound.{Bound}
 use Rattle.tw_bounds.specs.declared.bound.Bound.TheVariants.{AtMost, Over, Endless}
-use Rattle.tw_bounds.specs.declared.circles.Circle.{Circle}
 use Rattle.tw_bounds.specs.declared.weights.Weights.{Weights}
-use Rattle.tw_bounds.specs.Bounds.{AreAllBounds, Calls, CallsEnd, bound_at}
+use Rattle.tw_bounds.specs.Bounds.{Calls, CallsEnd, bound_at}
 use Rattle.tw_bounds.specs.Circles.{CallsEndless, IsCall, IsCircle, IsEndless, LeadsTo}
 use Rattle.tw_bounds.specs.Reports.{AreReported, reported}
 use Rattle.tw_bounds.specs.Rows.{greatest_bound}

@@ -1,5 +1,5 @@
 -- The smaller of two bounds of a run bounds it.
-use Rattle.std.proofs.Common.{◌≡◌, ℕ, ◌≤◌, Bool, true, false, min, List, length, Option, Some, None, refl, sym, ap, ◌∙◌, subst, arith, leb, slice_get, unwrap_or}
+use Rattle.std.proofs.Common.{◌≡◌, ℕ, Bool, true, false, min, List, Option, Some, None, refl, ap, subst, arith, leb, slice_get, unwrap_or}
 use Rattle.std.proofs.lemmas.Bool.{leb-true, leb-false}
 use Rattle.tw_types.specs.declared.event.Event.{Event}
 use Rattle.tw_types.specs.declared.input.Input.{Input}
@@ -49,6 +49,8 @@ module _ (program : List Procedure) (inputs : List Input) (events : List Event) 
     instructions = λ n at. w.instructions n (main_at bounds.instructions.items n at);
     new_data = λ n at. w.new_data n (main_at bounds.data.items n at);
     rules = λ n at. w.rules n (main_at bounds.rules.items n at);
+    members = λ n at. w.members n (main_at bounds.members.items n at);
+    bytes = λ n at. w.bytes n (main_at bounds.bytes.items n at);
     few = λ n at. w.events n (main_at bounds.events.items n at);
   }
 
@@ -58,6 +60,8 @@ module _ (program : List Procedure) (inputs : List Input) (events : List Event) 
     instructions = of_lesser _ a.instructions b.instructions v.instructions w.instructions;
     new_data = of_lesser _ a.data b.data v.new_data w.new_data;
     rules = of_lesser _ a.rules b.rules v.rules w.rules;
+    members = of_lesser _ a.members b.members v.members w.members;
+    bytes = of_lesser _ a.bytes b.bytes v.bytes w.bytes;
     few = of_lesser _ a.events b.events v.few w.few;
   }
 

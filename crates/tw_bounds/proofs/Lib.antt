@@ -1,5 +1,6 @@
 pub mod GreatestCost
 pub mod Reached
+pub mod Holding
 pub mod Moved
 pub mod Numbers
 pub mod Paying

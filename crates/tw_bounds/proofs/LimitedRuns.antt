@@ -1,18 +1,17 @@
 -- Each event does at most what the limit counts for it.
-use Rattle.std.proofs.Common.{◌≡◌, ℕ, zero, suc, ◌+◌, ◌*◌, ◌<◌, ◌≤◌, ◌==◌, ◌||◌, Bool, true, false, not, if◌then◌else◌, is_none, List, [], ◌∷◌, length, slice_get, Some, refl, sym, ap, ◌∙◌, arith}
+use Rattle.std.proofs.Common.{◌≡◌, ℕ, zero, suc, ◌+◌, ◌*◌, ◌<◌, ◌≤◌, ◌||◌, Bool, true, false, if◌then◌else◌, is_none, List, [], ◌∷◌, length, slice_get, Some, refl, sym, ap, ◌∙◌, subst, arith}
 use Rattle.std.proofs.lemmas.List.Sums.{sum_by-cons}
 use Rattle.std.proofs.lemmas.Option.{same_Some, slice_get_within}
-use Rattle.std.specs.Cmp.{nat_cmp_total}
-use Rattle.std.specs.FinMap.{get, insert}
+use Rattle.std.specs.FinMap.{get}
 use Rattle.std.specs.List.{list_all, list_any}
 use Rattle.tw_types.specs.declared.actor.Actor.{Actor}
 use Rattle.tw_types.specs.declared.cause.Cause.TheVariants.{RightLeft}
 use Rattle.tw_types.specs.declared.event.Event.{Event}
 use Rattle.tw_types.specs.declared.event.Event.TheVariants.{Take, Local, Call, End, Ask, Deliver, Release}
-use Rattle.tw_types.specs.declared.input.Input.{Input}
 use Rattle.tw_types.specs.Layout.{ActorCounts}
 use Rattle.tw_types.specs.Outcome.{Went, outcome_of}
 use Rattle.tw_types.specs.Result.{must}
+use Rattle.tw_types.specs.Store.{Store}
 use Rattle.tw_types.proofs.ActorOrder.{actor_cmp-IsAntisymmetric, actor_cmp_total}
 use Rattle.tw_types.proofs.Maps.{get_here}
 use Rattle.tw_types.proofs.Outcomes.{IfWent, if_both, if_ok, if_only, if_then, same_went, went_first, went_of}
@@ -23,14 +22,12 @@ use Rattle.tw_code.specs.declared.instr.Instr.{Instr}
 use Rattle.tw_code.specs.declared.instr.Instr.TheVariants as instr
 use Rattle.tw_code.specs.declared.procedure.Procedure.{Procedure}
 use Rattle.tw_code.specs.accepting.Flow.{flows}
-use Rattle.tw_code.specs.accepting.Walk.{IsBudget}
 use Rattle.tw_code.specs.format.Program.{IsProgram}
 use Rattle.tw_code.specs.machine.Arguments.{called, put_called}
 use Rattle.tw_code.specs.machine.Data.{data_instr}
 use Rattle.tw_code.specs.machine.Holders.{Typings}
-use Rattle.tw_code.specs.machine.Inputs.{AreInputsOf}
 use Rattle.tw_code.specs.machine.Machine.{RunningInstr, call_by, call_event, end_event, is_ret, local_event, run, running_instr_of, step}
-use Rattle.tw_code.specs.machine.Opening.{opening, reached}
+use Rattle.tw_code.specs.machine.Opening.{opening}
 use Rattle.tw_code.specs.machine.State.{Frame, State, context_of}
 use Rattle.tw_code.proofs.Leaving.{IsRunningAt, is_running_at, ask_leaves, deliver_leaves, end_leaves, local_leaves, release_leaves, take_leaves}
 use Rattle.tw_budget.proofs.FrameTheorems.{below_budget}
@@ -40,10 +37,12 @@ use Rattle.tw_soundness.proofs.Safe.{accepts, kept_by, opened_held}
 use Rattle.tw_bounds.specs.declared.bound.Bound.{Bound}
 use Rattle.tw_bounds.specs.declared.bound.Bound.TheVariants.{AtMost}
 use Rattle.tw_bounds.specs.declared.limited.LimitedBounds.{LimitedBounds}
-use Rattle.tw_bounds.specs.Limited.{AreLimitedBounds, IsLargestBudget, IsRunWithinLimited, LimitsRuns, has_instr, makes_datum, makes_datum_by, makes_rule, one_each}
+use Rattle.tw_bounds.specs.Limited.{AreLimitedBounds, IsLargestBudget, LimitsRuns, adds_member, adds_text, has_instr, is_on_data, makes_datum, makes_rule, one_each}
+use Rattle.tw_bounds.specs.Contents.{members_held, texts_held}
 use Rattle.tw_bounds.specs.Reports.{reported}
 use Rattle.tw_bounds.specs.Runs.{instructions_by, instructions_in, tasks_by, tasks_in}
-use Rattle.tw_bounds.proofs.Moved.{DataGoes, data_goes, for_new, subscribed_next}
+use Rattle.tw_bounds.proofs.Holding.{Gains, no_gain, one_if}
+use Rattle.tw_bounds.proofs.Moved.{DataGoes, data_goes, for_new, subscribed_gains, subscribed_next}
 use Rattle.tw_bounds.proofs.Reporting.{is_exact}
 
 -- ---- instructions of the program
@@ -59,9 +58,6 @@ any_at test (y ∷ xs) (suc k) x at passes = by (test y) (any_at test xs k x at 
 
 has_at : (test : Instr → Bool) (program : List Procedure) (k : ℕ) (p : Procedure) (place : ℕ) (i : Instr) → slice_get program k ≡ Some p → slice_get p.code place ≡ Some i → test i ≡ true → has_instr test program ≡ true
 has_at test program k p place i here at passes = any_at (λ q. list_any test q.code) program k p here (any_at test p.code place i at passes)
-
-abbrev one_if : Bool → ℕ
-one_if b = if b then 1 else 0
 
 abbrev each_if : Bool → ℕ → ℕ
 each_if b limit = if b then limit else 0
@@ -79,18 +75,27 @@ some_one false e = cc
 record IsMade (program : List Procedure) (s t : State) : Type 0 where
   new_data : t.store.next ≤ s.store.next + one_if (has_instr makes_datum program)
   rules : t.next_rule ≤ s.next_rule + one_if (has_instr makes_rule program)
+  members : members_held t.store ≤ members_held s.store + one_if (has_instr (is_on_data adds_member) program)
+  texts : texts_held t.store ≤ texts_held s.store + one_if (has_instr (is_on_data adds_text) program)
 
 module _ (program : List Procedure) (s : State) where
   abbrev Made : State → Type 0
   Made t = IsMade program s t
 
-  same_made : (t : State) → t.store.next ≡ s.store.next → t.next_rule ≡ s.next_rule → IsMade program s t
-  same_made t e f = record { new_data = omega (arith, e); rules = omega (arith, f) }
+  same_made : (t : State) → t.store.next ≡ s.store.next → t.next_rule ≡ s.next_rule → Gains 0 0 s.store t.store → IsMade program s t
+  same_made t e f gains = record { new_data = omega (arith, e); rules = omega (arith, f); members = omega (arith, gains.new_members); texts = omega (arith, gains.new_texts) }
+
+  same_store : (t : State) → t.store ≡ s.store → t.next_rule ≡ s.next_rule → IsMade program s t
+  same_store t e f = same_made t (ap (λ (u : Store). u.next) e) f (subst (Gains 0 0 s.store) (sym e) (no_gain 0 0 s.store))
 
   module _ (a : Actor) where
     new_few : (i : DataInstr) (at : RunningInstr) → IsRunningAt program a s at → at.instr ≡ instr.Data i → for_new 1 i ≤ one_if (has_instr makes_datum program)
     new_few (on_data.New write read ty) at here e = some_one (has_instr makes_datum program) (has_at makes_datum program at.frame.procedure at.procedure at.frame.position.place (instr.Data (on_data.New write read ty)) here.procedure (here.instr ∙ ap Some e) refl)
     new_few i at here e = omega arith
+
+    adds_few : (test : DataInstr → Bool) (i : DataInstr) (at : RunningInstr) → IsRunningAt program a s at → at.instr ≡ instr.Data i → (b : Bool) → test i ≡ b → one_if b ≤ one_if (has_instr (is_on_data test) program)
+    adds_few test i at here e true passes = some_one (has_instr (is_on_data test) program) (has_at (is_on_data test) program at.frame.procedure at.procedure at.frame.position.place (instr.Data i) here.procedure (here.instr ∙ ap Some e) passes)
+    adds_few test i at here e false passes = omega arith
 
     by_instr : (at : RunningInstr) → IsRunningAt program a s at → (i : Instr) → at.instr ≡ i → IfWent (call_by program s a at i) Made
     by_instr at here (instr.Local i) e = record { is = tt }
@@ -99,13 +104,15 @@ module _ (program : List Procedure) (s : State) where
         let m = ok_of (data_instr i (context_of s at.frame)) (DataGoes i (context_of s at.frame)) c (data_goes i (context_of s at.frame)) went in
         let n = m.next 1 in
         let few = new_few i at here e in
-        record { is = record { new_data = omega arith; rules = omega arith } })
+        let member = adds_few adds_member i at here e (adds_member i) refl in
+        let text = adds_few adds_text i at here e (adds_text i) refl in
+        record { is = record { new_data = omega (arith, n, few); rules = omega arith; members = omega (arith, m.gains.new_members, member); texts = omega (arith, m.gains.new_texts, text) } })
     by_instr at here (instr.Rule action) e =
         if_ok (called program at.procedure.kind (context_of s at.frame) action) (λ call went.
         let one = some_one (has_instr makes_rule program) (has_at makes_rule program at.frame.procedure at.procedure at.frame.position.place (instr.Rule action) here.procedure (here.instr ∙ ap Some e) refl) in
-        record { is = record { new_data = omega arith; rules = omega arith } })
+        record { is = record { new_data = omega arith; rules = omega arith; members = omega arith; texts = omega arith } })
     by_instr at here (instr.Put action) e =
-        if_ok (put_called program at.procedure.kind (context_of s at.frame) action) (λ call went. record { is = same_made _ refl refl })
+        if_ok (put_called program at.procedure.kind (context_of s at.frame) action) (λ call went. record { is = same_store _ refl refl })
     by_instr at here instr.Ret e = record { is = tt }
 
     call_made : IfWent (call_event program a s) Made
@@ -113,17 +120,17 @@ module _ (program : List Procedure) (s : State) where
 
   event_made : (layout : ActorCounts) (event : Event) → IfWent (step program layout event s) Made
   unfolding step
-  event_made layout (Take a) = take_leaves program a s layout (λ e frame first begun. same_made _ refl refl)
-  event_made layout (Local a n) = local_leaves program a s n (λ frame at some here. same_made _ refl refl)
+  event_made layout (Take a) = take_leaves program a s layout (λ e frame first begun. same_store _ refl refl)
+  event_made layout (Local a n) = local_leaves program a s n (λ frame at some here. same_store _ refl refl)
   event_made layout (Call a) = call_made a
-  event_made layout (End a) = end_leaves program a s (same_made _ refl refl)
+  event_made layout (End a) = end_leaves program a s (same_store _ refl refl)
   event_made layout (Ask engine rule parameter) = ask_leaves s engine rule parameter
-      (λ r id x u. same_made _ refl refl)
-      (λ r id x u. same_made _ (subscribed_next s.store id (record { rule = rule; parameter = parameter })) refl)
+      (λ r id x u. same_store _ refl refl)
+      (λ r id x u. same_made _ (subscribed_next s.store id (record { rule = rule; parameter = parameter })) refl (subscribed_gains s.store id (record { rule = rule; parameter = parameter })))
   event_made layout (Deliver server datum rule parameter) = deliver_leaves s layout server (record { datum = datum; rule = rule; parameter = parameter })
-      (λ has none. same_made _ refl refl)
-      (λ r has pending. same_made _ refl refl)
-  event_made layout (Release engine rule) = release_leaves s program engine rule (λ r p pending ready. same_made _ refl refl)
+      (λ has none. same_store _ refl refl)
+      (λ r has pending. same_store _ refl refl)
+  event_made layout (Release engine rule) = release_leaves s program engine rule (λ r p pending ready. same_store _ refl refl)
 
 -- ---- what is executed by an event
 
@@ -185,13 +192,17 @@ module _ (program : List Procedure) (typings : Typings) (is : IsProgram program)
     instructions : instructions_in events ≤ limit * most
     new_data : t.store.next ≤ s.store.next + one_each makes_datum program limit
     rules : t.next_rule ≤ s.next_rule + one_each makes_rule program limit
+    members : members_held t.store ≤ members_held s.store + one_each (is_on_data adds_member) program limit
+    texts : texts_held t.store ≤ texts_held s.store + one_each (is_on_data adds_text) program limit
 
   run_few : (limit : ℕ) (layout : ActorCounts) (events : List Event) (s t : State) → IsHeld program typings s → length events ≤ limit → run program layout events s ≡ Went t → IsFew limit events s t
   unfolding run
   run_few limit layout [] s t held fits e =
       let data_same = ap (λ (u : State). u.store.next) (same_went s t e) in
       let rules_same = ap (λ (u : State). u.next_rule) (same_went s t e) in
-      record { instructions = omega arith; new_data = omega (arith, data_same); rules = omega (arith, rules_same) }
+      let members_same = ap (λ (u : State). members_held u.store) (same_went s t e) in
+      let texts_same = ap (λ (u : State). texts_held u.store) (same_went s t e) in
+      record { instructions = omega arith; new_data = omega (arith, data_same); rules = omega (arith, rules_same); members = omega (arith, members_same); texts = omega (arith, texts_same) }
   run_few zero layout (event ∷ events) s t held fits e = absurd (omega arith)
   run_few (suc limit) layout (event ∷ events) s t held fits e =
       let one = went_first (step program layout event s) (run program layout events) t e in
@@ -203,6 +214,8 @@ module _ (program : List Procedure) (typings : Typings) (is : IsProgram program)
         instructions = omega (arith, runs, rest.instructions, sum_by-cons instructions_by event events);
         new_data = omega (arith, made.new_data, rest.new_data, one_more (has_instr makes_datum program) limit);
         rules = omega (arith, made.rules, rest.rules, one_more (has_instr makes_rule program) limit);
+        members = omega (arith, made.members, rest.members, one_more (has_instr (is_on_data adds_member) program) limit);
+        texts = omega (arith, made.texts, rest.texts, one_more (has_instr (is_on_data adds_text) program) limit);
       }
 
 takes_few : (events : List Event) → tasks_in events ≤ length events
@@ -231,6 +244,8 @@ limits_run program typings is are limit bounds b = record {
         instructions = λ n at. let same = number_is bounds.instructions (limit * b.most) n b.instructions at in omega (arith, same, few.instructions);
         new_data = λ n at. let same = number_is bounds.data (one_each makes_datum program limit) n b.new_data at in omega (arith, same, few.new_data);
         rules = λ n at. let same = number_is bounds.rules (one_each makes_rule program limit) n b.rules at in omega (arith, same, few.rules);
+        members = λ n at. let same = number_is bounds.members (one_each (is_on_data adds_member) program limit) n b.members at in omega (arith, same, few.members);
+        bytes = λ n at. let same = number_is bounds.bytes (4096 * one_each (is_on_data adds_text) program limit) n b.bytes at in omega (arith, same, few.texts);
         few = λ n at. let same = number_is bounds.events limit n b.events at in omega (arith, same, fits);
       };
 }

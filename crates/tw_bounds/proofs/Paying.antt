@@ -5,6 +5,7 @@ use Rattle.std.specs.Cmp.{nat_cmp_total}
 use Rattle.std.specs.List.{list_all}
 use Rattle.std.specs.Ordering.{nat_cmp}
 use Rattle.std.specs.Prelude.{Ok, filter, if◌then◌else◌}
+use Rattle.std.proofs.Math.Nat.{mul-le-mul_left}
 use Rattle.std.proofs.lemmas.Option.{same_Some, slice_get-map}
 use Rattle.std.specs.Option.{option_map}
 use Rattle.tw_types.specs.declared.actor.Actor.{Actor}
@@ -22,6 +23,7 @@ use Rattle.tw_types.specs.Layout.{ActorCounts}
 use Rattle.tw_types.specs.Outcome.{Went, outcome_of}
 use Rattle.tw_types.specs.Result.{must}
 use Rattle.tw_types.specs.Rule.{Rule, at_stage, first_stage, task_from}
+use Rattle.tw_types.specs.Store.{Store}
 use Rattle.tw_types.specs.Task.{Task, best}
 use Rattle.tw_types.specs.Totals.{total}
 use Rattle.tw_types.proofs.ActorOrder.{actor_cmp-IsAntisymmetric, actor_cmp_total}
@@ -60,14 +62,37 @@ use Rattle.tw_bounds.specs.GreatestCost.{greatest_cost}
 use Rattle.tw_bounds.specs.declared.weights.Weights.{Weights}
 use Rattle.tw_bounds.specs.Bounds.{AreBounds, bound_at, cost_in, data_weight, rule_events}
 use Rattle.tw_bounds.proofs.Numbers.{costs_true, greatest_same, mapped_some, num_at, of_known, weight_at, weight_in, weight_num, weighted}
+use Rattle.tw_bounds.specs.Contents.{is_text, is_text_scalar, members_held, texts_held}
+use Rattle.tw_bounds.specs.Limited.{adds_member, adds_text}
 use Rattle.tw_bounds.specs.Runs.{rule_events_by, instructions_by, tasks_by, weight_made}
 use Rattle.tw_bounds.proofs.GreatestCost.{left, pays, stop_at}
-use Rattle.tw_bounds.proofs.Moved.{DataGoes, GoesBy, StepsBy, data_goes, for_new, step_goes, subscribed_next}
+use Rattle.tw_bounds.proofs.Holding.{Gains, one_if}
+use Rattle.tw_bounds.proofs.Moved.{DataGoes, GoesBy, StepsBy, data_goes, for_new, step_goes, subscribed_gains, subscribed_next}
 use Rattle.tw_bounds.proofs.Reached.{greatest_is}
 
-new_is : (weights : Weights) (i : DataInstr) → for_new weights.datum i ≡ data_weight weights i
-new_is weights (on_data.New write read ty) = refl
-new_is weights i = refl
+-- the weight of an instruction on data pays for what it adds to the store
+new_is : (weights : Weights) (i : DataInstr) → for_new weights.datum i + weights.member * one_if (adds_member i) + weights.text * one_if (adds_text i) ≡ data_weight weights i
+new_is weights (on_data.New write read ty) = by (is_text_scalar ty)
+  where
+    by : (b : Bool) → weights.datum + weights.member * 0 + weights.text * one_if b ≡ weights.datum + (if b then weights.text else 0)
+    by true = omega arith
+    by false = omega arith
+new_is weights (on_data.Insert by container subscript member skip) = at (is_text by)
+  where
+    at : (b : Bool) → 0 + weights.member * 1 + weights.text * one_if b ≡ weights.member + (if b then weights.text else 0)
+    at true = omega arith
+    at false = omega arith
+new_is weights i = omega arith
+
+-- the weight of what a later store holds
+held_paid : (weights : Weights) (members texts : ℕ) (s t : Store) → Gains members texts s t
+    → weights.member * members_held t + weights.text * texts_held t ≤ weights.member * members_held s + weights.text * texts_held s + weights.member * members + weights.text * texts
+held_paid weights members texts s t gains =
+    let m = mul-le-mul_left weights.member gains.new_members in
+    let x = mul-le-mul_left weights.text gains.new_texts in
+    let n : weights.member * (members_held s + members) ≡ weights.member * members_held s + weights.member * members = omega arith in
+    let y : weights.text * (texts_held s + texts) ≡ weights.text * texts_held s + weights.text * texts = omega arith in
+    omega (arith, m, x, n, y)
 
 none_is : {A : Type 0} (o : Option A) → is_none o ≡ true → o ≡ None
 none_is None e = refl
@@ -302,6 +327,7 @@ module _ (program : List Procedure) (typings : Typings) (is : IsProgram program)
             let y = owes_is g at.procedure here.procedure in
             let n = m.next weights.datum in
             let new = new_is weights i in
+            let held = held_paid weights (one_if (adds_member i)) (one_if (adds_text i)) s.store c.store m.gains in
             record { is = record { by = omega arith; bounded = record { frames = framed a at.frame g here.frame refl; tasks = bounded.tasks; rules = bounded.rules } } })
         by at here (instr.Rule action) e =
             if_ok (called program at.procedure.kind (context_of s at.frame) action) (λ call went.
@@ -390,7 +416,7 @@ module _ (program : List Procedure) (typings : Typings) (is : IsProgram program)
     ask_paid : (engine number parameter : ℕ) → IfWent (ask_event engine number parameter s) (Paid (Ask engine number parameter))
     ask_paid engine number parameter = ask_leaves s engine number parameter
         (λ rule id x u. let r = staged number rule parameter Unasked Ready u.pending u.stage in record { by = omega arith; bounded = rules_staged number rule parameter Ready u.pending })
-        (λ rule id x u. let r = staged number rule parameter Unasked Waiting u.pending u.stage in let n = subscribed_next s.store id (record { rule = number; parameter = parameter }) in record { by = omega (arith, ap (λ (n : ℕ). weights.datum * n) n); bounded = let b = rules_staged number rule parameter Waiting u.pending in record { frames = b.frames; tasks = b.tasks; rules = b.rules } })
+        (λ rule id x u. let r = staged number rule parameter Unasked Waiting u.pending u.stage in let n = subscribed_next s.store id (record { rule = number; parameter = parameter }) in let g = held_paid weights 0 0 s.store _ (subscribed_gains s.store id (record { rule = number; parameter = parameter })) in record { by = omega (arith, ap (λ (n : ℕ). weights.datum * n) n, g); bounded = let b = rules_staged number rule parameter Waiting u.pending in record { frames = b.frames; tasks = b.tasks; rules = b.rules } })
 
     deliver_paid : (layout : ActorCounts) (server datum rule parameter : ℕ) → IfWent (deliver_event layout server (record { datum = datum; rule = rule; parameter = parameter }) s) (Paid (Deliver server datum rule parameter))
     deliver_paid layout server datum rule parameter = deliver_leaves s layout server (record { datum = datum; rule = rule; parameter = parameter })

@@ -1,5 +1,5 @@
 -- The total weight of a task of a procedure, with all tasks that descend from it.
-use Rattle.std.specs.Prelude.{◌≡◌, ℕ, ◌+◌, ◌*◌, ◌<◌, ◌⊎◌, get_or, List, length, filter, map, Option, Some, slice_get}
+use Rattle.std.specs.Prelude.{◌≡◌, ℕ, ◌+◌, ◌*◌, ◌<◌, ◌⊎◌, get_or, List, length, filter, map, Option, Some, slice_get, if◌then◌else◌}
 use Rattle.std.specs.Option.{option_flatten, option_map}
 use Rattle.tw_types.specs.declared.param.Param.{Param}
 use Rattle.tw_types.specs.Mode.{is_closed_mode}
@@ -12,6 +12,7 @@ use Rattle.tw_code.specs.declared.procedure.Procedure.{Procedure}
 use Rattle.tw_code.specs.accepting.Flow.{flows}
 use Rattle.tw_code.specs.machine.Arguments.{params_of}
 use Rattle.tw_bounds.specs.declared.weights.Weights.{Weights}
+use Rattle.tw_bounds.specs.Contents.{is_text, is_text_scalar}
 use Rattle.tw_bounds.specs.Cost.{IsGreatestCost}
 
 -- returns the bound of a procedure, if it has one
@@ -20,7 +21,8 @@ bound_at bounds q = option_flatten (slice_get bounds q)
 
 -- returns what an instruction on data adds to its own weight
 abbrev pub data_weight : Weights → DataInstr → ℕ
-data_weight weights (on_data.New write read ty) = weights.datum
+data_weight weights (on_data.New write read ty) = weights.datum + (if is_text_scalar ty then weights.text else 0)
+data_weight weights (on_data.Insert by container subscript member skip) = weights.member + (if is_text by then weights.text else 0)
 data_weight weights i = 0
 
 -- returns the greatest number of events after a RULE: an Ask and a Deliver for each `closed` parameter, and a Release

@@ -37,6 +37,8 @@ least a b = record {
   instructions = lesser a.instructions b.instructions;
   «data» = lesser a.«data» b.«data»;
   rules = lesser a.rules b.rules;
+  members = lesser a.members b.members;
+  bytes = lesser a.bytes b.bytes;
   events = lesser a.events b.events;
 }
 
@@ -50,6 +52,8 @@ main_of bounds = record {
   instructions = main_in bounds.instructions.items;
   «data» = main_in bounds.«data».items;
   rules = main_in bounds.rules.items;
+  members = main_in bounds.members.items;
+  bytes = main_in bounds.bytes.items;
   events = main_in bounds.events.items;
 }
 

@@ -1,5 +1,6 @@
--- The definitions that a reader has to trust: costs of walks (Cost), weights of tasks (Bounds), what is counted along runs (Runs),
--- and the ends of runs (Ends). Also reported bounds (Reports), calls that lead back (Circles), bounds by a limit (Limited), and the smaller of both (Least).
+-- The definitions that a reader has to trust: costs of walks (Cost), weights of tasks (Bounds), what a store holds (Contents),
+-- what is counted along runs (Runs), and the ends of runs (Ends). Also reported bounds (Reports), calls that lead back (Circles), bounds by a limit (Limited), and the smaller of both (Least).
+pub mod Contents
 pub mod Cost
 pub mod Bounds
 pub mod Runs

@@ -15,9 +15,9 @@ use Rattle.tw_code.specs.accepting.Walk.{IsBudget}
 use Rattle.tw_code.specs.machine.Inputs.{AreInputsOf}
 use Rattle.tw_code.specs.machine.Opening.{opening, reached}
 use Rattle.tw_code.specs.machine.State.{State}
-use Rattle.tw_bounds.specs.declared.bound.Bound.{Bound}
 use Rattle.tw_bounds.specs.declared.bound.Bound.TheVariants.{AtMost}
 use Rattle.tw_bounds.specs.declared.limited.LimitedBounds.{LimitedBounds}
+use Rattle.tw_bounds.specs.Contents.{bytes_held, is_text, is_text_scalar, members_held}
 use Rattle.tw_bounds.specs.Reports.{reported}
 use Rattle.tw_bounds.specs.Runs.{instructions_in, tasks_in}
 
@@ -43,6 +43,25 @@ makes_datum (instr.Rule action) = false
 makes_datum (instr.Put action) = false
 makes_datum instr.Ret = false
 
+-- holds for an instruction on data that passes the test
+abbrev pub is_on_data : (DataInstr → Bool) → Instr → Bool
+is_on_data test (instr.Data i) = test i
+is_on_data test (instr.Local i) = false
+is_on_data test (instr.Rule action) = false
+is_on_data test (instr.Put action) = false
+is_on_data test instr.Ret = false
+
+-- holds for an INS
+abbrev pub adds_member : DataInstr → Bool
+adds_member (on_data.Insert by container subscript member skip) = true
+adds_member i = false
+
+-- holds for a NEW of a scalar of texts, and for an INS by a text
+abbrev pub adds_text : DataInstr → Bool
+adds_text (on_data.New write read ty) = is_text_scalar ty
+adds_text (on_data.Insert by container subscript member skip) = is_text by
+adds_text i = false
+
 -- holds for a RULE
 abbrev pub makes_rule : Instr → Bool
 makes_rule (instr.Rule action) = true
@@ -61,7 +80,8 @@ one_each test program limit = if has_instr test program then limit else 0
 
 -- ---- bounds by the limit
 
--- each event takes at most one task, executes at most the largest budget of instructions, and makes at most one datum or rule
+-- each event takes at most one task, executes at most the largest budget of instructions, makes at most one datum or rule, and adds
+-- at most one member and one text, of at most 4,096 bytes
 pub record AreLimitedBounds (program : List Procedure) (limit : ℕ) (bounds : LimitedBounds) : Type 0 where
   pub tasks : bounds.tasks ≡ reported (Some limit)
   pub most : ℕ
@@ -69,6 +89,8 @@ pub record AreLimitedBounds (program : List Procedure) (limit : ℕ) (bounds : L
   pub instructions : bounds.instructions ≡ reported (Some (limit * most))
   pub new_data : bounds.data ≡ reported (Some (one_each makes_datum program limit))
   pub rules : bounds.rules ≡ reported (Some (one_each makes_rule program limit))
+  pub members : bounds.members ≡ reported (Some (one_each (is_on_data adds_member) program limit))
+  pub bytes : bounds.bytes ≡ reported (Some (4096 * one_each (is_on_data adds_text) program limit))
   pub events : bounds.events ≡ reported (Some limit)
 
 -- a run with these events, which led to this state, is within these bounds
@@ -77,6 +99,8 @@ pub record IsRunWithinLimited (program : List Procedure) (bounds : LimitedBounds
   pub instructions : (n : ℕ) → bounds.instructions ≡ AtMost n → instructions_in events ≤ n
   pub new_data : (n : ℕ) → bounds.data ≡ AtMost n → s.store.next ≤ (opening program inputs).store.next + n
   pub rules : (n : ℕ) → bounds.rules ≡ AtMost n → s.next_rule ≤ (opening program inputs).next_rule + n
+  pub members : (n : ℕ) → bounds.members ≡ AtMost n → members_held s.store ≤ members_held (opening program inputs).store + n
+  pub bytes : (n : ℕ) → bounds.bytes ≡ AtMost n → bytes_held s.store ≤ bytes_held (opening program inputs).store + n
   pub few : (n : ℕ) → bounds.events ≡ AtMost n → length events ≤ n
 
 -- with any inputs and layout, each run of at most so many events is within the bounds

@@ -13,9 +13,10 @@ use Rattle.tw_bounds.specs.declared.bound.Bound.TheVariants.{AtMost, Over, Endle
 use Rattle.tw_bounds.specs.declared.bound.RunBounds.{RunBounds}
 use Rattle.tw_bounds.specs.declared.weights.Weights.{Weights}
 use Rattle.tw_bounds.specs.Bounds.{AreAllBounds}
+use Rattle.tw_bounds.specs.Contents.{bytes_held, members_held}
 use Rattle.tw_bounds.specs.Ends.{RunsEnd}
 use Rattle.tw_bounds.specs.Rows.{greatest_bound}
-use Rattle.tw_bounds.specs.Runs.{data_alone, events_alone, instructions_alone, instructions_in, rules_alone, tasks_alone, tasks_in}
+use Rattle.tw_bounds.specs.Runs.{bytes_alone, data_alone, events_alone, instructions_alone, instructions_in, members_alone, rules_alone, tasks_alone, tasks_in}
 
 -- reports a number, or only that it is over the greatest bound
 abbrev pub reported : Option ℕ → Bound
@@ -31,6 +32,8 @@ pub record AreRunBounds (program : List Procedure) (bounds : RunBounds) : Type 0
   pub instructions : AreReported program instructions_alone bounds.instructions.items
   pub new_data : AreReported program data_alone bounds.data.items
   pub rules : AreReported program rules_alone bounds.rules.items
+  pub members : AreReported program members_alone bounds.members.items
+  pub bytes : AreReported program bytes_alone bounds.bytes.items
   pub events : AreReported program events_alone bounds.events.items
 
 -- ---- main's bounds and runs
@@ -44,6 +47,8 @@ pub record IsRunWithin (program : List Procedure) (bounds : RunBounds) (inputs :
   pub instructions : (n : ℕ) → IsAtMost bounds.instructions.items n → instructions_in history ≤ n
   pub new_data : (n : ℕ) → IsAtMost bounds.data.items n → s.store.next ≤ (opening program inputs).store.next + n
   pub rules : (n : ℕ) → IsAtMost bounds.rules.items n → s.next_rule ≤ (opening program inputs).next_rule + n
+  pub members : (n : ℕ) → IsAtMost bounds.members.items n → members_held s.store ≤ members_held (opening program inputs).store + n
+  pub bytes : (n : ℕ) → IsAtMost bounds.bytes.items n → bytes_held s.store ≤ bytes_held (opening program inputs).store + n
   pub events : (n : ℕ) → IsAtMost bounds.events.items n → length history ≤ n
 
 -- with any inputs, layout and events, each run is within the bounds, and each run ends if its events have a bound

@@ -12,6 +12,7 @@ use Rattle.tw_code.specs.machine.Opening.{opening, reached}
 use Rattle.tw_code.specs.machine.State.{State}
 use Rattle.tw_bounds.specs.declared.weights.Weights.{Weights}
 use Rattle.tw_bounds.specs.Bounds.{AreBounds, bound_at}
+use Rattle.tw_bounds.specs.Contents.{members_held, texts_held}
 
 -- returns how many tasks an event takes
 abbrev pub tasks_by : Event → ℕ
@@ -52,9 +53,10 @@ instructions_in events = sum_by instructions_by events
 abbrev pub rule_events_in : List Event → ℕ
 rule_events_in events = sum_by rule_events_by events
 
--- returns the weight of the data and rules made so far, by the next numbers: each NEW takes one, each RULE takes one
+-- returns the weight of the data and rules made so far, by the next numbers: each NEW takes one, each RULE takes one;
+-- and of the members and texts that the store holds now
 abbrev pub weight_made : Weights → State → ℕ
-weight_made weights s = weights.datum * s.store.next + weights.rule * s.next_rule
+weight_made weights s = weights.datum * s.store.next + weights.rule * s.next_rule + weights.member * members_held s.store + weights.text * texts_held s.store
 
 -- holds for a bound of main's task
 abbrev pub IsBoundOfMain : List Procedure → Weights → ℕ → Type 0
@@ -69,17 +71,24 @@ IsWithinBound program weights bound =
 -- ---- one kind each
 
 abbrev pub tasks_alone : Weights
-tasks_alone = record { task = 1; instr = 0; datum = 0; rule = 0; rule_event = 0 }
+tasks_alone = record { task = 1; instr = 0; datum = 0; rule = 0; rule_event = 0; member = 0; text = 0 }
 
 abbrev pub instructions_alone : Weights
-instructions_alone = record { task = 0; instr = 1; datum = 0; rule = 0; rule_event = 0 }
+instructions_alone = record { task = 0; instr = 1; datum = 0; rule = 0; rule_event = 0; member = 0; text = 0 }
 
 abbrev pub data_alone : Weights
-data_alone = record { task = 0; instr = 0; datum = 1; rule = 0; rule_event = 0 }
+data_alone = record { task = 0; instr = 0; datum = 1; rule = 0; rule_event = 0; member = 0; text = 0 }
 
 abbrev pub rules_alone : Weights
-rules_alone = record { task = 0; instr = 0; datum = 0; rule = 1; rule_event = 0 }
+rules_alone = record { task = 0; instr = 0; datum = 0; rule = 1; rule_event = 0; member = 0; text = 0 }
+
+abbrev pub members_alone : Weights
+members_alone = record { task = 0; instr = 0; datum = 0; rule = 0; rule_event = 0; member = 1; text = 0 }
+
+-- weighs each text by the most bytes that one has
+abbrev pub bytes_alone : Weights
+bytes_alone = record { task = 0; instr = 0; datum = 0; rule = 0; rule_event = 0; member = 0; text = 4096 }
 
 -- weighs each task that is taken, each instruction, and each event of a rule: a run has no more events than these
 abbrev pub events_alone : Weights
-events_alone = record { task = 1; instr = 1; datum = 0; rule = 0; rule_event = 1 }
+events_alone = record { task = 1; instr = 1; datum = 0; rule = 0; rule_event = 1; member = 0; text = 0 }

@@ -40,6 +40,11 @@ pub struct RunBounds {
     pub data: Vec<Bound>,
     /// Rules made by RULE.
     pub rules: Vec<Bound>,
+    /// Members that a store holds beyond those of the inputs, at any time.
+    pub members: Vec<Bound>,
+    /// Bytes of the texts that a store holds beyond those of the inputs, at any time: 4,096 for each scalar of texts, and for each
+    /// subscript that is a text.
+    pub bytes: Vec<Bound>,
     /// Events of the run.
     pub events: Vec<Bound>,
 }

@@ -48,6 +48,8 @@ fn main_of(bounds: &RunBounds) -> LimitedBounds
         instructions: main_in(&bounds.instructions),
         data: main_in(&bounds.data),
         rules: main_in(&bounds.rules),
+        members: main_in(&bounds.members),
+        bytes: main_in(&bounds.bytes),
         events: main_in(&bounds.events),
     }
 }
@@ -61,6 +63,8 @@ fn least(a: LimitedBounds, b: LimitedBounds) -> LimitedBounds
         instructions: lesser(a.instructions, b.instructions),
         data: lesser(a.data, b.data),
         rules: lesser(a.rules, b.rules),
+        members: lesser(a.members, b.members),
+        bytes: lesser(a.bytes, b.bytes),
         events: lesser(a.events, b.events),
     }
 }

@@ -1,4 +1,5 @@
-//! Bounds of whole runs: the greatest numbers of tasks, instructions, data, rules and events that a run of a program has.
+//! Bounds of whole runs: the greatest numbers of tasks, instructions, data, rules and events that a run of a program has. Also how
+//! many members its store holds, and how many bytes of texts.
 #![tactic(auto)]
 
 mod bound;
@@ -7,6 +8,7 @@ mod least;
 mod limited;
 mod row;
 mod solving;
+mod texts;
 mod theorems;
 mod walk;
 mod weighing;

@@ -1,12 +1,13 @@
 //! Bounds that a limit of events gives.
 
-ghost use Rattle.std.specs.Prelude.{◌≡◌, ◌≤◌, Some, if◌then◌else◌, max};
+ghost use Rattle.std.specs.Prelude.{◌≡◌, ◌≤◌, ◌*◌, Some, if◌then◌else◌, max};
 ghost use Rattle.std.specs.List.{list_any};
 ghost use Rattle.tw_code.specs.accepting.Walk.{greatest_budget};
-ghost use Rattle.tw_bounds.specs.Limited.{AreLimitedBounds, IsLargestBudget, LimitsRuns, has_instr, makes_datum, makes_rule};
+ghost use Rattle.tw_bounds.specs.Limited.{AreLimitedBounds, IsLargestBudget, LimitsRuns, adds_member, adds_text, has_instr, is_on_data, makes_datum, makes_rule};
 ghost use Rattle.tw_bounds.specs.Reports.{reported};
 
 use crate::bound::Bound;
+use crate::texts::{is_text, is_text_scalar};
 use tw_code::{DataInstr, Instr, Procedure};
 use tw_verify::Verified;
 
@@ -21,6 +22,10 @@ pub struct LimitedBounds {
     pub data: Bound,
     /// Rules made by RULE.
     pub rules: Bound,
+    /// Members that the store holds beyond those of the inputs, at any time.
+    pub members: Bound,
+    /// Bytes of the texts that the store holds beyond those of the inputs, at any time.
+    pub bytes: Bound,
     /// Events of the run.
     pub events: Bound,
 }
@@ -75,12 +80,74 @@ fn makes_rules(program: &[Procedure]) -> bool
     program.iter().any(|procedure| has_rule(procedure))
 }
 
+/// Returns whether an instruction adds a member.
+fn adds_member(instr: &Instr) -> bool
+    ensures { result ≡ is_on_data adds_member instr.now }
+{
+    matches!(instr, Instr::Data(DataInstr::Insert { .. }))
+}
+
+/// Returns whether an instruction adds a text.
+fn adds_text(instr: &Instr) -> bool
+    ensures { result ≡ is_on_data adds_text instr.now }
+{
+    match instr {
+        Instr::Data(DataInstr::New { ty, .. }) => is_text_scalar(*ty),
+        Instr::Data(DataInstr::Insert { by, .. }) => is_text(*by),
+        _ => false,
+    }
+}
+
+/// Returns whether a procedure has an instruction that adds a member.
+fn has_insert(procedure: &Procedure) -> bool
+    ensures { result ≡ list_any (is_on_data adds_member) procedure.now.code }
+{
+    procedure
+        .code
+        .as_slice()
+        .iter()
+        .any(|instr| adds_member(instr))
+}
+
+/// Returns whether a procedure has an instruction that adds a text.
+fn has_text(procedure: &Procedure) -> bool
+    ensures { result ≡ list_any (is_on_data adds_text) procedure.now.code }
+{
+    procedure
+        .code
+        .as_slice()
+        .iter()
+        .any(|instr| adds_text(instr))
+}
+
+/// Returns whether an event can add a member.
+fn adds_members(program: &[Procedure]) -> bool
+    ensures { result ≡ has_instr (is_on_data adds_member) program.now }
+{
+    program.iter().any(|procedure| has_insert(procedure))
+}
+
+/// Returns whether an event can add a text.
+fn adds_texts(program: &[Procedure]) -> bool
+    ensures { result ≡ has_instr (is_on_data adds_text) program.now }
+{
+    program.iter().any(|procedure| has_text(procedure))
+}
+
 /// Returns the bound if each event makes one thing, or none does.
 fn one_each(makes: bool, limit: u32) -> Bound
     ensures { result ≡ reported (Some (if makes then limit else 0)) }
 {
     let number = if makes { u64::from(limit) } else { 0 };
     Bound::from_capped(Some(number))
+}
+
+/// Returns the bound of bytes if each event adds one text, or none does.
+fn bytes_each(adds: bool, limit: u32) -> Bound
+    ensures { result ≡ reported (Some (4096 * (if adds then limit else 0))) }
+{
+    let texts = if adds { u64::from(limit) } else { 0 };
+    Bound::from_capped(Some(4096 * texts))
 }
 
 /// Returns the larger of two numbers.
@@ -104,7 +171,7 @@ pub fn largest_budget(verified: &Verified) -> u64
 }
 
 /// Returns the bounds of runs with at most `limit` events. Each event takes at most one task, executes instructions of one task,
-/// and makes at most one datum or rule.
+/// makes at most one datum or rule, and adds at most one member and one text.
 pub fn limited_bounds(verified: &Verified, limit: u32) -> LimitedBounds
     ensures are { AreLimitedBounds verified.now.program limit result }
     ensures runs { LimitsRuns verified.now.program limit result }
@@ -116,6 +183,8 @@ pub fn limited_bounds(verified: &Verified, limit: u32) -> LimitedBounds
         instructions: Bound::from_capped(Some(u64::from(limit) * largest_budget(verified))),
         data: one_each(makes_data(procedures), limit),
         rules: one_each(makes_rules(procedures), limit),
+        members: one_each(adds_members(procedures), limit),
+        bytes: bytes_each(adds_texts(procedures), limit),
         events: one_each(true, limit),
     }
 }

@@ -1,6 +1,6 @@
 //! Costs of instructions, computed from the known bounds.
 
-ghost use Rattle.std.specs.Prelude.{◌≡◌, ◌≤◌, IfOk, IfSome, None, filter, length};
+ghost use Rattle.std.specs.Prelude.{◌≡◌, ◌<◌, ◌≤◌, ◌^◌, if◌then◌else◌, IfOk, IfSome, None, filter, length};
 ghost use Rattle.tw_types.specs.Mode.{is_closed_mode};
 ghost use Rattle.tw_code.specs.format.Program.{IsProgram};
 ghost use Rattle.tw_code.specs.machine.Arguments.{params_of};
@@ -8,6 +8,7 @@ ghost use Rattle.tw_bounds.specs.Bounds.{AreCosts, bound_at, data_weight, weight
 ghost use Rattle.tw_bounds.specs.Solving.{AreWithin, CallsUnknown};
 ghost use Rattle.tw_bounds.specs.Rows.{AreSmall, most_cost};
 
+use crate::texts::{is_text, is_text_scalar};
 use crate::weights::Weights;
 use std::alloc::{AllocError, Global};
 use tw_code::{DataInstr, Instr, Procedure};
@@ -31,12 +32,26 @@ fn closed_in(params: &[Param]) -> usize
         .count()
 }
 
+/// Returns the weight of one text, if there is one.
+fn text_weight(weights: &Weights, is_text: bool) -> u64
+    ensures is { result ≡ (if is_text then weights.now.text else 0) }
+    ensures small { result < 2 ^ 32 }
+{
+    if is_text { u64::from(weights.text) } else { 0 }
+}
+
 /// Returns what an instruction on data adds to its own weight.
-fn data_weight(weights: &Weights, instr: DataInstr) -> u32
-    ensures { result ≡ data_weight weights.now instr }
+fn data_weight(weights: &Weights, instr: DataInstr) -> u64
+    ensures is { result ≡ data_weight weights.now instr }
+    ensures small { result < 2 ^ 33 }
 {
     match instr {
-        DataInstr::New { .. } => weights.datum,
+        DataInstr::New { ty, .. } => {
+            u64::from(weights.datum) + text_weight(weights, is_text_scalar(ty))
+        }
+        DataInstr::Insert { by, .. } => {
+            u64::from(weights.member) + text_weight(weights, is_text(by))
+        }
         _ => 0,
     }
 }
@@ -69,7 +84,7 @@ pub fn instr_weight(
     let own = u64::from(weights.instr);
     match instr {
         Instr::Local(_) | Instr::Ret => Some(own),
-        Instr::Data(i) => Some(own + u64::from(data_weight(weights, *i))),
+        Instr::Data(i) => Some(own + data_weight(weights, *i)),
         Instr::Rule(action) => match bound_of(known, action.procedure) {
             Some(bound) => {
                 let rule_event = u64::from(weights.rule_event)

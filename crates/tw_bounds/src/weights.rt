@@ -13,4 +13,8 @@ pub struct Weights {
     pub rule: u32,
     /// An event of a rule: an Ask and a Deliver for a `closed` parameter, and its Release.
     pub rule_event: u32,
+    /// A member that INS inserts.
+    pub member: u32,
+    /// A scalar of texts that NEW makes, or a subscript by INS that is a text.
+    pub text: u32,
 }

@@ -10,19 +10,27 @@ use std::alloc::{AllocError, Global};
 use tw_verify::Verified;
 
 #[rattlefmt::skip]
-const TASKS: Weights = Weights { task: 1, instr: 0, datum: 0, rule: 0, rule_event: 0 };
+const TASKS: Weights = Weights { task: 1, instr: 0, datum: 0, rule: 0, rule_event: 0, member: 0, text: 0 };
 
 #[rattlefmt::skip]
-const INSTRUCTIONS: Weights = Weights { task: 0, instr: 1, datum: 0, rule: 0, rule_event: 0 };
+const INSTRUCTIONS: Weights = Weights { task: 0, instr: 1, datum: 0, rule: 0, rule_event: 0, member: 0, text: 0 };
 
 #[rattlefmt::skip]
-const DATA: Weights = Weights { task: 0, instr: 0, datum: 1, rule: 0, rule_event: 0 };
+const DATA: Weights = Weights { task: 0, instr: 0, datum: 1, rule: 0, rule_event: 0, member: 0, text: 0 };
 
 #[rattlefmt::skip]
-const RULES: Weights = Weights { task: 0, instr: 0, datum: 0, rule: 1, rule_event: 0 };
+const RULES: Weights = Weights { task: 0, instr: 0, datum: 0, rule: 1, rule_event: 0, member: 0, text: 0 };
+
+#[rattlefmt::skip]
+const MEMBERS: Weights = Weights { task: 0, instr: 0, datum: 0, rule: 0, rule_event: 0, member: 1, text: 0 };
+
+/// The longest text has 4,096 bytes.
+#[rattlefmt::skip]
+const BYTES: Weights = Weights { task: 0, instr: 0, datum: 0, rule: 0, rule_event: 0, member: 0, text: 4096 };
+
 /// Each event except a Local takes a task, executes one instruction or is a rule's. A Local executes at least one instruction.
 #[rattlefmt::skip]
-const EVENTS: Weights = Weights { task: 1, instr: 1, datum: 0, rule: 0, rule_event: 1 };
+const EVENTS: Weights = Weights { task: 1, instr: 1, datum: 0, rule: 0, rule_event: 1, member: 0, text: 0 };
 
 /// Makes the reported bounds from capped numbers.
 fn reports(alloc: Global, numbers: &[Option<u64>]) -> Result<Vec<Bound>, AllocError>
@@ -62,6 +70,8 @@ pub fn run_bounds(alloc: Global, verified: &Verified) -> Result<RunBounds, Alloc
         instructions: bounds_by(alloc, verified, &INSTRUCTIONS)?,
         data: bounds_by(alloc, verified, &DATA)?,
         rules: bounds_by(alloc, verified, &RULES)?,
+        members: bounds_by(alloc, verified, &MEMBERS)?,
+        bytes: bounds_by(alloc, verified, &BYTES)?,
         events: bounds_by(alloc, verified, &EVENTS)?,
     })
 }

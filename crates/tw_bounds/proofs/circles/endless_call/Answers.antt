@@ -1,9 +1,9 @@
-use Rattle.std.proofs.Common.{◌≡◌, ℕ, refl, sym, ap, ◌∙◌, subst, arith, Some, ◌⊎◌, inl, inr}
+use Rattle.std.proofs.Common.{◌≡◌, ℕ, refl, sym, ◌∙◌, subst, arith, Some, inl, inr}
 use Rattle.std.specs.Prelude.{slice_get}
 use Rattle.std.proofs.lemmas.Bool.{cases_eq}
 use Rattle.std.proofs.lemmas.Option.{same_Some, slice_get_read, slice_get_within}
 use Rattle.tw_code.specs.declared.instr.Instr.{Instr}
-use Rattle.tw_bounds.specs.Circles.{CallsEndless, IsCall}
+use Rattle.tw_bounds.specs.Circles.{IsCall}
 use Rattle.tw_bounds.proofs.circles.endless_call.Goals as goal
 
 pub loop-place-preserved : goal.loop-place-preserved

@@ -1,16 +1,18 @@
-use Rattle.std.proofs.Common.{◌≡◌, ◌*◌, ℕ, Bool, if◌then◌else◌, List, Some, ap, sym, ◌∙◌, subst}
+use Rattle.std.proofs.Common.{◌*◌, ℕ, Bool, if◌then◌else◌, List, Some, ap, ◌∙◌, subst}
 use Rattle.tw_code.specs.declared.procedure.Procedure.{Procedure}
 use Rattle.tw_code.specs.format.Program.{IsProgram}
-use Rattle.tw_bounds.specs.Limited.{AreLimitedBounds, has_instr, makes_datum, makes_rule}
+use Rattle.tw_bounds.specs.Limited.{AreLimitedBounds, adds_member, adds_text, has_instr, is_on_data, makes_datum, makes_rule}
 use Rattle.tw_bounds.specs.Reports.{reported}
 use Rattle.tw_bounds.proofs.LimitedRuns.{limits_run}
 use Rattle.tw_bounds.proofs.limited.limited_bounds.Goals as goal
 
-bounds_are : (c : goal.After-one_each-4) → AreLimitedBounds c.args.verified.now.program c.args.limit (record { tasks = c.one_each.result; instructions = c.from_capped.result; «data» = c.one_each-2.result; rules = c.one_each-3.result; events = c.one_each-4.result })
+bounds_are : (c : goal.After-one_each-5) → AreLimitedBounds c.args.verified.now.program c.args.limit (record { tasks = c.one_each.result; instructions = c.from_capped.result; «data» = c.one_each-2.result; rules = c.one_each-3.result; members = c.one_each-4.result; bytes = c.bytes_each.result; events = c.one_each-5.result })
 bounds_are c =
     let same = c.procedures-procedures.ensures.is ∙ c.program-program.ensures.is in
     let makes = c.makes_data.ensures ∙ ap (has_instr makes_datum) same in
     let rules = c.makes_rules.ensures ∙ ap (has_instr makes_rule) same in
+    let members = c.adds_members.ensures ∙ ap (has_instr (is_on_data adds_member)) same in
+    let texts = c.adds_texts.ensures ∙ ap (has_instr (is_on_data adds_text)) same in
     record {
       tasks = c.one_each.ensures;
       most = c.largest_budget.result;
@@ -18,7 +20,9 @@ bounds_are c =
       instructions = c.from_capped.ensures ∙ ap (λ (n : ℕ). reported (Some (n * c.largest_budget.result))) c.from.ensures;
       new_data = c.one_each-2.ensures ∙ ap (λ (b : Bool). reported (Some (if b then c.args.limit else 0))) makes;
       rules = c.one_each-3.ensures ∙ ap (λ (b : Bool). reported (Some (if b then c.args.limit else 0))) rules;
-      events = c.one_each-4.ensures;
+      members = c.one_each-4.ensures ∙ ap (λ (b : Bool). reported (Some (if b then c.args.limit else 0))) members;
+      bytes = c.bytes_each.ensures ∙ ap (λ (b : Bool). reported (Some (4096 * (if b then c.args.limit else 0)))) texts;
+      events = c.one_each-5.ensures;
     }
 
 pub returns-clause-are : goal.returns-clause-are

@@ -12,5 +12,7 @@ returns-clause-runs c =
       instructions = c.in_ok-bounds_by-2.ensures {u = tt};
       new_data = c.in_ok-bounds_by-3.ensures {u = tt};
       rules = c.in_ok-bounds_by-4.ensures {u = tt};
-      events = c.in_ok-bounds_by-5.ensures {u = tt};
+      members = c.in_ok-bounds_by-5.ensures {u = tt};
+      bytes = c.in_ok-bounds_by-6.ensures {u = tt};
+      events = c.in_ok-bounds_by-7.ensures {u = tt};
     })

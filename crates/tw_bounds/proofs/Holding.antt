@@ -1,0 +1,206 @@
+-- Bounds on the members and texts that a change of a store adds.
+use Rattle.std.proofs.Common.{◌≡◌, ℕ, zero, suc, ◌+◌, ◌-◌, ◌≤◌, ◌==◌, Bool, true, false, ◌&&◌, cond, if◌then◌else◌, List, [], ◌∷◌, fold, Option, Some, None, refl, subst, arith}
+use Rattle.std.proofs.lemmas.Bool.{and_parts}
+use Rattle.std.proofs.lemmas.Option.{same_Some}
+use Rattle.std.specs.Cmp.{nat_cmp_total}
+use Rattle.std.specs.FinMap as fin
+use Rattle.std.specs.FinMap.{contains_key, get, insert, remove, len, len-empty, len-insert, nat_cmp-IsAntisymmetric}
+use Rattle.std.specs.Ordering.{nat_cmp}
+use Rattle.std.specs.Prelude.{Ok}
+use Rattle.tw_types.specs.declared.cause.Cause.TheVariants.{WrongType}
+use Rattle.tw_types.specs.declared.data_type.Scalar.{Scalar}
+use Rattle.tw_types.specs.declared.data_type.Scalar.TheVariants as scalar
+use Rattle.tw_types.specs.declared.value.Value.{Value}
+use Rattle.tw_types.specs.DataType.{is_container_by, is_element_of, is_scalar}
+use Rattle.tw_types.specs.Nesting.{NestedScalar}
+use Rattle.tw_types.specs.Store.{Members, Unset, Contains, Datum, Data, Store, added, drop_read_within, is_closed, is_unheld, members_of, new_datum, read_taken_by, settled_by, subscribers_cleared}
+use Rattle.tw_types.specs.StoreCalls.{changed, created, inserted, members_in, one_write_less, read_dropped, set_to, store_after, with_member}
+use Rattle.tw_types.specs.StoreChecks.{may_insert}
+use Rattle.tw_types.specs.Totals.{total}
+use Rattle.tw_types.specs.ValueOrder.{Subscript, value_cmp}
+use Rattle.tw_types.proofs.Results.{must_then}
+use Rattle.tw_types.proofs.Totals.{total-insert}
+use Rattle.tw_types.proofs.ValueOrder.{value_cmp_total}
+use Rattle.tw_soundness.proofs.Sums.{sum_apart, sum_replaced}
+use Rattle.tw_bounds.specs.Contents.{is_text, is_text_scalar, member_count, members_held, text_count, texts_held}
+
+-- ---- a sum over the live data, by types and contents
+
+abbrev IsByContent : (Datum → ℕ) → Type 0
+IsByContent g = (x y : Datum) → y.ty ≡ x.ty → y.content ≡ x.content → g y ≡ g x
+
+module _ (g : Datum → ℕ) (alike : IsByContent g) where
+  abbrev Loses : (Data → ℕ → Data) → Type 0
+  Loses drop = (live : Data) (id : ℕ) → total g (drop live id) ≤ total g live
+
+  all_lose : (drop : Data → ℕ → Data) → Loses drop → (ids : List ℕ) (live : Data) → total g (fold drop live ids) ≤ total g live
+  all_lose drop loses [] live = omega arith
+  all_lose drop loses (id ∷ ids) live = let one = loses live id in let rest = all_lose drop loses ids (drop live id) in omega (arith, one, rest)
+
+  settled_total : (drop : Data → ℕ → Data) → Loses drop → (live : Data) (id : ℕ) (x y : Datum) → get live id ≡ Some x → total g (settled_by drop live id y) + g x ≤ total g live + g y
+  settled_total drop loses live id x y at = by (is_unheld y)
+    where
+      by : (b : Bool) → total g (if b then fold drop (remove live id) (members_of y.content) else insert live id y) + g x ≤ total g live + g y
+      by true =
+          let freed = all_lose drop loses (members_of y.content) (remove live id) in
+          let apart = sum_apart nat_cmp nat_cmp_total nat_cmp-IsAntisymmetric g live id x at in
+          omega (arith, freed, apart)
+      by false = let put = sum_replaced nat_cmp nat_cmp_total nat_cmp-IsAntisymmetric g live id x y at in omega (arith, put)
+
+  taken_loses : (drop : Data → ℕ → Data) → Loses drop → Loses (λ live id. read_taken_by drop live id (get live id))
+  taken_loses drop loses live id = found (get live id) refl
+    where
+      found : (o : Option Datum) → get live id ≡ o → total g (read_taken_by drop live id o) ≤ total g live
+      found None at = omega arith
+      found (Some x) at = by (x.reads == 0)
+        where
+          by : (b : Bool) → total g (if b then live else settled_by drop live id (record x { reads = x.reads - 1 })) ≤ total g live
+          by true = omega arith
+          by false =
+              let h = settled_total drop loses live id x (record x { reads = x.reads - 1 }) at in
+              let same = alike x (record x { reads = x.reads - 1 }) refl refl in
+              omega (arith, h, same)
+
+  drops_lose : (depth : ℕ) → Loses (drop_read_within depth)
+  drops_lose zero = taken_loses (λ live _. live) (λ live id. omega arith)
+  drops_lose (suc depth) = taken_loses (drop_read_within depth) (drops_lose depth)
+
+  cleared_same : (x : Datum) → g (subscribers_cleared x) ≡ g x
+  cleared_same x = by (is_closed x)
+    where
+      by : (b : Bool) → g (if b then record x { subscribers = [] } else x) ≡ g x
+      by true = alike x (record x { subscribers = [] }) refl refl
+      by false = refl
+
+  -- one datum changes, and has at most so many more
+  changed_total : (s : Store) (id : ℕ) (f : Datum → Datum) (more : ℕ) → ((x : Datum) → get s.live id ≡ Some x → g (f x) ≤ g x + more) → total g (changed s id f).live ≤ total g s.live + more
+  changed_total s id f more grows = by (get s.live id) refl
+    where
+      by : (o : Option Datum) → get s.live id ≡ o → total g (changed s id f).live ≤ total g s.live + more
+      by None at = rw at (omega arith)
+      by (Some x) at =
+          let put = sum_replaced nat_cmp nat_cmp_total nat_cmp-IsAntisymmetric g s.live id x (f x) at in
+          let few = grows x at in
+          rw at (omega (arith, put, few))
+
+  -- one datum changes, has no more, and may be freed
+  after_total : (s : Store) (id : ℕ) (f : Datum → Datum) → ((x : Datum) → g (f x) ≤ g x) → total g (store_after s id f).live ≤ total g s.live
+  after_total s id f keeps = by (get s.live id) refl
+    where
+      by : (o : Option Datum) → get s.live id ≡ o → total g (store_after s id f).live ≤ total g s.live
+      by None at = rw at (omega arith)
+      by (Some x) at =
+          let put = settled_total (drop_read_within 2) (drops_lose 2) s.live id x (subscribers_cleared (f x)) at in
+          let cleared = cleared_same (f x) in
+          let few = keeps x in
+          rw at (omega (arith, put, cleared, few))
+
+  new_total : (s : Store) (x : Datum) → total g (added s x).live ≤ total g s.live + g x
+  new_total s x = let put = total-insert nat_cmp nat_cmp_total g s.live s.next x in omega (arith, put)
+
+-- ---- members and texts
+
+by_member_count : IsByContent member_count
+by_member_count x y ty content = rw content refl
+
+by_text_count : IsByContent text_count
+by_text_count x y ty content = rw (ty, content) refl
+
+abbrev pub one_if : Bool → ℕ
+one_if b = if b then 1 else 0
+
+-- how many members and texts the later store holds more, at most
+pub record Gains (members texts : ℕ) (s t : Store) : Type 0 where
+  pub new_members : members_held t ≤ members_held s + members
+  pub new_texts : texts_held t ≤ texts_held s + texts
+
+pub no_gain : (members texts : ℕ) (s : Store) → Gains members texts s s
+no_gain members texts s = record { new_members = omega arith; new_texts = omega arith }
+
+pub changed_gains : (s : Store) (id : ℕ) (f : Datum → Datum) → ((x : Datum) → (f x).ty ≡ x.ty) → ((x : Datum) → (f x).content ≡ x.content) → Gains 0 0 s (changed s id f)
+changed_gains s id f ty content = record {
+  new_members = changed_total member_count by_member_count s id f 0 (λ x at. let e = by_member_count x (f x) (ty x) (content x) in omega (arith, e));
+  new_texts = changed_total text_count by_text_count s id f 0 (λ x at. let e = by_text_count x (f x) (ty x) (content x) in omega (arith, e));
+}
+
+pub write_dropped_gains : (s : Store) (id : ℕ) → Gains 0 0 s (store_after s id one_write_less)
+write_dropped_gains s id = record {
+  new_members = let h = after_total member_count by_member_count s id one_write_less (λ x. omega arith) in omega (arith, h);
+  new_texts = let h = after_total text_count by_text_count s id one_write_less (λ x. omega arith) in omega (arith, h);
+}
+
+pub stored_gains : (s : Store) (id : ℕ) (x : Value) → Gains 0 0 s (store_after s id (set_to x))
+stored_gains s id x = record {
+  new_members = let h = after_total member_count by_member_count s id (set_to x) few in omega (arith, h);
+  new_texts = let h = after_total text_count by_text_count s id (set_to x) (λ d. by d (is_container_by scalar.Text d.ty)) in omega (arith, h);
+}
+  where
+    none : len {X = ℕ} {R = value_cmp} fin.empty ≡ 0
+    none = len-empty value_cmp ℕ
+
+    few : (d : Datum) → member_count (set_to x d) ≤ member_count d
+    few d = omega (arith, none)
+
+    by : (d : Datum) (b : Bool) → one_if (is_text_scalar d.ty) + (if b then member_count (set_to x d) else 0) ≤ one_if (is_text_scalar d.ty) + (if b then member_count d else 0)
+    by d true = let h = few d in omega (arith, h)
+    by d false = omega arith
+
+pub read_dropped_gains : (s : Store) (id : ℕ) → Gains 0 0 s (read_dropped s id)
+read_dropped_gains s id = record {
+  new_members = let h = drops_lose member_count by_member_count 3 s.live id in omega (arith, h);
+  new_texts = let h = drops_lose text_count by_text_count 3 s.live id in omega (arith, h);
+}
+
+no_members : (b : Bool) → len (members_in (if b then Unset else Contains fin.empty)) ≡ 0
+no_members true = len-empty value_cmp ℕ
+no_members false = len-empty value_cmp ℕ
+
+pub created_gains : (s : Store) (ty : NestedScalar) → Gains 0 (one_if (is_text_scalar ty)) s (created s ty)
+created_gains s ty = record {
+  new_members = let h = new_total member_count by_member_count s (new_datum ty) in omega (arith, h, none);
+  new_texts = let h = new_total text_count by_text_count s (new_datum ty) in let n = by (is_container_by scalar.Text ty) in omega (arith, h, n);
+}
+  where
+    none : member_count (new_datum ty) ≡ 0
+    none = no_members (is_scalar ty)
+
+    by : (b : Bool) → (if b then member_count (new_datum ty) else 0) ≡ 0
+    by true = none
+    by false = refl
+
+one_more_member : (members : Members) (subscript : Subscript) (member : ℕ) → len (insert members subscript member) ≤ len members + 1
+one_more_member members subscript member = let l = len-insert value_cmp_total members subscript member in omega (arith, l, either (contains_key members subscript) (len members))
+  where
+    either : (b : Bool) (n : ℕ) → cond b n (n + 1) ≤ n + 1
+    either true n = omega arith
+    either false n = omega arith
+
+-- the subscripts of a container are of the instruction's type
+subscripts_by : (by : Scalar) (o member : Option Datum) (x : Datum) → o ≡ Some x → may_insert by o member ≡ Ok tt → is_container_by by x.ty ≡ true
+subscripts_by by None member x at may = cc
+subscripts_by by (Some y) None x at may = cc
+subscripts_by by (Some y) (Some z) x at may =
+    let checks = must_then (is_container_by by y.ty && is_element_of z.ty y.ty) WrongType _ tt may in
+    let both = and_parts (is_container_by by y.ty) (is_element_of z.ty y.ty) checks.0 in
+    subst (λ (d : Datum). is_container_by by d.ty ≡ true) (same_Some y x at) both.0
+
+int_not_text : (ty : NestedScalar) → is_container_by scalar.Int ty ≡ true → is_container_by scalar.Text ty ≡ false
+int_not_text ty e = by ty.containers e
+  where
+    by : (containers : List Scalar) → is_container_by scalar.Int (record ty { containers = containers }) ≡ true → is_container_by scalar.Text (record ty { containers = containers }) ≡ false
+    by [] e = cc
+    by (scalar.Int ∷ inner) e = refl
+    by (scalar.Text ∷ inner) e = cc
+
+-- by integers, a container holds no text; by texts, it may hold one more
+subscript_texts : (by : Scalar) (x : Datum) (before after : ℕ) → is_container_by by x.ty ≡ true → after ≤ before + 1 → (if is_container_by scalar.Text x.ty then after else 0) ≤ (if is_container_by scalar.Text x.ty then before else 0) + one_if (is_text by)
+subscript_texts scalar.Int x before after is more = rw (int_not_text x.ty is) (omega arith)
+subscript_texts scalar.Text x before after is more = rw is (omega (arith, more))
+
+pub inserted_gains : (s : Store) (id : ℕ) (by : Scalar) (at : Subscript) (inner : ℕ) (member : Option Datum) → may_insert by (get s.live id) member ≡ Ok tt → Gains 1 (one_if (is_text by)) s (inserted s id at inner)
+inserted_gains s id by at inner member may = record {
+  new_members = changed_total member_count by_member_count s id (with_member at inner) 1 (λ x here. one_more_member (members_in x.content) at inner);
+  new_texts = changed_total text_count by_text_count s id (with_member at inner) (one_if (is_text by)) (λ x here.
+      let few = subscript_texts by x (member_count x) (member_count (with_member at inner x)) (subscripts_by by (get s.live id) member x here may) (one_more_member (members_in x.content) at inner) in
+      omega (arith, few));
+}

@@ -1,0 +1,35 @@
+-- The members and texts that a store holds.
+use Rattle.std.specs.Prelude.{ℕ, ◌+◌, ◌*◌, Bool, true, false, ◌&&◌, if◌then◌else◌}
+use Rattle.std.specs.FinMap as map
+use Rattle.tw_types.specs.declared.data_type.Scalar.{Scalar}
+use Rattle.tw_types.specs.declared.data_type.Scalar.TheVariants as scalar
+use Rattle.tw_types.specs.DataType.{is_container_by, is_scalar}
+use Rattle.tw_types.specs.Nesting.{NestedScalar}
+use Rattle.tw_types.specs.Store.{Datum, Store}
+use Rattle.tw_types.specs.StoreCalls.{members_in}
+use Rattle.tw_types.specs.Totals.{total}
+
+abbrev pub is_text : Scalar → Bool
+is_text scalar.Int = false
+is_text scalar.Text = true
+
+abbrev pub is_text_scalar : NestedScalar → Bool
+is_text_scalar ty = is_scalar ty && is_text ty.scalar
+
+-- counts the members of a container; a scalar has none
+abbrev pub member_count : Datum → ℕ
+member_count x = map.len (members_in x.content)
+
+-- counts the texts in a datum: a scalar of texts is one, even while it is unset, and so is each subscript that is a text
+abbrev pub text_count : Datum → ℕ
+text_count x = (if is_text_scalar x.ty then 1 else 0) + (if is_container_by scalar.Text x.ty then member_count x else 0)
+
+abbrev pub members_held : Store → ℕ
+members_held s = total member_count s.live
+
+abbrev pub texts_held : Store → ℕ
+texts_held s = total text_count s.live
+
+-- returns the most bytes that the texts in a store have: the longest text has 4,096
+abbrev pub bytes_held : Store → ℕ
+bytes_held s = 4096 * texts_held s
