@@ -78,7 +78,10 @@ PARTS: tuple[str, ...] = (
 )
 
 # Proofs that show one instruction to the prover, and then all others at once: a new one needs nothing there.
-SHOWN_ONE: tuple[str, ...] = ("tw_asm/proofs/Skips.antt", "tw_asm/proofs/Written.antt", "tw_diagnostics/proofs/Fewness.antt", "tw_diagnostics/proofs/Starting.antt")
+SHOWN_ONE: tuple[str, ...] = (
+    "tw_asm/proofs/Skips.antt", "tw_asm/proofs/Written.antt", "tw_diagnostics/proofs/Fewness.antt", "tw_diagnostics/proofs/Starting.antt",
+    "tw_symbols/proofs/UnchangedLines.antt",
+)
 
 
 def variants_of(text: str, name: str) -> list[str]:

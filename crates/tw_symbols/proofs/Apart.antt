@@ -1,13 +1,13 @@
 -- Registers that are listed or made in one procedure differ.
-use Rattle.std.proofs.Common.{[], ◌≡◌, ◌==◌, ◌<◌, ◌≤◌, ℕ, zero, suc, ◌+◌, Bool, true, false, cond, List, ◌∷◌, ◌++◌, Option, Some, None, Result, Ok, Err, refl, sym, ap, subst, ◌∙◌, arith}
+use Rattle.std.proofs.Common.{[], ◌≡◌, ◌==◌, ◌<◌, ◌≤◌, ℕ, zero, suc, ◌+◌, Bool, true, false, cond, List, ◌∷◌, ◌++◌, Option, Some, None, Ok, Err, refl, sym, ap, subst, ◌∙◌, arith}
 use Rattle.std.specs.Prelude.{◌&&◌, ◌||◌}
 use Rattle.std.specs.Option.{option_map_or}
 use Rattle.std.proofs.lemmas.Bool.Decides.{nat_tests}
 use Rattle.std.proofs.lemmas.Bool.{eqb-true}
-use Rattle.tw_symbols.proofs.TextNames.{AreTaken, Line, Names, Procedures, Said, Table, at_head, flat_map, lines, name_register, nat_lt, no_names, pieces, procedures_of, slice_get, taken_says}
+use Rattle.tw_symbols.proofs.TextNames.{Line, Names, Procedures, Said, Table, flat_map, name_register, nat_lt, no_names, pieces, procedures_of, slice_get, taken_says}
 use Rattle.tw_symbols.specs.Answers.{lists_entry}
-use Rattle.tw_symbols.specs.Theorems.{IsListedAs, NamesDiffer}
-use Rattle.tw_symbols.specs.Meanings.{above, is_bank, is_listed, is_origin, lists}
+use Rattle.tw_symbols.specs.Theorems.{NamesDiffer}
+use Rattle.tw_symbols.specs.Meanings.{above, is_listed, is_origin, lists}
 use Rattle.tw_symbols.specs.Registers.{names_after_line, registers_at, said_then}
 use Rattle.tw_symbols.specs.declared.meaning.Bank.{Bank}
 use Rattle.tw_symbols.specs.declared.meaning.Bank.TheVariants as bank

@@ -23,4 +23,5 @@ pub mod RenamedHeads
 pub mod RenamedTexts
 pub mod RightLines
 pub mod BlankLines
+pub mod UnchangedLines
 mod TextNames

@@ -1,5 +1,5 @@
 -- Whether a register has been listed, entry by entry.
-use Rattle.std.proofs.Common.{[], ◌≡◌, ◌≤◌, ℕ, zero, suc, ◌+◌, Bool, true, false, List, ◌∷◌, length, take, Option, Some, None, refl, sym, ap, ◌∙◌, arith}
+use Rattle.std.proofs.Common.{[], ◌≡◌, ◌≤◌, ℕ, zero, suc, ◌+◌, Bool, true, false, List, ◌∷◌, length, take, refl, sym, ap, ◌∙◌, arith}
 use Rattle.std.specs.Prelude.{◌||◌}
 use Rattle.tw_symbols.proofs.TextNames.{Bor, Table, length-map, seen_entry, seen_table, slice_get, take_all}
 use Rattle.tw_symbols.specs.Answers.{lists_entry}

@@ -1,5 +1,5 @@
 -- A relation between the names before and after a line, if each name that it adds keeps it.
-use Rattle.std.proofs.Common.{[], ◌≡◌, ◌<◌, ℕ, Bool, true, false, cond, List, ◌∷◌, ◌++◌, length, take, drop, Option, Some, None, Result, Ok, Err, refl, sym, ap, subst, ◌∙◌, codes, arith}
+use Rattle.std.proofs.Common.{[], ◌≡◌, ◌<◌, ℕ, Bool, true, false, cond, List, ◌∷◌, ◌++◌, length, take, drop, Option, Some, None, Result, Ok, Err, refl, subst, codes, arith}
 use Rattle.tw_symbols.proofs.TextNames.{TokenError, Line, Names, Procedures, Said, and_then, at_head, flat_map, is_name, known, line_rest, line_words, made_say, may_name, name_register, nat_lt, parameters, pieces, procedure_name, taken_says, list_says}
 use Rattle.std.proofs.lemmas.Bool.Decides.{nat_tests}
 use Rattle.std.specs.Prelude.{is_none, not, ◌&&◌}

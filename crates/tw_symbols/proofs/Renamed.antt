@@ -1,5 +1,5 @@
 -- Operands expand alike if each name is replaced by another for the same thing.
-use Rattle.std.proofs.Common.{[], ◌≡◌, ℕ, Bool, true, false, cond, List, ◌∷◌, Option, Some, None, Result, Ok, drop, refl, sym, ap, ◌∙◌}
+use Rattle.std.proofs.Common.{[], ◌≡◌, ℕ, Bool, true, false, cond, List, ◌∷◌, Option, Some, None, Result, Ok, drop, refl, ap, ◌∙◌}
 use Rattle.std.specs.Prelude.{slice_get, unwrap_or}
 use Rattle.std.specs.Str.{bytes_eq}
 use Rattle.tw_symbols.proofs.TextNames.{TokenError, Names, Procedures, Table, and_then, is_name, known, meaning, or_else, words_say}

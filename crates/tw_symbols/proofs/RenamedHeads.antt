@@ -1,5 +1,5 @@
 -- Renamed heads of procedures, and the procedures of a renamed text.
-use Rattle.std.proofs.Common.{[], ◌≡◌, ℕ, ◌+◌, Bool, true, false, cond, List, ◌∷◌, ◌++◌, length, take, map, filter, Option, Some, None, Result, Ok, refl, sym, ap, ◌∙◌, ◌==◌}
+use Rattle.std.proofs.Common.{[], ◌≡◌, ℕ, Bool, true, false, cond, List, ◌∷◌, ◌++◌, length, take, map, filter, Option, Some, None, Result, Ok, refl, sym, ap, ◌∙◌, ◌==◌}
 use Rattle.std.specs.List.{filter_map}
 use Rattle.std.specs.Option.{is_some, option_map_or}
 use Rattle.std.specs.Prelude.{◌||◌, slice_get}

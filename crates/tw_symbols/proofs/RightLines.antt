@@ -1,14 +1,14 @@
 -- The names of right registers, as lines are read one by one.
-use Rattle.std.proofs.Common.{[], ◌≡◌, ◌≢◌, ◌==◌, ◌<◌, ◌≤◌, ◌+◌, ◌⊎◌, inl, inr, ℕ, zero, suc, Bool, true, false, cond, List, ◌∷◌, ◌++◌, length, take, drop, get_or, map, Option, Some, None, Ok, refl, sym, ap, subst, ◌∙◌, append_assoc, codes, arith}
+use Rattle.std.proofs.Common.{[], ◌≡◌, ◌≢◌, ◌==◌, ◌<◌, ◌≤◌, ◌+◌, ◌⊎◌, inl, inr, ℕ, zero, suc, Bool, true, false, cond, List, ◌∷◌, ◌++◌, length, take, drop, get_or, Option, Some, None, Ok, refl, sym, ap, subst, ◌∙◌, append_assoc, codes, arith}
 use Rattle.std.specs.Prelude.{slice_set}
 use Rattle.std.specs.Result.{IsErr}
 use Rattle.std.specs.Str.{bytes_eq}
 use Rattle.std.proofs.lemmas.Bool.Decides.{eqb_tells}
 use Rattle.std.proofs.lemmas.List.{get_or-set_other, get_or-set_same, length-set}
-use Rattle.tw_symbols.proofs.TextNames.{AreTaken, Bor, IsTaken, Line, Names, Procedures, Said, Table, Worded, append-nil, ended, length-map, line_words, no_names, now, procedures_of, seen_entry, seen_names, seen_procedures, seen_table, slice_get, take_all, take_at, taken_says, texts, unwrap_or}
-use Rattle.tw_symbols.specs.Answers.{is_plainly_blank}
+use Rattle.tw_symbols.proofs.TextNames.{AreTaken, Bor, IsTaken, Line, Names, Procedures, Said, Table, append-nil, length-map, line_words, no_names, now, procedures_of, seen_entry, seen_names, seen_procedures, seen_table, slice_get, take_all, take_at, taken_says, texts, unwrap_or}
 use Rattle.tw_symbols.specs.Registers.{last_name, names_after_line}
 use Rattle.tw_symbols.specs.RightNames.{AreLast, IsReady, begins_procedure, kept_entries, last_right, noted, registers_of, right_name}
+use Rattle.tw_symbols.specs.Unchanged.{Extends, IsAdded, IsPassed}
 use Rattle.tw_symbols.specs.declared.meaning.Bank.TheVariants as bank
 use Rattle.tw_symbols.specs.declared.meaning.Origin.TheVariants as origin
 use Rattle.tw_symbols.specs.declared.meaning.Binding.{Binding}
@@ -17,8 +17,6 @@ use Rattle.tw_symbols.specs.declared.names.Names as code
 use Rattle.tw_symbols.specs.declared.right_names.Reader.{Reader}
 use Rattle.tw_symbols.proofs.NameSteps.{IsStep, taken_step}
 use Rattle.tw_symbols.proofs.RegisterNames.{Entries, goes, one_more, or_entry, other_number, refuses, same_number}
-use Rattle.tw_symbols.proofs.BlankLines.{blank_says, blank_taken}
-use Rattle.tw_symbols.proofs.Taking.{taken_once}
 use Rattle.tw_symbols.proofs.Walk.{taken_at}
 
 -- ---- the last names of a table
@@ -206,13 +204,21 @@ module _ (names : ℕ → ℕ → List ℕ) (ls before others : List (List ℕ))
           λ j low. last.1 j low ∙ sym (known j) ∙ ap (λ (m : ℕ). names m j) (sym at),
         )
 
-    -- after a line without words
-    pub blank_read : (text : List ℕ) → is_plainly_blank line ≡ true → text ≡ r.plain.items ++ ended line
-        → (((xs : List Line) × AreTaken xs ls × ((l k : ℕ) → number < l → names l k ≡ last_right (registers_of (names_after_line (seen_procedures r.procedures) l (number + 1) (seen_names r.names) text (drop number xs))) k)) × AreLast (texts r.rights.items) (seen_table r.names.registers.entries))
-        × ((k : ℕ) → k < 16 → get_or (texts r.rights.items) k [] ≡ names number k)
-    blank_read text blank e =
+    -- holds if a reader of so many lines that has this text is ready for the next
+    abbrev IsReadyAt : ℕ → List ℕ → Type 0
+    IsReadyAt count text =
+        ((xs : List Line) × AreTaken xs ls × ((l k : ℕ) → count < l → names l k ≡ last_right (registers_of (names_after_line (seen_procedures r.procedures) l (count + 1) (seen_names r.names) text (drop count xs))) k))
+        × AreLast (texts r.rights.items) (seen_table r.names.registers.entries)
+
+    -- after a line that names nothing
+    extended_read : (text : List ℕ) → Extends line r.plain.items text → IsReadyAt number text × ((k : ℕ) → k < 16 → get_or (texts r.rights.items) k [] ≡ names number k)
+    extended_read text extends =
         let table = seen_table r.names.registers.entries in
         let rights = texts r.rights.items in
-        line_read r.names text (length table) rights rights (blank_says (seen_procedures r.procedures) number (seen_names r.names) r.plain.items text line blank e)
-        (λ t is last. subst (λ (l : Line). (length table ≡ length (kept_entries (begins_procedure (line_words l)) table)) × AreLast rights (kept_entries (begins_procedure (line_words l)) table)) (taken_once (Worded [] line) t line (blank_taken line blank) is) (refl, last))
+        line_read r.names text (length table) rights rights (λ t is. (extends t is).1 (seen_procedures r.procedures) number (seen_names r.names))
+        (λ t is last. subst (λ (begins : Bool). (length table ≡ length (kept_entries begins table)) × AreLast rights (kept_entries begins table)) (sym (extends t is).0) (refl, last))
         (λ _. ready.1)
+
+    pub line_passed : (after : Reader) (added : Bool) → after ≡ record r { plain = after.plain } → IsAdded line r.plain.items after.plain.items added → IsPassed names ls (length before) number (Some after) added
+    line_passed after true e extends = subst (λ (x : Reader). IsPassed names ls (length before) number (Some x) true) (sym e) (extended_read after.plain.items extends)
+    line_passed after false e same = subst (λ (x : Reader). IsPassed names ls (length before) number (Some x) false) (sym e) (subst (IsReadyAt (length before)) (sym same) ready)

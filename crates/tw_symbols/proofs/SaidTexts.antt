@@ -4,11 +4,9 @@ use Rattle.tw_symbols.proofs.TextNames.{TokenError, Names, Procedures, and_then,
 use Rattle.tw_symbols.specs.Meanings.{is_listed, with_listed}
 use Rattle.std.specs.Fmt.{signed_decimal}
 use Rattle.std.specs.Prelude.{not, ◌&&◌}
-use Rattle.std.specs.Result.{result_ok}
 use Rattle.std.specs.Str.{bytes_eq}
 use Rattle.tw_lexer.specs.Names.{before_colon}
 use Rattle.tw_code.specs.format.Table.{opcode_in, forms_of}
-use Rattle.tw_lexer.specs.Digits.{signed_in}
 use Rattle.tw_code.specs.declared.opcode.Opcode.{Opcode}
 use Rattle.tw_code.specs.declared.version.Version.TheVariants.{Two}
 use Rattle.tw_symbols.specs.LineExpansion.{Said, asked_by, at_head, banks_of, begins, begins_first, followed_by, body_says, constant_says, counted, fitting, has_colon, head_says, instruction_says, is_listed_word, is_names_line, is_unnamed, let_says, line_says, number_of, list_name, list_says, made_one, made_say, made_word, makes, name_before, name_says, named, number_in, only_names, parameters, procedure_name, register_of, registers_say, expands, value_after, value_types, with_word, word_says, words_say}

@@ -1,5 +1,5 @@
 -- The names of procedures, as a text's lines are read one by one.
-use Rattle.std.proofs.Common.{[], ◌≡◌, ℕ, List, ◌∷◌, ◌++◌, refl, ap, ◌∙◌}
+use Rattle.std.proofs.Common.{[], ◌≡◌, ℕ, List, ◌∷◌, ◌++◌, ap, ◌∙◌}
 use Rattle.std.proofs.lemmas.List.{flat_map_more}
 use Rattle.tw_symbols.proofs.TextNames.{AreTaken, IsTaken, Line, flat_map}
 use Rattle.tw_symbols.proofs.Walk.{taken_more}

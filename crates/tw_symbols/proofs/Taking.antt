@@ -11,7 +11,7 @@ cut_front text after =
     let e : length (text ++ after) - length after ≡ length text = omega (arith, length-append text after) in
     ap (λ (n : ℕ). take n (text ++ after)) e ∙ take_at text after (length text) refl
 
-text_here : (w : Word) (bytes here after : List ℕ) (f : IsFirstWord w bytes after) → IsAfterGap bytes here → here ≡ f.text ++ after
+pub text_here : (w : Word) (bytes here after : List ℕ) (f : IsFirstWord w bytes after) → IsAfterGap bytes here → here ≡ f.text ++ after
 text_here w bytes here after f a =
     gap_once a.gap f.gap here (f.text ++ after) a.is_gap f.is_gap a.at_word (word_here w f.text after f.is_word).0 (sym a.parts ∙ f.parts)
 

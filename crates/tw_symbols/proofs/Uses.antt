@@ -1,6 +1,5 @@
 -- Names of registers stay, are given by their places, and are used for the registers that got them.
 use Rattle.std.proofs.Common.{[], ◌≡◌, ◌<◌, ◌+◌, ℕ, Bool, true, false, cond, List, ◌∷◌, ◌++◌, Option, Some, None, Result, Ok, Err, refl, sym, ap, subst, ◌∙◌, codes, decimal, arith}
-use Rattle.std.specs.Map.{lookup}
 use Rattle.std.specs.Option.{option_map_or}
 use Rattle.std.specs.Result.{result_ok}
 use Rattle.std.specs.Str.{bytes_eq}
@@ -15,12 +14,11 @@ use Rattle.tw_lexer.proofs.Readings.{digits_same}
 use Rattle.tw_symbols.proofs.TextNames.{TokenError, Names, Procedures, Table, is_name, is_some, known, list_says, may_name, meaning, name_register, nat_lt, or_else, refused}
 use Rattle.tw_symbols.specs.Theorems.{ListedByPlace, NamesStay, UsesAreRegisters, begun, read_in}
 use Rattle.tw_symbols.specs.Meanings.{is_bank, is_listed, with_listed, with_register}
-use Rattle.tw_symbols.specs.LineExpansion.{begins, begins_first, counted, fitting, list_name, name_before, named, number_in, register_in, expands, with_word}
+use Rattle.tw_symbols.specs.LineExpansion.{begins, counted, fitting, list_name, name_before, named, number_in, register_in, expands, with_word}
 use Rattle.tw_symbols.specs.declared.meaning.Expected.{Expected}
 use Rattle.tw_symbols.specs.declared.meaning.Expected.TheVariants as asked
 use Rattle.tw_symbols.specs.declared.meaning.Bank.{Bank}
 use Rattle.tw_symbols.specs.declared.meaning.Bank.TheVariants as bank
-use Rattle.tw_symbols.specs.declared.meaning.Listed.{Listed}
 use Rattle.tw_symbols.specs.declared.meaning.Origin.{Origin}
 use Rattle.tw_symbols.specs.declared.meaning.Origin.TheVariants as origin
 use Rattle.tw_symbols.specs.declared.meaning.Binding.{Binding}

@@ -12,6 +12,8 @@ pub mod Registers
 pub mod Symbols
 -- The names of right registers at each line, for listings.
 pub mod RightNames
+-- Lines that expand to themselves.
+pub mod Unchanged
 -- Views of the code's data, and the results of calls.
 pub mod Seen
 pub mod Answers

@@ -9,12 +9,13 @@ ghost use Rattle.tw_symbols.specs.LineExpansion.{line_says};
 ghost use Rattle.tw_symbols.specs.Seen.{seen_names, seen_procedures, texts};
 ghost use Rattle.tw_symbols.specs.Expansion.{HasNames, IsFirstRejection, ExpandsTo, ended, lines_say, taken_says};
 
-use crate::line::{is_plainly_blank, take_line};
+use crate::line::take_line;
 use crate::line_expansion::{is_names_line, put_line};
 use crate::names::Names;
 use crate::operand_text::put_ended;
 use crate::procedures::{Procedures, procedures_of};
 use crate::rejection::{NameError, Rejection};
+use crate::unchanged::put_unchanged;
 use std::alloc::{AllocError, Global};
 
 /// Returns whether these words are just `names`; `None` if there are none.
@@ -143,9 +144,7 @@ fn expanded_lines<'a>(
     let mut out = Vec::new(alloc);
     let mut names = Names::new(alloc, procedures.hash);
     for (index, line) in text.lines().enumerate() {
-        if is_plainly_blank(line) {
-            put_ended(&mut out, line.as_bytes())?;
-        } else {
+        if !put_unchanged(alloc, &mut out, line)? {
             names = put_numbered_line(alloc, procedures, index + 1, names, &mut out, line)?;
         }
     }

@@ -22,6 +22,7 @@ mod rejection;
 mod right_names;
 mod symbols;
 mod theorems;
+mod unchanged;
 
 pub use expansion::expanded_text;
 pub use meaning::{Bank, Binding, Expected, Origin};

@@ -1,20 +1,20 @@
 //! The names of right registers, line by line.
 
-ghost use Rattle.std.specs.Prelude.{◌≡◌, ◌+◌, ◌<◌, ◌++◌, ◌∷◌, [], ℕ, true, List, IfOk, OnOk, Some, get_or, length, slice_get, slice_set, take};
+ghost use Rattle.std.specs.Prelude.{◌≡◌, ◌+◌, ◌<◌, ◌++◌, ◌∷◌, [], ℕ, List, IfOk, OnOk, Some, get_or, length, slice_get, slice_set, take};
 ghost use Rattle.std.specs.Str.Lines.{lines};
-ghost use Rattle.tw_symbols.specs.Answers.{is_plainly_blank};
 ghost use Rattle.tw_symbols.specs.Lines.{IsTaken, Line, line_words};
 ghost use Rattle.tw_symbols.specs.RightNames.{AreLast, AreRightNames, HasRead, IsReady, Knows, begins_procedure, kept_entries, known_names, named_text, names_of, noted, right_number, unnamed, with_right};
 ghost use Rattle.tw_symbols.specs.Seen.{seen_table, texts};
+ghost use Rattle.tw_symbols.specs.Unchanged.{IsPassed};
 
 use crate::expansion::is_named;
-use crate::line::{is_plainly_blank, take_line};
+use crate::line::take_line;
 use crate::meaning::{Bank, Binding};
 use crate::names::{Names, Table};
-use crate::operand_text::put_ended;
 use crate::procedures::{Procedures, procedures_of};
 use crate::registers::{cut, names_after};
 use crate::symbols::put_bracketed;
+use crate::unchanged::put_unchanged;
 use std::alloc::{AllocError, Global};
 
 /// How many right registers a procedure has.
@@ -184,13 +184,13 @@ fn read_next<'a>(
     }
 }
 
-/// Keeps a line without words, which names nothing.
-fn keep_blank(reader: &mut Reader<'_>, line: &str) -> Result<(), AllocError>
-    ensures { (names : ℕ → ℕ → List ℕ) (ls before others : List (List ℕ)) (number : ℕ) → is_plainly_blank line.now ≡ true → IsReady names ls (length before) (Some reader.old) → ls ≡ before ++ line.now ∷ others → number ≡ length before + 1
-        → OnOk result (IsReady names ls number (Some reader.new) × ((register : ℕ) → register < 16 → names_of (Some reader.new) register ≡ names number register)) }
+/// Reads a line that has at most a label. Returns whether it is one; the names stay in their place.
+fn pass_line(alloc: Global, reader: &mut Reader<'_>, line: &str) -> Result<bool, AllocError>
+    ensures { (names : ℕ → ℕ → List ℕ) (ls before others : List (List ℕ)) (number : ℕ) → IsReady names ls (length before) (Some reader.old) → ls ≡ before ++ line.now ∷ others → number ≡ length before + 1
+        → IfOk result (IsPassed names ls (length before) number (Some reader.new)) }
 {
-    put_ended(&mut reader.plain, line.as_bytes())?;
-    Ok(())
+    let passed = put_unchanged(alloc, &mut reader.plain, line)?;
+    Ok(passed)
 }
 
 impl<'a> RightNames<'a> {
@@ -226,21 +226,20 @@ impl<'a> RightNames<'a> {
         ensures { (names : ℕ → ℕ → List ℕ) (ls before others : List (List ℕ)) → HasRead names ls (length before) self.old → ls ≡ before ++ line.entry.now ∷ others → number ≡ length before + 1
             → OnOk result (HasRead names ls number self.new × Knows (names number) self.new) }
     {
-        if is_plainly_blank(line) {
-            return self.read_blank(line);
+        if !self.pass(alloc, line)? {
+            self.reader = read_next(alloc, self.reader.take(), number, line)?;
         }
-        self.reader = read_next(alloc, self.reader.take(), number, line)?;
         Ok(())
     }
 
-    /// Like `read`, for a line without words. The names stay in their place.
-    fn read_blank(&mut self, line: &str) -> Result<(), AllocError>
-        ensures { (names : ℕ → ℕ → List ℕ) (ls before others : List (List ℕ)) (number : ℕ) → is_plainly_blank line.now ≡ true → HasRead names ls (length before) self.old → ls ≡ before ++ line.now ∷ others → number ≡ length before + 1
-            → OnOk result (HasRead names ls number self.new × Knows (names number) self.new) }
+    /// Like `pass_line`. Without names there is nothing to read.
+    fn pass(&mut self, alloc: Global, line: &str) -> Result<bool, AllocError>
+        ensures { (names : ℕ → ℕ → List ℕ) (ls before others : List (List ℕ)) (number : ℕ) → HasRead names ls (length before) self.old → ls ≡ before ++ line.now ∷ others → number ≡ length before + 1
+            → IfOk result (IsPassed names ls (length before) number self.new.reader) }
     {
         match &mut self.reader {
-            Some(reader) => keep_blank(reader, line),
-            None => Ok(()),
+            Some(reader) => pass_line(alloc, reader, line),
+            None => Ok(true),
         }
     }
 

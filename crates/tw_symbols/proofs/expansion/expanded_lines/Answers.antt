@@ -1,46 +1,12 @@
-use Rattle.std.proofs.Common.{◌≡◌, ◌+◌, ◌++◌, ◌∙◌, List, ℕ, length, rules, subst, ap, sym}
-use Rattle.tw_symbols.proofs.TextNames.{ended, lines, seen_names, seen_procedures}
+use Rattle.std.proofs.Common.{◌≡◌, ◌+◌, List, ℕ, length, rules, subst, ap}
+use Rattle.tw_symbols.proofs.TextNames.{lines, seen_names, seen_procedures}
 use Rattle.std.proofs.lemmas.Iterator.Consumers.{YieldsList-at, YieldsList-end, YieldsList-from_enumerate, YieldsList-so_far, YieldsList-turn}
 use Rattle.std.proofs.lemmas.Iterator.Splits.{YieldsList-from_lines}
 use Rattle.std.proofs.lemmas.Result.{err_from_is_err_and}
 use Rattle.tw_lexer.proofs.LineLoops.{all_lines, line_turn}
 use Rattle.tw_symbols.proofs.Loops.{HasCome, come_end, come_more, lines_in, one_more_length, stopped}
-use Rattle.tw_symbols.proofs.BlankLines.{blank_says}
+use Rattle.tw_symbols.proofs.UnchangedLines.{added_says, not_added}
 use Rattle.tw_symbols.proofs.expansion.expanded_lines.Goals as goal
-
-pub returns-in_err-names : goal.returns-in_err-names
-returns-in_err-names c = λ all are.
-    let road = YieldsList-at c.into_iter-index-iterator.ensures.into_iter_gives (YieldsList-from_enumerate (YieldsList-at c.enumerate-index-items.ensures.source (YieldsList-from_lines c.args.text.now c.lines.ensures.rest)) c.enumerate-index-items.ensures.count) in
-    let t = YieldsList-turn road c.loop-index.yielded _ c.loop-index.yielded_by _ _ (c.in-Some.index, c.in-Some.line) c.in-Some.is c.next.ensures.steps in
-    let at = line_turn (lines c.args.text.now) c.loop-index.yielded c.in-Some.index c.in-Some.line.now (YieldsList-so_far road c.loop-index.yielded _ c.loop-index.yielded_by) t.0 t.1 in
-    let p = err_from_is_err_and c.from_residual-in_err-names.result c.from_residual-in_err-names.ensures.1 in
-    rw (p.1, p.2) (stopped (seen_procedures c.args.procedures.now) (lines c.args.text.now) (lines_in c.loop-index.yielded) at.others c.in-Some.line.now c.in-Some.index (seen_names c.loop-index.names) c.loop-index.out.items c.in_err-names.field-0.0 at.parts at.index_is c.loop-index.invariant.come c.in_err-names.ensures all are)
-
-pub loop-index-preserved : goal.loop-index-preserved
-loop-index-preserved c =
-    let road = YieldsList-at c.into_iter-index-iterator.ensures.into_iter_gives (YieldsList-from_enumerate (YieldsList-at c.enumerate-index-items.ensures.source (YieldsList-from_lines c.args.text.now c.lines.ensures.rest)) c.enumerate-index-items.ensures.count) in
-    let t = YieldsList-turn road c.loop-index.yielded _ c.loop-index.yielded_by _ _ (c.in-Some.index, c.in-Some.line) c.in-Some.is c.next.ensures.steps in
-    let at = line_turn (lines c.args.text.now) c.loop-index.yielded c.in-Some.index c.in-Some.line.now (YieldsList-so_far road c.loop-index.yielded _ c.loop-index.yielded_by) t.0 t.1 in
-    record {
-      next = search rules;
-      finite = search rules;
-      come = subst (λ (n : ℕ). HasCome (seen_procedures c.args.procedures.now) (lines c.args.text.now) n (seen_names c.in_ok-names.names) c.put_numbered_line.new.out.items) (one_more_length c.loop-index.yielded (c.in-Some.index, c.in-Some.line))
-          (come_more (seen_procedures c.args.procedures.now) (lines c.args.text.now) (lines_in c.loop-index.yielded) at.others c.in-Some.line.now c.in-Some.index (seen_names c.loop-index.names) (seen_names c.in_ok-names.names) c.loop-index.out.items c.put_numbered_line.new.out.items at.parts at.index_is c.loop-index.invariant.come c.in_ok-names.ensures);
-    }
-
-pub loop-index-preserved-in-Continue-1 : goal.loop-index-preserved-in-Continue-1
-loop-index-preserved-in-Continue-1 c =
-    let road = YieldsList-at c.into_iter-index-iterator.ensures.into_iter_gives (YieldsList-from_enumerate (YieldsList-at c.enumerate-index-items.ensures.source (YieldsList-from_lines c.args.text.now c.lines.ensures.rest)) c.enumerate-index-items.ensures.count) in
-    let t = YieldsList-turn road c.loop-index.yielded _ c.loop-index.yielded_by _ _ (c.in-Some.index, c.in-Some.line) c.in-Some.is c.next.ensures.steps in
-    let at = line_turn (lines c.args.text.now) c.loop-index.yielded c.in-Some.index c.in-Some.line.now (YieldsList-so_far road c.loop-index.yielded _ c.loop-index.yielded_by) t.0 t.1 in
-    let says = blank_says (seen_procedures c.args.procedures.now) (c.in-Some.index + 1) (seen_names c.loop-index.names) c.loop-index.out.items c.put_ended.new.out.items c.in-Some.line.now (sym c.is_plainly_blank.ensures ∙ c.if-is_plainly_blank.true)
-    (c.in_ok-put_ended.ensures ∙ ap (λ (line : List ℕ). c.loop-index.out.items ++ ended line) c.as_bytes.ensures.value) in
-    record {
-      next = search rules;
-      finite = search rules;
-      come = subst (λ (n : ℕ). HasCome (seen_procedures c.args.procedures.now) (lines c.args.text.now) n (seen_names c.loop-index.names) c.put_ended.new.out.items) (one_more_length c.loop-index.yielded (c.in-Some.index, c.in-Some.line))
-          (come_more (seen_procedures c.args.procedures.now) (lines c.args.text.now) (lines_in c.loop-index.yielded) at.others c.in-Some.line.now c.in-Some.index (seen_names c.loop-index.names) (seen_names c.loop-index.names) c.loop-index.out.items c.put_ended.new.out.items at.parts at.index_is c.loop-index.invariant.come says);
-    }
 
 pub returns : goal.returns
 returns c = λ taken are.
@@ -48,3 +14,40 @@ returns c = λ taken are.
     let t = YieldsList-end road c.loop-index.yielded _ c.loop-index.yielded_by _ _ c.in-None.is c.next.ensures.steps in
     let all : lines_in c.loop-index.yielded ≡ lines c.args.text.now = all_lines (lines c.args.text.now) c.loop-index.yielded t.0 in
     come_end (seen_procedures c.args.procedures.now) (lines c.args.text.now) (length (lines_in c.loop-index.yielded)) (seen_names c.loop-index.names) c.loop-index.out.items c.loop-index.invariant.come (ap length all) taken are
+
+pub returns-in_err-names : goal.returns-in_err-names
+returns-in_err-names c = λ all are.
+    let road = YieldsList-at c.into_iter-index-iterator.ensures.into_iter_gives (YieldsList-from_enumerate (YieldsList-at c.enumerate-index-items.ensures.source (YieldsList-from_lines c.args.text.now c.lines.ensures.rest)) c.enumerate-index-items.ensures.count) in
+    let t = YieldsList-turn road c.loop-index.yielded _ c.loop-index.yielded_by _ _ (c.in-Some.index, c.in-Some.line) c.in-Some.is c.next.ensures.steps in
+    let at = line_turn (lines c.args.text.now) c.loop-index.yielded c.in-Some.index c.in-Some.line.now (YieldsList-so_far road c.loop-index.yielded _ c.loop-index.yielded_by) t.0 t.1 in
+    let p = err_from_is_err_and c.from_residual-in_err-names.result c.from_residual-in_err-names.ensures.1 in
+    let same = not_added c.in-Some.line.now c.loop-index.out.items c.put_unchanged.new.out.items c.in_ok-put_unchanged.field-0 c.in_ok-put_unchanged.ensures c.if-not-branch.true in
+    let come = subst (λ (out : List ℕ). HasCome (seen_procedures c.args.procedures.now) (lines c.args.text.now) (length (lines_in c.loop-index.yielded)) (seen_names c.loop-index.names) out) same c.loop-index.invariant.come in
+    rw (p.1, p.2) (stopped (seen_procedures c.args.procedures.now) (lines c.args.text.now) (lines_in c.loop-index.yielded) at.others c.in-Some.line.now c.in-Some.index (seen_names c.loop-index.names) c.put_unchanged.new.out.items c.in_err-names.field-0.0 at.parts at.index_is come c.in_err-names.ensures all are)
+
+pub loop-index-preserved-then-not-branch : goal.loop-index-preserved-then-not-branch
+loop-index-preserved-then-not-branch c =
+    let road = YieldsList-at c.into_iter-index-iterator.ensures.into_iter_gives (YieldsList-from_enumerate (YieldsList-at c.enumerate-index-items.ensures.source (YieldsList-from_lines c.args.text.now c.lines.ensures.rest)) c.enumerate-index-items.ensures.count) in
+    let t = YieldsList-turn road c.loop-index.yielded _ c.loop-index.yielded_by _ _ (c.in-Some.index, c.in-Some.line) c.in-Some.is c.next.ensures.steps in
+    let at = line_turn (lines c.args.text.now) c.loop-index.yielded c.in-Some.index c.in-Some.line.now (YieldsList-so_far road c.loop-index.yielded _ c.loop-index.yielded_by) t.0 t.1 in
+    let same = not_added c.in-Some.line.now c.loop-index.out.items c.put_unchanged.new.out.items c.in_ok-put_unchanged.field-0 c.in_ok-put_unchanged.ensures c.if-not-branch.true in
+    let come = subst (λ (out : List ℕ). HasCome (seen_procedures c.args.procedures.now) (lines c.args.text.now) (length (lines_in c.loop-index.yielded)) (seen_names c.loop-index.names) out) same c.loop-index.invariant.come in
+    record {
+      next = search rules;
+      finite = search rules;
+      come = subst (λ (n : ℕ). HasCome (seen_procedures c.args.procedures.now) (lines c.args.text.now) n (seen_names c.in_ok-names.names) c.put_numbered_line.new.out.items) (one_more_length c.loop-index.yielded (c.in-Some.index, c.in-Some.line))
+          (come_more (seen_procedures c.args.procedures.now) (lines c.args.text.now) (lines_in c.loop-index.yielded) at.others c.in-Some.line.now c.in-Some.index (seen_names c.loop-index.names) (seen_names c.in_ok-names.names) c.put_unchanged.new.out.items c.put_numbered_line.new.out.items at.parts at.index_is come c.in_ok-names.ensures);
+    }
+
+pub loop-index-preserved : goal.loop-index-preserved
+loop-index-preserved c =
+    let road = YieldsList-at c.into_iter-index-iterator.ensures.into_iter_gives (YieldsList-from_enumerate (YieldsList-at c.enumerate-index-items.ensures.source (YieldsList-from_lines c.args.text.now c.lines.ensures.rest)) c.enumerate-index-items.ensures.count) in
+    let t = YieldsList-turn road c.loop-index.yielded _ c.loop-index.yielded_by _ _ (c.in-Some.index, c.in-Some.line) c.in-Some.is c.next.ensures.steps in
+    let at = line_turn (lines c.args.text.now) c.loop-index.yielded c.in-Some.index c.in-Some.line.now (YieldsList-so_far road c.loop-index.yielded _ c.loop-index.yielded_by) t.0 t.1 in
+    let says = added_says (seen_procedures c.args.procedures.now) (c.in-Some.index + 1) (seen_names c.loop-index.names) c.in-Some.line.now c.loop-index.out.items c.put_unchanged.new.out.items c.in_ok-put_unchanged.field-0 c.in_ok-put_unchanged.ensures c.if-not-branch.false in
+    record {
+      next = search rules;
+      finite = search rules;
+      come = subst (λ (n : ℕ). HasCome (seen_procedures c.args.procedures.now) (lines c.args.text.now) n (seen_names c.loop-index.names) c.put_unchanged.new.out.items) (one_more_length c.loop-index.yielded (c.in-Some.index, c.in-Some.line))
+          (come_more (seen_procedures c.args.procedures.now) (lines c.args.text.now) (lines_in c.loop-index.yielded) at.others c.in-Some.line.now c.in-Some.index (seen_names c.loop-index.names) (seen_names c.loop-index.names) c.loop-index.out.items c.put_unchanged.new.out.items at.parts at.index_is c.loop-index.invariant.come says);
+    }
