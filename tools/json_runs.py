@@ -1,36 +1,41 @@
 #!/usr/bin/env python3
 # SPDX-License-Identifier: Apache-2.0
-"""Compares `tw run --json` with the report of the same run, for all cases of `tw run` and all examples without inputs.
+"""Compares `--json` of each command with what the command prints without it, for all cases, all examples and all codes.
 
     tools/json_runs.py [PROGRAM]    by default the program that is built here, else the release's
 
-The object has to agree with the report's lines and to fit docs/run.schema.json (checked if the module jsonschema is there). Prints how
-many runs were compared, and what differs.
+Each object has to agree with the printed lines, and to fit docs/COMMAND.schema.json (checked if the module jsonschema is there). Prints
+how many were compared of each command, and what differs.
 """
 
 from __future__ import annotations
 
-import importlib
+import collections
 import json
 import re
 import subprocess
 import sys
-from collections.abc import Iterator
+from collections.abc import Callable, Iterator
 from dataclasses import dataclass
 from pathlib import Path
 from typing import Any
 
-ROOT = Path(__file__).resolve().parent.parent
-SCHEMA = ROOT / "docs" / "run.schema.json"
+sys.path.insert(0, str(Path(__file__).resolve().parent))
+from json_cases import COMMANDS, ROOT, UNCHECKED, faults, validators  # noqa: E402
+
 # Options whose output replaces or extends the report, or which make no run.
-OTHER_OUTPUT = {"--trace", "--stats", "--picture", "--json", "--from", "--to", "--help"}
+OTHER_OUTPUT = {"--trace", "--stats", "--picture", "--json", "--from", "--to", "--help", "--each"}
+# The exit statuses with which `--json` prints an object: not those of rejected arguments, and when memory runs out.
+OBJECT_STATUSES = (0, 1, 3, 4, 6)
+BOUND_KINDS = ("tasks", "instructions", "data", "members", "rules", "bytes", "events")
 
 
 @dataclass(frozen=True)
-class Run:
-    """A run: its name, the options, and what it reads."""
+class Session:
+    """A session: its name, the command, the options, and what it reads."""
 
     name: str
+    command: str
     options: tuple[str, ...]
     given: bytes
 
@@ -66,7 +71,7 @@ def output_of(words: str) -> tuple[str, Any]:
 
 
 def report_object(report: str) -> dict[str, Any]:
-    """Returns what the object of a run has to say, by its report."""
+    """Returns what the object of a run or of a state has to say, by its report."""
     kinds: list[str] = []
     outputs: list[Any] = []
     found: dict[str, Any] = {"kinds": kinds, "outputs": outputs}
@@ -78,7 +83,7 @@ def report_object(report: str) -> dict[str, Any]:
         elif member := re.fullmatch(r'  at ("(?:[^"\\]|\\.)*"|-?\d+) (.*)', line):
             key = quoted_text(member[1]) if member[1].startswith('"') else member[1]
             outputs[-1][key] = scalar(member[2])
-        elif line in ("quiet", "limit"):
+        elif line in ("quiet", "limit", "running"):
             found["status"] = line
         elif line.startswith("stuck "):
             found |= {"status": "stuck", "pending": int(line.split()[1])}
@@ -87,21 +92,107 @@ def report_object(report: str) -> dict[str, Any]:
     return found
 
 
-def differences(report: bytes, line: bytes, status: tuple[int, int]) -> Iterator[str]:
-    """Yields how the object of a run differs from its report."""
-    if status[0] != status[1]:
-        yield f"status {status[0]} by the report, {status[1]} by JSON"
-    if line.count(b"\n") != 1 or not line.endswith(b"\n"):
-        yield "not one line"
-    got = json.loads(line)
-    if status[0] == 1:
-        expected: dict[str, Any] = {"status": "refused", "error": report.decode(errors="replace").splitlines()}
+def bound(word: str) -> int | str:
+    """Returns a bound as JSON has it."""
+    return int(word) if word.isdigit() else word
+
+
+def bounds_of(words: list[str]) -> dict[str, int | str]:
+    """Returns the bounds in words such as `tasks 4 instructions 24`."""
+    return {kind: bound(value) for kind, value in zip(words[::2], words[1::2])}
+
+
+def put_check_line(found: dict[str, Any], line: str) -> None:
+    """Adds what a line after `accepted` says."""
+    words = line.split()
+    if procedure := re.fullmatch(r"proc (\d+) (control|leaf) budget (\d+)(?: \((\w+)\))?", line):
+        found["procedures"].append({"procedure": int(procedure[1]), "kind": procedure[2], "budget": int(procedure[3])})
+        if procedure[4]:
+            found["procedures"][-1]["name"] = procedure[4]
+    elif words[0] == "needs":
+        found["needs"] = {"engines": int(words[2]), "workers": int(words[4])}
+    elif circle := re.fullmatch(r"bound none: procedure (\d+) at place (\d+) leads back to itself", line):
+        found["circle"] = {"procedure": int(circle[1]), "place": int(circle[2])}
+    elif words[0] == "bounds":
+        found["procedures"][int(words[1])]["bounds"] = bounds_of(words[2:16])
+        if words[1] == "0":
+            found["bounds"] = bounds_of(words[2:16])
+    elif words[0] in ("bound", "limited"):
+        found.setdefault("bounds" if words[0] == "bound" else "limited", {})[words[1]] = bound(words[2])
+
+
+def check_object(options: tuple[str, ...], text: str) -> dict[str, Any]:
+    """Returns what the object of an accepted program has to say, by the lines of its check."""
+    lines = text.splitlines()
+    first = lines.index("accepted")
+    found: dict[str, Any] = {"status": "accepted", "procedures": []}
+    if "--places" in options:
+        found["listing"] = lines[:first]
+    for line in lines[first + 1 :]:
+        put_check_line(found, line)
+    if "circle" in found:
+        found.setdefault("bounds", dict.fromkeys(BOUND_KINDS, "none"))
+    return found
+
+
+def asm_object(options: tuple[str, ...], text: str) -> dict[str, Any]:
+    """Returns what the object of an assembled text has to say."""
+    if "--plain" in options:
+        return {"status": "assembled", "text": text}
+    return {"status": "assembled", "bytes": text.removesuffix("\n")}
+
+
+def disasm_object(options: tuple[str, ...], text: str) -> dict[str, Any]:
+    """Returns what the object of a disassembled program has to say."""
+    if "--places" in options:
+        return {"status": "disassembled", "listing": text.splitlines()}
+    return {"status": "disassembled", "text": text}
+
+
+def explain_object(options: tuple[str, ...], text: str) -> dict[str, Any]:
+    """Returns what the object of an explanation has to say."""
+    found = {"status": "explained", "text": text}
+    return found | ({"code": text.split(":")[0]} if options else {})
+
+
+# Makes the object of each command of the options and what is printed.
+OBJECTS: dict[str, Callable[[tuple[str, ...], str], dict[str, Any]]] = {
+    "run": lambda _options, text: report_object(text),
+    "replay": lambda _options, text: report_object(text),
+    "check": check_object,
+    "asm": asm_object,
+    "disasm": disasm_object,
+    "explain": explain_object,
+}
+
+
+def error_object(session: Session, status: int, text: bytes) -> dict[str, Any]:
+    """Returns what the object of an error has to say."""
+    lines = text.decode(errors="replace").split("\n")[:-1]
+    if session.command == "check" and "--places" in session.options:
+        first = next(number for number, line in enumerate(lines) if line.startswith("refused "))
+        return {"status": "refused", "listing": lines[:first], "error": lines[first:]}
+    return {"status": "trap" if status == 6 else "refused", "error": lines}
+
+
+def without_names(found: dict[str, Any]) -> dict[str, Any]:
+    """Returns an object of a check without the names, which are printed with --places alone."""
+    procedures = [{key: value for key, value in one.items() if key != "name"} for one in found.get("procedures", [])]
+    return found | ({"procedures": procedures} if procedures else {})
+
+
+def differences(session: Session, status: int, text: bytes, got: dict[str, Any]) -> Iterator[str]:
+    """Yields how an object differs from what is printed."""
+    if status in (1, 6):
+        expected = error_object(session, status, text)
     else:
-        expected = report_object(report.decode())
-        got = {key: value for key, value in got.items() if key not in ("events", "instructions")}
+        expected = OBJECTS[session.command](session.options, text.decode())
+        got = {key: value for key, value in got.items() if session.command not in ("run", "replay") or key not in ("events", "instructions")}
+    if session.command == "check" and "--places" not in session.options:
+        expected, got = without_names(expected), without_names(got)
     for key in sorted(expected.keys() | got.keys()):
         if expected.get(key) != got.get(key):
-            yield f"{key}: {expected.get(key)!r} in the report, {got.get(key)!r} in JSON"
+            yield f"{key}: {expected.get(key)!r} is printed, {got.get(key)!r} in JSON"
 
 
 def lets_of_cases(lines: list[str]) -> dict[str, str]:
@@ -110,69 +201,90 @@ def lets_of_cases(lines: list[str]) -> dict[str, str]:
     return {let[1]: let[2] for let in found if let}
 
 
+def input_text(given: str) -> bytes:
+    """Returns the bytes of an input with escapes."""
+    signs = {b"t": b"\t", b"r": b"\r", b"n": b"\n"}
+    return re.sub(rb"\\(x[0-9a-f]{2}|[trn])", lambda match: signs.get(match[1]) or bytes([int(match[1][1:], 16)]), given.encode())
+
+
 def program_of(given: str, lets: dict[str, str]) -> tuple[tuple[str, ...], bytes]:
-    """Returns the option by which a case's program is read, and the program: hex text, or assembly text whose lines are parted by ` / `."""
-    text = re.sub(r"@(\w+)", lambda match: lets[match[1]], given.removeprefix("hex "))
+    """Returns the option by which a case's program is read, and the program and its trace."""
+    if not given.startswith("hex "):
+        return (), input_text(given)
+    program, _, events = given.removeprefix("hex ").partition(" events ")
+    text = re.sub(r"@(\w+)", lambda match: lets.get(match[1], ""), program)
+    trace = "\nevents\n" + events.replace(", ", "\n") if events else ""
     if re.fullmatch(r"[0-9a-f ]*", text):
-        return (), text.replace(" ", "").encode()
-    return ("--text",), text.replace(" / ", "\n").encode()
+        return (), (text.replace(" ", "") + trace).encode()
+    return ("--text",), (text.replace(" / ", "\n") + trace).encode()
 
 
-def runs_of_cases() -> Iterator[Run]:
-    """Yields the runs of the cases, with the options that a report may have."""
+def sessions_of_cases() -> Iterator[Session]:
+    """Yields the sessions of the cases, with the options that a report may have."""
     lines = (ROOT / "crates" / "tw_cases" / "stdin").read_text().splitlines()
     lets = lets_of_cases(lines)
     for line in lines:
         parts = line.split(" | ")
         words = parts[1].split(" ") if len(parts) == 4 else []
-        if words[:2] == ["tw", "run"] and not OTHER_OUTPUT & set(words) and '"' not in parts[1]:
+        if words[:1] == ["tw"] and len(words) > 1 and words[1] in COMMANDS and not OTHER_OUTPUT & set(words) and '"' not in parts[1]:
             reading, program = program_of(parts[2], lets)
-            yield Run(parts[0], (*reading, *words[2:]), program)
+            yield Session(parts[0], words[1], (*(() if words[1] in ("asm", "explain") else reading), *words[2:]), program)
 
 
-def runs_of_examples() -> Iterator[Run]:
-    """Yields the runs of the examples."""
-    for path in sorted((ROOT / "examples").glob("*.tw")):
-        yield Run(path.name, ("--text",), path.read_bytes())
+def sessions_of_examples() -> Iterator[Session]:
+    """Yields sessions of the examples: a run of those without names, all checks and both assemblers."""
+    for path in sorted([*(ROOT / "examples").glob("*.tw"), *(ROOT / "examples").glob("*.twn")]):
+        text = path.read_bytes()
+        if path.suffix == ".tw":
+            yield Session(path.name, "run", ("--text",), text)
+        for options in ((), ("--places",), ("--bounds", "--limit", "9"), ("--bounds=all",)):
+            yield Session(path.name, "check", ("--text", *options), text)
+        for options in ((), ("--places",)):
+            yield Session(path.name, "disasm", ("--text", *options), text)
+        for options in (("--names",), ("--plain",)):
+            yield Session(path.name, "asm", options, text)
 
 
-def validator() -> Any:
-    """Returns what checks an object against the schema, or None if the module isn't there."""
-    try:
-        module = importlib.import_module("jsonschema")
-    except ImportError:
-        return None
-    return module.Draft202012Validator(json.loads(SCHEMA.read_text()))
+def sessions_of_codes(program: str) -> Iterator[Session]:
+    """Yields the explanation of each code, and of all."""
+    listed = subprocess.run([program, "explain"], capture_output=True, text=True, check=True).stdout
+    for code in ("", *re.findall(r"^\w+", listed, re.MULTILINE)):
+        yield Session(f"explain {code}", "explain", (code,) if code else (), b"")
 
 
-def made(program: str, run: Run, *more: str) -> subprocess.CompletedProcess[bytes]:
-    """Runs the program in turn, so that two runs are the same."""
-    options = [word for word in run.options if word != "--in-turn"]
-    return subprocess.run([program, "run", "--in-turn", *more, *options], input=run.given, capture_output=True, timeout=120, check=False)
+def made(program: str, session: Session, *more: str) -> subprocess.CompletedProcess[bytes]:
+    """Runs the program; a run is in turn, so that two runs are the same."""
+    options = [word for word in session.options if word != "--in-turn"]
+    turns = ["--in-turn"] if session.command == "run" else []
+    return subprocess.run([program, session.command, *turns, *more, *options], input=session.given, capture_output=True, timeout=120, check=False)
 
 
-def faults_of(program: str, run: Run, schema: Any) -> list[str]:
-    """Returns what is wrong with the JSON of a run; nothing for rejected arguments."""
-    report, line = made(program, run), made(program, run, "--json")
-    if report.returncode not in (0, 1, 3, 4):
+def faults_of(program: str, session: Session, schemas: dict[str, Any]) -> list[str]:
+    """Returns what is wrong with the JSON of a session."""
+    plain, line = made(program, session), made(program, session, "--json")
+    if plain.returncode != line.returncode:
+        return [f"status {plain.returncode} without JSON, {line.returncode} with it"]
+    if plain.returncode not in OBJECT_STATUSES:
         return []
-    faults = list(differences(report.stdout, line.stdout, (report.returncode, line.returncode)))
-    if schema is not None:
-        faults += [error.message for error in schema.iter_errors(json.loads(line.stdout))]
-    return faults
+    if line.stdout.count(b"\n") != 1 or not line.stdout.endswith(b"\n"):
+        return ["not one line"]
+    got = json.loads(line.stdout)
+    differ = list(differences(session, plain.returncode, plain.stdout, got))
+    return differ + faults(schemas, session.command, got) if schemas else differ
 
 
 def main(words: list[str]) -> int:
-    """Compares all runs, and returns 1 if one differs."""
+    """Compares all sessions, and returns 1 if one differs."""
     program = words[0] if words else subprocess.check_output([ROOT / "tools" / "tw-pick.sh", "tw_main"], text=True).strip()
-    schema = validator()
-    failed = count = 0
-    for run in [*runs_of_cases(), *runs_of_examples()]:
-        count += 1
-        for fault in faults_of(program, run, schema):
+    schemas = validators()
+    failed, counts = 0, collections.Counter[str]()
+    for session in [*sessions_of_cases(), *sessions_of_examples(), *sessions_of_codes(program)]:
+        counts[session.command] += 1
+        for fault in faults_of(program, session, schemas):
             failed += 1
-            print(f"{run.name}: {fault}")
-    print(f"{count} runs compared, {failed} differences{'' if schema else '; the schema is unchecked, since jsonschema is not installed'}")
+            print(f"{session.name}: {session.command}: {fault}")
+    compared = ", ".join(f"{counts[command]} of {command}" for command in COMMANDS)
+    print(f"{compared} compared, {failed} differences{'' if schemas else UNCHECKED}")
     return 1 if failed else 0
 
 

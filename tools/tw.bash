@@ -13,13 +13,13 @@ _tw() {
         install:-*) COMPREPLY=($(compgen -W "--uninstall" -- "$word")) ;;
         install:*) COMPREPLY=($(compgen -d -- "$word")) ;;
         package:*) COMPREPLY=($(compgen -W "deb wheel crate tar" -- "$word")) ;;
-        asm:-*) COMPREPLY=($(compgen -W "--names --plain --help" -- "$word")) ;;
-        disasm:-*) COMPREPLY=($(compgen -W "--text --places --help" -- "$word")) ;;
-        check:-*) COMPREPLY=($(compgen -W "--text --places --bounds --limit --most-tasks --most-instructions --most-data --most-budget --help" -- "$word")) ;;
-        run:-*) COMPREPLY=($(compgen -W "--engines --servers --workers --limit --from --to --trace --stats --json --picture --most-tasks --most-instructions --most-data --most-budget --in-turn --quiet --text --inputs --help" -- "$word")) ;;
-        replay:-*) COMPREPLY=($(compgen -W "--engines --servers --workers --stats --text --inputs --help" -- "$word")) ;;
+        asm:-*) COMPREPLY=($(compgen -W "--names --plain --json --help" -- "$word")) ;;
+        disasm:-*) COMPREPLY=($(compgen -W "--text --places --json --help" -- "$word")) ;;
+        check:-*) COMPREPLY=($(compgen -W "--text --places --json --bounds --limit --most-tasks --most-instructions --most-data --most-bytes --most-budget --help" -- "$word")) ;;
+        run:-*) COMPREPLY=($(compgen -W "--engines --servers --workers --limit --from --to --jobs --trace --stats --json --each --picture --most-tasks --most-instructions --most-data --most-bytes --most-budget --in-turn --quiet --text --inputs --help" -- "$word")) ;;
+        replay:-*) COMPREPLY=($(compgen -W "--engines --servers --workers --stats --json --text --inputs --help" -- "$word")) ;;
         picture:-*) COMPREPLY=($(compgen -W "--engines --servers --workers --from --to --text --inputs --help" -- "$word")) ;;
-        explain:-*) COMPREPLY=($(compgen -W "--help" -- "$word")) ;;
+        explain:-*) COMPREPLY=($(compgen -W "--json --help" -- "$word")) ;;
         run:* | replay:* | picture:*) COMPREPLY=($(compgen -W "int: ints: text: texts: tints: ttexts:" -- "$word") $(compgen -f -- "$word")) ;;
         asm:* | check:* | disasm:*) COMPREPLY=($(compgen -f -- "$word")) ;;
     esac

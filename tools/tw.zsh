@@ -13,13 +13,13 @@ case $words[2]:$PREFIX in
     install:-*) compadd -- --uninstall ;;
     install:*) _files -/ ;;
     package:*) compadd -- deb wheel crate tar ;;
-    asm:-*) compadd -- --names --plain --help ;;
-    disasm:-*) compadd -- --text --places --help ;;
-    check:-*) compadd -- --text --places --bounds --limit --most-tasks --most-instructions --most-data --most-budget --help ;;
-    run:-*) compadd -- --engines --servers --workers --limit --from --to --trace --stats --json --picture --most-tasks --most-instructions --most-data --most-budget --in-turn --quiet --text --inputs --help ;;
-    replay:-*) compadd -- --engines --servers --workers --stats --text --inputs --help ;;
+    asm:-*) compadd -- --names --plain --json --help ;;
+    disasm:-*) compadd -- --text --places --json --help ;;
+    check:-*) compadd -- --text --places --json --bounds --limit --most-tasks --most-instructions --most-data --most-bytes --most-budget --help ;;
+    run:-*) compadd -- --engines --servers --workers --limit --from --to --jobs --trace --stats --json --each --picture --most-tasks --most-instructions --most-data --most-bytes --most-budget --in-turn --quiet --text --inputs --help ;;
+    replay:-*) compadd -- --engines --servers --workers --stats --json --text --inputs --help ;;
     picture:-*) compadd -- --engines --servers --workers --from --to --text --inputs --help ;;
-    explain:-*) compadd -- --help ;;
+    explain:-*) compadd -- --json --help ;;
     run:* | replay:* | picture:*) compadd -S '' -- int: ints: text: texts: tints: ttexts:; _files ;;
     asm:* | check:* | disasm:*) _files ;;
 esac

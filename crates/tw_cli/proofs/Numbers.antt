@@ -37,9 +37,9 @@ both_had name rows (Some x) n r a b =
 
 -- ---- the explanation of an argument after `explain`
 
-pub explained_word : {V E : Type 0} (items : V → List ℕ) (word : Text) (r : Result (Option V) E) → (length word == 0) ≡ false
-    → IfOk r (λ requested. MatchOption requested (is_number (meant word) ≡ false) (λ text. (is_number (meant word) ≡ true) × IsExplanation (meant word) (items text)))
-    → IfOk r (λ requested. MatchOption requested (number_faults word ≡ ValueValidation ∷ []) (λ text. (number_faults word ≡ []) × IsMeaningOf word (items text)))
-explained_word items word (Ok None) some h = rw (some, h) refl
-explained_word items word (Ok (Some text)) some h = (rw (some, h.0) refl, subst (λ (b : Bool). IsExplainedBy b word (items text)) (sym some) h.1)
-explained_word items word (Err e) some h = tt
+pub explained_word : {V E : Type 0} (Formed : V → Type 0) (code text : V → List ℕ) (word : Text) (r : Result (Option V) E) → (length word == 0) ≡ false
+    → IfOk r (λ requested. MatchOption requested (is_number (meant word) ≡ false) (λ e. (is_number (meant word) ≡ true) × Formed e × (code e ≡ meant word) × IsExplanation (meant word) (text e)))
+    → IfOk r (λ requested. MatchOption requested (number_faults word ≡ ValueValidation ∷ []) (λ e. (number_faults word ≡ []) × Formed e × IsMeaningOf word (code e) (text e)))
+explained_word Formed code text word (Ok None) some h = rw (some, h) refl
+explained_word Formed code text word (Ok (Some e)) some h = (rw (some, h.0) refl, h.1, subst (λ (b : Bool). IsExplainedBy b word (code e) (text e)) (sym some) (h.2, h.3))
+explained_word Formed code text word (Err e) some h = tt

@@ -12,7 +12,7 @@ use Rattle.std.proofs.lemmas.Bool.{leb-true, le-leb, ltb-true, lt-ltb}
 use Rattle.std.proofs.lemmas.List.Folds.{list_all_at}
 use Rattle.std.proofs.lemmas.Slice.Eq.{bytes_eq-Decides}
 use Rattle.clap.specs.ValueTests.{is_numeral}
-use Rattle.clap.specs.Words.{Kinds, ReadsOne, Row, Text, first_value, rows_of}
+use Rattle.clap.specs.Words.{Kinds, ReadsOne, Row, Text, first_of, first_value, rows_of}
 use Rattle.clap.specs.declared.parser.matches.Found.{Found}
 use Rattle.clap.specs.Kinds.{or_else}
 use Rattle.clap.specs.Walk.{is_empty}
@@ -23,9 +23,9 @@ use Rattle.tw_lexer.specs.Number.{IsRead, SpellsDigits}
 use Rattle.tw_lexer.specs.declared.numbers.TokenError.{TokenError}
 use Rattle.tw_lexer.specs.declared.numbers.TokenError.TheVariants.{Form, Limit}
 use Rattle.tw_types.specs.Layout.{ActorCounts}
-use Rattle.tw_cli.specs.Options.{HasActors, HasCaps, HasStretch, bounds_faults, cap_options, check_options, given_bounds, given_check, given_places, named_limit, NumberOption, actor_options, engines, first_shown, inputs, is_given, last_shown, limit, number_in, number_of, number_options, option_faults, servers, stretch_options, workers}
+use Rattle.tw_cli.specs.Options.{HasActors, HasCaps, HasStretch, bounds_faults, cap_options, check_options, each, given_bounds, given_check, given_form, given_places, named_limit, NumberOption, actor_options, engines, first_shown, inputs, is_given, jobs, last_shown, limit, number_in, number_of, number_options, option_faults, servers, stretch_options, workers}
 use Rattle.tw_cli.specs.Order.{HasReason, IsRequest}
-use Rattle.tw_cli.specs.CommandLine.{Asked, check_faults, drawing_faults, given_words, input_faults, picture_faults, replay_faults, run_faults, stretch_faults}
+use Rattle.tw_cli.specs.CommandLine.{Asked, check_faults, drawing_faults, each_excludes, given_faults, given_words, input_faults, is_json_with_more, picture_faults, replay_faults, report_faults, run_faults, stretch_faults}
 use Rattle.tw_cli.specs.declared.command.NoOrder.TheVariants.{Refused}
 use Rattle.tw_cli.specs.declared.caps.Caps.{Caps}
 use Rattle.tw_cli.specs.declared.checks.BoundsOf.{BoundsOf}
@@ -148,13 +148,13 @@ numbers_fit : (rows : List Row) (layout : ActorCounts) (most : ℕ) (s : EventRa
 numbers_fit rows layout most s actors is shown = rw (actors.0, actors.1, actors.2, sym is, shown.0, shown.1) refl
 
 pub caps_fit : (rows : List Row) (caps : Caps) → HasCaps rows caps → option_faults cap_options rows ≡ []
-caps_fit rows caps capped = rw (capped.0, capped.1, capped.2, capped.3) refl
+caps_fit rows caps capped = rw (capped.0, capped.1, capped.2, capped.3, capped.4) refl
 
 -- a wrong cap is wrong with `run`, if the other options are right
 pub caps_refused : (rows : List Row) (layout : ActorCounts) (most : ℕ) (s : EventRange) → HasActors rows layout → Some most ≡ number_of limit rows → HasStretch rows s → option_faults cap_options rows ≡ ValueValidation ∷ [] → run_faults rows ≡ ValueValidation ∷ []
 caps_refused rows layout most s actors is shown wrong =
-    ap (λ (k : Kinds). or_else k (or_else (option_faults cap_options rows) (or_else (picture_faults rows) (input_faults rows)))) (numbers_fit rows layout most s actors is shown)
-    ∙ ap (λ (k : Kinds). or_else k (or_else (picture_faults rows) (input_faults rows))) wrong
+    ap (λ (k : Kinds). or_else k (or_else (option_faults cap_options rows) (or_else (picture_faults rows) (given_faults rows)))) (numbers_fit rows layout most s actors is shown)
+    ∙ ap (λ (k : Kinds). or_else k (or_else (picture_faults rows) (given_faults rows))) wrong
 
 -- ---- the options of `check`
 
@@ -167,15 +167,15 @@ no_check_caps rows most is e =
     ap (λ (k : Kinds). or_else k (bounds_faults rows)) (same ∙ e)
 
 check_fits : (rows : List Row) (most : ℕ) (caps : Caps) → Some most ≡ number_of limit rows → HasCaps rows caps → option_faults check_options rows ≡ []
-check_fits rows most caps is capped = rw (sym is, capped.0, capped.1, capped.2, capped.3) refl
+check_fits rows most caps is capped = rw (sym is, capped.0, capped.1, capped.2, capped.3, capped.4) refl
 
 -- the rest is whose bounds are printed
 pub only_bounds : (rows : List Row) (most : ℕ) (caps : Caps) → Some most ≡ number_of limit rows → HasCaps rows caps → check_faults rows ≡ bounds_faults rows
 only_bounds rows most caps is capped = ap (λ (k : Kinds). or_else k (bounds_faults rows)) (check_fits rows most caps is capped)
 
 pub given_check_is : (rows : List Row) (most : ℕ) (caps : Caps) (whose : BoundsOf) → HasCaps rows caps → Some whose ≡ given_bounds rows
-    → record { places = given_places rows; bounds = whose; limit = named_limit rows; caps = caps } ≡ given_check rows
-given_check_is rows most caps whose capped is = rw (sym is, capped.0, capped.1, capped.2, capped.3) refl
+    → record { places = given_places rows; bounds = whose; limit = named_limit rows; caps = caps; form = given_form rows } ≡ given_check rows
+given_check_is rows most caps whose capped is = rw (sym is, capped.0, capped.1, capped.2, capped.3, capped.4) refl
 
 pub wrong_bounds : (rows : List Row) → None ≡ given_bounds rows → bounds_faults rows ≡ ValueValidation ∷ []
 wrong_bounds rows e = ap (λ (o : Option BoundsOf). cond (is_some o) [] (ValueValidation ∷ [])) (sym e)
@@ -187,9 +187,9 @@ right_bounds rows whose e = ap (λ (o : Option BoundsOf). cond (is_some o) [] (V
 pub picture_refused : (rows : List Row) (layout : ActorCounts) (most : ℕ) (s : EventRange) (caps : Caps) → HasActors rows layout → Some most ≡ number_of limit rows → HasStretch rows s → HasCaps rows caps → picture_faults rows ≡ ArgumentConflict ∷ []
     → run_faults rows ≡ ArgumentConflict ∷ []
 picture_refused rows layout most s caps actors is shown capped refused =
-    ap (λ (k : Kinds). or_else k (or_else (option_faults cap_options rows) (or_else (picture_faults rows) (input_faults rows)))) (numbers_fit rows layout most s actors is shown)
-    ∙ ap (λ (k : Kinds). or_else k (or_else (picture_faults rows) (input_faults rows))) (caps_fit rows caps capped)
-    ∙ ap (λ (k : Kinds). or_else k (input_faults rows)) refused
+    ap (λ (k : Kinds). or_else k (or_else (option_faults cap_options rows) (or_else (picture_faults rows) (given_faults rows)))) (numbers_fit rows layout most s actors is shown)
+    ∙ ap (λ (k : Kinds). or_else k (or_else (picture_faults rows) (given_faults rows))) (caps_fit rows caps capped)
+    ∙ ap (λ (k : Kinds). or_else k (given_faults rows)) refused
 
 -- it is wrong with `picture` too
 pub unnumbered_refused : (rows : List Row) → option_faults stretch_options rows ≡ ValueValidation ∷ [] → drawing_faults rows ≡ ValueValidation ∷ []
@@ -206,12 +206,34 @@ backward_refused rows s shown refused =
 pub both_refused : (rows : List Row) (asked : Asked) → is_given inputs rows ≡ true → not (is_empty (given_words rows)) ≡ true → HasReason (input_faults rows) asked Refused
 both_refused rows asked read given = has_conflict (input_faults rows) asked (rw (read, given) refl)
 
+-- what `--each` excludes is a fault of `run`
+pub each_refused : (rows : List Row) → option_faults number_options rows ≡ [] → option_faults cap_options rows ≡ [] → picture_faults rows ≡ [] → is_given each rows ≡ true → each_excludes rows ≡ true
+    → run_faults rows ≡ ArgumentConflict ∷ []
+each_refused rows numbers capped pictures given excluded = rw (numbers, capped, pictures, given, excluded) refl
+
+-- a wrong number of threads is one too
+pub jobs_refused : (rows : List Row) → option_faults number_options rows ≡ [] → option_faults cap_options rows ≡ [] → picture_faults rows ≡ [] → is_given each rows ≡ true → each_excludes rows ≡ false → number_of jobs rows ≡ None
+    → run_faults rows ≡ ValueValidation ∷ []
+jobs_refused rows numbers capped pictures given alone wrong = rw (numbers, capped, pictures, given, alone, wrong) refl
+
+-- threads without `--each` are a fault of `run`
+pub jobs_alone_refused : (rows : List Row) → option_faults number_options rows ≡ [] → option_faults cap_options rows ≡ [] → picture_faults rows ≡ [] → is_given each rows ≡ false → is_some (first_of jobs.name rows) ≡ true
+    → run_faults rows ≡ ArgumentConflict ∷ []
+jobs_alone_refused rows numbers capped pictures single named = rw (numbers, capped, pictures, single, named) refl
+
 -- a fault of an option is a fault of the command; without one, a fault of the inputs is
 pub run_refused : (rows : List Row) → option_faults number_options rows ≡ ValueValidation ∷ [] → run_faults rows ≡ ValueValidation ∷ []
-run_refused rows e = ap (λ (k : Kinds). or_else k (or_else (option_faults cap_options rows) (or_else (picture_faults rows) (input_faults rows)))) e
+run_refused rows e = ap (λ (k : Kinds). or_else k (or_else (option_faults cap_options rows) (or_else (picture_faults rows) (given_faults rows)))) e
 
 pub replay_refused : (rows : List Row) → option_faults actor_options rows ≡ ValueValidation ∷ [] → replay_faults rows ≡ ValueValidation ∷ []
 replay_refused rows e = ap (λ (k : Kinds). or_else k (input_faults rows)) e
+
+-- a JSON line that isn't alone is a fault of `replay`; without one, a fault of the trace and the inputs is
+pub report_conflict : (rows : List Row) → is_json_with_more rows ≡ true → report_faults rows ≡ ArgumentConflict ∷ []
+report_conflict rows e = ap (λ (b : Bool). or_else (cond b (ArgumentConflict ∷ []) []) (replay_faults rows)) e
+
+pub report_alone : (rows : List Row) → is_json_with_more rows ≡ false → report_faults rows ≡ replay_faults rows
+report_alone rows e = ap (λ (b : Bool). or_else (cond b (ArgumentConflict ∷ []) []) (replay_faults rows)) e
 
 -- ---- a flag
 

@@ -8,20 +8,19 @@ use Rattle.clap.specs.declared.error.ErrorKind.TheVariants.{ArgumentConflict}
 use Rattle.tw_types.specs.declared.input.Input.{Input}
 use Rattle.tw_types.specs.Layout.{ActorCounts}
 use Rattle.tw_cli.specs.InputWords.{AreSpelled, IsRefusedWord, RefusedWord}
-use Rattle.tw_cli.specs.Options.{NumberOption, actor_options, given_actors, given_assembling, first_shown, flag_rule, in_turn, inputs, bounds_rule, bounds_faults, cap_options, check_options, given_caps, given_check, checking, is_given, json, last_shown, limit, names, number_options, option_faults, option_rule, picture, picture_options, places, given_places, plain, quiet, given_source, stats, stretch_options, given_range, text, requested, trace}
+use Rattle.tw_cli.specs.Options.{NumberOption, actor_options, ExplainOrder, explaining, given_actors, given_assembly, given_disassembly, given_form, each, first_shown, flag_rule, in_turn, inputs, bounds_rule, bounds_faults, cap_options, check_options, given_caps, given_check, checking, is_given, jobs, json, last_shown, limit, names, number_options, option_faults, option_rule, picture, picture_options, places, plain, quiet, given_source, stats, stretch_options, given_range, text, requested, trace}
 use Rattle.tw_cli.specs.Explanations.{IsMeaningOf, number_faults, number_rule, number_word}
 use Rattle.tw_cli.specs.declared.command.Answer.{Answer}
-use Rattle.tw_cli.specs.declared.command.Answer.TheVariants.{Numbers, Picture, Report}
+use Rattle.tw_cli.specs.declared.command.Answer.TheVariants.{Json, Numbers, Picture, Report}
 use Rattle.tw_cli.specs.declared.command.RunAnswer.{RunAnswer}
 use Rattle.tw_cli.specs.declared.command.RunAnswer.TheVariants as written
 use Rattle.tw_cli.specs.declared.command.Order.{Order}
-use Rattle.tw_cli.specs.declared.command.Assembling.{Assembling}
 use Rattle.tw_cli.specs.declared.command.InputsOrder.TheVariants.{ToReplay, ToRun}
-use Rattle.tw_cli.specs.declared.command.Order.TheVariants.{Assemble, Inputs, Program, Replay}
+use Rattle.tw_cli.specs.declared.command.Order.TheVariants.{Assemble, Each, Inputs, Program, Replay}
 use Rattle.tw_cli.specs.declared.caps.Caps.{Caps}
 use Rattle.tw_cli.specs.declared.checks.BoundsOf.TheVariants.{NoBounds}
 use Rattle.tw_cli.specs.declared.checks.CheckOrder.{CheckOrder}
-use Rattle.tw_cli.specs.declared.command.Places.{Places}
+use Rattle.tw_cli.specs.declared.command.EachOrder.{EachOrder}
 use Rattle.tw_cli.specs.declared.command.Places.TheVariants.{Hidden}
 use Rattle.tw_cli.specs.declared.command.ProgramOrder.TheVariants.{Disassemble, Verified}
 use Rattle.tw_cli.specs.declared.command.VerifiedOrder.TheVariants.{Check, Run}
@@ -30,6 +29,9 @@ use Rattle.tw_cli.specs.declared.command.ReplayOrder.{ReplayOrder}
 use Rattle.tw_cli.specs.declared.command.RunOptions.{RunOptions}
 use Rattle.tw_cli.specs.declared.command.RunOrder.{RunOrder}
 use Rattle.tw_cli.specs.declared.command.Source.{Source}
+use Rattle.tw_cli.specs.declared.form.AssembleOrder.{AssembleOrder}
+use Rattle.tw_cli.specs.declared.form.DisassembleOrder.{DisassembleOrder}
+use Rattle.tw_cli.specs.declared.form.Explained.{Explained}
 use Rattle.tw_cli.specs.declared.command.Source.TheVariants.{Hex}
 
 -- returns a command without options
@@ -40,20 +42,24 @@ plain_line name = new_app name
 abbrev pub capped_line : App → App
 capped_line line = fold with_rule line (map (λ o. option_rule o.name) cap_options)
 
+-- adds flags to a command
+abbrev pub flags_line : App → List Text → App
+flags_line line flags = fold with_rule line (map flag_rule flags)
+
 -- the command that assembles: symbolic assembly may be read, and expanded text written
 abbrev pub asm_line : App
-asm_line = with_rule (with_rule (new_app (codes "asm")) (flag_rule names)) (flag_rule plain)
+asm_line = flags_line (new_app (codes "asm")) (names ∷ plain ∷ json ∷ [])
 
 -- returns a command that reads a program, with options for its format and for listing the places
 abbrev pub program_line : Text → App
-program_line name = with_rule (with_rule (new_app name) (flag_rule text)) (flag_rule places)
+program_line name = flags_line (new_app name) (text ∷ places ∷ json ∷ [])
 
 -- the command that verifies
 abbrev pub check_line : App
 check_line = capped_line (with_rule (with_rule (program_line (codes "check")) bounds_rule) (option_rule limit.name))
 
 abbrev pub explain_line : App
-explain_line = with_rule (new_app (codes "explain")) number_rule
+explain_line = with_rule (with_rule (new_app (codes "explain")) number_rule) (flag_rule json)
 
 -- the input arguments after `run`, `replay` or `picture`, any number of them
 abbrev pub input_rule : Rule
@@ -63,24 +69,23 @@ input_rule = record (new_rule (codes "input")) { range = Some (record { start_in
 abbrev pub numbers_line : Text → List NumberOption → App
 numbers_line name options = fold with_rule (new_app name) (map (λ o. option_rule o.name) options)
 
--- adds flags to a command
-abbrev pub flags_line : App → List Text → App
-flags_line line flags = fold with_rule line (map flag_rule flags)
-
 -- adds the options for how the program and its inputs are read, and the input arguments
 abbrev pub reading_line : App → App
 reading_line line = with_rule (flags_line line (text ∷ inputs ∷ [])) input_rule
 
 -- `run` with its options that take numbers, and the flags for its output
+abbrev pub numbered_line : App
+numbered_line = with_rule (numbers_line (codes "run") number_options) (option_rule jobs.name)
+
 abbrev pub written_line : App
-written_line = flags_line (numbers_line (codes "run") number_options) (trace ∷ stats ∷ json ∷ picture ∷ [])
+written_line = flags_line numbered_line (trace ∷ stats ∷ json ∷ each ∷ picture ∷ [])
 
 abbrev pub run_line : App
 run_line = reading_line (flags_line (capped_line written_line) (in_turn ∷ quiet ∷ []))
 
 -- the commands that are given a trace
 abbrev pub replay_line : App
-replay_line = reading_line (flags_line (numbers_line (codes "replay") actor_options) (stats ∷ []))
+replay_line = reading_line (flags_line (numbers_line (codes "replay") actor_options) (stats ∷ json ∷ []))
 
 abbrev pub picture_line : App
 picture_line = reading_line (numbers_line (codes "picture") picture_options)
@@ -111,21 +116,23 @@ given_words rows = unwrap_or (all_of (codes "input") rows) []
 abbrev pub listed_words : List Row → Option (List Text)
 listed_words rows = if is_given inputs rows then None else Some (given_words rows)
 
--- what a command requests. Each that reads a program has its format; `disasm` and `check` have which listings and bounds they print. `run` has its
+-- what a command requests. Each that reads a program has its format; `asm`, `disasm` and `check` have what they print. `run` has its
 -- output, its actors, its maximum number of events, whether its trace is written, whether it is single-threaded, and its input arguments. `replay`
 -- and `picture` have their output, their actors and their input arguments. Without input arguments the inputs are read after the program. `explain`
--- has its code.
+-- has its code. `run` of each line has its actors, its caps, the maximum number of events of each run, and how many
+-- threads answer lines.
 pub data Asked : Type 0 where
-  Assembles : Assembling → Asked
-  Disassembles : Source → Places → Asked
+  Assembles : AssembleOrder → Asked
+  Disassembles : Source → DisassembleOrder → Asked
   Checks : Source → CheckOrder → Asked
   Runs : Source → RunAnswer → ActorCounts → Caps → ℕ → Bool → Bool → Option (List Text) → Asked
+  RunsEach : Source → ActorCounts → Caps → ℕ → ℕ → Asked
   Replays : Source → Answer → ActorCounts → Option (List Text) → Asked
-  Explains : Text → Asked
+  Explains : ExplainOrder → Asked
 
 -- return what `replay` and `run` write
 abbrev pub given_answer : List Row → Answer
-given_answer rows = if is_given stats rows then Numbers else Report
+given_answer rows = if is_given json rows then Json else if is_given stats rows then Numbers else Report
 
 abbrev pub written_answer : List Row → RunAnswer
 written_answer rows = if is_given json rows then written.Json else if is_given stats rows then written.Numbers else written.Report
@@ -133,14 +140,22 @@ written_answer rows = if is_given json rows then written.Json else if is_given s
 abbrev pub run_answer : List Row → RunAnswer
 run_answer rows = if is_given picture rows then written.Picture (given_range rows) else written_answer rows
 
--- returns the request of `run`, from what clap found after it
+-- return the request of `run`, from what clap found after it: of one run, and of either
+abbrev pub single_asked : List Row → Asked
+single_asked rows =
+    Runs (given_source rows) (run_answer rows) (given_actors rows) (given_caps rows) (requested limit rows) (is_given trace rows) (is_given in_turn rows) (listed_words rows)
+
 abbrev pub run_asked : List Row → Asked
 run_asked rows =
-    Runs (given_source rows) (run_answer rows) (given_actors rows) (given_caps rows) (requested limit rows) (is_given trace rows) (is_given in_turn rows) (listed_words rows)
+    if is_given each rows then RunsEach (given_source rows) (given_actors rows) (given_caps rows) (requested limit rows) (requested jobs rows) else single_asked rows
 
 -- returns the request of `replay` or `picture`, from what clap found after it
 abbrev pub replay_asked : Answer → List Row → Asked
 replay_asked answer rows = Replays (given_source rows) answer (given_actors rows) (listed_words rows)
+
+-- returns the request of `explain`
+abbrev pub explain_asked : List Row → Asked
+explain_asked rows = Explains (explaining (number_word rows) (given_form rows))
 
 abbrev pub asked_of : Option (Text × List Row) → Asked
 asked_of None = Checks Hex (checking Hidden NoBounds)
@@ -148,9 +163,9 @@ asked_of (Some named) =
     if bytes_eq named.0 (codes "run") then run_asked named.1 else
     if bytes_eq named.0 (codes "replay") then replay_asked (given_answer named.1) named.1 else
     if bytes_eq named.0 (codes "picture") then replay_asked (Picture (given_range named.1)) named.1 else
-    if bytes_eq named.0 (codes "asm") then Assembles (given_assembling named.1) else
-    if bytes_eq named.0 (codes "disasm") then Disassembles (given_source named.1) (given_places named.1) else
-    if bytes_eq named.0 (codes "explain") then Explains (number_word named.1) else
+    if bytes_eq named.0 (codes "asm") then Assembles (given_assembly named.1) else
+    if bytes_eq named.0 (codes "disasm") then Disassembles (given_source named.1) (given_disassembly named.1) else
+    if bytes_eq named.0 (codes "explain") then explain_asked named.1 else
     if bytes_eq named.0 (codes "check") then Checks (given_source named.1) (given_check named.1) else
     Checks Hex (checking Hidden NoBounds)
 
@@ -175,6 +190,8 @@ IsAsked (Runs source answer layout caps most traced turns (Some words)) order =
     × (run.answer ≡ answer) × (run.layout ≡ layout) × (run.caps ≡ caps) × (run.limit ≡ most) × (run.trace ≡ traced) × (run.in_turn ≡ turns) × AreSpelled run.inputs words
 IsAsked (Runs source answer layout caps most traced turns None) order =
     (run : RunOptions) × (order ≡ Inputs source (ToRun run)) × (run.answer ≡ answer) × (run.layout ≡ layout) × (run.caps ≡ caps) × (run.limit ≡ most) × (run.trace ≡ traced) × (run.in_turn ≡ turns)
+IsAsked (RunsEach source layout caps most threads) order =
+    (run : EachOrder) × (order ≡ Each source run) × (run.layout ≡ layout) × (run.caps ≡ caps) × (run.limit ≡ most) × (run.jobs ≡ threads)
 IsAsked (Replays source answer layout (Some words)) order =
     (replay : ReplayOrder) × (order ≡ Replay source replay) × (replay.answer ≡ answer) × (replay.layout ≡ layout) × AreSpelled replay.inputs words
 IsAsked (Replays source answer layout None) order =
@@ -188,24 +205,45 @@ IsRefusedInput (Disassembles source listed) refused = ⊥
 IsRefusedInput (Checks source requested) refused = ⊥
 IsRefusedInput (Runs source answer layout caps most traced turns (Some words)) refused = IsRefusedWord words refused
 IsRefusedInput (Runs source answer layout caps most traced turns None) refused = ⊥
+IsRefusedInput (RunsEach source layout caps most threads) refused = ⊥
 IsRefusedInput (Replays source answer layout (Some words)) refused = IsRefusedWord words refused
 IsRefusedInput (Replays source answer layout None) refused = ⊥
 IsRefusedInput (Explains other) refused = ⊥
 
 -- holds if an explanation of a code is requested, and this is it
-abbrev pub IsExplained : Asked → List ℕ → Type 0
-IsExplained (Assembles what) explanation = ⊥
-IsExplained (Disassembles source listed) explanation = ⊥
-IsExplained (Checks source requested) explanation = ⊥
-IsExplained (Runs source answer layout caps most traced turns words) explanation = ⊥
-IsExplained (Replays source answer layout words) explanation = ⊥
-IsExplained (Explains number) explanation = IsMeaningOf number explanation
+abbrev pub IsExplained : Asked → Explained → Type 0
+IsExplained (Assembles what) explained = ⊥
+IsExplained (Disassembles source listed) explained = ⊥
+IsExplained (Checks source requested) explained = ⊥
+IsExplained (Runs source answer layout caps most traced turns words) explained = ⊥
+IsExplained (RunsEach source layout caps most threads) explained = ⊥
+IsExplained (Replays source answer layout words) explained = ⊥
+IsExplained (Explains order) explained = (explained.form ≡ order.form) × IsMeaningOf order.word explained.code.items explained.text.items
 
 -- ---- why the arguments are rejected
 
 -- returns the fault of input arguments with `--inputs`
 abbrev pub input_faults : List Row → Kinds
 input_faults rows = if is_given inputs rows && not (is_empty (given_words rows)) then ArgumentConflict ∷ [] else []
+
+-- holds if a trace or statistics are requested, which precede or follow a report
+abbrev pub has_more : List Row → Bool
+has_more rows = is_given trace rows || is_given stats rows
+
+-- returns whether something is given that `--each` excludes
+abbrev pub each_excludes : List Row → Bool
+each_excludes rows = (is_given picture rows || has_more rows) || (is_given inputs rows || not (is_empty (given_words rows)))
+
+-- return the fault of `--each` with other output or other inputs, or of the number of its threads
+abbrev pub each_faults : List Row → Kinds
+each_faults rows = if each_excludes rows then ArgumentConflict ∷ [] else option_faults (jobs ∷ []) rows
+
+-- return the fault of a number of threads without `--each`, or that of the inputs of one run
+abbrev pub single_faults : List Row → Kinds
+single_faults rows = if is_some (first_of jobs.name rows) then ArgumentConflict ∷ [] else input_faults rows
+
+abbrev pub given_faults : List Row → Kinds
+given_faults rows = if is_given each rows then each_faults rows else single_faults rows
 
 -- returns the fault of a range whose last event is before its first
 abbrev pub stretch_faults : List Row → Kinds
@@ -215,13 +253,12 @@ stretch_faults rows = if nat_lt (requested last_shown rows) (requested first_sho
 abbrev pub is_cut : List Row → Bool
 is_cut rows = is_some (first_of first_shown.name rows) || is_some (first_of last_shown.name rows)
 
--- holds if a trace or statistics are requested, which precede or follow a report
-abbrev pub has_more : List Row → Bool
-has_more rows = is_given trace rows || is_given stats rows
+abbrev pub is_json_with_more : List Row → Bool
+is_json_with_more rows = is_given json rows && has_more rows
 
 -- returns the fault of a JSON line that is not alone
 abbrev pub json_faults : List Row → Kinds
-json_faults rows = if is_given json rows && has_more rows then ArgumentConflict ∷ [] else []
+json_faults rows = if is_json_with_more rows then ArgumentConflict ∷ [] else []
 
 -- returns the fault of a timeline that is not alone: with a trace before it, with statistics after it, or with a JSON line
 abbrev pub drawn_faults : List Row → Kinds
@@ -231,15 +268,19 @@ drawn_faults rows = if is_given json rows || has_more rows then ArgumentConflict
 abbrev pub picture_faults : List Row → Kinds
 picture_faults rows = if is_given picture rows then drawn_faults rows else if is_cut rows then ArgumentConflict ∷ [] else json_faults rows
 
--- return the faults of `run`, `replay` and `picture`
+-- return the faults of `run`, and of a trace and its inputs
 abbrev pub run_faults : List Row → Kinds
-run_faults rows = or_else (option_faults number_options rows) (or_else (option_faults cap_options rows) (or_else (picture_faults rows) (input_faults rows)))
+run_faults rows = or_else (option_faults number_options rows) (or_else (option_faults cap_options rows) (or_else (picture_faults rows) (given_faults rows)))
 
 abbrev pub check_faults : List Row → Kinds
 check_faults rows = or_else (option_faults check_options rows) (bounds_faults rows)
 
 abbrev pub replay_faults : List Row → Kinds
 replay_faults rows = or_else (option_faults actor_options rows) (input_faults rows)
+
+-- returns those of `replay`, which may print a JSON line
+abbrev pub report_faults : List Row → Kinds
+report_faults rows = or_else (json_faults rows) (replay_faults rows)
 
 abbrev pub drawing_faults : List Row → Kinds
 drawing_faults rows = or_else (option_faults stretch_options rows) (or_else (stretch_faults rows) (replay_faults rows))
@@ -249,7 +290,7 @@ abbrev pub faults_after : Option (Text × List Row) → Kinds
 faults_after None = []
 faults_after (Some named) =
     if bytes_eq named.0 (codes "run") then run_faults named.1 else
-    if bytes_eq named.0 (codes "replay") then replay_faults named.1 else
+    if bytes_eq named.0 (codes "replay") then report_faults named.1 else
     if bytes_eq named.0 (codes "picture") then drawing_faults named.1 else
     if bytes_eq named.0 (codes "explain") then number_faults (number_word named.1) else
     if bytes_eq named.0 (codes "check") then check_faults named.1 else

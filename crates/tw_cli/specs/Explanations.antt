@@ -1,5 +1,5 @@
 -- The codes of errors and traps, which `explain` explains.
-use Rattle.std.specs.Prelude.{◌≡◌, ◌++◌, ◌==◌, ◌&&◌, ◌||◌, not, ℕ, Bool, true, false, List, [], ◌∷◌, codes, drop, if◌then◌else◌, length, map, nat_eq, take, unwrap_or, ⊤}
+use Rattle.std.specs.Prelude.{◌≡◌, ◌++◌, ◌==◌, ◌&&◌, ◌||◌, not, ℕ, Bool, true, false, List, [], ◌∷◌, codes, drop, if◌then◌else◌, length, map, nat_eq, take, unwrap_or}
 use Rattle.std.specs.List.{list_any, starts_with}
 use Rattle.std.specs.Char.{to_ascii_uppercase}
 use Rattle.std.specs.Str.{bytes_eq}
@@ -65,14 +65,14 @@ meant word = full_number (map to_ascii_uppercase word)
 abbrev pub IsExplanation : Text → List ℕ → Type 0
 IsExplanation number text = (more : List ℕ) × (text ≡ number ++ (codes ": " ++ more))
 
--- holds if the text is what an argument requests: any text for an empty argument, which requests the list of all codes, and else the explanation of
--- its code
-abbrev pub IsExplainedBy : Bool → Text → List ℕ → Type 0
-IsExplainedBy true word text = ⊤
-IsExplainedBy false word text = IsExplanation (meant word) text
+-- holds for the code and the text that an argument requests: any text and no code for an empty argument, which requests the list of all codes, and
+-- else its code with the explanation
+abbrev pub IsExplainedBy : Bool → Text → Text → List ℕ → Type 0
+IsExplainedBy true word code text = code ≡ []
+IsExplainedBy false word code text = (code ≡ meant word) × IsExplanation (meant word) text
 
-abbrev pub IsMeaningOf : Text → List ℕ → Type 0
-IsMeaningOf word text = IsExplainedBy (length word == 0) word text
+abbrev pub IsMeaningOf : Text → Text → List ℕ → Type 0
+IsMeaningOf word code text = IsExplainedBy (length word == 0) word code text
 
 -- the argument after `explain`, which may be missing
 abbrev pub number_rule : Rule

@@ -1,10 +1,10 @@
 -- Orders whose runs are single-threaded.
 use Rattle.std.specs.Prelude.{◌≡◌, true}
-use Rattle.tw_cli.specs.CommandLine.{Asked, Assembles, Disassembles, Checks, Runs, Replays, Explains}
+use Rattle.tw_cli.specs.CommandLine.{Asked, Assembles, Disassembles, Checks, Runs, RunsEach, Replays, Explains}
 use Rattle.tw_cli.specs.declared.command.InputsOrder.{InputsOrder}
 use Rattle.tw_cli.specs.declared.command.InputsOrder.TheVariants.{ToReplay, ToRun}
 use Rattle.tw_cli.specs.declared.command.Order.{Order}
-use Rattle.tw_cli.specs.declared.command.Order.TheVariants.{Assemble, Inputs, Program, Replay}
+use Rattle.tw_cli.specs.declared.command.Order.TheVariants.{Assemble, Each, Inputs, Program, Replay}
 use Rattle.tw_cli.specs.declared.command.ProgramOrder.{ProgramOrder}
 use Rattle.tw_cli.specs.declared.command.ProgramOrder.TheVariants.{Disassemble, Verified}
 use Rattle.tw_cli.specs.declared.command.VerifiedOrder.{VerifiedOrder}
@@ -16,6 +16,7 @@ turned (Assembles what) = Assembles what
 turned (Disassembles source listed) = Disassembles source listed
 turned (Checks source listed) = Checks source listed
 turned (Runs source answer layout caps most traced turns words) = Runs source answer layout caps most traced true words
+turned (RunsEach source layout caps most threads) = RunsEach source layout caps most threads
 turned (Replays source answer layout words) = Replays source answer layout words
 turned (Explains number) = Explains number
 
@@ -37,6 +38,7 @@ IsInTurn (Assemble what) = Unit {0}
 IsInTurn (Program source order) = IsProgramInTurn order
 IsInTurn (Replay source order) = Unit {0}
 IsInTurn (Inputs source order) = IsInputsInTurn order
+IsInTurn (Each source order) = Unit {0}
 
 -- return the order with its run single-threaded
 abbrev pub verified_in_turn : VerifiedOrder → VerifiedOrder
@@ -56,3 +58,4 @@ order_in_turn (Assemble what) = Assemble what
 order_in_turn (Program source order) = Program source (program_in_turn order)
 order_in_turn (Replay source order) = Replay source order
 order_in_turn (Inputs source order) = Inputs source (inputs_in_turn order)
+order_in_turn (Each source order) = Each source order

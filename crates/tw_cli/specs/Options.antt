@@ -13,6 +13,10 @@ use Rattle.tw_cli.specs.declared.checks.BoundsOf.{BoundsOf}
 use Rattle.tw_cli.specs.declared.checks.BoundsOf.TheVariants.{NoBounds, OfMain, OfEach}
 use Rattle.tw_cli.specs.declared.checks.CheckOrder.{CheckOrder}
 use Rattle.tw_cli.specs.declared.command.Places.{Places}
+use Rattle.tw_cli.specs.declared.form.AssembleOrder.{AssembleOrder}
+use Rattle.tw_cli.specs.declared.form.DisassembleOrder.{DisassembleOrder}
+use Rattle.tw_cli.specs.declared.form.Form.{Form}
+use Rattle.tw_cli.specs.declared.form.Form.TheVariants as form
 use Rattle.tw_cli.specs.declared.command.Places.TheVariants.{Hidden, Shown}
 use Rattle.tw_cli.specs.declared.command.Source.{Source}
 use Rattle.tw_cli.specs.declared.command.Source.TheVariants.{Hex, Assembly}
@@ -76,12 +80,19 @@ most_instructions = record { name = codes "most-instructions"; most = greatest_c
 abbrev pub most_data : NumberOption
 most_data = record { name = codes "most-data"; most = greatest_cap; default = greatest_cap }
 
+abbrev pub most_bytes : NumberOption
+most_bytes = record { name = codes "most-bytes"; most = greatest_cap; default = greatest_cap }
+
 abbrev pub most_budget : NumberOption
 most_budget = record { name = codes "most-budget"; most = greatest_cap; default = greatest_cap }
 
 -- the options of `run` and `check` for caps
 abbrev pub cap_options : List NumberOption
-cap_options = most_tasks ∷ most_instructions ∷ most_data ∷ most_budget ∷ []
+cap_options = most_tasks ∷ most_instructions ∷ most_data ∷ most_bytes ∷ most_budget ∷ []
+
+-- the option of `run` with `--each`: how many threads answer the lines
+abbrev pub jobs : NumberOption
+jobs = record { name = codes "jobs"; most = 64; default = 1 }
 
 -- the flag of `run`: the trace is written before the report
 abbrev pub trace : Text
@@ -95,7 +106,11 @@ in_turn = codes "in-turn"
 abbrev pub stats : Text
 stats = codes "stats"
 
--- the flag of `run`: the run is written as a JSON object in place of the report
+-- the flag of `run`: each line of inputs after the program is run, and written as a JSON object
+abbrev pub each : Text
+each = codes "each"
+
+-- the flag of each command except `picture`: the output is a JSON object on one line
 abbrev pub json : Text
 json = codes "json"
 
@@ -168,6 +183,30 @@ given_assembling rows = if is_given plain rows then Plain else if is_given names
 abbrev pub given_places : List Row → Places
 given_places rows = if is_given places rows then Shown else Hidden
 
+abbrev pub given_form : List Row → Form
+given_form rows = if is_given json rows then form.Json else form.Text
+
+-- return what is assembled, disassembled or explained, each in this form
+abbrev pub assembling_to : Assembling → Form → AssembleOrder
+assembling_to what as_form = record { what = what; form = as_form }
+
+abbrev pub given_assembly : List Row → AssembleOrder
+given_assembly rows = assembling_to (given_assembling rows) (given_form rows)
+
+abbrev pub disassembling : Places → Form → DisassembleOrder
+disassembling listed as_form = record { places = listed; form = as_form }
+
+abbrev pub given_disassembly : List Row → DisassembleOrder
+given_disassembly rows = disassembling (given_places rows) (given_form rows)
+
+-- the argument after `explain`, and the form of what is printed
+pub record ExplainOrder : Type 0 where
+  pub word : Text
+  pub form : Form
+
+abbrev pub explaining : Text → Form → ExplainOrder
+explaining word as_form = record { word = word; form = as_form }
+
 -- returns the fault if one of these options has no number
 abbrev pub option_faults : List NumberOption → List Row → Kinds
 option_faults options rows = if list_all (λ o. is_some (number_of o rows)) options then [] else ValueValidation ∷ []
@@ -202,17 +241,18 @@ given_range rows = stretch (requested first_shown rows) (requested last_shown ro
 -- holds if each cap has a number, and these are the numbers
 abbrev pub HasCaps : List Row → Caps → Type 0
 HasCaps rows caps =
-    (number_of most_tasks rows ≡ Some caps.tasks) × (number_of most_instructions rows ≡ Some caps.instructions) × (number_of most_data rows ≡ Some caps.«data») × (number_of most_budget rows ≡ Some caps.budget)
+    (number_of most_tasks rows ≡ Some caps.tasks) × (number_of most_instructions rows ≡ Some caps.instructions) × (number_of most_data rows ≡ Some caps.«data»)
+    × (number_of most_bytes rows ≡ Some caps.bytes) × (number_of most_budget rows ≡ Some caps.budget)
 
-abbrev pub capped : ℕ → ℕ → ℕ → ℕ → Caps
-capped tasks instructions new_data budget = record { tasks = tasks; instructions = instructions; «data» = new_data; budget = budget }
+abbrev pub capped : ℕ → ℕ → ℕ → ℕ → ℕ → Caps
+capped tasks instructions new_data bytes budget = record { tasks = tasks; instructions = instructions; «data» = new_data; bytes = bytes; budget = budget }
 
 -- the caps without options
 abbrev pub uncapped : Caps
-uncapped = capped greatest_cap greatest_cap greatest_cap greatest_cap
+uncapped = capped greatest_cap greatest_cap greatest_cap greatest_cap greatest_cap
 
 abbrev pub given_caps : List Row → Caps
-given_caps rows = capped (requested most_tasks rows) (requested most_instructions rows) (requested most_data rows) (requested most_budget rows)
+given_caps rows = capped (requested most_tasks rows) (requested most_instructions rows) (requested most_data rows) (requested most_bytes rows) (requested most_budget rows)
 
 -- returns whose bounds the value of `--bounds` requests; none if it is neither `main` nor `all`
 abbrev pub bounds_in : Text → Option BoundsOf
@@ -227,10 +267,10 @@ named_limit rows = if is_some (first_of limit.name rows) then Some (requested li
 
 -- return what a check prints in addition to the budgets, and which programs it admits
 abbrev pub checking : Places → BoundsOf → CheckOrder
-checking listed bounded = record { places = listed; bounds = bounded; limit = None; caps = uncapped }
+checking listed bounded = record { places = listed; bounds = bounded; limit = None; caps = uncapped; form = form.Text }
 
 abbrev pub given_check : List Row → CheckOrder
-given_check rows = record { places = given_places rows; bounds = unwrap_or (given_bounds rows) NoBounds; limit = named_limit rows; caps = given_caps rows }
+given_check rows = record { places = given_places rows; bounds = unwrap_or (given_bounds rows) NoBounds; limit = named_limit rows; caps = given_caps rows; form = given_form rows }
 
 -- the options of `check` that take numbers
 abbrev pub check_options : List NumberOption

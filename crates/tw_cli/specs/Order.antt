@@ -44,4 +44,4 @@ HasReason kinds asked NoMemory = ⊤
 HasReason kinds asked (Help text) = (kind : ErrorKind) × IsAmong kind kinds × IsRequest kind
 HasReason kinds asked Refused = (kind : ErrorKind) × IsAmong kind kinds × (IsRequest kind → ⊥)
 HasReason kinds asked (InputWord number reason) = (kinds ≡ []) × IsRefusedInput asked (refused_word number reason.items)
-HasReason kinds asked (Explanation text) = (kinds ≡ []) × IsExplained asked text.items
+HasReason kinds asked (Explanation explained) = (kinds ≡ []) × IsExplained asked explained

@@ -4,13 +4,13 @@ ghost use Rattle.std.specs.Prelude.{◌≡◌, false, IfOk};
 ghost use Rattle.clap.specs.Words.{app_of, rule_of};
 ghost use Rattle.clap.specs.declared.Command.TheViews.{out-Command};
 ghost use Rattle.tw_cli.specs.CommandLine.{asm_line, capped_line, check_line, explain_line, input_rule, plain_line, program_line};
-ghost use Rattle.tw_cli.specs.Options.{bounds_rule, flag_rule, inputs, option_rule, places, text};
+ghost use Rattle.tw_cli.specs.Options.{bounds_rule, flag_rule, inputs, json, option_rule, places, text};
 ghost use Rattle.tw_cli.specs.Explanations.{number_rule};
 
 use crate::help::{
-    ASM, BOUNDS_HELP, CHECK, CommandHelp, EXPLAIN, INPUT_HELP, INPUTS_HELP, LIMIT_HELP,
-    MOST_BUDGET_HELP, MOST_DATA_HELP, MOST_INSTRUCTIONS_HELP, MOST_TASKS_HELP, NAMES_HELP,
-    NUMBER_HELP, PLACES_HELP, PLAIN_HELP, TEXT_HELP,
+    ASM, BOUNDS_HELP, CHECK, CommandHelp, EXPLAIN, INPUT_HELP, INPUTS_HELP, JSON_HELP, LIMIT_HELP,
+    MOST_BUDGET_HELP, MOST_BYTES_HELP, MOST_DATA_HELP, MOST_INSTRUCTIONS_HELP, MOST_TASKS_HELP,
+    NAMES_HELP, NUMBER_HELP, PLACES_HELP, PLAIN_HELP, TEXT_HELP,
 };
 use clap::{Arg, ArgAction, Command};
 use std::alloc::{AllocError, Global};
@@ -56,6 +56,14 @@ pub(crate) fn places_arg<'a>(alloc: Global) -> Arg<'a>
     flag_arg(alloc, "places", PLACES_HELP)
 }
 
+/// Makes the option for the output as JSON.
+pub(crate) fn json_arg<'a>(alloc: Global) -> Arg<'a>
+    ensures rule { rule_of result ≡ flag_rule json }
+    ensures local { result.global ≡ false }
+{
+    flag_arg(alloc, "json", JSON_HELP)
+}
+
 /// Makes the option to read the inputs after the program.
 pub(crate) fn inputs_arg<'a>(alloc: Global) -> Arg<'a>
     ensures rule { rule_of result ≡ flag_rule inputs }
@@ -89,7 +97,8 @@ pub(crate) fn program_command<'a>(
 {
     let bare = plain_command(alloc, name, help);
     let text = bare.arg(text_arg(alloc))?;
-    let whole = text.arg(places_arg(alloc))?;
+    let places = text.arg(places_arg(alloc))?;
+    let whole = places.arg(json_arg(alloc))?;
     Ok(whole)
 }
 
@@ -115,7 +124,8 @@ pub(crate) fn capped_command<'a>(
     let tasks = command.arg(option_arg(alloc, "most-tasks", MOST_TASKS_HELP))?;
     let instructions = tasks.arg(option_arg(alloc, "most-instructions", MOST_INSTRUCTIONS_HELP))?;
     let data = instructions.arg(option_arg(alloc, "most-data", MOST_DATA_HELP))?;
-    let whole = data.arg(option_arg(alloc, "most-budget", MOST_BUDGET_HELP))?;
+    let bytes = data.arg(option_arg(alloc, "most-bytes", MOST_BYTES_HELP))?;
+    let whole = bytes.arg(option_arg(alloc, "most-budget", MOST_BUDGET_HELP))?;
     Ok(whole)
 }
 
@@ -138,7 +148,8 @@ pub(crate) fn asm_command<'a>(alloc: Global) -> Result<Command<'a>, AllocError>
 {
     let bare = plain_command(alloc, "asm", &ASM);
     let names = bare.arg(flag_arg(alloc, "names", NAMES_HELP))?;
-    let whole = names.arg(flag_arg(alloc, "plain", PLAIN_HELP))?;
+    let plain = names.arg(flag_arg(alloc, "plain", PLAIN_HELP))?;
+    let whole = plain.arg(json_arg(alloc))?;
     Ok(whole)
 }
 
@@ -148,6 +159,7 @@ pub(crate) fn explain_command<'a>(alloc: Global) -> Result<Command<'a>, AllocErr
     ensures local { IfOk result (λ c. (out-Command c).has_globals ≡ false) }
 {
     let bare = plain_command(alloc, "explain", &EXPLAIN);
-    let whole = bare.arg(number_arg(alloc))?;
+    let number = bare.arg(number_arg(alloc))?;
+    let whole = number.arg(json_arg(alloc))?;
     Ok(whole)
 }

@@ -17,6 +17,8 @@ pub struct Caps {
     pub instructions: u64,
     /// Data made by NEW.
     pub data: u64,
+    /// Bytes of the texts that the store holds at any time, beyond those of the inputs.
+    pub bytes: u64,
     /// Instructions of one task.
     pub budget: u64,
 }
@@ -27,6 +29,7 @@ impl Caps {
         tasks: u64::MAX,
         instructions: u64::MAX,
         data: u64::MAX,
+        bytes: u64::MAX,
         budget: u64::MAX,
     };
 }
@@ -40,11 +43,13 @@ pub(crate) fn caps_given(matches: &ArgMatches<'_>) -> Option<Caps>
     let tasks = number_given(matches, "most-tasks", u64::MAX, u64::MAX)?;
     let instructions = number_given(matches, "most-instructions", u64::MAX, u64::MAX)?;
     let data = number_given(matches, "most-data", u64::MAX, u64::MAX)?;
+    let bytes = number_given(matches, "most-bytes", u64::MAX, u64::MAX)?;
     let budget = number_given(matches, "most-budget", u64::MAX, u64::MAX)?;
     Some(Caps {
         tasks,
         instructions,
         data,
+        bytes,
         budget,
     })
 }

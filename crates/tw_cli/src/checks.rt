@@ -9,6 +9,7 @@ ghost use Rattle.tw_cli.specs.declared.checks.BoundsOf.TheVariants as bounds_of;
 
 use crate::caps::{Caps, caps_given};
 use crate::command::Places;
+use crate::form::{Form, form_given};
 use crate::found::{limit_given, places_given};
 use crate::limit::EventLimit;
 use crate::shown::is_named;
@@ -34,6 +35,7 @@ pub struct CheckOrder {
     pub limit: Option<EventLimit>,
     /// The caps above which the program is rejected.
     pub caps: Caps,
+    pub form: Form,
 }
 
 fn bounds_in(word: &str) -> Option<BoundsOf>
@@ -81,6 +83,7 @@ pub(crate) fn check_given(matches: &ArgMatches<'_>) -> Option<CheckOrder>
         bounds,
         limit: limit_named(matches, most),
         caps,
+        form: form_given(matches),
     })
 }
 
@@ -93,5 +96,6 @@ pub(crate) fn bare_check() -> CheckOrder
         bounds: BoundsOf::NoBounds,
         limit: None,
         caps: Caps::NONE,
+        form: Form::Text,
     }
 }

@@ -1,23 +1,17 @@
 //! The orders that a command line gives, and the commands.
 
-ghost use Rattle.std.specs.Prelude.{◌≡◌, false, codes, IfOk};
+ghost use Rattle.std.specs.Prelude.{◌≡◌, false, IfOk};
 ghost use Rattle.clap.specs.Words.{App, app_of, with_subcommand};
 ghost use Rattle.clap.specs.declared.Command.TheViews.{out-Command};
-ghost use Rattle.tw_cli.specs.CommandLine.{bare_line, command_line, numbers_line, picture_line, reading_line, replay_line, replay_with, run_line, run_with, written_line};
-ghost use Rattle.tw_cli.specs.Options.{actor_options, number_options};
+ghost use Rattle.tw_cli.specs.CommandLine.{bare_line, command_line, replay_with, run_with};
 ghost use Rattle.tw_cli.specs.declared.command.NoOrder.TheVariants.{NoMemory};
 
-use crate::arguments::{
-    asm_command, capped_command, check_command, explain_command, flag_arg, input_arg, inputs_arg,
-    option_arg, plain_command, program_command, text_arg,
-};
+use crate::arguments::{asm_command, check_command, explain_command, program_command};
 use crate::caps::Caps;
 use crate::checks::CheckOrder;
-use crate::help::{
-    ABOUT, CommandHelp, DISASM, ENGINES_HELP, FROM_HELP, IN_TURN_HELP, JSON_HELP, LIMIT_HELP,
-    PICTURE, PICTURE_HELP, QUIET_HELP, REPLAY, RUN, SERVERS_HELP, STATS_HELP, TO_HELP, TRACE_HELP,
-    VERSION, WORKERS_HELP,
-};
+use crate::form::{AssembleOrder, DisassembleOrder, Explained};
+use crate::help::{ABOUT, DISASM, VERSION};
+use crate::input_commands::{picture_command, replay_command, run_command};
 use crate::limit::EventLimit;
 use crate::shown::EventRange;
 use clap::Command;
@@ -83,7 +77,7 @@ pub enum Assembling {
 #[derive(Drop)]
 pub enum ProgramOrder {
     /// Writes its assembly text, with the number of each place if they are shown.
-    Disassemble(Places),
+    Disassemble(DisassembleOrder),
     /// Verifies it, and does this if it is accepted.
     Verified(VerifiedOrder),
 }
@@ -108,6 +102,8 @@ pub enum Answer {
     Report,
     /// The report, followed by the statistics of the events.
     Numbers,
+    /// The state as a JSON object on one line.
+    Json,
     /// The timeline of the events in this range.
     Picture(EventRange),
 }
@@ -177,6 +173,19 @@ impl ReplayOptions {
     }
 }
 
+/// How a program is run on each line of inputs that follows it. The runs are single-threaded.
+#[derive(Clone, Copy)]
+pub struct EachOrder {
+    /// The actors.
+    pub layout: Layout,
+    /// The maximum number of events of each run.
+    pub limit: EventLimit,
+    /// How many threads answer the lines, from 1 to 64. The answers are the same.
+    pub jobs: usize,
+    /// The caps above which the program isn't admitted.
+    pub caps: Caps,
+}
+
 /// An action on a program that is followed by its inputs.
 #[derive(Clone, Copy)]
 pub enum InputsOrder {
@@ -188,13 +197,15 @@ pub enum InputsOrder {
 #[derive(Drop)]
 pub enum Order {
     /// Reads assembly text, and writes this.
-    Assemble(Assembling),
+    Assemble(AssembleOrder),
     /// Reads a program written in this way, and does this with it.
     Program(Source, ProgramOrder),
     /// Reads a program written in this way and a trace, and replays it.
     Replay(Source, ReplayOrder),
     /// Reads a program written in this way and its inputs, and does this with them.
     Inputs(Source, InputsOrder),
+    /// Reads a program written in this way and lines of inputs, and runs it on each.
+    Each(Source, EachOrder),
 }
 
 /// The reason why the arguments give no order.
@@ -208,7 +219,7 @@ pub enum NoOrder {
     /// are accepted.
     InputWord(usize, Vec<u8>),
     /// They request this explanation of a code.
-    Explanation(Vec<u8>),
+    Explanation(Explained),
     /// An allocation failed.
     NoMemory,
 }
@@ -227,92 +238,6 @@ impl<T: Drop> From<AllocFailed<T>> for NoOrder {
     fn from(_failed: AllocFailed<T>) -> NoOrder {
         NoOrder::NoMemory
     }
-}
-
-/// Makes a command with the options for the numbers of actors.
-fn actors_command<'a>(
-    alloc: Global,
-    name: &'a str,
-    help: &CommandHelp<'a>,
-) -> Result<Command<'a>, AllocError>
-    ensures app { IfOk result (λ c. app_of c ≡ numbers_line name.entry.now actor_options) }
-    ensures local { IfOk result (λ c. (out-Command c).has_globals ≡ false) }
-{
-    let bare = plain_command(alloc, name, help);
-    let engines = bare.arg(option_arg(alloc, "engines", ENGINES_HELP))?;
-    let servers = engines.arg(option_arg(alloc, "servers", SERVERS_HELP))?;
-    let whole = servers.arg(option_arg(alloc, "workers", WORKERS_HELP))?;
-    Ok(whole)
-}
-
-/// Adds the options for how the program and its inputs are read, and the input arguments.
-fn reading_command<'a>(alloc: Global, command: Command<'a>) -> Result<Command<'a>, AllocError>
-    requires local { (out-Command command).has_globals ≡ false }
-    ensures app { IfOk result (λ c. app_of c ≡ reading_line (app_of command.entry)) }
-    ensures local { IfOk result (λ c. (out-Command c).has_globals ≡ false) }
-{
-    let text = command.arg(text_arg(alloc))?;
-    let inputs = text.arg(inputs_arg(alloc))?;
-    let whole = inputs.arg(input_arg(alloc))?;
-    Ok(whole)
-}
-
-/// Makes `run` with its options that take a number.
-fn numbered_run<'a>(alloc: Global) -> Result<Command<'a>, AllocError>
-    ensures app { IfOk result (λ c. app_of c ≡ numbers_line (codes "run") number_options) }
-    ensures local { IfOk result (λ c. (out-Command c).has_globals ≡ false) }
-{
-    let actors = actors_command(alloc, "run", &RUN)?;
-    let limit = actors.arg(option_arg(alloc, "limit", LIMIT_HELP))?;
-    let from = limit.arg(option_arg(alloc, "from", FROM_HELP))?;
-    let whole = from.arg(option_arg(alloc, "to", TO_HELP))?;
-    Ok(whole)
-}
-
-/// Makes `run` with its numbers, and the flags that say what is written.
-fn written_run<'a>(alloc: Global) -> Result<Command<'a>, AllocError>
-    ensures app { IfOk result (λ c. app_of c ≡ written_line) }
-    ensures local { IfOk result (λ c. (out-Command c).has_globals ≡ false) }
-{
-    let numbered = numbered_run(alloc)?;
-    let trace = numbered.arg(flag_arg(alloc, "trace", TRACE_HELP))?;
-    let stats = trace.arg(flag_arg(alloc, "stats", STATS_HELP))?;
-    let json = stats.arg(flag_arg(alloc, "json", JSON_HELP))?;
-    let whole = json.arg(flag_arg(alloc, "picture", PICTURE_HELP))?;
-    Ok(whole)
-}
-
-fn run_command<'a>(alloc: Global) -> Result<Command<'a>, AllocError>
-    ensures app { IfOk result (λ c. app_of c ≡ run_line) }
-    ensures local { IfOk result (λ c. (out-Command c).has_globals ≡ false) }
-{
-    let written = written_run(alloc)?;
-    let capped = capped_command(alloc, written)?;
-    let in_turn = capped.arg(flag_arg(alloc, "in-turn", IN_TURN_HELP))?;
-    let quiet = in_turn.arg(flag_arg(alloc, "quiet", QUIET_HELP))?;
-    let whole = reading_command(alloc, quiet)?;
-    Ok(whole)
-}
-
-fn replay_command<'a>(alloc: Global) -> Result<Command<'a>, AllocError>
-    ensures app { IfOk result (λ c. app_of c ≡ replay_line) }
-    ensures local { IfOk result (λ c. (out-Command c).has_globals ≡ false) }
-{
-    let actors = actors_command(alloc, "replay", &REPLAY)?;
-    let stats = actors.arg(flag_arg(alloc, "stats", STATS_HELP))?;
-    let whole = reading_command(alloc, stats)?;
-    Ok(whole)
-}
-
-fn picture_command<'a>(alloc: Global) -> Result<Command<'a>, AllocError>
-    ensures app { IfOk result (λ c. app_of c ≡ picture_line) }
-    ensures local { IfOk result (λ c. (out-Command c).has_globals ≡ false) }
-{
-    let actors = actors_command(alloc, "picture", &PICTURE)?;
-    let from = actors.arg(option_arg(alloc, "from", FROM_HELP))?;
-    let to = from.arg(option_arg(alloc, "to", TO_HELP))?;
-    let whole = reading_command(alloc, to)?;
-    Ok(whole)
 }
 
 /// Makes the program without its commands.

@@ -1,6 +1,56 @@
-//! Explanations of the codes of the verifier and of traps.
+//! Explanations of the codes of bytes, of the verifier and of traps.
 
 use crate::explanations::Explanation;
+
+/// The codes of a program's bytes.
+#[rattlefmt::skip]
+pub(crate) const BYTES: [Explanation; 9] = [
+    Explanation { number: "F01",
+        meaning: "the bytes don't begin like a program",
+        asked: "54 57 42 first",
+        mistake: "the hex text of something else was given",
+        mending: "make the bytes by `tw asm`" },
+    Explanation { number: "F02",
+        meaning: "the bytes are of another version",
+        asked: "01 or 02 after the first three bytes",
+        mistake: "a byte was left out or added before it",
+        mending: "make the bytes by `tw asm`" },
+    Explanation { number: "F03",
+        meaning: "bytes are missing at the end",
+        asked: "all that the counts announce",
+        mistake: "the text was cut off, or a count is too great",
+        mending: "take the whole text; a count of instructions counts instructions, and not bytes" },
+    Explanation { number: "F04",
+        meaning: "a count, a register, a target, a number of iterations or the length of a text is out of its limits",
+        asked: "1 to 64 procedures, 0 to 8 parameters, 0 to 16 registers, 1 to 4,096 instructions, registers 0 to 15",
+        mistake: "bytes that were written by hand are one byte off",
+        mending: "look at the byte that is reported, and at the item before it" },
+    Explanation { number: "F05",
+        meaning: "a kind, a mode, a type or the code of an instruction isn't known in the program's version",
+        asked: "a byte of the table; int or text alone under `val` and as the type of a register",
+        mistake: "bytes that were written by hand are one byte off; or tcont or a code from 50 on although the version is 01",
+        mending: "look at the byte that is reported, at the item before it, and at the version" },
+    Explanation { number: "F06",
+        meaning: "a type has a fourth `cont` or `tcont`",
+        asked: "containers nested at most three deep",
+        mistake: "a container more than was meant",
+        mending: "put the inner containers into a container of their own" },
+    Explanation { number: "F07",
+        meaning: "a text in the program isn't UTF-8",
+        asked: "UTF-8",
+        mistake: "bytes of another encoding, or a text that ends in the middle of a character",
+        mending: "write the text in UTF-8; its length counts bytes" },
+    Explanation { number: "F08",
+        meaning: "there are bytes after the last procedure",
+        asked: "nothing after it",
+        mistake: "two programs were joined, or the number of procedures is too small",
+        mending: "give one program; count its procedures" },
+    Explanation { number: "F09",
+        meaning: "memory ran out while the bytes were read",
+        asked: "memory for the program",
+        mistake: "a limit on the process's memory",
+        mending: "give it more memory" },
+];
 
 /// The codes of the verifier.
 #[rattlefmt::skip]

@@ -7,7 +7,8 @@ ghost use Rattle.clap.specs.declared.error.ErrorKind.TheVariants.{ValueValidatio
 ghost use Rattle.tw_cli.specs.Explanations.{IsExplanation, IsMeaningOf, assembly_numbers, byte_numbers, full_number, is_among, is_number, meant, name_numbers, number_faults, session_numbers, trap_numbers, verifier_numbers};
 
 use crate::explained_names::NAMES;
-use crate::explained_programs::{TRAPS, VERIFIER};
+use crate::explained_programs::{BYTES, TRAPS, VERIFIER};
+use crate::form::{Explained, Form};
 use std::alloc::{AllocError, Global};
 use tw_lexer::put;
 
@@ -75,7 +76,7 @@ const SESSION: [Explanation; 12] = [
         mending: "as at V16; see `tw explain V16`" },
     Explanation { number: "O07",
         meaning: "the program's bounds are above a cap, so it isn't admitted",
-        asked: "bounds of at most --most-tasks, --most-instructions, --most-data and --most-budget",
+        asked: "bounds of at most --most-tasks, --most-instructions, --most-data, --most-bytes and --most-budget",
         mistake: "a loop of more iterations than its inputs need, or a procedure that starts itself, without a small --limit",
         mending: "make loops shorter, give a smaller --limit, or a larger cap; `tw check --bounds --limit 1000` prints the bounds" },
     Explanation { number: "E01",
@@ -125,56 +126,6 @@ const ASSEMBLY: [Explanation; 7] = [
         mending: "end each procedure with RET, and keep to the limit" },
     Explanation { number: "A07",
         meaning: "memory ran out while the text was read",
-        asked: "memory for the program",
-        mistake: "a limit on the process's memory",
-        mending: "give it more memory" },
-];
-
-/// The codes of a program's bytes.
-#[rattlefmt::skip]
-const BYTES: [Explanation; 9] = [
-    Explanation { number: "F01",
-        meaning: "the bytes don't begin like a program",
-        asked: "54 57 42 first",
-        mistake: "the hex text of something else was given",
-        mending: "make the bytes by `tw asm`" },
-    Explanation { number: "F02",
-        meaning: "the bytes are of another version",
-        asked: "01 or 02 after the first three bytes",
-        mistake: "a byte was left out or added before it",
-        mending: "make the bytes by `tw asm`" },
-    Explanation { number: "F03",
-        meaning: "bytes are missing at the end",
-        asked: "all that the counts announce",
-        mistake: "the text was cut off, or a count is too great",
-        mending: "take the whole text; a count of instructions counts instructions, and not bytes" },
-    Explanation { number: "F04",
-        meaning: "a count, a register, a target, a number of iterations or the length of a text is out of its limits",
-        asked: "1 to 64 procedures, 0 to 8 parameters, 0 to 16 registers, 1 to 4,096 instructions, registers 0 to 15",
-        mistake: "bytes that were written by hand are one byte off",
-        mending: "look at the byte that is reported, and at the item before it" },
-    Explanation { number: "F05",
-        meaning: "a kind, a mode, a type or the code of an instruction isn't known in the program's version",
-        asked: "a byte of the table; int or text alone under `val` and as the type of a register",
-        mistake: "bytes that were written by hand are one byte off; or tcont or a code from 50 on although the version is 01",
-        mending: "look at the byte that is reported, at the item before it, and at the version" },
-    Explanation { number: "F06",
-        meaning: "a type has a fourth `cont` or `tcont`",
-        asked: "containers nested at most three deep",
-        mistake: "a container more than was meant",
-        mending: "put the inner containers into a container of their own" },
-    Explanation { number: "F07",
-        meaning: "a text in the program isn't UTF-8",
-        asked: "UTF-8",
-        mistake: "bytes of another encoding, or a text that ends in the middle of a character",
-        mending: "write the text in UTF-8; its length counts bytes" },
-    Explanation { number: "F08",
-        meaning: "there are bytes after the last procedure",
-        asked: "nothing after it",
-        mistake: "two programs were joined, or the number of procedures is too small",
-        mending: "give one program; count its procedures" },
-    Explanation { number: "F09",
-        meaning: "memory ran out while the bytes were read",
         asked: "memory for the program",
         mistake: "a limit on the process's memory",
         mending: "give it more memory" },
@@ -311,32 +262,49 @@ fn text_of(alloc: Global, row: &Explanation) -> Result<Vec<u8>, AllocError>
 }
 
 /// Returns the explanation of a code, if it is one.
-fn row_meaning(alloc: Global, number: &[u8]) -> Result<Option<Vec<u8>>, AllocError>
-    ensures { IfOk result (λ requested. MatchOption requested (is_number number.now ≡ false) (λ text. (is_number number.now ≡ true) × IsExplanation number.now text.items)) }
+fn row_meaning(alloc: Global, form: Form, number: &[u8]) -> Result<Option<Explained>, AllocError>
+    ensures { IfOk result (λ requested. MatchOption requested (is_number number.now ≡ false)
+        (λ e. (is_number number.now ≡ true) × (e.form ≡ form) × (e.code.items ≡ number.now) × IsExplanation number.now e.text.items)) }
 {
     match row_of(number) {
-        Some(row) => Ok(Some(text_of(alloc, &row)?)),
+        Some(row) => {
+            let text = text_of(alloc, &row)?;
+            let code = number.to_vec(alloc)?;
+            Ok(Some(Explained { form, code, text }))
+        }
         None => Ok(None),
     }
 }
 
 /// Returns the explanation of the code that an argument names, if it names one. Accepts either case, and codes without their 0.
-fn word_meaning(alloc: Global, word: &[u8]) -> Result<Option<Vec<u8>>, AllocError>
-    ensures { IfOk result (λ requested. MatchOption requested (is_number (meant word.now) ≡ false) (λ text. (is_number (meant word.now) ≡ true) × IsExplanation (meant word.now) text.items)) }
+fn word_meaning(alloc: Global, form: Form, word: &[u8]) -> Result<Option<Explained>, AllocError>
+    ensures { IfOk result (λ requested. MatchOption requested (is_number (meant word.now) ≡ false)
+        (λ e. (is_number (meant word.now) ≡ true) × (e.form ≡ form) × (e.code.items ≡ meant word.now) × IsExplanation (meant word.now) e.text.items)) }
 {
     let capitals = word.to_ascii_uppercase(alloc)?;
     let number = full_number(alloc, &capitals)?;
-    row_meaning(alloc, &number)
+    row_meaning(alloc, form, &number)
 }
 
-/// Returns the explanation that the argument of `explain` requests. An empty argument requests the list of all codes. Returns none if it names no
-/// code.
-pub fn explained(alloc: Global, word: &str) -> Result<Option<Vec<u8>>, AllocError>
-    ensures { IfOk result (λ requested. MatchOption requested (number_faults word.now ≡ ValueValidation ∷ []) (λ text. (number_faults word.now ≡ []) × IsMeaningOf word.now text.items)) }
+/// Returns the list of all codes as an explanation.
+fn all_meanings(alloc: Global, form: Form) -> Result<Explained, AllocError>
+    ensures { IfOk result (λ e. (e.form ≡ form) × (e.code.items ≡ [])) }
+{
+    let text = listing(alloc)?;
+    let code = Vec::new(alloc);
+    Ok(Explained { form, code, text })
+}
+
+/// Returns the explanation that the argument of `explain` requests, in this form. An empty argument requests the list of all codes. Returns none if it
+/// names no code.
+pub fn explained(alloc: Global, form: Form, word: &str) -> Result<Option<Explained>, AllocError>
+    ensures { IfOk result (λ requested. MatchOption requested (number_faults word.now ≡ ValueValidation ∷ [])
+        (λ e. (number_faults word.now ≡ []) × (e.form ≡ form) × IsMeaningOf word.now e.code.items e.text.items)) }
 {
     if word.is_empty() {
-        Ok(Some(listing(alloc)?))
+        let all = all_meanings(alloc, form)?;
+        Ok(Some(all))
     } else {
-        word_meaning(alloc, word.as_bytes())
+        word_meaning(alloc, form, word.as_bytes())
     }
 }

@@ -4,7 +4,7 @@ ghost use Rattle.std.specs.Prelude.{◌≡◌, false, not, [], ◌∷◌, map, I
 ghost use Rattle.clap.specs.Walk.{is_empty};
 ghost use Rattle.clap.specs.Words.{found_of, rows_of};
 ghost use Rattle.clap.specs.declared.error.ErrorKind.TheVariants.{ValueValidation};
-ghost use Rattle.tw_cli.specs.CommandLine.{given_answer, given_words, input_faults, replay_asked, run_asked, listed_words};
+ghost use Rattle.tw_cli.specs.CommandLine.{given_answer, given_words, input_faults, replay_asked, single_asked, listed_words};
 ghost use Rattle.tw_cli.specs.declared.command.Answer.{Answer as Answers};
 ghost use Rattle.tw_cli.specs.InputWords.{AreSpelled};
 ghost use Rattle.tw_cli.specs.reading.Inputs.{HasInputs};
@@ -101,11 +101,13 @@ pub(crate) fn assembling_given(matches: &ArgMatches<'_>) -> Assembling
     }
 }
 
-/// Returns what `replay` writes: the report, with statistics if they are requested.
+/// Returns what `replay` writes: the report, with statistics if they are requested, or a JSON line.
 pub(crate) fn answer_given(matches: &ArgMatches<'_>) -> Answer
     ensures { result ≡ given_answer (rows_of (found_of matches.now)) }
 {
-    if flag_given(matches, "stats") {
+    if flag_given(matches, "json") {
+        Answer::Json
+    } else if flag_given(matches, "stats") {
         Answer::Numbers
     } else {
         Answer::Report
@@ -139,7 +141,7 @@ fn inputs_in_words(alloc: Global, matches: &ArgMatches<'_>) -> Result<Items<Inpu
 }
 
 /// Returns whether there are input arguments.
-fn has_words(matches: &ArgMatches<'_>) -> bool
+pub(crate) fn has_words(matches: &ArgMatches<'_>) -> bool
     ensures { result ≡ not (is_empty (given_words (rows_of (found_of matches.now)))) }
 {
     match matches.get_strs("input") {
@@ -155,7 +157,7 @@ pub(crate) fn inputs_given(
 ) -> Result<Option<Items<Input>>, NoOrder>
     ensures taken { IfOk result (λ given. (input_faults (rows_of (found_of matches.now)) ≡ [])
         × HasInputs (listed_words (rows_of (found_of matches.now))) given) }
-    ensures run { IfErr result (HasReason (input_faults (rows_of (found_of matches.now))) (run_asked (rows_of (found_of matches.now)))) }
+    ensures run { IfErr result (HasReason (input_faults (rows_of (found_of matches.now))) (single_asked (rows_of (found_of matches.now)))) }
     ensures replay { (answer : Answers) → IfErr result
         (HasReason (input_faults (rows_of (found_of matches.now))) (replay_asked answer (rows_of (found_of matches.now)))) }
 {

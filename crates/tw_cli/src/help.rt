@@ -9,53 +9,59 @@ pub(crate) struct CommandHelp<'a> {
 }
 
 /// The program's version, which the newest section of CHANGELOG.md names.
-pub(crate) const VERSION: &str = "0.14";
+pub(crate) const VERSION: &str = "0.15";
 
 pub(crate) const ABOUT: &str = "Assembles, checks and runs dataflow programs of the task host.";
 
 pub(crate) const ASM: CommandHelp<'static> = CommandHelp {
     about: "Turns assembly text into hex text of a program",
-    whole: "Reads assembly text from standard input and writes its program as hex text, two digits a byte, in one line, which the
-other commands read. A text that is no program is rejected with the code and the line of its first error.
+    whole: "Reads assembly text from a FILE or from standard input and writes its program as hex text, two digits a byte, in one line,
+which the other commands read. A text that is no program is rejected with the code and the line of its first error.
 With --names the text may be symbolic assembly: its first line with a word is `names` then. An error is followed by a diagnostic.
+A FILE is read so without it.
 With --plain the assembly text is written to which symbolic assembly expands, line by line.
-Exit status: 0 assembled, 1 rejected, 2 command line rejected, 5 out of memory, 7 a read or write failed.",
+Exit status: 0 assembled, 1 rejected, 2 command line rejected, 5 out of memory, 7 a read or write failed, 66 a FILE can't be read.",
 };
 
 pub(crate) const DISASM: CommandHelp<'static> = CommandHelp {
     about: "Writes a program as assembly text",
-    whole: "Reads a program from standard input as hex text: two digits a byte; spaces, tabs and line ends are skipped.
+    whole: "Reads a program from a FILE, which is an argument, or from standard input as hex text: two digits a byte; spaces, tabs
+and line ends are skipped. A FILE may also hold assembly text.
 With --text it reads assembly text, or symbolic assembly as `tw asm --names` does.
 The program needn't be one that `tw check` accepts. `tw asm` makes the same program of the output.
 With --places a line `procedure` and its number precedes each procedure, and its place each instruction; `tw asm` doesn't
 read this form.
-Exit status: 0 written, 1 rejected, 2 command line rejected, 5 out of memory, 7 a read or write failed.",
+Exit status: 0 written, 1 rejected, 2 command line rejected, 5 out of memory, 7 a read or write failed, 66 a FILE can't be read.",
 };
 
 pub(crate) const CHECK: CommandHelp<'static> = CommandHelp {
     about: "Verifies a program and prints its budgets",
-    whole: "Reads a program from standard input as hex text: two digits a byte; spaces, tabs and line ends are skipped.
+    whole: "Reads a program from a FILE, which is an argument, or from standard input as hex text: two digits a byte; spaces, tabs
+and line ends are skipped. A FILE may also hold assembly text.
 With --text it reads assembly text, or symbolic assembly as `tw asm --names` does. An error is then followed by the rejected
 line, such as `at line 17: STORE d0 v0`, and by a diagnostic: the word, what was expected and what was found; or the
 register, what it holds and what is required.
 If the program is accepted, a line for each procedure says how many instructions a task of it executes at most, and a last
 line how many engines and workers its targets need.
 With --bounds, more lines bound what a whole run does, whatever its inputs and actors: `bound tasks 9`, and likewise
-instructions, data, rules and events; `over` is more than 1,000,000,000,000. Such a run ends within its bound of events. If
-calls lead back to their procedure there are no bounds, and a line names one such call. With --bounds=all, a line for each
-procedure bounds what a task of it does with all tasks that it leads to. With --limit, lines such as `limited tasks 100`
-bound what a run with at most that number of events does; they also hold if there are no other bounds.
-With --most-tasks, --most-instructions, --most-data or --most-budget, a program is rejected as O07 if its bound is larger, or
-that by --limit if it is smaller; a line for each names the bound. No bound, or `over`, is larger than any number but the last.
+instructions, data, members, rules, bytes and events; `over` is more than 1,000,000,000,000. Members and bytes are those that
+containers and texts hold at any time, beyond the inputs. Such a run ends within its bound of events. If calls lead back to
+their procedure there are no bounds, and a line names one such call. With --bounds=all, a line for each procedure bounds what a
+task of it does with all tasks that it leads to. With --limit, lines such as `limited tasks 100` bound what a run with at most
+that number of events does; they also hold if there are no other bounds.
+With --most-tasks, --most-instructions, --most-data, --most-bytes or --most-budget, a program is rejected as O07 if its bound is
+larger, or that by --limit if it is smaller; a line for each names the bound. No bound, or `over`, is larger than any number but
+the last.
 With --places a listing of the program precedes these lines. It is that of `tw disasm --places`, or for text input has the
 text's own lines. After each instruction it has what the right registers hold before it, such as `d0 write int`; in a rejected
 program, up to the rejected place.
-Exit status: 0 accepted, 1 rejected, 2 command line rejected, 5 out of memory, 7 a read or write failed.",
+Exit status: 0 accepted, 1 rejected, 2 command line rejected, 5 out of memory, 7 a read or write failed, 66 a FILE can't be read.",
 };
 
 pub(crate) const RUN: CommandHelp<'static> = CommandHelp {
     about: "Runs a program and reports its outputs",
-    whole: "Reads a program from standard input as hex text: two digits a byte; spaces, tabs and line ends are skipped.
+    whole: "Reads a program from a FILE, which is an argument, or from standard input as hex text: two digits a byte; spaces, tabs
+and line ends are skipped. A FILE may also hold assembly text.
 With --text it reads assembly text, or symbolic assembly as `tw asm --names` does. An error is then followed by the rejected
 line, such as `at line 17: STORE d0 v0`, and by a diagnostic: the word, what was expected and what was found; or the
 register, what it holds and what is required; or how many inputs are required, or which one doesn't fit its parameter. A
@@ -63,12 +69,16 @@ circle of rules that wait for one another is followed by the lines that made the
 The inputs are the arguments after the command, one for each input of main, in order. Examples: int:-7, text:abc,
 ints:1=7,5=-3, texts:1=\"abc\",2=\"\", tints:\"a\"=1 and ttexts:\"a\"=\"b\". The subscripts of a container rise, and it may have no
 members. Between quotes \\\", \\\\, \\n and \\x with two hex digits are escapes.
+With --each the lines after the line `inputs` are JSON arrays, and the program, read once, runs in one thread on each. An input
+is a number, a string or an object of members by subscript: [39, \"abc\", {\"1\": 7}]. Each line that isn't blank is answered
+by one line, in order: the object of --json, with the line's number as `line`. With --jobs N, N threads answer parts of the lines.
 With --inputs the inputs are read instead: after the program a line `inputs`, then one input a line, up to a line `end` or the
-end. An input is its whole line; empty lines are skipped. No input is an argument then.
-Options may come before, after or between the inputs. --trace, --in-turn, --stats, --picture, --quiet, --text and --inputs
-take no value; the others take a number in decimal digits.
-With --most-tasks, --most-instructions, --most-data or --most-budget, a program is rejected before it runs, as O07, if its bound
-and that by --limit are larger; see `tw check --help`. So a run that begins stays below.
+end. An input is its whole line; empty lines are skipped. No input is an argument then. With --inputs FILE and --each FILE the
+lines after `inputs` are those of a file; - is standard input.
+Options may come before, after or between the inputs. --trace, --in-turn, --stats, --picture, --quiet, --text, --inputs
+and --each take no value; the others take a number in decimal digits.
+With --most-tasks, --most-instructions, --most-data, --most-bytes or --most-budget, a program is rejected before it runs, as O07,
+if its bound and that by --limit are larger; see `tw check --help`. So a run that begins stays below.
 The report has a line for each output, then one for each member if it is a container, and ends with how the run ended.
 With --trace the trace precedes the report: a line `events`, a line for each event, in order, and a line `end`. The program's
 hex text, a line end and this output can be piped into `tw replay`, with the same inputs, engines, servers and workers.
@@ -83,14 +93,15 @@ need --picture: the timeline shows the events from one number to the other, coun
 --stats, --picture and the lines of a stuck run of a text execute every event again, in one thread, after the run; this takes
 as long as all local instructions of the run together.
 Exit status: 0 quiet, 1 rejected, 2 command line or input rejected, 3 stuck, 4 event limit, 5 out of memory,
-7 a read or write failed.",
+7 a read or write failed, 66 a FILE can't be read. With --each it is 0 if all lines are run, and 1 if one is rejected.",
 };
 
 pub(crate) const REPLAY: CommandHelp<'static> = CommandHelp {
     about: "Executes the events of a trace and reports the state",
     whole: "Executes the events of a trace on the reference machine and reports the resulting state.
-Standard input has a program as hex text, or with --text as assembly text, a line `events`, a line for each event, and a
-line `end` or the end. Without a line `events` there are no events; anything after `end` is ignored, except that it must be UTF-8.
+A FILE, which is an argument, or standard input has a program as hex text, or with --text as assembly text, a line `events`,
+a line for each event, and a line `end` or the end. Without a line `events` there are no events; anything after `end` is ignored,
+except that it must be UTF-8.
 A trace is what `tw run --trace` writes, or any other events: take w0, local w0 3, call w0, end w0, ask e0 1 0,
 deliver s0 2 1 0, release e0 1.
 The program isn't verified first. Its inputs are arguments, like those of `tw run`, or with --inputs lines after the program,
@@ -100,13 +111,13 @@ With --stats statistics follow it: a line `numbers`; how many events there are, 
 procedure its tasks, their instructions, the most of one task, and its budget if the program is accepted; for each actor its
 events; and how many steps there are, and how many in the longest chain of events that wait for one another.
 Exit status: 0 quiet or still running, 1 rejected or an event that isn't enabled, 2 command line or input rejected,
-3 stuck, 5 out of memory, 6 trap, 7 a read or write failed.",
+3 stuck, 5 out of memory, 6 trap, 7 a read or write failed, 66 a FILE can't be read.",
 };
 
 pub(crate) const PICTURE: CommandHelp<'static> = CommandHelp {
     about: "Draws the events of a trace as an SVG timeline",
     whole: "Executes the events of a trace on the reference machine and draws them as one SVG timeline.
-It takes what `tw replay` takes except --stats, and rejects what that rejects, with the same line and status. Otherwise its
+It takes what `tw replay` takes except --stats and --json, and rejects what that rejects, with the same line and status. Otherwise its
 output can be opened in a browser. Each actor has a row, with its events from left to right by their numbers. An event has a
 marker, whose line is shown while the pointer rests on it; a task has a bar from its `take` to its `end`, and a line from
 the event that made it to its `take`. The heading says how the run ended. If it is stuck in a circle of rules, the circle is
@@ -115,7 +126,7 @@ With --from and --to it shows the events from one number to the other, and its h
 1, as in `not enabled at event 3`; past the last event there are none. Bars and lines that begin or end outside the range stick
 out to the left or to the right.
 Exit status: 0 quiet or still running, 1 rejected or an event that isn't enabled, 2 command line or input rejected,
-3 stuck, 5 out of memory, 6 trap, 7 a read or write failed.",
+3 stuck, 5 out of memory, 6 trap, 7 a read or write failed, 66 a FILE can't be read.",
 };
 
 pub(crate) const EXPLAIN: CommandHelp<'static> = CommandHelp {
@@ -143,6 +154,8 @@ pub(crate) const MOST_INSTRUCTIONS_HELP: &str =
 
 pub(crate) const MOST_DATA_HELP: &str = "Reject a program whose run may make more data by NEW";
 
+pub(crate) const MOST_BYTES_HELP: &str = "Reject a program whose run may hold texts of more bytes";
+
 pub(crate) const MOST_BUDGET_HELP: &str = "Reject a program with a larger budget of one task";
 
 pub(crate) const TRACE_HELP: &str =
@@ -157,8 +170,13 @@ pub(crate) const INPUT_HELP: &str =
 pub(crate) const INPUTS_HELP: &str =
     "Read the inputs: they follow the program and a line `inputs`, one a line";
 
-pub(crate) const JSON_HELP: &str =
-    "Write the run as a JSON object on one line in place of the report";
+pub(crate) const JSON_HELP: &str = "Write a JSON object on one line in place of the output";
+
+pub(crate) const JOBS_HELP: &str =
+    "With --each: answer lines in so many threads, 1 to 64; 1 by default";
+
+pub(crate) const EACH_HELP: &str =
+    "Run each line of inputs after the program, a JSON array, and write a JSON line for each";
 
 pub(crate) const STATS_HELP: &str =
     "Write statistics after the report: events by kind, procedure and actor, and the longest chain";

@@ -54,6 +54,7 @@ impl Order {
             Order::Program(source, order) => Order::Program(source, order.in_turn()),
             Order::Replay(source, order) => Order::Replay(source, order),
             Order::Inputs(source, order) => Order::Inputs(source, order.in_turn()),
+            Order::Each(source, order) => Order::Each(source, order),
         }
     }
 }

@@ -7,12 +7,15 @@ mod arguments;
 mod caps;
 mod checks;
 mod command;
+mod each;
 mod explained_names;
 mod explained_programs;
 mod explanations;
+mod form;
 mod found;
 mod help;
 mod in_turn;
+mod input_commands;
 mod input_diagnostics;
 mod input_words;
 mod limit;
@@ -25,9 +28,10 @@ mod wrong_words;
 pub use caps::Caps;
 pub use checks::{BoundsOf, CheckOrder};
 pub use command::{
-    Answer, Assembling, InputsOrder, NoOrder, Order, Places, ProgramOrder, ReplayOptions,
-    ReplayOrder, RunAnswer, RunOptions, RunOrder, Source, VerifiedOrder,
+    Answer, Assembling, EachOrder, InputsOrder, NoOrder, Order, Places, ProgramOrder,
+    ReplayOptions, ReplayOrder, RunAnswer, RunOptions, RunOrder, Source, VerifiedOrder,
 };
+pub use form::{AssembleOrder, DisassembleOrder, Explained, Form};
 pub use found::inputs_of;
 pub use input_words::input_of;
 pub use limit::EventLimit;

@@ -1,13 +1,13 @@
 //! Makes the order of the arguments.
 
-ghost use Rattle.std.specs.Prelude.{◌≡◌, [], map, IfOk, IfErr, MatchOption, string_bytes};
+ghost use Rattle.std.specs.Prelude.{◌≡◌, true, false, [], map, IfOk, IfErr, MatchOption, string_bytes};
 ghost use Rattle.clap.specs.Words.{found_of, kind_of, rows_of, subcommand_rows_of};
-ghost use Rattle.tw_cli.specs.CommandLine.{Checks, Explains, IsAsked, asked_by_words, asked_of, check_faults, drawing_faults, faults_after, replay_asked, replay_faults, run_asked, run_faults, word_faults};
+ghost use Rattle.tw_cli.specs.CommandLine.{Checks, Explains, IsAsked, asked_by_words, asked_of, check_faults, drawing_faults, explain_asked, faults_after, given_answer, replay_asked, report_faults, replay_faults, run_asked, run_faults, word_faults};
 ghost use Rattle.tw_cli.specs.declared.command.Answer.{Answer as Answers};
 ghost use Rattle.tw_cli.specs.declared.command.Order.TheVariants.{Program};
 ghost use Rattle.tw_cli.specs.declared.command.ProgramOrder.TheVariants.{Verified};
 ghost use Rattle.tw_cli.specs.reading.Runs.{IsRunBy};
-ghost use Rattle.tw_cli.specs.Options.{given_check, given_range, given_source};
+ghost use Rattle.tw_cli.specs.Options.{each, explaining, given_check, given_range, given_source, is_given};
 ghost use Rattle.tw_cli.specs.Explanations.{number_faults, number_word};
 ghost use Rattle.tw_cli.specs.Order.{HasReason, IsReason};
 ghost use Rattle.tw_cli.specs.declared.command.NoOrder.TheVariants.{Refused};
@@ -15,15 +15,16 @@ ghost use Rattle.tw_cli.specs.declared.command.NoOrder.TheVariants.{Refused};
 use crate::caps::caps_given;
 use crate::checks::{bare_check, check_given};
 use crate::command::{
-    Answer, InputsOrder, NoOrder, Order, ProgramOrder, ReplayOptions, RunOptions, Source,
-    VerifiedOrder, command,
+    Answer, EachOrder, InputsOrder, NoOrder, Order, ProgramOrder, ReplayOptions, RunOptions,
+    Source, VerifiedOrder, command,
 };
+use crate::each::{each_excludes, jobs_given, names_jobs};
 use crate::explanations::explained;
+use crate::form::{Form, assembly_given, disassembly_given, form_given};
 use crate::found::{
-    answer_given, assembling_given, flag_given, inputs_given, layout_given, limit_given,
-    places_given, source_given,
+    answer_given, flag_given, inputs_given, layout_given, limit_given, source_given,
 };
-use crate::shown::{event_range_given, run_answer};
+use crate::shown::{event_range_given, is_json_with_more, run_answer};
 use clap::error::ErrorKind;
 use clap::{ArgMatches, Error};
 use std::alloc::Global;
@@ -64,6 +65,55 @@ fn run_options(matches: &ArgMatches<'_>) -> Option<RunOptions>
     })
 }
 
+/// Returns the order to run each line of inputs.
+fn each_order(matches: &ArgMatches<'_>, options: RunOptions) -> Result<Order, NoOrder>
+    requires each { is_given each (rows_of (found_of matches.now)) ≡ true }
+    requires options { IsRunBy (rows_of (found_of matches.now)) options }
+    ensures taken { IfOk result (λ order. (run_faults (rows_of (found_of matches.now)) ≡ [])
+        × IsAsked (run_asked (rows_of (found_of matches.now))) order) }
+    ensures refused { IfErr result
+        (HasReason (run_faults (rows_of (found_of matches.now))) (run_asked (rows_of (found_of matches.now)))) }
+{
+    if each_excludes(matches) {
+        return Err(NoOrder::Refused);
+    }
+    let Some(jobs) = jobs_given(matches) else {
+        return Err(NoOrder::Refused);
+    };
+    let order = EachOrder {
+        layout: options.layout,
+        limit: options.limit,
+        jobs: jobs as usize,
+        caps: options.caps,
+    };
+    Ok(Order::Each(source_given(matches), order))
+}
+
+/// Returns the order of one run.
+fn single_order(
+    alloc: Global,
+    matches: &ArgMatches<'_>,
+    options: RunOptions,
+) -> Result<Order, NoOrder>
+    requires single { is_given each (rows_of (found_of matches.now)) ≡ false }
+    requires options { IsRunBy (rows_of (found_of matches.now)) options }
+    ensures taken { IfOk result (λ order. (run_faults (rows_of (found_of matches.now)) ≡ [])
+        × IsAsked (run_asked (rows_of (found_of matches.now))) order) }
+    ensures refused { IfErr result
+        (HasReason (run_faults (rows_of (found_of matches.now))) (run_asked (rows_of (found_of matches.now)))) }
+{
+    if names_jobs(matches) {
+        return Err(NoOrder::Refused);
+    }
+    match inputs_given(alloc, matches)? {
+        Some(inputs) => Ok(Order::Program(
+            source_given(matches),
+            ProgramOrder::Verified(VerifiedOrder::Run(options.with_inputs(inputs))),
+        )),
+        None => Ok(Order::Inputs(source_given(matches), InputsOrder::ToRun(options))),
+    }
+}
+
 /// Returns the order to run, from what clap found after `run`.
 fn run_order(alloc: Global, matches: &ArgMatches<'_>) -> Result<Order, NoOrder>
     ensures taken { IfOk result (λ order. (run_faults (rows_of (found_of matches.now)) ≡ [])
@@ -74,13 +124,10 @@ fn run_order(alloc: Global, matches: &ArgMatches<'_>) -> Result<Order, NoOrder>
     let Some(options) = run_options(matches) else {
         return Err(NoOrder::Refused);
     };
-    match inputs_given(alloc, matches)? {
-        Some(inputs) => Ok(Order::Program(
-            source_given(matches),
-            ProgramOrder::Verified(VerifiedOrder::Run(options.with_inputs(inputs))),
-        )),
-        None => Ok(Order::Inputs(source_given(matches), InputsOrder::ToRun(options))),
+    if flag_given(matches, "each") {
+        return each_order(matches, options);
     }
+    single_order(alloc, matches, options)
 }
 
 /// Returns the order to replay a trace and write this answer, from what clap found after the command.
@@ -117,11 +164,25 @@ fn picture_order(alloc: Global, matches: &ArgMatches<'_>) -> Result<Order, NoOrd
     replay_order(alloc, Answer::Picture(stretch), matches)
 }
 
-fn explanation_of(alloc: Global, word: &str) -> NoOrder
-    ensures { HasReason (number_faults word.now) (Explains word.now) result }
+/// Returns the order to replay a trace, from what clap found after `replay`.
+fn report_order(alloc: Global, matches: &ArgMatches<'_>) -> Result<Order, NoOrder>
+    ensures taken { IfOk result (λ order. (report_faults (rows_of (found_of matches.now)) ≡ [])
+        × IsAsked (replay_asked (given_answer (rows_of (found_of matches.now))) (rows_of (found_of matches.now))) order) }
+    ensures refused { IfErr result
+        (HasReason (report_faults (rows_of (found_of matches.now)))
+        (replay_asked (given_answer (rows_of (found_of matches.now))) (rows_of (found_of matches.now)))) }
 {
-    match explained(alloc, word) {
-        Ok(Some(text)) => NoOrder::Explanation(text),
+    if is_json_with_more(matches) {
+        return Err(NoOrder::Refused);
+    }
+    replay_order(alloc, answer_given(matches), matches)
+}
+
+fn explanation_of(alloc: Global, form: Form, word: &str) -> NoOrder
+    ensures { HasReason (number_faults word.now) (Explains (explaining word.now form)) result }
+{
+    match explained(alloc, form, word) {
+        Ok(Some(explained)) => NoOrder::Explanation(explained),
         Ok(None) => NoOrder::Refused,
         Err(_) => NoOrder::NoMemory,
     }
@@ -129,20 +190,21 @@ fn explanation_of(alloc: Global, word: &str) -> NoOrder
 
 /// Returns the explanation of the code after `explain`, or an error.
 fn explanation_given(alloc: Global, matches: &ArgMatches<'_>) -> NoOrder
-    ensures { HasReason (number_faults (number_word (rows_of (found_of matches.now)))) (Explains (number_word (rows_of (found_of matches.now)))) result }
+    ensures { HasReason (number_faults (number_word (rows_of (found_of matches.now)))) (explain_asked (rows_of (found_of matches.now))) result }
 {
+    let form = form_given(matches);
     match matches.get_str("number") {
-        Some(word) => explanation_of(alloc, word),
-        None => explanation_of(alloc, ""),
+        Some(word) => explanation_of(alloc, form, word),
+        None => explanation_of(alloc, form, ""),
     }
 }
 
 /// Returns the explanation of the code after `explain`, which is no order, in the shape of the other commands.
 fn explained_order(alloc: Global, matches: &ArgMatches<'_>) -> Result<Order, NoOrder>
     ensures taken { IfOk result (λ order. (number_faults (number_word (rows_of (found_of matches.now))) ≡ [])
-        × IsAsked (Explains (number_word (rows_of (found_of matches.now)))) order) }
+        × IsAsked (explain_asked (rows_of (found_of matches.now))) order) }
     ensures refused { IfErr result
-        (HasReason (number_faults (number_word (rows_of (found_of matches.now)))) (Explains (number_word (rows_of (found_of matches.now))))) }
+        (HasReason (number_faults (number_word (rows_of (found_of matches.now)))) (explain_asked (rows_of (found_of matches.now)))) }
 {
     Err(explanation_given(alloc, matches))
 }
@@ -174,12 +236,12 @@ pub(crate) fn order_of(alloc: Global, matches: &ArgMatches<'_>) -> Result<Order,
 {
     match matches.subcommand() {
         Some(("run", given)) => run_order(alloc, given),
-        Some(("replay", given)) => replay_order(alloc, answer_given(given), given),
+        Some(("replay", given)) => report_order(alloc, given),
         Some(("picture", given)) => picture_order(alloc, given),
-        Some(("asm", given)) => Ok(Order::Assemble(assembling_given(given))),
+        Some(("asm", given)) => Ok(Order::Assemble(assembly_given(given))),
         Some(("disasm", given)) => Ok(Order::Program(
             source_given(given),
-            ProgramOrder::Disassemble(places_given(given)),
+            ProgramOrder::Disassemble(disassembly_given(given)),
         )),
         Some(("explain", given)) => explained_order(alloc, given),
         Some(("check", given)) => check_order(given),

@@ -3,7 +3,7 @@
 ghost use Rattle.std.specs.Prelude.{◌≡◌, [], ◌∷◌, is_some, nat_lt, IfErr, IfOk, MatchOption};
 ghost use Rattle.clap.specs.Words.{first_of, found_of, rows_of};
 ghost use Rattle.clap.specs.declared.error.ErrorKind.TheVariants.{ArgumentConflict, ValueValidation};
-ghost use Rattle.tw_cli.specs.CommandLine.{has_more, is_cut, json_faults, picture_faults, run_answer, stretch_faults, written_answer};
+ghost use Rattle.tw_cli.specs.CommandLine.{has_more, is_cut, is_json_with_more, json_faults, picture_faults, run_answer, stretch_faults, written_answer};
 ghost use Rattle.tw_cli.specs.Options.{HasStretch, option_faults, stretch_options, given_range};
 
 use crate::command::RunAnswer;
@@ -31,6 +31,10 @@ impl EventRange {
 pub(crate) enum Conflict {
     /// A JSON line, together with a trace or statistics.
     JsonWithMore,
+    /// A run of each line, together with other output or other inputs.
+    EachWithMore,
+    /// A number of threads without a run of each line.
+    JobsAlone,
     /// A timeline, together with a trace, statistics or a JSON line.
     PictureWithMore,
     /// A range of events without a timeline.
@@ -67,10 +71,17 @@ fn is_cut(matches: &ArgMatches<'_>) -> bool
 }
 
 /// Returns whether a trace or statistics are requested.
-fn has_more(matches: &ArgMatches<'_>) -> bool
+pub(crate) fn has_more(matches: &ArgMatches<'_>) -> bool
     ensures { result ≡ has_more (rows_of (found_of matches.now)) }
 {
     flag_given(matches, "trace") || flag_given(matches, "stats")
+}
+
+/// Returns whether a JSON line is not alone.
+pub(crate) fn is_json_with_more(matches: &ArgMatches<'_>) -> bool
+    ensures { result ≡ is_json_with_more (rows_of (found_of matches.now)) }
+{
+    flag_given(matches, "json") && has_more(matches)
 }
 
 /// Returns what `run` prints if that is no timeline.

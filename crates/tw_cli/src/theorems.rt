@@ -2,34 +2,35 @@
 
 ghost use Rattle.std.specs.Prelude.{◌≡◌, ℕ, true, false, List, [], ◌∷◌, Some, None, codes};
 ghost use Rattle.clap.specs.declared.error.ErrorKind.TheVariants.{ArgumentConflict, DisplayHelp, DisplayVersion, InvalidSubcommand, InvalidValue, TooManyValues, UnknownArgument, ValueValidation};
-ghost use Rattle.tw_cli.specs.CommandLine.{Assembles, Checks, Disassembles, Explains, Replays, Runs, asked_by_words, word_faults};
-ghost use Rattle.tw_cli.specs.declared.command.Answer.TheVariants.{Numbers, Picture, Report};
+ghost use Rattle.tw_cli.specs.CommandLine.{Assembles, Checks, Disassembles, Explains, Replays, Runs, RunsEach, asked_by_words, word_faults};
+ghost use Rattle.tw_cli.specs.declared.command.Answer.TheVariants.{Json, Numbers, Picture, Report};
 ghost use Rattle.tw_cli.specs.declared.command.RunAnswer.TheVariants as written;
 ghost use Rattle.tw_cli.specs.declared.command.Assembling.TheVariants.{Names, Plain, Text};
 ghost use Rattle.tw_cli.specs.declared.checks.BoundsOf.TheVariants.{NoBounds, OfEach, OfMain};
 ghost use Rattle.tw_cli.specs.declared.command.Places.TheVariants.{Hidden, Shown};
+ghost use Rattle.tw_cli.specs.declared.form.Form.TheVariants as form;
 ghost use Rattle.tw_cli.specs.declared.command.Source.TheVariants.{Assembly, Hex};
-ghost use Rattle.tw_cli.specs.Options.{actors, capped, checking, stretch, uncapped};
+ghost use Rattle.tw_cli.specs.Options.{actors, assembling_to, capped, checking, disassembling, explaining, stretch, uncapped};
 ghost use Rattle.tw_cli.specs.Explanations.{meant};
 ghost use Rattle.tw_cli.specs.InputWords.{OneInput, OneRefusedWord};
 
 /// Each command is accepted, and gives the order that it names, with the options and arguments after it.
 pub fn commands_are_taken()
-    ensures asm { (word_faults (codes "asm" ∷ []) ≡ []) × (asked_by_words (codes "asm" ∷ []) ≡ Assembles Text) }
-    ensures names { (word_faults (codes "asm" ∷ codes "--names" ∷ []) ≡ []) × (asked_by_words (codes "asm" ∷ codes "--names" ∷ []) ≡ Assembles Names) }
+    ensures asm { (word_faults (codes "asm" ∷ []) ≡ []) × (asked_by_words (codes "asm" ∷ []) ≡ Assembles (assembling_to Text form.Text)) }
+    ensures names { (word_faults (codes "asm" ∷ codes "--names" ∷ []) ≡ []) × (asked_by_words (codes "asm" ∷ codes "--names" ∷ []) ≡ Assembles (assembling_to Names form.Text)) }
     ensures plain { (word_faults (codes "asm" ∷ codes "--names" ∷ codes "--plain" ∷ []) ≡ [])
-        × (asked_by_words (codes "asm" ∷ codes "--names" ∷ codes "--plain" ∷ []) ≡ Assembles Plain) }
-    ensures disasm { (word_faults (codes "disasm" ∷ []) ≡ []) × (asked_by_words (codes "disasm" ∷ []) ≡ Disassembles Hex Hidden) }
+        × (asked_by_words (codes "asm" ∷ codes "--names" ∷ codes "--plain" ∷ []) ≡ Assembles (assembling_to Plain form.Text)) }
+    ensures disasm { (word_faults (codes "disasm" ∷ []) ≡ []) × (asked_by_words (codes "disasm" ∷ []) ≡ Disassembles Hex (disassembling Hidden form.Text)) }
     ensures check { (word_faults (codes "check" ∷ []) ≡ []) × (asked_by_words (codes "check" ∷ []) ≡ Checks Hex (checking Hidden NoBounds)) }
     ensures bounds { (word_faults (codes "check" ∷ codes "--bounds" ∷ codes "--text" ∷ []) ≡ [])
         × (asked_by_words (codes "check" ∷ codes "--bounds" ∷ codes "--text" ∷ []) ≡ Checks Assembly (checking Hidden OfMain)) }
     ensures all_bounds { (word_faults (codes "check" ∷ codes "--bounds=all" ∷ codes "--limit" ∷ codes "9" ∷ []) ≡ [])
         × (asked_by_words (codes "check" ∷ codes "--bounds=all" ∷ codes "--limit" ∷ codes "9" ∷ []) ≡ Checks Hex (record (checking Hidden OfEach) { limit = Some 9 })) }
     ensures check_caps { (word_faults (codes "check" ∷ codes "--most-tasks" ∷ codes "9" ∷ []) ≡ [])
-        × (asked_by_words (codes "check" ∷ codes "--most-tasks" ∷ codes "9" ∷ []) ≡ Checks Hex (record (checking Hidden NoBounds) { caps = capped 9 18446744073709551615 18446744073709551615 18446744073709551615 })) }
+        × (asked_by_words (codes "check" ∷ codes "--most-tasks" ∷ codes "9" ∷ []) ≡ Checks Hex (record (checking Hidden NoBounds) { caps = capped 9 18446744073709551615 18446744073709551615 18446744073709551615 18446744073709551615 })) }
     ensures run_caps { (word_faults (codes "run" ∷ codes "--most-instructions=7" ∷ codes "--most-budget" ∷ codes "8" ∷ []) ≡ [])
         × (asked_by_words (codes "run" ∷ codes "--most-instructions=7" ∷ codes "--most-budget" ∷ codes "8" ∷ [])
-        ≡ Runs Hex written.Report (actors 1 1 1) (capped 18446744073709551615 7 18446744073709551615 8) 10000 false false (Some [])) }
+        ≡ Runs Hex written.Report (actors 1 1 1) (capped 18446744073709551615 7 18446744073709551615 18446744073709551615 8) 10000 false false (Some [])) }
     ensures run { (word_faults (codes "run" ∷ []) ≡ [])
         × (asked_by_words (codes "run" ∷ []) ≡ Runs Hex written.Report (actors 1 1 1) uncapped 10000 false false (Some [])) }
     ensures inputs { (word_faults (codes "run" ∷ codes "int:7" ∷ codes "text:a" ∷ []) ≡ [])
@@ -57,6 +58,8 @@ pub fn commands_are_taken()
         × (asked_by_words (codes "run" ∷ codes "--stats" ∷ codes "--trace" ∷ []) ≡ Runs Hex written.Numbers (actors 1 1 1) uncapped 10000 true false (Some [])) }
     ensures run_json { (word_faults (codes "run" ∷ codes "--json" ∷ []) ≡ [])
         × (asked_by_words (codes "run" ∷ codes "--json" ∷ []) ≡ Runs Hex written.Json (actors 1 1 1) uncapped 10000 false false (Some [])) }
+    ensures run_each { (word_faults (codes "run" ∷ codes "--each" ∷ codes "--text" ∷ codes "--jobs" ∷ codes "9" ∷ []) ≡ [])
+        × (asked_by_words (codes "run" ∷ codes "--each" ∷ codes "--text" ∷ codes "--jobs" ∷ codes "9" ∷ []) ≡ RunsEach Assembly (actors 1 1 1) uncapped 10000 9) }
     ensures run_picture { (word_faults (codes "run" ∷ codes "--picture" ∷ codes "--in-turn" ∷ []) ≡ [])
         × (asked_by_words (codes "run" ∷ codes "--picture" ∷ codes "--in-turn" ∷ []) ≡ Runs Hex (written.Picture (stretch 1 4294967295)) (actors 1 1 1) uncapped 10000 false true (Some [])) }
     ensures run_stretch { (word_faults (codes "run" ∷ codes "--from=5" ∷ codes "--picture" ∷ codes "--to" ∷ codes "9" ∷ []) ≡ [])
@@ -81,7 +84,7 @@ pub fn commands_are_taken()
     ensures places { (word_faults (codes "check" ∷ codes "--places" ∷ codes "--text" ∷ []) ≡ [])
         × (asked_by_words (codes "check" ∷ codes "--places" ∷ codes "--text" ∷ []) ≡ Checks Assembly (checking Shown NoBounds)) }
     ensures disasm_places { (word_faults (codes "disasm" ∷ codes "--places" ∷ []) ≡ [])
-        × (asked_by_words (codes "disasm" ∷ codes "--places" ∷ []) ≡ Disassembles Hex Shown) }
+        × (asked_by_words (codes "disasm" ∷ codes "--places" ∷ []) ≡ Disassembles Hex (disassembling Shown form.Text)) }
     ensures run_text { (word_faults (codes "run" ∷ codes "int:7" ∷ codes "--text" ∷ []) ≡ [])
         × (asked_by_words (codes "run" ∷ codes "int:7" ∷ codes "--text" ∷ [])
         ≡ Runs Assembly written.Report (actors 1 1 1) uncapped 10000 false false (Some (codes "int:7" ∷ []))) }
@@ -94,9 +97,18 @@ pub fn commands_are_taken()
     ensures replay_inputs { (word_faults (codes "replay" ∷ codes "--inputs" ∷ []) ≡ [])
         × (asked_by_words (codes "replay" ∷ codes "--inputs" ∷ []) ≡ Replays Hex Report (actors 1 1 1) None) }
     ensures explain { (word_faults (codes "explain" ∷ codes "V04" ∷ []) ≡ [])
-        × (asked_by_words (codes "explain" ∷ codes "V04" ∷ []) ≡ Explains (codes "V04")) }
+        × (asked_by_words (codes "explain" ∷ codes "V04" ∷ []) ≡ Explains (explaining (codes "V04") form.Text)) }
     ensures meant { (word_faults (codes "explain" ∷ codes "v4" ∷ []) ≡ []) × (meant (codes "v4") ≡ codes "V04") }
-    ensures numbers { (word_faults (codes "explain" ∷ []) ≡ []) × (asked_by_words (codes "explain" ∷ []) ≡ Explains []) }
+    ensures numbers { (word_faults (codes "explain" ∷ []) ≡ []) × (asked_by_words (codes "explain" ∷ []) ≡ Explains (explaining [] form.Text)) }
+    ensures asm_json { (word_faults (codes "asm" ∷ codes "--json" ∷ []) ≡ []) × (asked_by_words (codes "asm" ∷ codes "--json" ∷ []) ≡ Assembles (assembling_to Text form.Json)) }
+    ensures disasm_json { (word_faults (codes "disasm" ∷ codes "--json" ∷ []) ≡ [])
+        × (asked_by_words (codes "disasm" ∷ codes "--json" ∷ []) ≡ Disassembles Hex (disassembling Hidden form.Json)) }
+    ensures check_json { (word_faults (codes "check" ∷ codes "--json" ∷ codes "--places" ∷ []) ≡ [])
+        × (asked_by_words (codes "check" ∷ codes "--json" ∷ codes "--places" ∷ []) ≡ Checks Hex (record (checking Shown NoBounds) { form = form.Json })) }
+    ensures replay_json { (word_faults (codes "replay" ∷ codes "--json" ∷ []) ≡ [])
+        × (asked_by_words (codes "replay" ∷ codes "--json" ∷ []) ≡ Replays Hex Json (actors 1 1 1) (Some [])) }
+    ensures explain_json { (word_faults (codes "explain" ∷ codes "--json" ∷ codes "V04" ∷ []) ≡ [])
+        × (asked_by_words (codes "explain" ∷ codes "--json" ∷ codes "V04" ∷ []) ≡ Explains (explaining (codes "V04") form.Json)) }
 {}
 
 /// Arguments are rejected that name no command, or come after `check`. The same holds for an option that is unknown, is repeated, or has no number in
@@ -117,6 +129,10 @@ pub fn strangers_are_refused()
     ensures limit { word_faults (codes "replay" ∷ codes "--limit" ∷ codes "9" ∷ []) ≡ UnknownArgument ∷ [] }
     ensures trace { word_faults (codes "replay" ∷ codes "--trace" ∷ []) ≡ UnknownArgument ∷ [] }
     ensures picture_stats { word_faults (codes "picture" ∷ codes "--stats" ∷ []) ≡ UnknownArgument ∷ [] }
+    ensures picture_json { word_faults (codes "picture" ∷ codes "--json" ∷ []) ≡ UnknownArgument ∷ [] }
+    ensures counted_json { word_faults (codes "replay" ∷ codes "--stats" ∷ codes "--json" ∷ []) ≡ ArgumentConflict ∷ [] }
+    ensures jobs_alone { word_faults (codes "run" ∷ codes "--jobs" ∷ codes "2" ∷ []) ≡ ArgumentConflict ∷ [] }
+    ensures each_input { word_faults (codes "run" ∷ codes "--each" ∷ codes "int:7" ∷ []) ≡ ArgumentConflict ∷ [] }
     ensures traced_picture { word_faults (codes "run" ∷ codes "--picture" ∷ codes "--trace" ∷ []) ≡ ArgumentConflict ∷ [] }
     ensures counted_picture { word_faults (codes "run" ∷ codes "--stats" ∷ codes "--picture" ∷ []) ≡ ArgumentConflict ∷ [] }
     ensures stretch_alone { word_faults (codes "run" ∷ codes "--from" ∷ codes "1" ∷ []) ≡ ArgumentConflict ∷ [] }

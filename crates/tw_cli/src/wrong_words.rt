@@ -9,6 +9,7 @@ ghost use Rattle.tw_cli.specs.Order.{HasReason};
 use crate::caps::caps_given;
 use crate::checks::check_given;
 use crate::command::{NoOrder, command};
+use crate::each::{each_conflict, jobs_given};
 use crate::found::{flag_given, number_given};
 use crate::orders::{order_of, reason_of};
 use crate::shown::{Conflict, event_range_given, run_answer};
@@ -27,6 +28,8 @@ fn range_line(given: &ArgMatches<'_>) -> Option<&'static str> {
         Some("error: --workers takes a number from 1 to 16\n")
     } else if number_given(given, "limit", 1_000_000, 10_000).is_none() {
         Some("error: --limit takes a number from 1 to 1000000\n")
+    } else if jobs_given(given).is_none() {
+        Some("error: --jobs takes a number from 1 to 64\n")
     } else if event_range_given(given).is_none() {
         Some("error: --from and --to take numbers from 1 to 4294967295\n")
     } else if caps_given(given).is_none() {
@@ -39,6 +42,10 @@ fn range_line(given: &ArgMatches<'_>) -> Option<&'static str> {
 fn conflict_line(conflict: Conflict) -> &'static str {
     match conflict {
         Conflict::JsonWithMore => "error: --json excludes --trace and --stats\n",
+        Conflict::EachWithMore => {
+            "error: --each excludes --trace, --stats, --picture, --inputs and input arguments\n"
+        }
+        Conflict::JobsAlone => "error: --jobs needs --each\n",
         Conflict::PictureWithMore => "error: --picture excludes --trace, --stats and --json\n",
         Conflict::RangeAlone => "error: --from and --to need --picture\n",
         Conflict::Reversed => "error: --to takes no number below that of --from\n",
@@ -51,7 +58,10 @@ fn conflict_of(command: &str, given: &ArgMatches<'_>) -> Option<Conflict> {
     match command {
         "picture" if stretch.is_reversed() => Some(Conflict::Reversed),
         "picture" => None,
-        _ => run_answer(given, stretch).err(),
+        _ => match run_answer(given, stretch) {
+            Ok(_answer) => each_conflict(given),
+            Err(conflict) => Some(conflict),
+        },
     }
 }
 

@@ -12,3 +12,4 @@ pub mod Faults
 mod ReplyNames
 pub mod Admissions
 mod Circles
+pub mod CheckObjects

@@ -13,6 +13,7 @@ use Rattle.tw_code.specs.machine.State.{State}
 use Rattle.tw_bounds.specs.declared.bound.Bound.{Bound}
 use Rattle.tw_bounds.specs.declared.bound.Bound.TheVariants.{AtMost, Over, Endless}
 use Rattle.tw_bounds.specs.declared.limited.LimitedBounds.{LimitedBounds}
+use Rattle.tw_bounds.specs.Contents.{bytes_held}
 use Rattle.tw_bounds.specs.Least.{AreLeastBounds, IsShort}
 use Rattle.tw_bounds.specs.Limited.{IsLargestBudget}
 use Rattle.tw_bounds.specs.Runs.{instructions_in, tasks_in}
@@ -45,10 +46,11 @@ excess_lines caps bounds budget =
     excess (codes "tasks") bounds.tasks caps.tasks
     ++ (excess (codes "instructions") bounds.instructions caps.instructions
     ++ (excess (codes "data") bounds.«data» caps.«data»
-    ++ excess (codes "budget") (AtMost budget) caps.budget))
+    ++ (excess (codes "bytes") bounds.bytes caps.bytes
+    ++ excess (codes "budget") (AtMost budget) caps.budget)))
 
 abbrev pub has_cap : Caps → Bool
-has_cap caps = nat_lt caps.tasks greatest_cap || (nat_lt caps.instructions greatest_cap || (nat_lt caps.«data» greatest_cap || nat_lt caps.budget greatest_cap))
+has_cap caps = nat_lt caps.tasks greatest_cap || (nat_lt caps.instructions greatest_cap || (nat_lt caps.«data» greatest_cap || (nat_lt caps.bytes greatest_cap || nat_lt caps.budget greatest_cap)))
 
 -- holds for the lines for the program's bounds above the caps, if there is a cap
 abbrev pub AreExcessLines : Bool → List Procedure → Option ℕ → Caps → List ℕ → Type 0
@@ -63,6 +65,7 @@ pub record IsRunWithinCaps (program : List Procedure) (caps : Caps) (inputs : Li
   pub tasks : caps.tasks < greatest_cap → tasks_in events ≤ caps.tasks
   pub instructions : caps.instructions < greatest_cap → instructions_in events ≤ caps.instructions
   pub new_data : caps.«data» < greatest_cap → s.store.next ≤ (opening program inputs).store.next + caps.«data»
+  pub bytes : caps.bytes < greatest_cap → bytes_held s.store ≤ bytes_held (opening program inputs).store + caps.bytes
 
 -- with any inputs and layout, each run that the limit allows is within the caps, and so is each budget
 pub record StaysWithinCaps (program : List Procedure) (limit : Option ℕ) (caps : Caps) : Type 0 where

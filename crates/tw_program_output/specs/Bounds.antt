@@ -31,8 +31,10 @@ bound_lines bounds =
     bound_line (codes "tasks") bounds.tasks.items
     ++ (bound_line (codes "instructions") bounds.instructions.items
     ++ (bound_line (codes "data") bounds.data.items
+    ++ (bound_line (codes "members") bounds.members.items
     ++ (bound_line (codes "rules") bounds.rules.items
-    ++ bound_line (codes "events") bounds.events.items)))
+    ++ (bound_line (codes "bytes") bounds.bytes.items
+    ++ bound_line (codes "events") bounds.events.items)))))
 
 -- returns why there are no bounds
 abbrev pub circle_line : Circle → List ℕ
@@ -59,8 +61,10 @@ bound_parts bounds number =
     bound_part (codes " tasks ") bounds.tasks.items number
     ++ (bound_part (codes " instructions ") bounds.instructions.items number
     ++ (bound_part (codes " data ") bounds.data.items number
+    ++ (bound_part (codes " members ") bounds.members.items number
     ++ (bound_part (codes " rules ") bounds.rules.items number
-    ++ bound_part (codes " events ") bounds.events.items number)))
+    ++ (bound_part (codes " bytes ") bounds.bytes.items number
+    ++ bound_part (codes " events ") bounds.events.items number)))))
 
 -- returns the bounds of a procedure's tasks in one line, and its name in brackets if it has one
 abbrev pub bound_row : List ℕ → RunBounds → ℕ → List ℕ
@@ -90,8 +94,10 @@ limited_lines bounds =
     limited_line (codes "tasks") bounds.tasks
     ++ (limited_line (codes "instructions") bounds.instructions
     ++ (limited_line (codes "data") bounds.data
+    ++ (limited_line (codes "members") bounds.members
     ++ (limited_line (codes "rules") bounds.rules
-    ++ limited_line (codes "events") bounds.events)))
+    ++ (limited_line (codes "bytes") bounds.bytes
+    ++ limited_line (codes "events") bounds.events)))))
 
 -- holds for the bounds of runs with at most so many events, if there is a limit
 abbrev pub IsLimitedText : Option ℕ → List Procedure → List ℕ → Type 0

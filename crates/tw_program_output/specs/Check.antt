@@ -10,6 +10,9 @@ use Rattle.tw_code.specs.accepting.WellTyped.{IsFirstRejection}
 use Rattle.tw_cli.specs.declared.checks.CheckOrder.{CheckOrder}
 use Rattle.tw_cli.specs.declared.command.Places.{Places}
 use Rattle.tw_cli.specs.declared.command.Places.TheVariants.{Hidden, Shown}
+use Rattle.tw_cli.specs.declared.form.Form.{Form}
+use Rattle.tw_cli.specs.declared.form.Form.TheVariants as form
+use Rattle.tw_program_output.specs.CheckJson.{IsCheckLine}
 use Rattle.tw_symbols.specs.Symbols.{AreSymbols, bracketed, name_at}
 use Rattle.tw_program_output.specs.Admission.{RepliesIfAdmitted}
 use Rattle.tw_program_output.specs.Bounds.{MayPrintBounds}
@@ -54,8 +57,13 @@ abbrev pub IsPrintedByCheck : CheckOrder → Option (List ℕ) → List Procedur
 IsPrintedByCheck order source program text =
     (check : List ℕ) × (lines : List ℕ) × IsChecked order.places source program check × MayPrintBounds order source program lines × (text ≡ check ++ lines)
 
+-- holds for the check in this form: its lines, or an object
+abbrev pub IsInForm : Form → CheckOrder → Option (List ℕ) → List Procedure → List ℕ → Type 0
+IsInForm form.Text order source program text = IsPrintedByCheck order source program text
+IsInForm form.Json order source program text = IsCheckLine order source program text
+
 abbrev pub RepliesByCheck : CheckOrder → Option (List ℕ) → List Procedure → Reply → Type 0
-RepliesByCheck order source program r = RepliesIfAdmitted program order.limit order.caps r ((text : List ℕ) × IsPrintedByCheck order source program text × (r ≡ reply text Success))
+RepliesByCheck order source program r = RepliesIfAdmitted program order.limit order.caps r ((text : List ℕ) × IsInForm order.form order source program text × (r ≡ reply text Success))
 
 -- holds for what precedes an error: the program's listing if that is requested
 abbrev pub IsListedBefore : Places → Option (List ℕ) → List Procedure → ℕ → ℕ → List ℕ → Type 0

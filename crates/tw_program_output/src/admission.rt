@@ -86,6 +86,7 @@ fn put_excess_lines(
         caps.instructions,
     )?;
     put_excess(alloc, out, "data", bounds.data, caps.data)?;
+    put_excess(alloc, out, "bytes", bounds.bytes, caps.bytes)?;
     put_excess(alloc, out, "budget", Bound::AtMost(budget), caps.budget)
 }
 
@@ -96,6 +97,7 @@ fn has_cap(caps: Caps) -> bool
     caps.tasks < u64::MAX
         || caps.instructions < u64::MAX
         || caps.data < u64::MAX
+        || caps.bytes < u64::MAX
         || caps.budget < u64::MAX
 }
 

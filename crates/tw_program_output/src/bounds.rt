@@ -52,7 +52,9 @@ fn put_bound_lines(alloc: Global, out: &mut Vec<u8>, bounds: &RunBounds) -> Resu
     put_bound_line(alloc, out, "tasks", &bounds.tasks)?;
     put_bound_line(alloc, out, "instructions", &bounds.instructions)?;
     put_bound_line(alloc, out, "data", &bounds.data)?;
+    put_bound_line(alloc, out, "members", &bounds.members)?;
     put_bound_line(alloc, out, "rules", &bounds.rules)?;
+    put_bound_line(alloc, out, "bytes", &bounds.bytes)?;
     put_bound_line(alloc, out, "events", &bounds.events)
 }
 
@@ -122,7 +124,9 @@ fn put_bound_parts(
     put_bound_part(alloc, out, " tasks ", &bounds.tasks, number)?;
     put_bound_part(alloc, out, " instructions ", &bounds.instructions, number)?;
     put_bound_part(alloc, out, " data ", &bounds.data, number)?;
+    put_bound_part(alloc, out, " members ", &bounds.members, number)?;
     put_bound_part(alloc, out, " rules ", &bounds.rules, number)?;
+    put_bound_part(alloc, out, " bytes ", &bounds.bytes, number)?;
     put_bound_part(alloc, out, " events ", &bounds.events, number)
 }
 
@@ -238,7 +242,9 @@ fn put_limited_lines(
     put_limited_line(alloc, out, "tasks", bounds.tasks)?;
     put_limited_line(alloc, out, "instructions", bounds.instructions)?;
     put_limited_line(alloc, out, "data", bounds.data)?;
+    put_limited_line(alloc, out, "members", bounds.members)?;
     put_limited_line(alloc, out, "rules", bounds.rules)?;
+    put_limited_line(alloc, out, "bytes", bounds.bytes)?;
     put_limited_line(alloc, out, "events", bounds.events)
 }
 

@@ -2,7 +2,7 @@
 
 ghost use Rattle.std.specs.Prelude.{◌≡◌, ◌++◌, ℕ, List, IfOk, OnOk, decimal};
 ghost use Rattle.tw_code.specs.accepting.WellTyped.{IsFirstRejection};
-ghost use Rattle.tw_program_output.specs.Check.{AreProcedureLines, IsCheckText, IsChecked, IsRefused, IsPrintedByCheck, RepliesByCheck, IsListedBefore, kind_text, needs_line, procedure_line};
+ghost use Rattle.tw_program_output.specs.Check.{AreProcedureLines, IsCheckText, IsChecked, IsRefused, IsInForm, IsPrintedByCheck, RepliesByCheck, IsListedBefore, kind_text, needs_line, procedure_line};
 ghost use Rattle.tw_cli.specs.declared.command.Places.TheVariants.{Shown};
 ghost use Rattle.tw_symbols.specs.Symbols.{name_at};
 ghost use Rattle.tw_program_output.specs.Listing.{IsListing, IsRefusedListing};
@@ -12,6 +12,7 @@ ghost use Rattle.tw_verify.specs.Rejection.{verify_error_code};
 
 use crate::admission::{excess_reply, excess_text};
 use crate::bounds::put_requested_bounds;
+use crate::check_json::check_line;
 use crate::close::Close;
 use crate::lines::put_verify_line;
 use crate::listing::{refused_text, typed_text};
@@ -19,7 +20,7 @@ use crate::reply::{Reply, refused_by};
 use crate::source::{SourceText, put_rejection_details, symbols_of};
 use crate::text_listing::{accepted_lines, refused_lines};
 use std::alloc::{AllocError, Global};
-use tw_cli::{CheckOrder, Places};
+use tw_cli::{CheckOrder, Form, Places};
 use tw_lexer::{put, put_numbered};
 use tw_symbols::Symbols;
 use tw_types::Kind;
@@ -90,7 +91,7 @@ fn check_text(alloc: Global, names: &Symbols, verified: &Verified) -> Result<Vec
 }
 
 /// Returns the listing of an accepted program; of its text's lines, if it was read from a text.
-fn accepted_listing(
+pub(crate) fn accepted_listing(
     alloc: Global,
     source: &Option<SourceText<'_>>,
     verified: &Verified,
@@ -166,6 +167,22 @@ fn checked_text(
     Ok(text)
 }
 
+/// Returns the output of a check of an accepted program, in the requested form.
+fn requested_text(
+    alloc: Global,
+    source: &Option<SourceText<'_>>,
+    order: CheckOrder,
+    verified: &Verified,
+) -> Result<Vec<u8>, AllocError>
+    requires { MayBeSource source.now verified.now.program }
+    ensures { IfOk result (λ text. IsInForm order.form order (text_of source.now) verified.now.program text.items) }
+{
+    match order.form {
+        Form::Text => checked_text(alloc, source, order, verified),
+        Form::Json => check_line(alloc, source, order, verified),
+    }
+}
+
 /// Returns the reply to the check of an accepted program.
 pub fn checked_reply(
     alloc: Global,
@@ -179,7 +196,7 @@ pub fn checked_reply(
     let lines = excess_text(alloc, verified, order.limit, order.caps)?;
     if lines.is_empty() {
         return Ok(Reply {
-            text: checked_text(alloc, source, order, verified)?,
+            text: requested_text(alloc, source, order, verified)?,
             close: Close::Success,
         });
     }

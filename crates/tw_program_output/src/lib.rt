@@ -4,7 +4,9 @@
 mod admission;
 mod assembled;
 mod bounds;
+mod bounds_json;
 mod check;
+mod check_json;
 mod close;
 mod digits;
 mod inputs;

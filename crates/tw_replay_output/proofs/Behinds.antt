@@ -8,7 +8,7 @@ use Rattle.tw_code.specs.machine.Ending.{ending}
 use Rattle.tw_code.specs.machine.Machine.{run, step}
 use Rattle.tw_code.specs.machine.Pending.{circle}
 use Rattle.tw_cli.specs.declared.command.Answer.{Answer}
-use Rattle.tw_cli.specs.declared.command.Answer.TheVariants.{Numbers, Picture, Report}
+use Rattle.tw_cli.specs.declared.command.Answer.TheVariants.{Json, Numbers, Picture, Report}
 use Rattle.tw_cli.specs.declared.shown.EventRange.{EventRange}
 use Rattle.tw_machine.specs.declared.rejection.OpenError.{OpenError}
 use Rattle.tw_machine.specs.declared.rejection.OpenError.TheVariants as opening
@@ -71,6 +71,7 @@ answer_closes names Report first events r h other =
     subst (λ (c : Close). ClosesBy (run first.program first.layout events first.state) c) (sym (ap (λ (x : Reply). x.close) h)) (played_closes first.program first.layout 1 events first.state)
 answer_closes names Numbers first events r h other =
     counted_closes names first events (run first.program first.layout events first.state) r (played_closes first.program first.layout 1 events first.state) h
+answer_closes names Json first events r h other = absurd other
 answer_closes names (Picture shown) first events r h other = absurd other
 
 -- ---- details of a replay
@@ -107,18 +108,23 @@ else_details text start events (Went s) c old other closes = nothing_added (Prin
 else_details text start events NotEnabled c old other closes = nothing_added (PrintsEnding text start events NotEnabled) old refl
 else_details text start events (Trap cause) c old other closes = nothing_added (PrintsEnding text start events (Trap cause)) old refl
 
-pub undrawn : (answer : Answer) → ((shown : EventRange) → answer ≡ Picture shown → ⊥) → IsUndrawn answer
-undrawn Report other = tt
-undrawn Numbers other = tt
-undrawn (Picture shown) other = other shown refl
+pub undrawn : (answer : Answer) → ((shown : EventRange) → answer ≡ Picture shown → ⊥) → (answer ≡ Json → ⊥) → IsUndrawn answer
+undrawn Report other plain = tt
+undrawn Numbers other plain = tt
+undrawn Json other plain = plain refl
+undrawn (Picture shown) other plain = other shown refl
 
 pub picture_details : (answer : Answer) (shown : EventRange) (text : List ℕ) (start : Start) (events : List Event) (o : Outcome State) (old : List ℕ) → answer ≡ Picture shown → Adds (AreReportDetails answer text start events o) old old
 picture_details answer shown text start events o old is = nothing_added (AreReportDetails answer text start events o) old (subst (λ (a : Answer). AreReportDetails a text start events o []) (sym is) refl)
+
+pub json_details : (answer : Answer) (text : List ℕ) (start : Start) (events : List Event) (o : Outcome State) (old : List ℕ) → answer ≡ Json → Adds (AreReportDetails answer text start events o) old old
+json_details answer text start events o old is = nothing_added (AreReportDetails answer text start events o) old (subst (λ (a : Answer). AreReportDetails a text start events o []) (sym is) refl)
 
 pub report_details : (answer : Answer) (text : List ℕ) (start : Start) (events : List Event) (o : Outcome State) (old new : List ℕ) → IsUndrawn answer → Adds (PrintsEnding text start events o) old new
     → Adds (AreReportDetails answer text start events o) old new
 report_details Report text start events o old new other h = h
 report_details Numbers text start events o old new other h = h
+report_details Json text start events o old new other h = absurd other
 report_details (Picture shown) text start events o old new other h = absurd other
 
 pub may_print_circle : (source : Option SourceText) (start : Start) (events : List Event) → MayBeSource source start.program → rejection_of start.program start.inputs ≡ None → length events ≤ 16777217 → AreShort events → MayPrintCircle source start events

@@ -3,4 +3,5 @@ pub mod CountedEvents
 pub mod Making
 pub mod Behinds
 pub mod Unfits
+pub mod Instructions
 mod ReplayNames

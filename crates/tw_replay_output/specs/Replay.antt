@@ -1,5 +1,5 @@
 -- Output of `replay` and `picture`: the events of a trace, one after the other, on the reference machine.
-use Rattle.std.specs.Prelude.{◌≡◌, ◌⊎◌, ◌++◌, ℕ, suc, List, [], ◌∷◌, Option, Some, None, Ok, Err}
+use Rattle.std.specs.Prelude.{◌≡◌, ◌⊎◌, ◌++◌, ℕ, suc, List, [], ◌∷◌, codes, length, Option, Some, None, Ok, Err}
 use Rattle.tw_types.specs.declared.ending.Ending.{Ending}
 use Rattle.tw_types.specs.declared.ending.Ending.TheVariants as ending
 use Rattle.tw_types.specs.declared.event.Event.{Event}
@@ -15,11 +15,14 @@ use Rattle.tw_code.specs.accepting.WellTyped.{IsAccepted}
 use Rattle.tw_code.specs.machine.Ending as machine
 use Rattle.tw_code.specs.machine.Machine.{run, step}
 use Rattle.tw_code.specs.machine.Opening.{opening}
+use Rattle.tw_code.specs.machine.Pending.{circle}
 use Rattle.tw_code.specs.machine.State.{State}
+use Rattle.tw_bounds.specs.Runs.{instructions_in}
 use Rattle.tw_cli.specs.declared.command.Answer.{Answer}
-use Rattle.tw_cli.specs.declared.command.Answer.TheVariants.{Numbers, Picture, Report}
+use Rattle.tw_cli.specs.declared.command.Answer.TheVariants.{Json, Numbers, Picture, Report}
 use Rattle.tw_cli.specs.declared.command.ReplayOrder.{ReplayOrder}
 use Rattle.tw_cli.specs.declared.shown.EventRange.{EventRange}
+use Rattle.tw_json_output.specs.Run.{json_line, run_json}
 use Rattle.tw_machine.specs.PlainView.{PlainView}
 use Rattle.tw_machine.specs.declared.rejection.OpenError.{OpenError}
 use Rattle.tw_machine.specs.declared.rejection.OpenError.TheVariants.{MainShape}
@@ -110,19 +113,47 @@ IsNumbered names first events s r =
 abbrev pub IsCounted : List (List ℕ) → PlainView → List Event → Reply → Type 0
 IsCounted names first events r = ByOutcome (run first.program first.layout events first.state) (λ s. IsNumbered names first events s r) (r ≡ played_from first events)
 
+-- ---- the JSON line
+
+-- returns the word for the end of a trace
+abbrev pub status_of : Option Ending → List ℕ
+status_of None = codes "running"
+status_of (Some ending.Quiet) = codes "quiet"
+status_of (Some (ending.Stuck rules)) = codes "stuck"
+
+-- returns the number of pending rules of a stuck state
+abbrev pub pending_of : Option Ending → Option ℕ
+pending_of None = None
+pending_of (Some ending.Quiet) = None
+pending_of (Some (ending.Stuck rules)) = Some rules
+
+-- returns the line of the state to which events lead
+abbrev pub state_line : List Procedure → List Event → State → List ℕ
+state_line program events s =
+    json_line (run_json (status_of (machine.ending s)) (pending_of (machine.ending s)) (circle program s) (length events) (instructions_in events) s.store.live s.outputs)
+
+abbrev pub shown_state : List Procedure → List Event → State → Reply
+shown_state program events s = reply (state_line program events s) (close_of (machine.ending s))
+
+-- holds for the line of the state to which the events lead, or for what `replay` prints
+abbrev pub IsShownState : PlainView → List Event → Reply → Type 0
+IsShownState first events r = ByOutcome (run first.program first.layout events first.state) (λ s. r ≡ shown_state first.program events s) (r ≡ played_from first events)
+
 -- ---- an answer
 
 -- holds for an answer, if the procedures have these names
 abbrev pub IsAnswer : List (List ℕ) → Answer → PlainView → List Event → Reply → Type 0
 IsAnswer names Report first events r = r ≡ played_from first events
 IsAnswer names Numbers first events r = IsCounted names first events r
+IsAnswer names Json first events r = IsShownState first events r
 IsAnswer names (Picture shown) first events r = IsDrawn names shown first events r
 
 -- ---- details of an answer, if the program was read from a text
 
--- holds for the details of a report and of statistics; a timeline has none
+-- holds for the details of a report and of statistics; a timeline and a JSON line have none
 abbrev pub AreReportDetails : Answer → List ℕ → Start → List Event → Outcome State → List ℕ → Type 0
 AreReportDetails (Picture shown) text start events o more = more ≡ []
+AreReportDetails Json text start events o more = more ≡ []
 AreReportDetails answer text start events o more = ByOutcome o (λ s. AreEndingDetails text start events s (machine.ending s) more) (more ≡ [])
 
 abbrev pub AreAnswerDetails : Option (List ℕ) → Answer → Start → List Event → List ℕ → Type 0

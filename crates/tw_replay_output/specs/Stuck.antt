@@ -16,7 +16,7 @@ use Rattle.tw_code.specs.machine.Ending.{ending}
 use Rattle.tw_code.specs.machine.Opening.{opening}
 use Rattle.tw_code.specs.machine.State.{Frame, State}
 use Rattle.tw_cli.specs.declared.command.Answer.{Answer}
-use Rattle.tw_cli.specs.declared.command.Answer.TheVariants.{Numbers, Picture, Report}
+use Rattle.tw_cli.specs.declared.command.Answer.TheVariants.{Json, Numbers, Picture, Report}
 use Rattle.tw_machine.specs.Opening.{rejection_of}
 use Rattle.tw_machine.specs.PlainView.{PlainView}
 use Rattle.tw_replay_output.specs.Circle.{IsMade, Start}
@@ -99,8 +99,9 @@ MayPrintCircle source start events = IfSome source (λ text. CanPrintCircle text
 abbrev pub ClosesBy : Outcome State → Close → Type 0
 ClosesBy o close = ByOutcome o (λ s. close ≡ close_of (ending s)) (close ≢ Stuck)
 
--- holds if no timeline is requested
+-- holds if neither a timeline nor a JSON line is requested
 abbrev pub IsUndrawn : Answer → Type 0
 IsUndrawn Report = Unit {0}
 IsUndrawn Numbers = Unit {0}
+IsUndrawn Json = ⊥
 IsUndrawn (Picture shown) = ⊥

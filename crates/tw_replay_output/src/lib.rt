@@ -6,10 +6,12 @@ mod numbers;
 mod opening;
 mod replay;
 mod replay_details;
+mod state_json;
 mod stuck;
 
 pub use drawn::draw;
 pub use numbers::{Counting, budgets_of, count, put_bytes};
 pub use opening::inputs_refused_reply;
 pub use replay::{replay_inputs_reply, replay_reply};
+pub use state_json::instructions_by;
 pub use stuck::put_stuck;

@@ -23,6 +23,7 @@ ghost use Rattle.tw_program_output.specs.Reply.{Reply as AReply, reply};
 use crate::drawn::draw;
 use crate::numbers::{Budgeted, counted_reply, with_budgets};
 use crate::replay_details::{details_reply, unopened_reply};
+use crate::state_json::json_reply;
 use std::alloc::{AllocError, Global};
 use tw_cli::{Answer, ReplayOptions, ReplayOrder, Source, inputs_of};
 use tw_code::Program;
@@ -125,6 +126,7 @@ fn answer_of(
     match answer {
         Answer::Report => play(alloc, first, events),
         Answer::Numbers => counted_reply(alloc, first, events, &names, budgets),
+        Answer::Json => json_reply(alloc, first, events),
         Answer::Picture(shown) => draw(alloc, shown, names, first, events),
     }
 }
@@ -136,7 +138,7 @@ fn budgeted_for(alloc: Global, answer: Answer, program: Program) -> Result<Budge
 {
     match answer {
         Answer::Numbers => with_budgets(alloc, program),
-        Answer::Report | Answer::Picture(_) => Ok(Budgeted {
+        Answer::Report | Answer::Json | Answer::Picture(_) => Ok(Budgeted {
             program,
             budgets: Vec::new(alloc),
         }),

@@ -73,7 +73,7 @@ fn put_ending_details(
     }
 }
 
-/// Adds the details of a report. A timeline has none.
+/// Adds the details of a report. A timeline and a JSON line have none.
 fn put_report_details(
     alloc: Global,
     out: &mut Vec<u8>,
@@ -88,6 +88,7 @@ fn put_report_details(
 {
     match order.answer {
         Answer::Picture(_) => Ok(()),
+        Answer::Json => Ok(()),
         _ => put_ending_details(alloc, out, source, order, events, close),
     }
 }

@@ -1,7 +1,7 @@
 //! The JSON line of a finished run.
 
 ghost use Rattle.std.specs.Prelude.{◌≡◌, IfOk, option_map, string_bytes};
-ghost use Rattle.tw_bounds.specs.Runs.{instructions_by, instructions_in};
+ghost use Rattle.tw_bounds.specs.Runs.{instructions_in};
 ghost use Rattle.tw_run_output.specs.Ends.{InEachState, has_ended};
 ghost use Rattle.tw_run_output.specs.Json.{IsEndLine, circle_in, pending_of, status_of};
 
@@ -10,7 +10,8 @@ use crate::finished_run::FinishedRun;
 use std::alloc::{AllocError, Global};
 use tw_json_output::{RunEnd, RunNumbers, run_line};
 use tw_pool::{Closing, Final, History};
-use tw_types::{Event, Link};
+use tw_replay_output::instructions_by;
+use tw_types::Link;
 
 /// Returns the word for the end of a run.
 fn status_of(closing: Closing) -> &'static str
@@ -42,17 +43,6 @@ fn circle_of(alloc: Global, left: &Final, closing: Closing) -> Result<Option<Vec
     match closing {
         Closing::Stuck(_) => circle(alloc, left),
         Closing::Quiet | Closing::Stopped | Closing::Limit => Ok(None),
-    }
-}
-
-/// Returns how many instructions an event executes; an `End` executes the RET.
-fn instructions_by(event: Event) -> u64
-    ensures { result ≡ instructions_by event }
-{
-    match event {
-        Event::Local(_, count) => count,
-        Event::Call(_) | Event::End(_) => 1,
-        Event::Take(_) | Event::Ask(..) | Event::Deliver(..) | Event::Release(..) => 0,
     }
 }
 

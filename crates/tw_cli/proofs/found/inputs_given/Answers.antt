@@ -1,13 +1,13 @@
 use Rattle.std.proofs.Common.{◌∙◌, sym}
 use Rattle.clap.specs.Words.{found_of, rows_of}
-use Rattle.tw_cli.specs.CommandLine.{replay_asked, run_asked}
+use Rattle.tw_cli.specs.CommandLine.{replay_asked, single_asked}
 use Rattle.tw_cli.proofs.Options.{both_refused}
 use Rattle.tw_cli.proofs.found.inputs_given.Goals as goal
 
 pub returns-then-has_words-clause-run : goal.returns-then-has_words-clause-run
 returns-then-has_words-clause-run c =
     let rows = rows_of (found_of c.args.matches.now) in
-    both_refused rows (run_asked rows) (sym c.flag_given.ensures ∙ c.if-not-flag_given.false) (sym c.has_words.ensures ∙ c.if-has_words.true)
+    both_refused rows (single_asked rows) (sym c.flag_given.ensures ∙ c.if-not-flag_given.false) (sym c.has_words.ensures ∙ c.if-has_words.true)
 
 pub returns-then-has_words-clause-replay : goal.returns-then-has_words-clause-replay
 returns-then-has_words-clause-replay c = λ answer.

@@ -23,3 +23,10 @@ returns-in-Some-check-default-clause-refused c =
     let named : subcommand_rows_of c.args.matches.now ≡ Some (codes "check", given) =
     both_had _ _ _ _ _ c.in-Some-check-default.ensures.name c.in-Some-check-default.ensures.rows ∙ ap (λ (name : Text). Some (name, given)) c.in-Some-check-default.is-check in
     rw named c.check_order.ensures.refused
+
+pub returns-in-Some-replay-default-clause-refused : goal.returns-in-Some-replay-default-clause-refused
+returns-in-Some-replay-default-clause-refused c =
+    let given = rows_of (found_of c.in-Some-replay-default.given.now) in
+    let named : subcommand_rows_of c.args.matches.now ≡ Some (codes "replay", given) =
+    both_had _ _ _ _ _ c.in-Some-replay-default.ensures.name c.in-Some-replay-default.ensures.rows ∙ ap (λ (name : Text). Some (name, given)) c.in-Some-replay-default.is-replay in
+    rw named c.report_order.ensures.refused

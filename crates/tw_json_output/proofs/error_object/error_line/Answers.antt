@@ -1,11 +1,12 @@
-use Rattle.std.proofs.Common.{◌≡◌, ◌∙◌, ap, sym, subst, false}
+use Rattle.std.proofs.Common.{◌≡◌, ◌∙◌, ap, sym, subst, false, codes}
 use Rattle.serde_json.proofs.Views.{view-Object}
 use Rattle.serde_json.specs.Data as json
 use Rattle.serde_json.specs.Written.{has_float}
+use Rattle.tw_json_output.specs.Texts.{with_status}
 use Rattle.tw_json_output.proofs.Floats.{of_error}
 use Rattle.tw_json_output.proofs.error_object.error_line.Goals as goal
 
 pub line_of-requires : goal.line_of-requires
 line_of-requires c =
-    let is = view-Object c.in_ok-members.members ∙ ap json.object c.in_ok-members.ensures in
-    subst (λ (d : json.Data). has_float d ≡ false) (sym is) (of_error c.args.text.now)
+    let is = view-Object c.in_ok-members.members ∙ ap json.object (c.in_ok-members.ensures ∙ ap (λ (d : json.Data). with_status c.args.status.now (codes "error") d) c.in_ok-lines.ensures) in
+    subst (λ (d : json.Data). has_float d ≡ false) (sym is) (of_error c.args.status.now c.args.text.now)

@@ -9,7 +9,7 @@ use Rattle.tw_program_output.proofs.check.checked_reply.Goals as goal
 pub returns-then-is_empty : goal.returns-then-is_empty
 returns-then-is_empty c =
     let none = no_lines c.in_ok-lines.lines.items c.is_empty.result (c.is_empty.ensures ∙ ap (λ (n : ℕ). n == 0) c.in_ok-lines.lines.ok.0) c.if-is_empty.true in
-    (c.in_ok-lines.lines.items, c.in_ok-lines.ensures.lines, inl (none, c.in_ok-lines.ensures.admitted none, (c.in_ok-checked_text.field-0.items, c.in_ok-checked_text.ensures, refl)))
+    (c.in_ok-lines.lines.items, c.in_ok-lines.ensures.lines, inl (none, c.in_ok-lines.ensures.admitted none, (c.in_ok-requested_text.field-0.items, c.in_ok-requested_text.ensures, refl)))
 
 pub returns : goal.returns
 returns c =

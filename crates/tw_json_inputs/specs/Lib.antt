@@ -1,0 +1,2 @@
+-- Inputs as JSON.
+pub mod Inputs

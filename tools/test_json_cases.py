@@ -1,0 +1,85 @@
+#!/usr/bin/env python3
+# SPDX-License-Identifier: Apache-2.0
+"""Tests of tools/json_cases.py and tools/json_runs.py on wrong objects: python3 tools/test_json_cases.py"""
+
+from __future__ import annotations
+
+import pathlib
+import sys
+import unittest
+from typing import Any
+
+sys.path.insert(0, str(pathlib.Path(__file__).resolve().parent))
+import json_cases  # noqa: E402
+import json_runs  # noqa: E402
+from case_files import Case  # noqa: E402
+
+QUIET: dict[str, Any] = {"events": 4, "instructions": 3, "kinds": ["int"], "outputs": [7], "status": "quiet"}
+REPORT = 'out 0 int 7\nout 1 text "a\\x09\\"\\\\"\nout 2 cont int closed 1\n  at 5 int 6\nout 3 unset\nstuck 2\nwaits 1 4 2\nwaits 2 5 1\n'
+
+
+def case(kind: str, wanted: str) -> Case:
+    return Case("one", kind, "", wanted, pathlib.Path("one.case"), 1, 1)
+
+
+class Objects(unittest.TestCase):
+    """The objects of cases are found, whole."""
+
+    def expected(self, kind: str, wanted: str) -> list[Any]:
+        return [one.found for one in json_cases.objects_of(case(kind, wanted))]
+
+    def test_whole_output(self) -> None:
+        self.assertEqual(self.expected("tw explain --json e1", '0 unread {"text":"a / {b"}'), [{"text": "a / {b"}])
+
+    def test_lines(self) -> None:
+        self.assertEqual(self.expected("called run --each", '1 {"line":1} / {"line":2}'), [{"line": 1}, {"line": 2}])
+
+    def test_others(self) -> None:
+        for kind, wanted in (("tw run", "0 quiet"), ("tw run --json --trace", "2 unread command line refused"), ("phrases explain --json", '{"a | 0')):
+            self.assertEqual(self.expected(kind, wanted), [])
+
+
+@unittest.skipUnless(json_cases.validators(), "jsonschema is not installed")
+class Schemas(unittest.TestCase):
+    """A wrong object doesn't fit."""
+
+    def fits(self, command: str, found: dict[str, Any]) -> bool:
+        return not json_cases.faults(json_cases.validators(), command, found)
+
+    def test_run(self) -> None:
+        self.assertTrue(self.fits("run", QUIET))
+        for wrong in ({"status": "running"}, {"pending": 1}, {"events": -1}, {"outputs": [1.5]}, {"outputs": [2**63]}, {"outputs": [[]]}, {"kinds": ["none"]}):
+            self.assertFalse(self.fits("run", QUIET | wrong), wrong)
+        for member in QUIET:
+            self.assertFalse(self.fits("run", {key: value for key, value in QUIET.items() if key != member}), member)
+
+    def test_no_object(self) -> None:
+        for command in json_cases.COMMANDS:
+            for wrong in ({}, {"status": "quiet"}, {"status": "refused", "error": []}, {"status": "refused", "error": "H01"}):
+                self.assertFalse(self.fits(command, wrong), (command, wrong))
+
+
+class Unseen(unittest.TestCase):
+    """A member that no case has is named."""
+
+    def test_each_status(self) -> None:
+        schema = {"oneOf": [{"properties": {"status": {"enum": ["a", "b"]}, "more": {}}}, {"properties": {"status": {"const": "c"}}}]}
+        seen = [json_cases.Expected("one", "run", {"status": status, **more}) for status, more in (("a", {"more": 1}), ("b", {}))]
+        found = [line.removeprefix("run: no case has ") for line in json_cases.unseen("run", schema, seen)]
+        self.assertEqual(found, ["`more` with the status b", "`status` with the status c"])
+
+
+class Differences(unittest.TestCase):
+    """An object that isn't what is printed differs."""
+
+    def test_report(self) -> None:
+        found = {"status": "stuck", "pending": 2, "circle": [[1, 4, 2], [2, 5, 1]], "events": 9, "instructions": 8}
+        found |= {"outputs": [7, 'a\t"\\', {"5": 6}, None], "kinds": ["int", "text", "cont int closed", "unset"]}
+        session = json_runs.Session("one", "run", (), b"")
+        self.assertEqual(list(json_runs.differences(session, 3, REPORT.encode(), found)), [])
+        for key in ("status", "pending", "circle", "outputs", "kinds"):
+            self.assertEqual(len(list(json_runs.differences(session, 3, REPORT.encode(), found | {key: 1}))), 1, key)
+
+
+if __name__ == "__main__":
+    unittest.main()
