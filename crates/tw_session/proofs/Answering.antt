@@ -2,11 +2,13 @@
 use Rattle.std.proofs.Common.{◌≡◌, ◌≢◌, ℕ, List, [], ◌∷◌, codes, Option, Some, None, IfOk, IfSome, Result, Ok, Err, OnErr, inl, inr, refl, sym, subst}
 use Rattle.std.specs.Io.KnownBytes.{Appends}
 use Rattle.clap.specs.Words.{Kinds, Text}
-use Rattle.tw_cli.specs.CommandLine.{Asked, Assembles, Checks, Disassembles, Explains, IsExplained, IsRefusedInput, Replays, Runs}
+use Rattle.tw_cli.specs.CommandLine.{Asked, Assembles, Checks, Disassembles, Explains, IsExplained, IsRefusedInput, Replays, Runs, RunsEach}
 use Rattle.tw_cli.proofs.InputTheorems.{never_refused, one_refused}
 use Rattle.tw_cli.specs.InputWords.{RefusedWord}
 use Rattle.tw_program_output.specs.Inputs.{PrintsInputWord}
 use Rattle.tw_program_output.specs.Reply.{Reply, reply}
+use Rattle.tw_cli.specs.Options.{ExplainOrder}
+use Rattle.tw_cli.specs.declared.form.Explained.{Explained}
 use Rattle.tw_session.specs.Session.{AnswersWords, MayAnswer, RefusesWords, PrintsMeaning}
 use Rattle.tw_session.specs.Status.{ComesOfReply}
 use Rattle.tw_program_output.specs.declared.reply.Reply.{Reply as MadeReply}
@@ -69,20 +71,21 @@ not_taken [] asked input r e h = absurd (e refl)
 not_taken (kind ∷ others) asked input r e h = h
 
 -- if an explanation is requested, no input word is rejected
-not_refused : (asked : Asked) (text : List ℕ) (number : RefusedWord) → IsExplained asked text → IsRefusedInput asked number → ⊥
+not_refused : (asked : Asked) (text : Explained) (number : RefusedWord) → IsExplained asked text → IsRefusedInput asked number → ⊥
 not_refused (Assembles what) text number e r = e
 not_refused (Disassembles source listed) text number e r = e
 not_refused (Checks source printed) text number e r = e
 not_refused (Runs source answer layout caps most traced turns words) text number e r = e
+not_refused (RunsEach source layout caps most threads) text number e r = e
 not_refused (Replays source answer layout words) text number e r = e
 not_refused (Explains explained) text number e r = r
 
 pub word_printed : (asked : Asked) (input : List ℕ) (number : RefusedWord) (r : Reply) → IsRefusedInput asked number → MayAnswer asked input r → PrintsInputWord number r
 word_printed asked input number r refused (inl (order, is_asked, h)) = absurd (never_refused asked order number is_asked refused)
 word_printed asked input number r refused (inr (inl (other, is, h))) = subst (λ (n : RefusedWord). PrintsInputWord n r) (one_refused asked other number is refused) h
-word_printed asked input number r refused (inr (inr h)) = absurd (not_refused asked r.text number h.0 refused)
+word_printed asked input number r refused (inr (inr h)) = absurd (not_refused asked h.0 number h.1 refused)
 
-pub meaning_printed : (number : Text) (input : List ℕ) (r : Reply) → MayAnswer (Explains number) input r → PrintsMeaning (Explains number) r
+pub meaning_printed : (number : ExplainOrder) (input : List ℕ) (r : Reply) → MayAnswer (Explains number) input r → PrintsMeaning (Explains number) r
 meaning_printed number input r (inl (order, is_asked, h)) = absurd is_asked
 meaning_printed number input r (inr (inl (other, is, h))) = absurd is
 meaning_printed number input r (inr (inr h)) = h

@@ -1,47 +1,91 @@
 -- Replies as JSON.
-use Rattle.std.specs.Prelude.{Bool, true, false}
+use Rattle.std.specs.Prelude.{ℕ, Bool, true, false, List, codes, if◌then◌else◌}
+use Rattle.tw_cli.specs.declared.command.Answer.{Answer}
+use Rattle.tw_cli.specs.declared.command.Answer.TheVariants as answer
+use Rattle.tw_cli.specs.declared.command.Assembling.{Assembling}
+use Rattle.tw_cli.specs.declared.command.Assembling.TheVariants as assembling
 use Rattle.tw_cli.specs.declared.command.InputsOrder.{InputsOrder}
 use Rattle.tw_cli.specs.declared.command.InputsOrder.TheVariants.{ToReplay, ToRun}
 use Rattle.tw_cli.specs.declared.command.Order.{Order}
-use Rattle.tw_cli.specs.declared.command.Order.TheVariants.{Assemble, Inputs, Program, Replay}
+use Rattle.tw_cli.specs.declared.command.Order.TheVariants.{Assemble, Each, Inputs, Program, Replay}
+use Rattle.tw_cli.specs.declared.command.Places.{Places}
+use Rattle.tw_cli.specs.declared.command.Places.TheVariants.{Hidden, Shown}
 use Rattle.tw_cli.specs.declared.command.ProgramOrder.{ProgramOrder}
 use Rattle.tw_cli.specs.declared.command.ProgramOrder.TheVariants.{Disassemble, Verified}
 use Rattle.tw_cli.specs.declared.command.RunAnswer.{RunAnswer}
 use Rattle.tw_cli.specs.declared.command.RunAnswer.TheVariants as written
 use Rattle.tw_cli.specs.declared.command.VerifiedOrder.{VerifiedOrder}
 use Rattle.tw_cli.specs.declared.command.VerifiedOrder.TheVariants.{Check, Run}
-use Rattle.tw_json_output.specs.Error.{error_json}
+use Rattle.tw_cli.specs.declared.form.Explained.{Explained}
+use Rattle.tw_cli.specs.declared.form.Form.{Form}
+use Rattle.tw_cli.specs.declared.form.Form.TheVariants as form
+use Rattle.tw_json_output.specs.declared.text_object.Printed.{Printed}
+use Rattle.tw_json_output.specs.declared.text_object.Printed.TheVariants as printed
+use Rattle.tw_json_output.specs.Error.{error_json, listed_error_json}
 use Rattle.tw_json_output.specs.Run.{json_line}
+use Rattle.tw_json_output.specs.Texts.{explanation_json, printed_json}
 use Rattle.tw_program_output.specs.Reply.{Reply, reply}
 use Rattle.tw_program_output.specs.declared.close.Close.{Close}
 use Rattle.tw_program_output.specs.declared.close.Close.TheVariants as close
+use Rattle.tw_session.specs.declared.json.Rendering.{Rendering}
+use Rattle.tw_session.specs.declared.json.Rendering.TheVariants.{Plain, Errors, ListedErrors, Whole}
 
--- return whether JSON is requested
-abbrev pub is_json : RunAnswer → Bool
-is_json written.Report = false
-is_json written.Numbers = false
-is_json written.Json = true
-is_json (written.Picture shown) = false
+-- ---- the form of a text
 
-abbrev pub verified_json : VerifiedOrder → Bool
-verified_json (Check printed) = false
-verified_json (Run order) = is_json order.answer
+abbrev pub in_json : Form → Rendering → Rendering
+in_json form.Text rendering = Plain
+in_json form.Json rendering = rendering
 
-abbrev pub program_json : ProgramOrder → Bool
-program_json (Disassemble places) = false
-program_json (Verified order) = verified_json order
+-- return the object of a text that `asm` or `disasm` prints
+abbrev pub assembled_as : Assembling → Printed
+assembled_as assembling.Text = printed.Digits
+assembled_as assembling.Names = printed.Digits
+assembled_as assembling.Plain = printed.Plain
 
-abbrev pub inputs_json : InputsOrder → Bool
-inputs_json (ToRun options) = is_json options.answer
-inputs_json (ToReplay options) = false
+abbrev pub disassembled_as : Places → Printed
+disassembled_as Hidden = printed.Text
+disassembled_as Shown = printed.Listing
 
-abbrev pub wants_json : Order → Bool
-wants_json (Assemble what) = false
-wants_json (Program source order) = program_json order
-wants_json (Replay source order) = false
-wants_json (Inputs source order) = inputs_json order
+-- return the form of the errors of a check, a run and a replay, whose other replies are JSON already
+abbrev pub checked_as : Places → Rendering
+checked_as Hidden = Errors
+checked_as Shown = ListedErrors
 
--- returns whether a reply that closes so is of an error; other replies to an order that requests JSON are JSON
+abbrev pub run_as_json : RunAnswer → Rendering
+run_as_json written.Report = Plain
+run_as_json written.Numbers = Plain
+run_as_json written.Json = Errors
+run_as_json (written.Picture shown) = Plain
+
+abbrev pub replayed_as : Answer → Rendering
+replayed_as answer.Report = Plain
+replayed_as answer.Numbers = Plain
+replayed_as answer.Json = Errors
+replayed_as (answer.Picture shown) = Plain
+
+abbrev pub verified_rendering : VerifiedOrder → Rendering
+verified_rendering (Check order) = in_json order.form (checked_as order.places)
+verified_rendering (Run order) = run_as_json order.answer
+
+abbrev pub program_rendering : ProgramOrder → Rendering
+program_rendering (Disassemble order) = in_json order.form (Whole (disassembled_as order.places))
+program_rendering (Verified order) = verified_rendering order
+
+abbrev pub inputs_rendering : InputsOrder → Rendering
+inputs_rendering (ToRun options) = run_as_json options.answer
+inputs_rendering (ToReplay options) = replayed_as options.answer
+
+-- returns the form of the reply to an order; those to lines of inputs are JSON already
+abbrev pub rendering_of : Order → Rendering
+rendering_of (Assemble order) = in_json order.form (Whole (assembled_as order.what))
+rendering_of (Program source order) = program_rendering order
+rendering_of (Replay source order) = replayed_as order.answer
+rendering_of (Inputs source order) = inputs_rendering order
+rendering_of (Each source order) = Plain
+
+-- ---- replies
+
+-- returns whether a reply that closes so is of an error
 abbrev pub is_error : Close → Bool
 is_error close.Success = false
 is_error close.Refused = true
@@ -50,11 +94,36 @@ is_error close.Stuck = false
 is_error close.Limit = false
 is_error close.Trapped = true
 
-abbrev pub error_reply : Bool → Reply → Reply
-error_reply false r = r
-error_reply true r = reply (json_line (error_json r.text)) r.close
+abbrev pub error_status : Close → List ℕ
+error_status close.Success = codes "refused"
+error_status close.Refused = codes "refused"
+error_status close.CommandLine = codes "refused"
+error_status close.Stuck = codes "refused"
+error_status close.Limit = codes "refused"
+error_status close.Trapped = codes "trap"
 
--- returns the reply in the requested form
-abbrev pub in_form : Bool → Reply → Reply
-in_form false r = r
-in_form true r = error_reply (is_error r.close) r
+-- return an error, and any other reply, in the requested form
+abbrev pub error_reply : Rendering → Reply → Reply
+error_reply Plain r = r
+error_reply Errors r = reply (json_line (error_json (error_status r.close) r.text)) r.close
+error_reply ListedErrors r = reply (json_line (listed_error_json r.text)) r.close
+error_reply (Whole made) r = reply (json_line (error_json (error_status r.close) r.text)) r.close
+
+abbrev pub output_reply : Rendering → Reply → Reply
+output_reply Plain r = r
+output_reply Errors r = r
+output_reply ListedErrors r = r
+output_reply (Whole made) r = reply (json_line (printed_json made r.text)) r.close
+
+abbrev pub in_form : Rendering → Reply → Reply
+in_form rendering r = if is_error r.close then error_reply rendering r else output_reply rendering r
+
+-- ---- explanations
+
+abbrev pub explanation_text : Form → List ℕ → List ℕ → List ℕ
+explanation_text form.Text code text = text
+explanation_text form.Json code text = json_line (explanation_json code text)
+
+-- returns the reply with an explanation
+abbrev pub explained_reply : Explained → Reply
+explained_reply e = reply (explanation_text e.form e.code.items e.text.items) close.Success

@@ -1,41 +1,126 @@
 //! Replies as JSON.
 
-ghost use Rattle.std.specs.Prelude.{◌≡◌, IfOk};
+ghost use Rattle.std.specs.Prelude.{◌≡◌, IfOk, string_bytes};
+ghost use Rattle.tw_json_output.specs.Error.{error_json, listed_error_json};
+ghost use Rattle.tw_json_output.specs.Run.{json_line};
 ghost use Rattle.tw_program_output.specs.Reply.{reply};
-ghost use Rattle.tw_session.specs.Json.{in_form, inputs_json, is_error, is_json, program_json, verified_json, wants_json};
+ghost use Rattle.tw_session.specs.Json.{assembled_as, checked_as, disassembled_as, error_reply, error_status, explained_reply, in_form, in_json, inputs_rendering, is_error, output_reply, program_rendering, rendering_of, replayed_as, run_as_json, verified_rendering};
 
 use std::alloc::{AllocError, Global};
-use tw_cli::{InputsOrder, Order, ProgramOrder, RunAnswer, VerifiedOrder};
-use tw_json_output::error_line;
+use tw_cli::{
+    Answer, Assembling, Explained, Form, InputsOrder, Order, Places, ProgramOrder, RunAnswer,
+    VerifiedOrder,
+};
+use tw_json_output::{Printed, error_line, explanation_line, listed_error_line, printed_line};
 use tw_program_output::{Close, Reply};
 
-fn is_json(answer: RunAnswer) -> bool
-    ensures { result ≡ is_json answer }
+/// The form that a reply's text takes.
+#[derive(Clone, Copy)]
+pub enum Rendering {
+    /// It stays.
+    Plain,
+    /// An error becomes an object. Any other reply is one already.
+    Errors,
+    /// Like `Errors`, but an error may come after a listing.
+    ListedErrors,
+    /// It becomes the object of what is printed, or of an error.
+    Whole(Printed),
+}
+
+fn in_json(form: Form, rendering: Rendering) -> Rendering
+    ensures { result ≡ in_json form rendering }
+{
+    match form {
+        Form::Text => Rendering::Plain,
+        Form::Json => rendering,
+    }
+}
+
+fn assembled_as(what: Assembling) -> Printed
+    ensures { result ≡ assembled_as what }
+{
+    match what {
+        Assembling::Text | Assembling::Names => Printed::Digits,
+        Assembling::Plain => Printed::Plain,
+    }
+}
+
+fn disassembled_as(places: Places) -> Printed
+    ensures { result ≡ disassembled_as places }
+{
+    match places {
+        Places::Hidden => Printed::Text,
+        Places::Shown => Printed::Listing,
+    }
+}
+
+fn checked_as(places: Places) -> Rendering
+    ensures { result ≡ checked_as places }
+{
+    match places {
+        Places::Hidden => Rendering::Errors,
+        Places::Shown => Rendering::ListedErrors,
+    }
+}
+
+fn run_as_json(answer: RunAnswer) -> Rendering
+    ensures { result ≡ run_as_json answer }
 {
     match answer {
-        RunAnswer::Json => true,
-        RunAnswer::Report | RunAnswer::Numbers | RunAnswer::Picture(_) => false,
+        RunAnswer::Json => Rendering::Errors,
+        RunAnswer::Report | RunAnswer::Numbers | RunAnswer::Picture(_) => Rendering::Plain,
     }
 }
 
-fn program_json(order: &ProgramOrder) -> bool
-    ensures { result ≡ program_json order.now }
+fn replayed_as(answer: Answer) -> Rendering
+    ensures { result ≡ replayed_as answer }
 {
-    match order {
-        ProgramOrder::Verified(VerifiedOrder::Run(order)) => is_json(order.answer),
-        ProgramOrder::Verified(VerifiedOrder::Check(_)) | ProgramOrder::Disassemble(_) => false,
+    match answer {
+        Answer::Json => Rendering::Errors,
+        Answer::Report | Answer::Numbers | Answer::Picture(_) => Rendering::Plain,
     }
 }
 
-/// Returns whether an order requests JSON.
-pub fn wants_json(order: &Order) -> bool
-    ensures { result ≡ wants_json order.now }
+fn verified_rendering(order: &VerifiedOrder) -> Rendering
+    ensures { result ≡ verified_rendering order.now }
 {
     match order {
-        Order::Program(_, order) => program_json(order),
-        Order::Inputs(_, InputsOrder::ToRun(options)) => is_json(options.answer),
-        Order::Inputs(_, InputsOrder::ToReplay(_)) | Order::Replay(..) | Order::Assemble(_) =>
-            false,
+        VerifiedOrder::Check(order) => in_json(order.form, checked_as(order.places)),
+        VerifiedOrder::Run(order) => run_as_json(order.answer),
+    }
+}
+
+fn program_rendering(order: &ProgramOrder) -> Rendering
+    ensures { result ≡ program_rendering order.now }
+{
+    match order {
+        ProgramOrder::Disassemble(order) => in_json(
+            order.form,
+            Rendering::Whole(disassembled_as(order.places)),
+        ),
+        ProgramOrder::Verified(order) => verified_rendering(order),
+    }
+}
+
+fn inputs_rendering(order: &InputsOrder) -> Rendering
+    ensures { result ≡ inputs_rendering order.now }
+{
+    match order {
+        InputsOrder::ToRun(options) => run_as_json(options.answer),
+        InputsOrder::ToReplay(options) => replayed_as(options.answer),
+    }
+}
+
+/// Returns the form that the text of the reply to an order takes.
+pub fn rendering_of(order: &Order) -> Rendering
+    ensures { result ≡ rendering_of order.now }
+{
+    match order {
+        Order::Assemble(order) => in_json(order.form, Rendering::Whole(assembled_as(order.what))),
+        Order::Program(_, order) => program_rendering(order),
+        Order::Replay(_, order) => replayed_as(order.answer),
+        Order::Inputs(_, order) => inputs_rendering(order),
+        Order::Each(..) => Rendering::Plain,
     }
 }
 
@@ -49,16 +134,91 @@ fn is_error(close: Close) -> bool
     }
 }
 
-/// Returns a reply in the requested form. A run's reply is JSON if that is requested; an error becomes it here.
-pub fn in_form(alloc: Global, json: bool, text: Reply) -> Result<Reply, AllocError>
-    ensures { IfOk result (λ r. reply r.text.items r.close ≡ in_form json (reply text.text.items text.close)) }
+fn error_status(close: Close) -> &'static str
+    ensures { result.now ≡ error_status close }
 {
-    if !json || !is_error(text.close) {
-        return Ok(text);
+    match close {
+        Close::Trapped => "trap",
+        Close::Refused | Close::CommandLine | Close::Success | Close::Stuck | Close::Limit => {
+            "refused"
+        }
     }
-    let line = error_line(alloc, &text.text)?;
-    Ok(Reply {
+}
+
+/// Returns the reply of this line.
+fn line_reply(line: String, close: Close) -> Reply
+    ensures { reply result.text.items result.close ≡ reply (string_bytes line) close }
+{
+    Reply {
         text: line.into_bytes(),
-        close: text.close,
-    })
+        close,
+    }
+}
+
+/// Returns the object of an error.
+fn error_object(alloc: Global, text: &Reply) -> Result<Reply, AllocError>
+    ensures { IfOk result (λ r. reply r.text.items r.close ≡ reply (json_line (error_json (error_status text.now.close) text.now.text.items)) text.now.close) }
+{
+    let line = error_line(alloc, error_status(text.close), &text.text)?;
+    Ok(line_reply(line, text.close))
+}
+
+/// Returns the object of an error that may come after a listing.
+fn listed_error(alloc: Global, text: &Reply) -> Result<Reply, AllocError>
+    ensures { IfOk result (λ r. reply r.text.items r.close ≡ reply (json_line (listed_error_json text.now.text.items)) text.now.close) }
+{
+    let line = listed_error_line(alloc, &text.text)?;
+    Ok(line_reply(line, text.close))
+}
+
+/// Returns an error in the requested form.
+fn error_reply(alloc: Global, rendering: Rendering, text: Reply) -> Result<Reply, AllocError>
+    ensures { IfOk result (λ r. reply r.text.items r.close ≡ error_reply rendering (reply text.text.items text.close)) }
+{
+    match rendering {
+        Rendering::Plain => Ok(text),
+        Rendering::ListedErrors => listed_error(alloc, &text),
+        Rendering::Errors => error_object(alloc, &text),
+        Rendering::Whole(_) => error_object(alloc, &text),
+    }
+}
+
+/// Returns a reply that is no error in the requested form.
+fn output_reply(alloc: Global, rendering: Rendering, text: Reply) -> Result<Reply, AllocError>
+    ensures { IfOk result (λ r. reply r.text.items r.close ≡ output_reply rendering (reply text.text.items text.close)) }
+{
+    match rendering {
+        Rendering::Plain | Rendering::Errors | Rendering::ListedErrors => Ok(text),
+        Rendering::Whole(printed) => {
+            let line = printed_line(alloc, printed, &text.text)?;
+            Ok(line_reply(line, text.close))
+        }
+    }
+}
+
+/// Returns a reply in the requested form.
+pub fn in_form(alloc: Global, rendering: Rendering, text: Reply) -> Result<Reply, AllocError>
+    ensures { IfOk result (λ r. reply r.text.items r.close ≡ in_form rendering (reply text.text.items text.close)) }
+{
+    if is_error(text.close) {
+        error_reply(alloc, rendering, text)
+    } else {
+        output_reply(alloc, rendering, text)
+    }
+}
+
+/// Returns the reply with an explanation.
+pub fn explained_reply(alloc: Global, explained: Explained) -> Result<Reply, AllocError>
+    ensures { IfOk result (λ r. reply r.text.items r.close ≡ explained_reply explained) }
+{
+    match explained.form {
+        Form::Text => Ok(Reply {
+            text: explained.text,
+            close: Close::Success,
+        }),
+        Form::Json => {
+            let line = explanation_line(alloc, &explained.code, &explained.text)?;
+            Ok(line_reply(line, Close::Success))
+        }
+    }
 }

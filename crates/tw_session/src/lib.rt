@@ -16,6 +16,7 @@ mod status;
 mod streams;
 
 pub use in_turn::answer_in_turn;
+pub use input::MOST_BYTES;
 pub use order::reply_to;
 pub use shell::{answer, session, without_words};
 pub use standard_error::{complain, is_quiet};

@@ -17,7 +17,7 @@ ghost use Rattle.tw_session.specs.Session.{MayReply, MayReplyText, RepliesByInpu
 
 use crate::in_turn::reply_single_threaded;
 use crate::input::MOST_BYTES;
-use crate::json::{in_form, wants_json};
+use crate::json::{in_form, rendering_of};
 use crate::programs::{ProgramAction, RunRequest, program_reply};
 use crate::run::reply_threaded;
 use std::alloc::{AllocError, Global};
@@ -25,6 +25,7 @@ use std::sync::Wait;
 use std::thread::Threads;
 use std::time::Clock;
 use tw_cli::{InputsOrder, Order, ProgramOrder, RunOptions, Source, VerifiedOrder, inputs_of};
+use tw_each::{Answering, InOneThread, InThreads, each_reply};
 use tw_program_output::{
     Close, ReadProgram, Reply, SourceText, assembled_reply, fixed_reply, input_parts,
     not_utf8_reply, parse_error_reply, read_program, refused_words_reply,
@@ -91,13 +92,19 @@ fn run_inputs_step(
 }
 
 /// Returns the step of an order, if there aren't too many bytes.
-fn ordered_step(alloc: Global, order: Order, input: Vec<u8>) -> Result<OrderAction, AllocError>
-    requires { length input.items ≤ 16777216 }
+fn ordered_step<A: Answering>(
+    alloc: Global,
+    answering: &A,
+    order: Order,
+    input: Vec<u8>,
+) -> Result<OrderAction, AllocError>
+    requires shared { A.shared }
+    requires count { length input.items ≤ 16777216 }
     ensures { IfOk result (Comes (IsInTurn order) (RepliesByInput order input.items)) }
 {
     match order {
-        Order::Assemble(what) => {
-            let reply = assembled_reply(alloc, what, &input)?;
+        Order::Assemble(order) => {
+            let reply = assembled_reply(alloc, order.what, &input)?;
             Ok(OrderAction::Finished(reply))
         }
         Order::Program(source, order) => Ok(OrderAction::Request(ProgramRequest {
@@ -116,18 +123,28 @@ fn ordered_step(alloc: Global, order: Order, input: Vec<u8>) -> Result<OrderActi
             let reply = replay_inputs_reply(alloc, source, options, &input)?;
             Ok(OrderAction::Finished(reply))
         }
+        Order::Each(source, order) => {
+            let reply = each_reply(alloc, answering, source, &order, &input)?;
+            Ok(OrderAction::Finished(reply))
+        }
     }
 }
 
 /// Returns the step of an order and the bytes that were read. The error is that an allocation fails.
-fn step_of(alloc: Global, order: Order, input: Vec<u8>) -> Result<OrderAction, AllocError>
+fn step_of<A: Answering>(
+    alloc: Global,
+    answering: &A,
+    order: Order,
+    input: Vec<u8>,
+) -> Result<OrderAction, AllocError>
+    requires shared { A.shared }
     ensures { IfOk result (Comes (IsInTurn order) (MayReplyText order input.items)) }
 {
     if input.len() > MOST_BYTES {
         let reply = fixed_reply(alloc, "refused H02\n", Close::Refused)?;
         Ok(OrderAction::Finished(reply))
     } else {
-        ordered_step(alloc, order, input)
+        ordered_step(alloc, answering, order, input)
     }
 }
 
@@ -215,7 +232,7 @@ fn text_reply<H: Threads + Wait + Clock + Sync, G: Gate + Sync>(
 ) -> Result<Reply, AllocError>
     ensures { IfOk result (λ r. MayReplyText order input.items (reply r.text.items r.close)) }
 {
-    match step_of(alloc, order, input)? {
+    match step_of(alloc, &InThreads { rt }, order, input)? {
         OrderAction::Finished(reply) => Ok(reply),
         OrderAction::Request(asking) => {
             let ProgramRequest {
@@ -233,7 +250,7 @@ fn text_reply_in_turn(alloc: Global, order: Order, input: Vec<u8>) -> Result<Rep
     requires { IsInTurn order }
     ensures { IfOk result (λ r. MayReplyText order input.items (reply r.text.items r.close)) }
 {
-    match step_of(alloc, order, input)? {
+    match step_of(alloc, &InOneThread, order, input)? {
         OrderAction::Finished(reply) => Ok(reply),
         OrderAction::Request(asking) => {
             let ProgramRequest {
@@ -256,9 +273,9 @@ pub fn reply_to<H: Threads + Wait + Clock + Sync, G: Gate + Sync>(
 ) -> Result<Reply, AllocError>
     ensures { IfOk result (λ r. MayReply order input.items (reply r.text.items r.close)) }
 {
-    let json = wants_json(&order);
+    let rendering = rendering_of(&order);
     let text = text_reply(rt, alloc, gate, order, input)?;
-    in_form(alloc, json, text)
+    in_form(alloc, rendering, text)
 }
 
 /// Like `reply_to`, but a run is in turn: no thread is started, and nothing waits.
@@ -266,7 +283,7 @@ pub fn reply_in_turn(alloc: Global, order: Order, input: Vec<u8>) -> Result<Repl
     requires { IsInTurn order }
     ensures { IfOk result (λ r. MayReply order input.items (reply r.text.items r.close)) }
 {
-    let json = wants_json(&order);
+    let rendering = rendering_of(&order);
     let text = text_reply_in_turn(alloc, order, input)?;
-    in_form(alloc, json, text)
+    in_form(alloc, rendering, text)
 }

@@ -113,8 +113,8 @@ pub fn program_reply(
     ensures { IfOk result (Leads (λ run. order ≡ ordered.Verified (Run run)) source.now (RepliesByProgram (text_of source.now) order program)) }
 {
     match order {
-        ProgramOrder::Disassemble(places) => Ok(ProgramAction::Finished(Reply {
-            text: disassembled(alloc, places, &program)?,
+        ProgramOrder::Disassemble(order) => Ok(ProgramAction::Finished(Reply {
+            text: disassembled(alloc, order.places, &program)?,
             close: Close::Success,
         })),
         ProgramOrder::Verified(order) => verified_reply(alloc, source, order, program),

@@ -6,4 +6,4 @@ use Rattle.tw_session.proofs.order.reply_to.Goals as goal
 pub returns : goal.returns
 returns g c =
     let text = reply c.in_ok-text.text.text.items c.in_ok-text.text.close in
-    IfOk-weaker _ _ _ (λ (r : Reply) h. formed c.args.order c.args.input.items text (reply r.text.items r.close) c.wants_json-json.result c.wants_json-json.ensures c.in_ok-text.ensures h) c.in_form.ensures
+    IfOk-weaker _ _ _ (λ (r : Reply) h. formed c.args.order c.args.input.items text (reply r.text.items r.close) c.rendering_of-rendering.result c.rendering_of-rendering.ensures c.in_ok-text.ensures h) c.in_form.ensures

@@ -16,3 +16,9 @@ returns-in-InputWord c = λ kinds asked input has.
     (λ (r : MadeReply) printed.
     let word = subst (λ (line : List ℕ). PrintsInputWord (refused_word c.in-InputWord.number line) (reply r.text.items r.close)) c.as_slice.ensures.value printed in
     subst (λ (ks : Kinds). AnswersWords ks asked input (reply r.text.items r.close)) (sym here.0) (inr (inl (refused, here.1, word)))) c.input_word_reply.ensures
+
+pub returns-in-Explanation : goal.returns-in-Explanation
+returns-in-Explanation c = λ kinds asked input has.
+    let here = subst (λ (why : NoOrder). HasReason kinds asked why) c.in-Explanation.is has in
+    IfOk-weaker _ _ _
+    (λ (r : MadeReply) printed. subst (λ (ks : Kinds). AnswersWords ks asked input (reply r.text.items r.close)) (sym here.0) (inr (inr (c.in-Explanation.explained, here.1, printed)))) c.explained_reply.ensures

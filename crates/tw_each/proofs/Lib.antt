@@ -1,0 +1,2 @@
+pub mod InputLines
+pub mod LineAnswers

@@ -1,0 +1,64 @@
+-- The answers to lines, one more after the others.
+use Rattle.std.proofs.Common.{◌≡◌, ◌+◌, ◌<◌, ◌++◌, ◌||◌, ◌∙◌, ℕ, suc, Bool, Bor, true, false, List, [], ◌∷◌, arith, ap, append_assoc, get_or, length, map, refl, subst, sym, take}
+use Rattle.std.proofs.lemmas.List.{append-nil, length-map, length-take-le, map-append, take_more}
+use Rattle.tw_each.specs.Answers.{AreAnswers, IsAnswer, IsLine, Way, is_blank, numbered}
+
+-- ---- one line
+
+pub blank_line : (w : Way) (n : ℕ) (text : List ℕ) → is_blank text ≡ true → IsLine w n text [] false
+blank_line w n text blank = rw blank (refl, refl)
+
+pub answered_line : (w : Way) (n : ℕ) (text old new : List ℕ) (refused : Bool) → is_blank text ≡ false → (line : List ℕ) × IsAnswer w text line refused × (new ≡ old ++ numbered n line)
+    → (answer : List ℕ) × IsLine w n text answer refused × (new ≡ old ++ answer)
+answered_line w n text old new refused blank (line, h, is) = (numbered n line, rw blank (line, h, refl), is)
+
+-- ---- one more
+
+or_assoc : (a b c : Bool) → (a || (b || c)) ≡ ((a || b) || c)
+or_assoc true b c = refl
+or_assoc false b c = refl
+
+or_false : (a : Bool) → (a || false) ≡ a
+or_false true = refl
+or_false false = refl
+
+answers_more : (w : Way) (before : ℕ) (lines : List (List ℕ)) (text : List ℕ) (refused : Bool) (line answer : List ℕ) (bad : Bool) → AreAnswers w before lines text refused → IsLine w (before + length lines + 1) line answer bad
+    → AreAnswers w before (lines ++ line ∷ []) (text ++ answer) (refused || bad)
+answers_more w before [] text refused line answer bad (none, well) h =
+    (answer, [], bad, false, subst (λ (n : ℕ). IsLine w n line answer bad) (omega arith) h, (refl, refl), ap (λ (t : List ℕ). t ++ answer) none ∙ sym (append-nil answer), ap (λ (r : Bool). r || bad) well ∙ sym (or_false bad))
+answers_more w before (l ∷ lines) text refused line answer bad (first, rest, one, others, is, are, text_is, refused_is) h =
+    let more = answers_more w (before + 1) lines rest others line answer bad are (subst (λ (n : ℕ). IsLine w n line answer bad) (omega arith) h) in
+    (first, rest ++ answer, one, others || bad, is, more, ap (λ (t : List ℕ). t ++ answer) text_is ∙ append_assoc first rest answer, ap (λ (r : Bool). r || bad) refused_is ∙ sym (or_assoc one others bad))
+
+line_at : (lines : List (Bor (List ℕ))) (i : ℕ) (d : Bor (List ℕ)) → i < length lines → map (λ l. l.now) (take (i + 1) lines) ≡ map (λ l. l.now) (take i lines) ++ (get_or lines i d).now ∷ []
+line_at lines i d lt = ap (map (λ l. l.now)) (take_more lines i d lt) ∙ map-append (λ l. l.now) (take i lines) (get_or lines i d ∷ [])
+
+pub one_line_more : (w : Way) (before i : ℕ) (lines : List (Bor (List ℕ))) (d : Bor (List ℕ)) (text new answer : List ℕ) (refused bad : Bool) → i < length lines → AreAnswers w before (map (λ l. l.now) (take i lines)) text refused
+    → IsLine w (before + i + 1) (get_or lines i d).now answer bad → new ≡ text ++ answer → AreAnswers w before (map (λ l. l.now) (take (i + 1) lines)) new (refused || bad)
+one_line_more w before i lines d text new answer refused bad lt are is same =
+    let count : length (map (λ (l : Bor (List ℕ)). l.now) (take i lines)) ≡ i = length-map (take i lines) (λ (l : Bor (List ℕ)). l.now) ∙ length-take-le i lines (omega (arith, lt)) in
+    let here = subst (λ (n : ℕ). IsLine w (before + n + 1) (get_or lines i d).now answer bad) (sym count) is in
+    let more = answers_more w before (map (λ (l : Bor (List ℕ)). l.now) (take i lines)) text refused (get_or lines i d).now answer bad are here in
+    subst (λ (t : List ℕ). AreAnswers w before (map (λ (l : Bor (List ℕ)). l.now) (take (i + 1) lines)) t (refused || bad)) (sym same)
+    (subst (λ (ls : List (List ℕ)). AreAnswers w before ls (text ++ answer) (refused || bad)) (sym (line_at lines i d lt)) more)
+
+-- ---- other lines after these
+
+answers_joined : (w : Way) (before : ℕ) (front back : List (List ℕ)) (text more : List ℕ) (refused bad : Bool) → AreAnswers w before front text refused → AreAnswers w (before + length front) back more bad
+    → AreAnswers w before (front ++ back) (text ++ more) (refused || bad)
+answers_joined w before [] back text more refused bad (none, well) h =
+    subst (λ (t : List ℕ). AreAnswers w before back (t ++ more) (refused || bad)) (sym none) (subst (λ (r : Bool). AreAnswers w before back more (r || bad)) (sym well) (subst (λ (n : ℕ). AreAnswers w n back more bad) (omega arith) h))
+answers_joined w before (l ∷ front) back text more refused bad (first, rest, one, others, is, are, text_is, refused_is) h =
+    let joined = answers_joined w (before + 1) front back rest more others bad are (subst (λ (n : ℕ). AreAnswers w n back more bad) (omega arith) h) in
+    (first, rest ++ more, one, others || bad, is, joined, ap (λ (t : List ℕ). t ++ more) text_is ∙ append_assoc first rest more, ap (λ (r : Bool). r || bad) refused_is ∙ sym (or_assoc one others bad))
+
+pub halves_joined : (w : Way) (before : ℕ) (lines front back : List (Bor (List ℕ))) (text more whole : List ℕ) (refused bad any : Bool) → lines ≡ front ++ back → AreAnswers w before (map (λ l. l.now) front) text refused
+    → AreAnswers w (before + length front) (map (λ l. l.now) back) more bad → whole ≡ text ++ more → any ≡ (refused || bad) → AreAnswers w before (map (λ l. l.now) lines) whole any
+halves_joined w before lines front back text more whole refused bad any parts first rest text_is any_is =
+    let f = λ (l : Bor (List ℕ)). l.now in
+    let here = subst (λ (n : ℕ). AreAnswers w (before + n) (map f back) more bad) (sym (length-map front f)) rest in
+    let joined = answers_joined w before (map f front) (map f back) text more refused bad first here in
+    let split : map f front ++ map f back ≡ map f lines = sym (ap (map f) parts ∙ map-append f front back) in
+    subst (λ (r : Bool). AreAnswers w before (map f lines) whole r) (sym any_is)
+    (subst (λ (t : List ℕ). AreAnswers w before (map f lines) t (refused || bad)) (sym text_is)
+    (subst (λ (ls : List (List ℕ)). AreAnswers w before ls (text ++ more) (refused || bad)) split joined))

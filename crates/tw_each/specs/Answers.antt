@@ -1,0 +1,87 @@
+-- The answers to lines of inputs, each of them a JSON object on one line.
+use Rattle.std.specs.Prelude.{◌≡◌, ◌≢◌, ◌⊎◌, ◌+◌, ◌++◌, ◌||◌, ℕ, Bool, true, false, MatchBool, List, [], ◌∷◌, codes, decimal, drop, Option, Some, None}
+use Rattle.std.specs.List.{list_all}
+use Rattle.tw_types.specs.Layout.{ActorCounts}
+use Rattle.tw_types.specs.declared.input.Input.{Input}
+use Rattle.tw_code.specs.machine.Opening.{main_params}
+use Rattle.tw_verify.specs.Typed.{TypedProgram}
+use Rattle.tw_pool.specs.declared.answer.Closing.{Closing}
+use Rattle.tw_pool.specs.declared.open.OpenError.{OpenError}
+use Rattle.tw_pool.specs.declared.open.OpenError.TheVariants.{NoMemory}
+use Rattle.tw_pool.specs.Ends.{FinalView}
+use Rattle.tw_pool.specs.History.{HistoryView}
+use Rattle.tw_pool.specs.Openings.{IsRejection, MayOpen, open_error_code, opened}
+use Rattle.tw_pool.specs.PoolView.{PoolView}
+use Rattle.tw_in_turn.specs.InTurn.{IsLeft}
+use Rattle.tw_in_turn.specs.declared.run.InTurnResult.TheVariants as left
+use Rattle.tw_json_inputs.specs.Inputs.{AreInputsIn, HasFaultAt, IsFaultText}
+use Rattle.tw_json_inputs.specs.declared.inputs.Place.{Place}
+use Rattle.tw_json_output.specs.Error.{error_json}
+use Rattle.tw_json_output.specs.Run.{json_line}
+use Rattle.tw_program_output.specs.Input.{is_gap_byte}
+use Rattle.tw_program_output.specs.Lines.{opening_line}
+use Rattle.tw_program_output.specs.Source.{text_of}
+use Rattle.tw_replay_output.specs.Opening.{AreOpeningDetails}
+use Rattle.tw_run_output.specs.Json.{IsEndLine}
+use Rattle.tw_each.specs.declared.answer.EachRun.{EachRun}
+
+-- a program, the text from which it was read if any, and how it is run
+pub record Way : Type 0 where
+  pub text : Option (List ℕ)
+  pub verified : TypedProgram
+  pub layout : ActorCounts
+  pub limit : ℕ
+
+abbrev pub way : EachRun → Way
+way run = record { text = text_of run.source.now; verified = run.verified.now; layout = run.layout; limit = run.limit }
+
+-- ---- one line
+
+-- holds for the line of what a run leaves, from its first pool on
+abbrev pub IsRunLine : PoolView → List ℕ → Type 0
+IsRunLine first line =
+    (final : FinalView) × (history : HistoryView) × (closing : Closing) × IsLeft first (left.Over final history)
+    × (final.closing ≡ Some closing) × IsEndLine final history.events closing line
+
+-- holds for the line of the error at opening
+abbrev pub IsRejectedLine : Way → List Input → List ℕ → Type 0
+IsRejectedLine w inputs line =
+    (why : OpenError) × (more : List ℕ) × IsRejection w.verified.program inputs w.layout w.limit why × (why ≢ NoMemory)
+    × AreOpeningDetails w.text w.verified.program inputs more × (line ≡ json_line (error_json (codes "refused") (opening_line (open_error_code why) ++ more)))
+
+-- holds for the line of a run with these inputs, or of its error, and whether it is an error
+abbrev pub IsInputsAnswer : Way → List Input → List ℕ → Bool → Type 0
+IsInputsAnswer w inputs line false = MayOpen w.verified.program inputs w.layout w.limit × IsRunLine (opened w.verified inputs w.layout w.limit) line
+IsInputsAnswer w inputs line true = IsRejectedLine w inputs line
+
+-- holds for the line of an error, of inputs that aren't read
+abbrev pub IsFaultAnswer : Place → List ℕ → Bool → Type 0
+IsFaultAnswer place line refused = (error : List ℕ) × IsFaultText place error × (line ≡ json_line (error_json (codes "refused") error)) × (refused ≡ true)
+
+-- holds for the answer to a text: it has inputs, with which the program is run in turn; or it has none
+abbrev pub IsAnswer : Way → List ℕ → List ℕ → Bool → Type 0
+IsAnswer w text line refused =
+    ((inputs : List Input) × AreInputsIn (main_params w.verified.program) text inputs × IsInputsAnswer w inputs line refused)
+    ⊎ ((place : Place) × HasFaultAt (main_params w.verified.program) text place × IsFaultAnswer place line refused)
+
+-- ---- all lines
+
+-- returns an object's line with a number as its first member
+abbrev pub numbered : ℕ → List ℕ → List ℕ
+numbered n line = codes "{\"line\":" ++ (decimal n ++ 44 ∷ drop 1 line)
+
+-- returns whether a line has no other bytes than spaces, tabs, carriage returns and line feeds
+abbrev pub is_blank : List ℕ → Bool
+is_blank line = list_all is_gap_byte line
+
+-- holds for the answer to the line with this number; a blank line has none
+abbrev pub IsLine : Way → ℕ → List ℕ → List ℕ → Bool → Type 0
+IsLine w n text answer refused =
+    MatchBool (is_blank text) ((answer ≡ []) × (refused ≡ false)) ((line : List ℕ) × IsAnswer w text line refused × (answer ≡ numbered n line))
+
+-- holds for the answers to the lines after so many, in their order, and whether one of them is an error
+abbrev pub AreAnswers : Way → ℕ → List (List ℕ) → List ℕ → Bool → Type 0
+AreAnswers w before [] text refused = (text ≡ []) × (refused ≡ false)
+AreAnswers w before (line ∷ lines) text refused =
+    (first : List ℕ) × (rest : List ℕ) × (bad : Bool) × (others : Bool) × IsLine w (before + 1) line first bad × AreAnswers w (before + 1) lines rest others
+    × (text ≡ first ++ rest) × (refused ≡ (bad || others))

@@ -1,0 +1,148 @@
+//! The answer to one line.
+
+ghost use Rattle.std.specs.Prelude.{◌≡◌, ◌≢◌, ◌++◌, List, ℕ, IfOk, string_bytes};
+ghost use Rattle.tw_code.specs.machine.Opening.{main_params};
+ghost use Rattle.tw_in_turn.specs.InTurn.{IsLeft};
+ghost use Rattle.tw_pool.specs.Openings.{IsRejection};
+ghost use Rattle.tw_pool.specs.PoolView.{PoolView};
+ghost use Rattle.tw_pool.specs.declared.open.OpenError.TheVariants.{NoMemory};
+ghost use Rattle.tw_each.specs.Answers.{IsAnswer, IsFaultAnswer, IsInputsAnswer, IsRejectedLine, IsRunLine, numbered, way};
+
+use crate::numbered::put_numbered_line;
+use std::alloc::{AllocError, Global};
+use tw_code::main_params;
+use tw_in_turn::{InTurnResult, run_in_turn};
+use tw_json_inputs::{NoInputs, Place, Scratch, fault_text, read_inputs};
+use tw_json_output::error_line;
+use tw_pool::OpenError;
+use tw_program_output::SourceText;
+use tw_replay_output::inputs_refused_reply;
+use tw_run_output::end_line;
+use tw_types::{Input, Layout, Param};
+use tw_verify::Verified;
+
+/// A program that is run on many lines, and how.
+#[derive(Clone, Copy)]
+pub struct EachRun<'a> {
+    /// The text from which the program was read, if any.
+    pub source: &'a Option<SourceText<'a>>,
+    pub verified: &'a Verified,
+    pub layout: Layout,
+    /// The maximum number of events of each run.
+    pub limit: usize,
+}
+
+/// An object's line, and whether it is that of an error.
+#[derive(Drop)]
+pub struct AnswerLine {
+    pub line: String,
+    pub refused: bool,
+}
+
+fn params_of<'a>(run: &EachRun<'a>) -> &'a [Param]
+    ensures { result.now ≡ main_params run.now.verified.now.program }
+{
+    main_params(run.verified.program().procedures())
+}
+
+/// Returns the line of what a run left.
+fn left_line(alloc: Global, left: InTurnResult) -> Result<String, AllocError>
+    requires { (first : PoolView) × IsLeft first left }
+    ensures { IfOk result (λ line. (first : PoolView) → IsLeft first left → IsRunLine first (string_bytes line)) }
+{
+    match left {
+        InTurnResult::Over { outcome, history } => match outcome.closing() {
+            Some(closing) => end_line(alloc, &outcome, &history, closing),
+            None => unreachable!(),
+        },
+        InTurnResult::NoMemory { .. } => Err(AllocError),
+    }
+}
+
+/// Returns the line of an error at opening.
+fn rejected_line(
+    alloc: Global,
+    run: &EachRun<'_>,
+    inputs: &[Input],
+    why: OpenError,
+) -> Result<String, AllocError>
+    requires rejected { IsRejection run.now.verified.now.program inputs.now run.now.layout run.now.limit why }
+    requires other { why ≢ NoMemory }
+    ensures { IfOk result (λ line. IsRejectedLine (way run.now) inputs.now (string_bytes line)) }
+{
+    let procedures = run.verified.program().procedures();
+    let reply = inputs_refused_reply(alloc, run.source, why.number(), procedures, inputs)?;
+    error_line(alloc, "refused", &reply.text)
+}
+
+/// Runs the program with these inputs.
+fn inputs_answer(
+    alloc: Global,
+    run: &EachRun<'_>,
+    inputs: &[Input],
+) -> Result<AnswerLine, AllocError>
+    ensures { IfOk result (λ answer. IsInputsAnswer (way run.now) inputs.now (string_bytes answer.line) answer.refused) }
+{
+    match run_in_turn(alloc, run.verified, inputs, run.layout, run.limit) {
+        Ok(left) => Ok(AnswerLine {
+            line: left_line(alloc, left)?,
+            refused: false,
+        }),
+        Err(OpenError::NoMemory) => Err(AllocError),
+        Err(why) => Ok(AnswerLine {
+            line: rejected_line(alloc, run, inputs, why)?,
+            refused: true,
+        }),
+    }
+}
+
+/// Returns the answer to a line that has no inputs.
+fn fault_answer(
+    alloc: Global,
+    run: &EachRun<'_>,
+    number: usize,
+    text: &str,
+    place: Place,
+    scratch: &mut Scratch,
+) -> Result<AnswerLine, AllocError>
+    ensures { IfOk result (λ answer. IsFaultAnswer place (string_bytes answer.line) answer.refused) }
+{
+    let error = fault_text(alloc, params_of(run), text, place, number, scratch)?;
+    Ok(AnswerLine {
+        line: error_line(alloc, "refused", &error)?,
+        refused: true,
+    })
+}
+
+/// Returns the answer to a line, without its number.
+fn line_answer(
+    alloc: Global,
+    run: &EachRun<'_>,
+    number: usize,
+    text: &str,
+    scratch: &mut Scratch,
+) -> Result<AnswerLine, AllocError>
+    ensures { IfOk result (λ answer. IsAnswer (way run.now) text.now (string_bytes answer.line) answer.refused) }
+{
+    match read_inputs(alloc, params_of(run), text, scratch) {
+        Ok(inputs) => inputs_answer(alloc, run, &inputs),
+        Err(NoInputs::At(place)) => fault_answer(alloc, run, number, text, place, scratch),
+        Err(NoInputs::NoMemory) => Err(AllocError),
+    }
+}
+
+/// Appends the answer to the line with this number, and returns whether it is refused.
+pub fn put_answer(
+    alloc: Global,
+    out: &mut Vec<u8>,
+    run: &EachRun<'_>,
+    number: usize,
+    text: &str,
+    scratch: &mut Scratch,
+) -> Result<bool, AllocError>
+    ensures { IfOk result (λ refused. (line : List ℕ) × IsAnswer (way run.now) text.now line refused × (out.new.items ≡ out.old.items ++ numbered number line)) }
+{
+    let answer = line_answer(alloc, run, number, text, scratch)?;
+    put_numbered_line(alloc, out, number, answer.line.as_bytes())?;
+    Ok(answer.refused)
+}

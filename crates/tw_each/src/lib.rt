@@ -1,0 +1,12 @@
+//! Runs an accepted program on each line of inputs, and answers each line with a JSON object on one line.
+#![tactic(auto)]
+
+mod answer;
+mod input_lines;
+mod lines;
+mod numbered;
+mod reply;
+mod threads;
+
+pub use reply::each_reply;
+pub use threads::{Answering, InOneThread, InThreads};
