@@ -52,29 +52,14 @@ class Mutant:
     harmless: str = ""
 
 
-FRONT, PICK, SOURCES = "tools/tw-front.sh", "tools/tw-pick.sh", "tools/tw-sources.sh"
+SOURCES = "tools/tw-sources.sh"
 FILES, RUNS, CASES = "tools/case_files.py", "tools/case_runs.py", "tools/cases.py"
 PYTHON = "embed/python/yuglemit/"
 
 MUTANTS = (
-    # The script: which argument is the file, how it is read, and what is written after an answer.
-    Mutant("options_have_no_values", "script", FRONT, "--engines | --servers | --workers | --limit | --from | --to) return 1", "--engines) return 1"),
-    Mutant("options_without_values_eat_files", "script", FRONT, "-*) case $2 in *[!0-9]*) ;; *) return 1 ;; esac ;;", "-*) return 1 ;;"),
-    Mutant("inputs_may_be_files", "script", FRONT, "'' | -* | int:* | ints:*", "'' | -* | ints:*"),
-    Mutant("twn_is_no_text", "script", FRONT, "*.[tT][wW] | *.[tT][wW][nN]) return 1 ;;", "*.[tT][wW]) return 1 ;;"),
-    Mutant("names_go_without_their_option", "script", FRONT, "asm:*.[tT][wW][nN]) echo --names ;;", "asm:*.[tT][wW][nN]) ;;"),
-    Mutant("hex_by_its_first_byte", "script", FRONT, "head -c 6)\" = 545742 ]", "head -c 2)\" = 54 ]", "no assembly text begins with 54"),
-    Mutant("unreadable_files_are_empty", "script", FRONT, '    [ -d "$1" ] || [ ! -r "$1" ] || return 0\n', "    return 0\n"),
-    Mutant("unreadable_files_are_status_1", "script", FRONT, "    exit 66\n", "    exit 1\n"),
-    Mutant("inputs_after_the_events", "script", FRONT, 'head -n "$(($3 - 1))" "$1"', 'cat "$1"'),
-    Mutant("no_line_end_before_inputs", "script", FRONT, "printf '\\ninputs\\n'", "printf 'inputs\\n'"),
-    Mutant("a_dash_is_a_file", "script", FRONT, '[ "$inputs" = - ] && inputs=/dev/stdin', ":"),
-    Mutant("no_hint_of_explain", "script", FRONT, 'say "$me explain ${code%% *} says more" ;;', ": ;;"),
-    Mutant("statuses_are_lost", "script", FRONT, "    status=$?\n    cat", "    status=0\n    cat"),
-    Mutant("asm_prints_no_diagnostic", "script", FRONT, '"asm:1:refused A"*)', '"asm:1:refused Z"*)'),
-    Mutant("pictures_of_programs_by_replay", "script", FRONT, 'set -- run --picture ${text:+"$text"} "$@"', 'set -- picture ${text:+"$text"} "$@"'),
-    Mutant("a_file_after_options_only", "script", FRONT, 'if [ -z "$file" ] && names_file "$before" "$word"; then', 'if [ -z "$file" ] && [ -n "$before" ] && names_file "$before" "$word"; then'),
+    # The script: what it answers itself, and the program that it calls.
     Mutant("versions_are_the_programs", "script", "tw", '--version:1 | -V:1) echo "tw $(cat "$root/VERSION")"; exit ;;', "--version:1 | -V:1) echo tw; exit ;;"),
+    Mutant("statuses_are_lost", "script", "tw", '[ -n "$room" ] || exec "$program" "$@"', '[ -n "$room" ] || { "$program" "$@"; exit 0; }'),
     Mutant("every_release_fits", "release", SOURCES, "    lines_of_crates \"$1\" | sha256sum | sed 's/-$/crates.txt/'\n", ""),
     Mutant("proofs_are_code", "release", SOURCES, "grep -v '  crates/[^/]*/\\(specs\\|proofs\\)/'", "cat"),
     Mutant("crates_below_do_not_count", "release", SOURCES, "for (i = split(uses[crate], deps, \" \"); i > 0; i--) visit(deps[i])", "i = 0"),

@@ -1,7 +1,7 @@
 #!/bin/sh
 # SPDX-License-Identifier: Apache-2.0
-# Runs each command `$ ./tw ..` that README.md, docs/ and examples/sessions.txt show, and those of tools/scripted.txt, which only the script
-# can run, and compares its standard output with what is shown below it. After an error, standard error has to name its explanation. Also
+# Runs each command `$ ./tw ..` that README.md, docs/ and examples/sessions.txt show, and those of tools/scripted.txt, which open files
+# or use the shell, and compares its standard output with what is shown below it. After an error, standard error has to name its explanation. Also
 # compares the commands that `./tw --help` and the program list, and checks that the files for editors and shells are up to date. Prints each
 # difference, and fails if there is one.
 # The program is the one with which ./tw answers; standard error says so if it is an unverified build.
@@ -20,7 +20,7 @@ compare() {
     shown=$((shown + 1))
     sh -c "$command" >printed 2>errors </dev/null
     number=$(sed -n '/^refused /{s/^refused \([A-Z][0-9]*\).*/\1/p;q;}' printed)
-    cmp -s printed wanted && { [ -z "$number" ] || grep -qF "./tw explain $number says more" errors; } && return
+    cmp -s printed wanted && { [ -z "$number" ] || grep -qF "tw explain $number says more" errors; } && return
     differ=$((differ + 1))
     echo "\$ $command"
     diff wanted printed && cat errors

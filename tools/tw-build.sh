@@ -1,8 +1,8 @@
 # SPDX-License-Identifier: Apache-2.0
 # shellcheck shell=sh
 # `./tw build [--library]`: proves what a program or the library depends on, and builds it. The script tw reads this file.
-# shellcheck source=tools/tw-pick.sh disable=SC2154
-. "$root/tools/tw-pick.sh"
+# shellcheck source=tools/tw-find.sh disable=SC2154
+. "$root/tools/tw-find.sh"
 
 # Lays the crate and those below it out as a repository of their own, without the mutants.
 lay_out() {

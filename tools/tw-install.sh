@@ -2,8 +2,8 @@
 # shellcheck shell=sh
 # `./tw install [PREFIX] [--uninstall]`: installs the proved program, the libraries and what belongs to them below a prefix, and removes
 # them again. DESTDIR precedes the prefix; LIBDIR is the folder of libraries below it, `lib` if it isn't set. The script tw reads this file.
-# shellcheck source=tools/tw-pick.sh disable=SC2154
-. "$root/tools/tw-pick.sh"
+# shellcheck source=tools/tw-find.sh disable=SC2154
+. "$root/tools/tw-find.sh"
 list=share/yuglemit/installed
 
 # Installs a file: its mode, the file, and its name below the prefix.
@@ -28,9 +28,7 @@ put_filled() {
 
 put_program() {
     need_proved tw_main "./tw build"
-    put 755 "$program" lib/yuglemit/tw
-    put 644 "$root/tools/tw-front.sh" lib/yuglemit/tw-front.sh
-    put_filled tw 755 bin/tw
+    put 755 "$program" bin/tw
     put 644 "$root/docs/tw.1" share/man/man1/tw.1
     put 644 "$root/tools/tw.bash" share/bash-completion/completions/tw
     put 644 "$root/tools/tw.zsh" share/zsh/site-functions/_tw

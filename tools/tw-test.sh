@@ -41,8 +41,6 @@ test_command() {
         --update) ;;
         -*) say "./tw test takes --list, --update and patterns"; exit 2 ;;
     esac
-    # shellcheck source=tools/tw-pick.sh
-    . "$root/tools/tw-pick.sh"
     pick tw_cases
     say_kind
     if has_python; then

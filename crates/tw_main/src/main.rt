@@ -1,27 +1,32 @@
 //! The command `tw`.
 #![tactic(auto)]
 
+mod exit;
+mod hints;
+mod noted_writer;
 mod progress_printer;
+mod symbolic;
+mod system_files;
+mod tool;
 
-use crate::progress_printer::ProgressPrinter;
+use crate::exit::Exit;
+use crate::tool::{Streams, Tool};
 use std::rt::Env;
 use std::{env, io};
-use tw_session::{Status, complain, is_quiet, session, without_words};
+use tw_session::without_words;
 
 fn own_words(rt: &(impl Env + AllocGlobal)) -> io::Result<Vec<String>> {
     Ok(env::args(rt)?.skip(1).collect(rt.alloc())?)
 }
 
-fn main(rt: HostRuntime) -> Status {
-    let mut writer = rt.stdout();
+fn main(rt: HostRuntime) -> Exit {
+    let streams = Streams {
+        stdin: rt.stdin(),
+        stdout: rt.stdout(),
+        stderr: rt.stderr(),
+    };
     match own_words(&rt) {
-        Ok(words) => {
-            let words = words.as_slice();
-            let reporter = ProgressPrinter::new(rt.stderr(), is_quiet(words));
-            let status = session(&rt, &reporter, words, &mut rt.stdin(), &mut writer);
-            complain(rt.alloc(), status, words, &mut rt.stderr());
-            status
-        }
-        Err(error) => without_words(error.kind(), &mut writer),
+        Ok(words) => Tool::new(&rt, streams).answer(&words),
+        Err(error) => Exit::Session(without_words(error.kind(), &mut rt.stdout())),
     }
 }

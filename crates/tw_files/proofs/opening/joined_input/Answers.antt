@@ -1,0 +1,4 @@
+use Rattle.tw_files.proofs.opening.joined_input.Goals as goal
+
+pub returns-clause-bytes : goal.returns-clause-bytes
+returns-clause-bytes g c = (c.in_ok-given.given.items, c.in_ok-given.ensures.bytes, rw (← c.deref.ensures.value) c.in_ok-whole.ensures)

@@ -1,0 +1,5 @@
+pub mod Naming
+pub mod Seen
+pub mod Format
+pub mod Input
+pub mod Opening

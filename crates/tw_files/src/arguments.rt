@@ -1,0 +1,148 @@
+//! Makes the arguments of a session.
+
+ghost use Rattle.std.specs.Prelude.{◌≡◌, ◌++◌, ◌∷◌, [], Some, IfOk, OnOk, map, string_bytes};
+ghost use Rattle.std.specs.Str.{bytes_eq};
+ghost use Rattle.std.specs.List.{list_any};
+ghost use Rattle.std.specs.Option.{option_map};
+ghost use Rattle.tw_files.specs.Input.{AreWords, command_words as command_words_is, draws_run as draws_run_is, has_word as has_word_is, is_untraced as is_untraced_is, option_of as option_of_is, option_words, reads_trace as reads_trace_is, says_format as says_format_is};
+
+use crate::format::is_text;
+use std::alloc::{AllocError, Global};
+use tw_report::cut_history;
+
+fn is_word(word: &str, other: &String) -> bool
+    ensures { result ≡ bytes_eq (string_bytes other.now) word.now }
+{
+    other.as_str() == word
+}
+
+fn is_among(word: &str, words: &[String]) -> bool
+    ensures { result ≡ list_any (λ other. bytes_eq (string_bytes other) word.now) words.now }
+{
+    words.iter().any(|other| is_word(word, other))
+}
+
+fn has_word(word: &str, words: &[String]) -> bool
+    ensures { result ≡ has_word_is word.now (map string_bytes words.now) }
+{
+    is_among(word, words)
+}
+
+fn reads_trace(command: &str) -> bool
+    ensures { result ≡ reads_trace_is command.now }
+{
+    command == "replay" || command == "picture"
+}
+
+/// Returns whether a file has no trace for a command, by the part of it before the trace.
+pub fn is_untraced(command: &str, program: &[u8], before: &[u8]) -> bool
+    ensures { result ≡ is_untraced_is command.now program.now before.now }
+{
+    !reads_trace(command) || before.len() == program.len()
+}
+
+fn says_format(words: &[String]) -> bool
+    ensures { result ≡ says_format_is (map string_bytes words.now) }
+{
+    has_word("--text", words) || has_word("--names", words)
+}
+
+fn option_of(command: &str, is_text: bool) -> Option<&'static str>
+    ensures { option_map (λ option. option.now) result ≡ option_of_is command.now is_text }
+{
+    if !is_text {
+        None
+    } else if command == "asm" {
+        Some("--names")
+    } else {
+        Some("--text")
+    }
+}
+
+fn draws_run(command: &str, others: &[String], is_untraced: bool) -> bool
+    ensures { result ≡ draws_run_is command.now (map string_bytes others.now) is_untraced }
+{
+    command == "picture" && is_untraced && !has_word("--help", others)
+}
+
+fn put_word(words: &mut Vec<String>, alloc: Global, word: &str) -> Result<(), AllocError>
+    ensures { OnOk result (map string_bytes words.new.items ≡ map string_bytes words.old.items ++ word.now ∷ []) }
+{
+    let copy = String::from_str(alloc, word)?;
+    words.push(copy)?;
+    Ok(())
+}
+
+fn command_words(alloc: Global, command: &str, draws_run: bool) -> Result<Vec<String>, AllocError>
+    ensures { IfOk result (λ words. map string_bytes words.items ≡ command_words_is command.now draws_run) }
+{
+    let mut words = Vec::new(alloc);
+    if draws_run {
+        put_word(&mut words, alloc, "run")?;
+        put_word(&mut words, alloc, "--picture")?;
+    } else {
+        put_word(&mut words, alloc, command)?;
+    }
+    Ok(words)
+}
+
+/// Adds an option and the other arguments.
+fn with_others(
+    alloc: Global,
+    mut words: Vec<String>,
+    option: Option<&str>,
+    mut others: Vec<String>,
+) -> Result<Vec<String>, AllocError>
+    ensures { IfOk result (λ all. map string_bytes all.items ≡ map string_bytes words.items ++ (option_words (option_map (λ o. o.now) option.entry) ++ map string_bytes others.items)) }
+{
+    if let Some(option) = option {
+        put_word(&mut words, alloc, option)?;
+    }
+    words.append(&mut others)?;
+    Ok(words)
+}
+
+/// Returns the arguments if the program is in a file.
+fn file_words(
+    alloc: Global,
+    command: &str,
+    path: &str,
+    program: &[u8],
+    others: Vec<String>,
+) -> Result<Vec<String>, AllocError>
+    ensures { IfOk result (λ words. AreWords command.now (Some path.now) program.now (map string_bytes others.items) (map string_bytes words.items)) }
+{
+    let (before, _events) = cut_history(program);
+    let draws = draws_run(command, &others, is_untraced(command, program, before));
+    let is_text = is_text(alloc, path, program)? && !says_format(&others);
+    let first = command_words(alloc, command, draws)?;
+    with_others(alloc, first, option_of(command, is_text), others)
+}
+
+/// Returns the arguments of a command without a file: the others.
+pub fn bare_words(
+    alloc: Global,
+    command: &str,
+    others: Vec<String>,
+) -> Result<Vec<String>, AllocError>
+    ensures { IfOk result (λ words. map string_bytes words.items ≡ command.now ∷ map string_bytes others.items) }
+{
+    let first = command_words(alloc, command, false)?;
+    with_others(alloc, first, None, others)
+}
+
+/// Returns the arguments of a session whose program was read, from a file or from standard input.
+pub fn session_words(
+    alloc: Global,
+    command: &str,
+    path: Option<&str>,
+    program: &[u8],
+    others: Vec<String>,
+) -> Result<Vec<String>, AllocError>
+    ensures { IfOk result (λ words. AreWords command.now (option_map (λ p. p.now) path.entry) program.now (map string_bytes others.items) (map string_bytes words.items)) }
+{
+    match path {
+        Some(path) => file_words(alloc, command, path, program, others),
+        None => bare_words(alloc, command, others),
+    }
+}

@@ -1,0 +1,44 @@
+//! Finds the format of a file.
+
+ghost use Rattle.std.specs.Prelude.{◌≡◌, IfOk};
+ghost use Rattle.tw_files.specs.Format.{begins_as_hex as begins_as_hex_is, is_gap as is_gap_is, is_text as is_text_is, without_gaps as without_gaps_is};
+
+use std::alloc::{AllocError, Global};
+
+/// The number of bytes in which a program's first digits are searched.
+const HEAD: usize = 64;
+
+fn is_gap(byte: u8) -> bool
+    ensures { result ≡ is_gap_is byte }
+{
+    byte == b' ' || byte == b'\t' || byte == b'\r' || byte == b'\n'
+}
+
+fn without_gaps(mut bytes: Vec<u8>) -> Vec<u8>
+    ensures { result.items ≡ without_gaps_is bytes.items }
+{
+    bytes.retain(|byte| !is_gap(*byte));
+    bytes
+}
+
+fn begins_as_hex(alloc: Global, bytes: &[u8]) -> Result<bool, AllocError>
+    ensures { IfOk result (λ begins. begins ≡ begins_as_hex_is bytes.now) }
+{
+    let head = bytes[..HEAD.min(bytes.len())].to_vec(alloc)?;
+    Ok(without_gaps(head).starts_with(b"545742"))
+}
+
+/// Returns whether a file holds assembly text, and no program as hex text.
+pub fn is_text(alloc: Global, path: &str, bytes: &[u8]) -> Result<bool, AllocError>
+    ensures { IfOk result (λ text. text ≡ is_text_is path.now bytes.now) }
+{
+    let name = path.as_bytes();
+    if name.ends_with(b".tw") || name.ends_with(b".twn") {
+        return Ok(true);
+    }
+    if name.ends_with(b".hex") || name.ends_with(b".history") {
+        return Ok(false);
+    }
+    let is_hex = begins_as_hex(alloc, bytes)?;
+    Ok(!is_hex)
+}

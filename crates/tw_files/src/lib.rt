@@ -1,0 +1,11 @@
+//! The files of a command line. `session_input` finds the arguments that name files, and reads these. It returns the arguments and the input of
+//! a session.
+#![tactic(auto)]
+
+mod arguments;
+mod format;
+mod naming;
+mod opening;
+
+pub use naming::reads_program;
+pub use opening::{InputFiles, NoInput, SessionInput, session_input};

@@ -1,0 +1,38 @@
+//! The files of the system.
+
+use std::alloc::Global;
+use std::io::Read;
+use std::rt::{Files, Stdin};
+use std::{fs, io};
+use tw_files::InputFiles;
+use tw_session::MOST_BYTES;
+
+/// The files of the system, and standard input under the name `-`.
+#[derive(Drop)]
+pub struct SystemFiles<'a, R> {
+    rt: &'a R,
+    stdin: Stdin,
+}
+
+impl<'a, R> SystemFiles<'a, R> {
+    pub fn new(rt: &'a R, stdin: Stdin) -> SystemFiles<'a, R> {
+        SystemFiles { rt, stdin }
+    }
+}
+
+/// Reads to the end, or until there is one byte more than a session accepts.
+fn read_most<R: Read + Drop>(alloc: Global, reader: R) -> io::Result<Vec<u8>> {
+    let mut bytes = Vec::new(alloc);
+    reader.take(MOST_BYTES as u64 + 1).read_to_end(&mut bytes)?;
+    Ok(bytes)
+}
+
+impl<'a, R: Files> InputFiles for SystemFiles<'a, R> {
+    fn read_file(&self, alloc: Global, path: &str) -> io::Result<Vec<u8>> {
+        if path == "-" {
+            return read_most(alloc, self.stdin);
+        }
+        let file = fs::open(self.rt, path)?;
+        read_most(alloc, file)
+    }
+}
