@@ -7,8 +7,8 @@
  *
  * How long a call takes. Reading, checking and verifying take time by the input's length. A run takes as long as its program: at most
  * `--limit` events (10,000 if nothing is said), each of at most as many instructions as the greatest budget, which may be 1,000,000,000.
- * Only yuglemit_run can be stopped from outside, between two events. So call `check` first, and run a stranger's program only if its
- * greatest budget times the limit is what you can wait for.
+ * Only yuglemit_run and yuglemit_run_within can be stopped from outside, between two events. So run a stranger's program by
+ * yuglemit_run_within, whose caps reject it before it runs, or with --most-instructions and --most-budget in a session.
  *
  * What the caller sees to, since no proof can:
  *   - each pointer is no null pointer, and points to as many bytes as its length says, also if that is 0;
@@ -25,7 +25,7 @@ extern "C" {
 #endif
 
 /* The version: 1,000,000 times major, 1,000 times minor, and patch. The call returns that of the library. */
-#define YUGLEMIT_VERSION_NUMBER 14000
+#define YUGLEMIT_VERSION_NUMBER 15000
 uint32_t yuglemit_version(void);
 
 /* Writes the output of the command `tw` with these arguments and this input; `tw --help` lists the arguments. All are UTF-8, and each ends
@@ -74,7 +74,7 @@ enum {
     YUGLEMIT_NO_INPUTS = 'I',  /* the handle of inputs holds something else */
     YUGLEMIT_NO_LAYOUT = 'L',  /* engines and servers are 1 to 4, workers 1 to 16 */
     YUGLEMIT_NO_MEMORY = 'M',  /* an allocation failed */
-    YUGLEMIT_NO_OPTIONS = 'O', /* the options have another size than this library's */
+    YUGLEMIT_NO_OPTIONS = 'O', /* the options or the caps have another size than this library's */
     YUGLEMIT_NO_PROGRAM = 'P', /* the handle is empty or holds something else */
     YUGLEMIT_NO_REPORT = 'R',  /* the handle is empty or holds something else */
     YUGLEMIT_NO_ROOM = 'S',    /* the buffer is shorter than the text */
@@ -114,6 +114,24 @@ uint8_t yuglemit_program_procedures(yuglemit_program *program, size_t *count);
 
 /* Writes the most instructions that one task of a procedure executes. */
 uint8_t yuglemit_program_budget(yuglemit_program *program, size_t procedure, uint64_t *budget);
+
+/* The most that runs do, whatever the inputs, the layout and the order of events. A bound is a number up to 1,000,000,000,000; or YUGLEMIT_OVER
+ * if it is larger; or YUGLEMIT_NO_BOUND if a procedure starts itself, directly or through others. */
+typedef struct yuglemit_bounds {
+    uint64_t tasks;        /* tasks that are taken, main's included */
+    uint64_t instructions; /* instructions that are executed */
+    uint64_t data;         /* data made by NEW */
+    uint64_t members;      /* members that the store holds at any time, beyond those of the inputs */
+    uint64_t rules;        /* rules made by RULE */
+    uint64_t bytes;        /* bytes of the texts that the store holds at any time, beyond those of the inputs */
+    uint64_t events;
+} yuglemit_bounds;
+
+#define YUGLEMIT_OVER (UINT64_MAX - 1)
+#define YUGLEMIT_NO_BOUND UINT64_MAX
+
+/* Writes the bounds of the runs with at most `limit` events, or of all runs if `limit` is 0. Returns 4 (O04) if it is over 1,000,000. */
+uint8_t yuglemit_program_bounds(yuglemit_program *program, size_t limit, yuglemit_bounds *bounds);
 
 typedef struct yuglemit_procedure {
     size_t parameters; /* their number */
@@ -179,6 +197,23 @@ typedef struct yuglemit_options {
  * memory. */
 uint8_t yuglemit_run(yuglemit_program *program, yuglemit_inputs *inputs, const yuglemit_options *options, yuglemit_stop *stop,
                      yuglemit_report *report);
+
+/* The most that a run may do: the options --most-tasks and so on of `tw run`. UINT64_MAX is no cap. */
+typedef struct yuglemit_caps {
+    size_t size;           /* sizeof(yuglemit_caps): a library that knows another one refuses the run */
+    uint64_t tasks;        /* tasks that are taken */
+    uint64_t instructions; /* instructions that are executed */
+    uint64_t data;         /* data made by NEW */
+    uint64_t bytes;        /* bytes of the texts that the store holds at any time, beyond those of the inputs */
+    uint64_t budget;       /* instructions of one task */
+} yuglemit_caps;
+
+#define YUGLEMIT_CAPS {sizeof(yuglemit_caps), UINT64_MAX, UINT64_MAX, UINT64_MAX, UINT64_MAX, UINT64_MAX}
+
+/* Like yuglemit_run, but returns 7 (O07), and runs nothing, if a bound of the program's runs with options->limit events, or its greatest budget,
+ * is above its cap. */
+uint8_t yuglemit_run_within(yuglemit_program *program, yuglemit_inputs *inputs, const yuglemit_options *options, const yuglemit_caps *caps,
+                            yuglemit_stop *stop, yuglemit_report *report);
 
 typedef struct yuglemit_ending {
     size_t events, outputs;

@@ -74,7 +74,9 @@ static void free_all(handles *all) {
 static uint8_t run(handles *all) {
     yuglemit_options options = YUGLEMIT_OPTIONS;
     options.limit = LIMIT;
-    return yuglemit_run(&all->program, &all->inputs, &options, &all->stop, &all->report);
+    yuglemit_caps caps = YUGLEMIT_CAPS;
+    caps.tasks = UINT64_MAX - 1;
+    return yuglemit_run_within(&all->program, &all->inputs, &options, &caps, &all->stop, &all->report);
 }
 
 static uint8_t load(handles *all, const uint8_t *source, size_t length, uint8_t format) {
@@ -92,11 +94,12 @@ static int make_all(handles *all) {
     static const uint8_t digits[] = "41", source[] = "names\nproc control main(w: write int)\nregs n: int\nINT n 7\nSTORE w n\nRET\n";
     handles other = {{NULL}, {NULL}, {NULL}, {NULL}, {NULL}, {NULL}, {NULL}};
     yuglemit_ending ending = {0, 0, 0};
+    yuglemit_bounds bounds;
     int holds = is_memory(load(all, program_bytes, program_length, YUGLEMIT_ANY_FORMAT)) && is_memory(load(&other, source, sizeof source - 1, YUGLEMIT_TEXT));
     holds = holds && is_memory(yuglemit_source_name(source, sizeof source - 1, 0, &all->text)) && is_memory(yuglemit_stop_new(&all->stop));
     holds = holds && is_memory(yuglemit_container_new(&all->container, 't', 't'));
     if (all->container.at) holds = holds && is_memory(yuglemit_member_text_by_text(&all->container, digits, 2, digits, 2)) && is_memory(yuglemit_input_container(&other.inputs, &all->container));
-    if (all->program.at) holds = holds && is_memory(yuglemit_program_share(&all->program, &all->other));
+    if (all->program.at) holds = holds && is_memory(yuglemit_program_share(&all->program, &all->other)) && is_memory(yuglemit_program_bounds(&all->program, 0, &bounds));
     if (all->program.at && is_memory(yuglemit_input_text(&all->inputs, digits, 2)) && all->inputs.at) {
         uint8_t code = run(all);
         holds = holds && (is_memory(code) || code == 1) && (code == 0) == (all->report.at != NULL);

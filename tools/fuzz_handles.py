@@ -9,7 +9,7 @@ from dataclasses import dataclass
 from typing import Any, Iterator
 
 import fuzz_make
-from fuzz_bounds import budgets, needs
+from fuzz_bounds import COUNTED, bound, budgets, has_circle, limited_lines, needs, reported
 from fuzz_code import CONT, INT, TCONT, TEXT, Type, encode
 from fuzz_common import Corpus, FuzzTest, RunTest
 from fuzz_library import Library
@@ -17,6 +17,7 @@ from fuzz_machine import Datum, Machine, Scalar, Value, run_in_turn
 from fuzz_report import status_of
 
 ROOM = 64
+OVER, NO_BOUND = (1 << 64) - 2, (1 << 64) - 1
 
 
 class Item(ctypes.Structure):
@@ -33,6 +34,14 @@ class Ending(ctypes.Structure):
 
 class Options(ctypes.Structure):
     _fields_ = [("size", ctypes.c_size_t), ("limit", ctypes.c_size_t), *((name, ctypes.c_uint8) for name in ("engines", "servers", "workers"))]
+
+
+class Caps(ctypes.Structure):
+    _fields_ = [("size", ctypes.c_size_t), *((name, ctypes.c_uint64) for name in ("tasks", "instructions", "data", "bytes", "budget"))]
+
+
+class Bounds(ctypes.Structure):
+    _fields_ = [(name, ctypes.c_uint64) for name in COUNTED]
 
 
 class Verdict(ctypes.Structure):
@@ -64,7 +73,7 @@ def handles(library: Library) -> Any:
         "member_text_by_text": [pointer, ctypes.c_char_p, size, ctypes.c_char_p, size], "container_free": [pointer],
         "stop_new": [pointer], "stop_share": [pointer, pointer], "stop_raise": [pointer], "stop_lower": [pointer], "stop_free": [pointer],
         "program_budget": [pointer, size, pointer], "input_int": [pointer, ctypes.c_int64], "input_text": [pointer, ctypes.c_char_p, size],
-        "run": [pointer] * 5, "report_ending": [pointer, pointer], "report_output": [pointer, size, pointer],
+        "run": [pointer] * 5, "run_within": [pointer] * 6, "program_bounds": [pointer, size, pointer], "report_ending": [pointer, pointer], "report_output": [pointer, size, pointer],
         "report_member": [pointer, size, size, pointer], "report_text": [pointer, size, pointer, size], "report_member_text": [pointer, size, size, pointer, size],
         "report_subscript_text": [pointer, size, size, pointer, size], "program_free": [pointer], "inputs_free": [pointer], "report_free": [pointer],
     }.items():
@@ -130,9 +139,14 @@ class Report:
         return answer, room.raw[16:size + 16]
 
 
+def number_of(printed: str) -> int:
+    """Returns a bound as the library writes it."""
+    return OVER if printed == "over" else int(printed)
+
+
 @dataclass(frozen=True)
 class HandlesTest(RunTest):
-    """A program is loaded, shared and run: twice to its end, and once with a raised stop flag."""
+    """A program is loaded, shared and run: twice to its end with caps at its bounds, once with a cap below, and once with a raised stop flag."""
 
     def fault(self, library: Library) -> str | None:
         native = handles(library)
@@ -159,6 +173,7 @@ class HandlesTest(RunTest):
             expect("share", 0, native.yuglemit_program_share(ctypes.byref(program), ctypes.byref(shared)))
             self.append(native, inputs)
             self.compare_run(native, program, inputs, report)
+            self.compare_above(native, program, inputs)
             self.compare_stopped(native, program, inputs)
             self.compare_hex(native, data, program)
             native.yuglemit_program_free(program)
@@ -173,6 +188,35 @@ class HandlesTest(RunTest):
         for number, most in enumerate([*budgets(self.program), None] if is_accepted else []):
             answer = native.yuglemit_program_budget(ctypes.byref(program), number, ctypes.byref(budget))
             expect("budget", (0, most) if most is not None else ord("X"), (answer, budget.value) if most is not None else answer)
+
+        for limit in (0, 1, 600, 1_000_001):
+            self.compare_bounds(native, program, limit, is_accepted)
+
+    def compare_bounds(self, native: Any, program: Any, limit: int, is_accepted: bool) -> None:
+        found = Bounds(*[77] * len(COUNTED))
+        answer = native.yuglemit_program_bounds(ctypes.byref(program), limit, ctypes.byref(found))
+        unchanged = [77] * len(COUNTED)
+        expected = (ord("P"), unchanged) if not is_accepted else (4, unchanged) if limit > 1_000_000 else (0, self.least(limit))
+        expect(f"bounds by {limit}", expected, (answer, [getattr(found, name) for name in COUNTED]))
+
+    def least(self, limit: int) -> list[int]:
+        """Returns the bounds of runs with so many events at most, or of all runs if it is 0."""
+        whole = [NO_BOUND if has_circle(self.program) else number_of(reported(bound(self.program, weights))) for weights in COUNTED.values()]
+        limited = [number_of(line.split()[2]) for line in limited_lines(self.program, limit)] if limit else whole
+        return [min(pair) for pair in zip(whole, limited)]
+
+    def caps(self) -> Caps:
+        """Returns the least caps that admit the program."""
+        found = {name: NO_BOUND if number == OVER else number for name, number in zip(COUNTED, self.least(self.limit))}
+        return Caps(ctypes.sizeof(Caps), found["tasks"], found["instructions"], found["data"], found["bytes"], max(budgets(self.program)))
+
+    def compare_above(self, native: Any, program: Any, inputs: Any) -> None:
+        """Makes no run, since the bound of the budgets is above its cap; or it is none for another reason."""
+        options, caps, no_stop, report = Options(ctypes.sizeof(Options), self.limit, *self.layout), self.caps(), ctypes.c_void_p(), ctypes.c_void_p()
+        caps.budget -= 1
+        answer = native.yuglemit_run_within(*map(ctypes.byref, (program, inputs, options, caps, no_stop, report)))
+        is_layout, is_limit = self.expected() != ord("L"), 1 <= self.limit <= 1_000_000
+        expect("a budget above its cap", (7 if is_layout and is_limit else self.expected(), None), (answer, report.value))
 
     def append(self, native: Any, inputs: Any) -> None:
         for index, value in enumerate(self.inputs):
@@ -221,8 +265,8 @@ class HandlesTest(RunTest):
         return 0 if 1 <= self.limit <= 1_000_000 else 4
 
     def compare_run(self, native: Any, program: Any, inputs: Any, report: Any) -> None:
-        options, no_stop = Options(ctypes.sizeof(Options), self.limit, *self.layout), ctypes.c_void_p()
-        answer = native.yuglemit_run(*map(ctypes.byref, (program, inputs, options, no_stop, report)))
+        options, caps, no_stop = Options(ctypes.sizeof(Options), self.limit, *self.layout), self.caps(), ctypes.c_void_p()
+        answer = native.yuglemit_run_within(*map(ctypes.byref, (program, inputs, options, caps, no_stop, report)))
         expect("run", self.expected(), answer)
         ending = Ending()
         if answer:

@@ -32,6 +32,13 @@ static uint8_t run(yuglemit_program *program, yuglemit_inputs *inputs, size_t li
     return run_by(program, inputs, options, report);
 }
 
+static uint8_t run_within(yuglemit_program *program, yuglemit_inputs *inputs, size_t limit, yuglemit_caps caps, yuglemit_report *report) {
+    yuglemit_options options = YUGLEMIT_OPTIONS;
+    yuglemit_stop no_stop = {NULL};
+    options.limit = limit;
+    return yuglemit_run_within(program, inputs, &options, &caps, &no_stop, report);
+}
+
 static void check_load(yuglemit_program *program) {
     yuglemit_verdict verdict;
     uint8_t none = 0;
@@ -179,6 +186,41 @@ static void check_run(yuglemit_program *program) {
     yuglemit_ending ending;
     check(yuglemit_report_ending(&report, &ending) == 0 && ending.status == 4 && ending.events == 1, "the limit");
     check(run(program, &inputs, LIMIT, &report) == 0, "a run over a full report");
+    yuglemit_inputs_free(inputs);
+    yuglemit_report_free(report);
+}
+
+/* The bounds of a program, and caps at them and below them. */
+static void check_caps(yuglemit_program *program) {
+    yuglemit_program empty = {NULL};
+    yuglemit_inputs inputs = {NULL}, nothing = {NULL};
+    yuglemit_report report = {NULL};
+    yuglemit_bounds bounds, one = {9, 9, 9, 9, 9, 9, 9};
+    uint64_t budget = 0, most = 0;
+    check(yuglemit_program_bounds(&empty, 0, &one) == YUGLEMIT_NO_PROGRAM && one.tasks == 9, "bounds of no program");
+    check(yuglemit_program_bounds(program, 1000001, &one) == 4 && one.tasks == 9, "O04: bounds of too many events");
+    check(yuglemit_program_bounds(program, 0, &bounds) == 0 && bounds.tasks == 1 && bounds.data == 0 && bounds.rules == 0, "bounds of one task");
+    check(bounds.members == 0 && bounds.bytes == 0, "it makes no member, and no datum of texts");
+    check(bounds.instructions > 1 && bounds.instructions < YUGLEMIT_OVER && bounds.events > 1, "its bounds are numbers");
+    check(yuglemit_program_bounds(program, 1, &one) == 0 && one.tasks == 1 && one.data == 0 && one.events == 1, "bounds of one event");
+    check(one.members == 0 && one.bytes == 0, "neither does one event");
+    check(yuglemit_program_budget(program, 0, &budget) == 0 && budget == bounds.instructions, "one task executes at most its budget");
+    check(yuglemit_input_text(&inputs, (const uint8_t *)"41", 2) == 0, "a text");
+    yuglemit_caps caps = {sizeof(yuglemit_caps), bounds.tasks, bounds.instructions, bounds.data, bounds.bytes, budget};
+    uint64_t *each[] = {&caps.tasks, &caps.instructions, &caps.budget};
+    for (size_t k = 0; k < sizeof each / sizeof *each; k++) {
+        most = (*each[k])--;
+        check(run_within(program, &inputs, LIMIT, caps, &report) == 7 && !report.at, "O07: a bound above its cap");
+        check(run_within(program, &nothing, LIMIT, caps, &report) == 7, "O07 comes before O01");
+        check(run_within(program, &inputs, 0, caps, &report) == 4, "O04: no event");
+        *each[k] = most;
+    }
+    caps.size--;
+    check(run_within(program, &inputs, LIMIT, caps, &report) == YUGLEMIT_NO_OPTIONS && !report.at, "caps of another size");
+    caps.size++;
+    check(run_within(program, &inputs, LIMIT, caps, &report) == 0 && report.at, "caps at the bounds");
+    yuglemit_caps none = YUGLEMIT_CAPS;
+    check(run_within(program, &inputs, LIMIT, none, &report) == 0, "no caps");
     yuglemit_inputs_free(inputs);
     yuglemit_report_free(report);
 }
@@ -338,6 +380,7 @@ static void *check_all(void *unused) {
     check_questions(&program);
     check_kinds(&program);
     check_run(&program);
+    check_caps(&program);
     check_report(&program);
     check_stop(&program);
     check_stopped_thread(&program);

@@ -42,6 +42,10 @@ std::string copied(const std::string &by, const std::string &of) {
     return std::string(is_named ? "version 2\n" : "") + "proc control closed " + type + " write int\nregs int\nSIZE v0 d0\nDROPR d0\nSTORE d1 v0\nRET\n";
 }
 
+// A program that inserts a text by a text: the member is a text, and its subscript another.
+const char *const MEMBER = "version 2\nproc control\nregs text\nNEW d0 d1 tcont text\nDROPR d1\nNEW d2 d3 text\nSTORE d2 v0\nTINS d0 v0 d3 there\nJMP done\n"
+                           "there:\nDROPR d3\ndone:\nDROPW d0\nRET\n";
+
 const char *const ENDLESS = "proc control\nregs int int\nINT v1 1\nREPEAT 5\nREPEAT 1000\nADD v0 v0 v1 no\nno:\nEND\nEND\nPUT 0 0 any\nRET\n";
 
 std::string examples;  // the folder
@@ -125,6 +129,50 @@ void test_printed() {
     CHECK(procedure_name(read("pipeline.twn"), 0) == "main" && procedure_name(read("pipeline.tw"), 0).empty());
 }
 
+// pipeline.twn has 4 tasks, 24 instructions, 2 data, 3 rules and 37 events, budgets of 6, and neither members nor texts (docs/FORMAT.md). With a limit
+// of three events no kind has more than three, and there are at most 18 instructions. MEMBER has a member and 8,192 bytes; an event counts as a text.
+void test_bounds() {
+    auto program = Program::load(read("pipeline.twn"));
+    const auto all = program.bounds(), few = program.bounds(3);
+    CHECK(all.tasks == 4 && all.instructions == 24 && all.data == 2 && all.members == 0 && all.rules == 3 && all.bytes == 0 && all.events == 37);
+    CHECK(few.tasks == 3 && few.instructions == 18 && few.data == 2 && few.members == 0 && few.rules == 3 && few.bytes == 0 && few.events == 3);
+    auto member = Program::load(MEMBER);
+    CHECK(member.bounds().members == 1 && member.bounds().bytes == 8192 && member.bounds(1).members == 1 && member.bounds(1).bytes == 4096);
+    CHECK_THROWS(Error, program.bounds(1000001));
+    auto endless = Program::load(ENDLESS);
+    CHECK(endless.bounds().tasks == YUGLEMIT_NO_BOUND && endless.bounds().bytes == YUGLEMIT_NO_BOUND);
+    CHECK(endless.bounds(5).tasks == 5 && endless.bounds(5).members == 0 && endless.bounds(5).bytes == 0);
+}
+
+bool is_above(const Options &options) {
+    try {
+        Program::load(read("pipeline.twn")).run({std::int64_t{39}}, options);
+        return false;
+    } catch (const Error &error) {
+        return error.code() == "O07" && error.what() == std::string("refused O07");
+    }
+}
+
+void test_caps() {
+    Options options;
+    options.caps = {4, 24, 2, 0, 6};
+    CHECK(!is_above(options));
+    for (auto cap : {&Caps::tasks, &Caps::instructions, &Caps::data, &Caps::budget}) {
+        Options smaller = options;
+        --*(smaller.caps.*cap);
+        CHECK(is_above(smaller));
+        smaller.caps.*cap = std::nullopt;
+        CHECK(!is_above(smaller));
+    }
+    options.caps.tasks = 3, options.limit = 3;
+    CHECK(!is_above(options));
+    Options texts;
+    texts.caps.bytes = 8192;
+    CHECK(Program::load(MEMBER).run({}, texts).end() == End::quiet);
+    texts.caps.bytes = 8191;
+    CHECK_THROWS(Error, Program::load(MEMBER).run({}, texts));
+}
+
 void test_errors() {
     try {
         Program::load("proc control write int\nregs int\nINT v0 7\nRET\n");
@@ -176,6 +224,8 @@ int main(int count, char **word) {
     test_open_outputs();
     test_programs();
     test_printed();
+    test_bounds();
+    test_caps();
     test_errors();
     test_stops();
     std::cout << "C++: " << passed << " passed, " << failed << " failed\n";

@@ -90,7 +90,7 @@ using TextHandle = Handle<yuglemit_text, yuglemit_text_free>;
 inline void done(std::uint8_t code) {
     if (code == YUGLEMIT_DONE) return;
     if (code == YUGLEMIT_NO_MEMORY || code == 5) throw std::bad_alloc();
-    if (code < 5) throw Error(code);
+    if (code < 32) throw Error(code);
     if (code == YUGLEMIT_NO_LAYOUT) throw std::invalid_argument("yuglemit: engines and servers are 1 to 4, workers 1 to 16");
     if (code == YUGLEMIT_NO_UTF8) throw std::invalid_argument("yuglemit: a text isn't UTF-8");
     if (code == YUGLEMIT_NO_INDEX) throw std::out_of_range("yuglemit: there is none of this index");
@@ -264,9 +264,15 @@ private:
     yuglemit_ending ending_{};
 };
 
+// The most that a run may do; std::nullopt is no cap.
+struct Caps {
+    std::optional<std::uint64_t> tasks, instructions, data, bytes, budget;  // as in yuglemit_caps
+};
+
 struct Options {
     std::size_t limit = 10000;  // the most events, 1 to 1,000,000
     std::uint8_t engines = 1, servers = 1, workers = 1;
+    Caps caps;  // a program with a bound above one isn't run: an Error O07
 };
 
 // A program that is verified.
@@ -325,6 +331,13 @@ public:
         return most;
     }
 
+    // The bounds of runs with at most so many events, or of all runs if the limit is 0.
+    yuglemit_bounds bounds(std::size_t limit = 0) {
+        yuglemit_bounds found{};
+        detail::done(yuglemit_program_bounds(handle_.get(), limit, &found));
+        return found;
+    }
+
     // Runs the program in this thread, its actors in turn.
     Report run(const std::vector<Value> &values = {}, const Options &options = {}) {
         detail::StopHandle none;
@@ -341,8 +354,11 @@ private:
         detail::InputsHandle inputs;
         for (const auto &value : values) std::visit(detail::Append{inputs}, value);
         const yuglemit_options raw = {sizeof(yuglemit_options), options.limit, options.engines, options.servers, options.workers};
+        const auto cap = [](const std::optional<std::uint64_t> &most) { return most.value_or(UINT64_MAX); };
+        const auto &[tasks, instructions, data, bytes, budget] = options.caps;
+        const yuglemit_caps caps = {sizeof(yuglemit_caps), cap(tasks), cap(instructions), cap(data), cap(bytes), cap(budget)};
         detail::ReportHandle report;
-        detail::done(yuglemit_run(handle_.get(), inputs.get(), &raw, stop.get(), report.get()));
+        detail::done(yuglemit_run_within(handle_.get(), inputs.get(), &raw, &caps, stop.get(), report.get()));
         return Report(std::move(report));
     }
 

@@ -2,9 +2,10 @@
 
 ghost use Rattle.std.specs.Prelude.{◌≡◌};
 ghost use Rattle.tw_handles.specs.Asking.{IsBudgetOf, IsCountOf, IsShared};
+ghost use Rattle.tw_handles.specs.Caps.{AreBounds};
 ghost use Rattle.tw_handles.specs.Containers.{IsBegun, IsContainerAdded, IsMemberAdded, WithText, container_in, empty_by};
 ghost use Rattle.tw_handles.specs.Loading.{IsLoaded, IsSourceLoaded};
-ghost use Rattle.tw_handles.specs.Running.{IsAdded, IsRun};
+ghost use Rattle.tw_handles.specs.Running.{IsAdded, IsRun, IsRunWithin};
 ghost use Rattle.tw_handles.specs.Shape.{AreNeeds, IsNameRead, IsParameter, IsSection};
 ghost use Rattle.tw_handles.specs.Stops.{IsRaised, IsStopMade, IsStopShared};
 ghost use Rattle.tw_handles.specs.declared.container.NewMember.TheVariants as member;
@@ -13,7 +14,9 @@ ghost use Rattle.tw_verdict.specs.Verdict.{IsVerdict};
 ghost use Rattle.tw_types.specs.declared.input.Input.TheVariants as input;
 
 use std::alloc::Global;
-use tw_handles::{Handle, Needs, Options, Parameter, Section, SourceVerdict, Verdict};
+use tw_handles::{
+    Handle, Needs, Options, Parameter, RunBounds, RunCaps, Section, SourceVerdict, Verdict,
+};
 
 /// Exports `tw_handles::load`.
 #[unsafe(no_mangle)]
@@ -81,6 +84,20 @@ pub extern "C" fn yuglemit_program_budget(
     ensures is { IsBudgetOf program.old.held procedure budget.old budget.new result }
 {
     tw_handles::budget(alloc, program, procedure, budget)
+}
+
+/// Exports `tw_handles::program_bounds`.
+#[unsafe(no_mangle)]
+pub extern "C" fn yuglemit_program_bounds(
+    alloc: Global,
+    program: &mut Handle,
+    limit: usize,
+    bounds: &mut RunBounds,
+) -> u8
+    ensures kept { program.new.held ≡ program.old.held }
+    ensures are { AreBounds program.old.held limit bounds.old bounds.new result }
+{
+    tw_handles::program_bounds(alloc, program, limit, bounds)
 }
 
 /// Exports `tw_handles::describe_procedure`.
@@ -282,6 +299,25 @@ pub extern "C" fn yuglemit_run(
     ensures is { IsRun program.old.held inputs.old.held options.now stop.old.held report.old.held report.new.held result }
 {
     tw_handles::run(alloc, program, inputs, options, stop, report)
+}
+
+/// Exports `tw_handles::run_within`.
+#[unsafe(no_mangle)]
+pub extern "C" fn yuglemit_run_within(
+    alloc: Global,
+    program: &mut Handle,
+    inputs: &mut Handle,
+    options: &Options,
+    caps: &RunCaps,
+    stop: &mut Handle,
+    report: &mut Handle,
+) -> u8
+    ensures program { program.new.held ≡ program.old.held }
+    ensures inputs { inputs.new.held ≡ inputs.old.held }
+    ensures stop { stop.new.held ≡ stop.old.held }
+    ensures is { IsRunWithin program.old.held inputs.old.held options.now caps.now stop.old.held report.old.held report.new.held result }
+{
+    tw_handles::run_within(alloc, program, inputs, options, caps, stop, report)
 }
 
 /// Frees the contents of a program's handle.

@@ -18,11 +18,11 @@ pub use handles::{
     yuglemit_container_free, yuglemit_container_new, yuglemit_input_container, yuglemit_input_int,
     yuglemit_input_text, yuglemit_inputs_free, yuglemit_load, yuglemit_load_source,
     yuglemit_member_int, yuglemit_member_int_by_text, yuglemit_member_text,
-    yuglemit_member_text_by_text, yuglemit_program_budget, yuglemit_program_free,
-    yuglemit_program_needs, yuglemit_program_parameter, yuglemit_program_procedure,
-    yuglemit_program_procedures, yuglemit_program_share, yuglemit_run, yuglemit_source_name,
-    yuglemit_stop_free, yuglemit_stop_lower, yuglemit_stop_new, yuglemit_stop_raise,
-    yuglemit_stop_share,
+    yuglemit_member_text_by_text, yuglemit_program_bounds, yuglemit_program_budget,
+    yuglemit_program_free, yuglemit_program_needs, yuglemit_program_parameter,
+    yuglemit_program_procedure, yuglemit_program_procedures, yuglemit_program_share, yuglemit_run,
+    yuglemit_run_within, yuglemit_source_name, yuglemit_stop_free, yuglemit_stop_lower,
+    yuglemit_stop_new, yuglemit_stop_raise, yuglemit_stop_share,
 };
 pub use reports::{
     yuglemit_print_json, yuglemit_print_report, yuglemit_print_trace, yuglemit_report_ending,
@@ -34,12 +34,12 @@ use std::alloc::Global;
 pub use tw_verdict::Verdict;
 
 /// The version: major, minor and patch, three digits each.
-const VERSION: u32 = 14_000;
+const VERSION: u32 = 15_000;
 
 /// Returns the version of the library, as `YUGLEMIT_VERSION_NUMBER` of the header it is made for.
 #[unsafe(no_mangle)]
 pub extern "C" fn yuglemit_version() -> u32
-    ensures { result ≡ 14000 }
+    ensures { result ≡ 15000 }
 {
     VERSION
 }

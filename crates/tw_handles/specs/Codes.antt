@@ -4,6 +4,18 @@ use Rattle.std.specs.Prelude.{ℕ}
 abbrev pub done : ℕ
 done = 0
 
+-- O04
+abbrev pub no_limit : ℕ
+no_limit = 4
+
+-- O05
+abbrev pub no_run_memory : ℕ
+no_run_memory = 5
+
+-- O07
+abbrev pub above_cap : ℕ
+above_cap = 7
+
 -- C
 abbrev pub no_container : ℕ
 no_container = 67

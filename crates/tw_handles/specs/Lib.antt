@@ -1,5 +1,7 @@
 -- Calls on a loaded program.
 pub mod Asking
+-- Caps on runs, and bounds.
+pub mod Caps
 -- The codes that calls return.
 pub mod Codes
 -- Containers that are to be inputs.

@@ -8,10 +8,14 @@ use Rattle.tw_types.specs.Layout.{ActorCounts, IsLayout}
 use Rattle.tw_types.specs.declared.input.Input.{Input}
 use Rattle.tw_verify.specs.Typed.{TypedProgram}
 use Rattle.tw_handles.specs.Asking.{Fails}
-use Rattle.tw_handles.specs.Codes.{done, no_inputs, no_layout, no_memory, no_options, no_program, no_stop}
+use Rattle.tw_handles.specs.Caps.{AreExcess, caps_of}
+use Rattle.tw_handles.specs.Codes.{above_cap, done, no_inputs, no_layout, no_memory, no_options, no_program, no_run_memory, no_stop}
 use Rattle.tw_handles.specs.Loading.{inputs_in, program_in, report_in, stop_in}
+use Rattle.tw_cli.specs.declared.caps.Caps.{Caps}
+use Rattle.tw_handles.specs.declared.caps.RunCaps.{RunCaps}
 use Rattle.tw_handles.specs.declared.held.Held.{Held}
 use Rattle.tw_handles.specs.declared.running.Options.{Options}
+use Rattle.tw_handles.specs.declared.running.RunOrder.{RunOrder}
 
 -- holds if the inputs have one more, or are unchanged because an allocation failed
 abbrev pub IsAppended : Input → List Input → Option Held → ℕ → Type 0
@@ -27,30 +31,48 @@ IsRunOn has_flag verified inputs counts limit old new code =
     ((left : StoppableResult) × (report_in new ≡ Some left) × MayOpen verified.program inputs counts limit × IsLeftOrStopped (opened verified inputs counts limit) left × (IsStopped left → has_flag ≡ true) × (code ≡ done))
     ⊎ ((why : OpenError) × IsRejection verified.program inputs counts limit why × Fails (open_error_code why) old new code)
 
+-- holds if this is the result of a run, of a program that stays within the caps; or a bound is above its cap; or an allocation failed
+abbrev pub IsRunCapped : Bool → TypedProgram → List Input → ActorCounts → ℕ → Caps → Option Held → Option Held → ℕ → Type 0
+IsRunCapped has_flag verified inputs counts limit caps old new code =
+    ((lines : List ℕ) × AreExcess verified limit caps lines × (((lines ≡ []) × IsRunOn has_flag verified inputs counts limit old new code) ⊎ ((lines ≢ []) × Fails above_cap old new code)))
+    ⊎ Fails no_run_memory old new code
+
+-- holds if this is the result of a run, with caps if there are any
+abbrev pub IsRunAdmitted : Option Caps → Bool → TypedProgram → List Input → ActorCounts → ℕ → Option Held → Option Held → ℕ → Type 0
+IsRunAdmitted None has_flag verified inputs counts limit old new code = IsRunOn has_flag verified inputs counts limit old new code
+IsRunAdmitted (Some caps) has_flag verified inputs counts limit old new code = IsRunCapped has_flag verified inputs counts limit caps old new code
+
 abbrev pub counts_of : Options → ActorCounts
 counts_of options = record { engines = options.engines; servers = options.servers; workers = options.workers }
 
 -- holds if this is the result of a run, or there is no layout with these numbers
-abbrev pub IsRunIn : Bool → TypedProgram → List Input → Options → Option Held → Option Held → ℕ → Type 0
-IsRunIn has_flag verified inputs options old new code =
-    (IsLayout (counts_of options) × IsRunOn has_flag verified inputs (counts_of options) options.limit old new code) ⊎ ((IsLayout (counts_of options) → ⊥) × Fails no_layout old new code)
+abbrev pub IsRunIn : Bool → TypedProgram → List Input → RunOrder → Option Held → Option Held → ℕ → Type 0
+IsRunIn has_flag verified inputs order old new code =
+    (IsLayout (counts_of order.options) × IsRunAdmitted order.caps has_flag verified inputs (counts_of order.options) order.options.limit old new code)
+    ⊎ ((IsLayout (counts_of order.options) → ⊥) × Fails no_layout old new code)
 
 -- holds if this is the result of a run with the inputs of a handle
-abbrev pub IsRunWith : Bool → TypedProgram → Option Held → Options → Option Held → Option Held → ℕ → Type 0
-IsRunWith has_flag verified given options old new code =
-    MatchOption (inputs_in given) (Fails no_inputs old new code) (λ inputs. IsRunIn has_flag verified inputs options old new code)
+abbrev pub IsRunWith : Bool → TypedProgram → Option Held → RunOrder → Option Held → Option Held → ℕ → Type 0
+IsRunWith has_flag verified given order old new code =
+    MatchOption (inputs_in given) (Fails no_inputs old new code) (λ inputs. IsRunIn has_flag verified inputs order old new code)
 
 -- holds if this is the result of running the program of one handle with the inputs of another
-abbrev pub IsRunBy : Bool → Option Held → Option Held → Options → Option Held → Option Held → ℕ → Type 0
-IsRunBy has_flag program given options old new code =
-    MatchOption (program_in program) (Fails no_program old new code) (λ verified. IsRunWith has_flag verified given options old new code)
+abbrev pub IsRunBy : Bool → Option Held → Option Held → RunOrder → Option Held → Option Held → ℕ → Type 0
+IsRunBy has_flag program given order old new code =
+    MatchOption (program_in program) (Fails no_program old new code) (λ verified. IsRunWith has_flag verified given order old new code)
 
 -- holds if this is the result of such a run with the flag of a handle, if that holds one
-abbrev pub IsRunUntil : Option Held → Option Held → Options → Option Held → Option Held → Option Held → ℕ → Type 0
-IsRunUntil program given options stop old new code =
-    MatchOption (stop_in stop) (Fails no_stop old new code) (λ flag. IsRunBy flag program given options old new code)
+abbrev pub IsRunUntil : Option Held → Option Held → RunOrder → Option Held → Option Held → Option Held → ℕ → Type 0
+IsRunUntil program given order stop old new code =
+    MatchOption (stop_in stop) (Fails no_stop old new code) (λ flag. IsRunBy flag program given order old new code)
 
 -- holds if this is the result of such a run, or the options have another size
 abbrev pub IsRun : Option Held → Option Held → Options → Option Held → Option Held → Option Held → ℕ → Type 0
 IsRun program given options stop old new code =
-    ((options.size ≡ 24) × IsRunUntil program given options stop old new code) ⊎ ((options.size ≢ 24) × Fails no_options old new code)
+    ((options.size ≡ 24) × IsRunUntil program given (record { options = options; caps = None }) stop old new code) ⊎ ((options.size ≢ 24) × Fails no_options old new code)
+
+-- holds if this is the result of such a run with these caps, or the options or the caps have another size
+abbrev pub IsRunWithin : Option Held → Option Held → Options → RunCaps → Option Held → Option Held → Option Held → ℕ → Type 0
+IsRunWithin program given options caps stop old new code =
+    ((options.size ≡ 24) × (caps.size ≡ 48) × IsRunUntil program given (record { options = options; caps = Some (caps_of caps) }) stop old new code)
+    ⊎ ((options.size ≢ 24) × Fails no_options old new code) ⊎ ((caps.size ≢ 48) × Fails no_options old new code)

@@ -2,6 +2,12 @@
 
 /// The call succeeded.
 pub(crate) const DONE: u8 = 0;
+/// O04: the limit is out of its range.
+pub(crate) const NO_LIMIT: u8 = 4;
+/// O05: an allocation failed while a run was opened.
+pub(crate) const NO_RUN_MEMORY: u8 = 5;
+/// O07: a bound of the program is above its cap.
+pub(crate) const ABOVE_CAP: u8 = 7;
 /// The handle holds no container, or one of other types.
 pub(crate) const NO_CONTAINER: u8 = b'C';
 /// The run has no end: it was stopped, or memory ran out.

@@ -1,6 +1,8 @@
 //! Handles for other languages: a program is loaded once, and run many times. `tw_embed` exports the calls.
 #![tactic(auto)]
 
+mod bounds;
+mod caps;
 mod codes;
 mod container;
 mod containers;
@@ -19,6 +21,8 @@ mod shape;
 mod stopping;
 mod texts;
 
+pub use bounds::{RunBounds, program_bounds};
+pub use caps::RunCaps;
 pub use containers::{
     container_new, input_container, put_int, put_int_by_text, put_text, put_text_by_text,
 };
@@ -30,7 +34,7 @@ pub use members::{Member, member_text, output_member, subscript_text};
 pub use printing::{instructions, print_json, print_report, print_trace};
 pub use program::{budget, procedures, share};
 pub use report::{Ending, output, output_text, report_ending};
-pub use running::{Options, run};
+pub use running::{Options, run, run_within};
 pub use shape::{
     Needs, Parameter, Section, describe_parameter, describe_procedure, read_needs, source_name,
 };

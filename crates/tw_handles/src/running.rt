@@ -1,13 +1,15 @@
 //! Runs loaded programs.
 
-ghost use Rattle.std.specs.Prelude.{◌≡◌, Some, is_some, true};
-ghost use Rattle.tw_handles.specs.Running.{IsRun, IsRunBy, IsRunIn, IsRunOn, IsRunUntil, IsRunWith};
+ghost use Rattle.std.specs.Prelude.{◌≡◌, None, Some, is_some, true};
+ghost use Rattle.tw_handles.specs.Running.{IsRun, IsRunAdmitted, IsRunBy, IsRunCapped, IsRunIn, IsRunOn, IsRunUntil, IsRunWith, IsRunWithin};
 
+use crate::caps::{RunCaps, excess_lines};
 use crate::codes;
 use crate::handle::Handle;
 use crate::held::Held;
 use std::alloc::Global;
 use std::sync::atomic::AtomicU32;
+use tw_cli::Caps;
 use tw_in_turn::run_until;
 use tw_pool::OpenError;
 use tw_types::{Input, Layout};
@@ -27,6 +29,13 @@ pub struct Options {
     pub engines: u8,
     pub servers: u8,
     pub workers: u8,
+}
+
+/// How a program is run, with caps if there are any.
+#[derive(Clone, Copy)]
+struct RunOrder {
+    options: Options,
+    caps: Option<Caps>,
 }
 
 /// Runs a program in this thread.
@@ -54,19 +63,62 @@ fn run_on(
     }
 }
 
+/// Runs a program, if no bound of it is above its cap.
+fn run_capped(
+    alloc: Global,
+    verified: &Verified,
+    inputs: &[Input],
+    layout: Layout,
+    limit: usize,
+    caps: Caps,
+    stop: Option<&AtomicU32>,
+    report: &mut Handle,
+) -> u8
+    ensures { IsRunCapped (is_some stop.entry) verified.now inputs.now layout limit caps report.old.held report.new.held result }
+{
+    let Ok(lines) = excess_lines(alloc, verified, limit, caps) else {
+        return codes::NO_RUN_MEMORY;
+    };
+    if lines.is_empty() {
+        run_on(alloc, verified, inputs, layout, limit, stop, report)
+    } else {
+        codes::ABOVE_CAP
+    }
+}
+
+/// Runs a program, if it has no caps or is within them.
+fn run_admitted(
+    alloc: Global,
+    verified: &Verified,
+    inputs: &[Input],
+    layout: Layout,
+    order: RunOrder,
+    stop: Option<&AtomicU32>,
+    report: &mut Handle,
+) -> u8
+    ensures { IsRunAdmitted order.caps (is_some stop.entry) verified.now inputs.now layout order.options.limit report.old.held report.new.held result }
+{
+    let limit = order.options.limit;
+    match order.caps {
+        Some(caps) => run_capped(alloc, verified, inputs, layout, limit, caps, stop, report),
+        None => run_on(alloc, verified, inputs, layout, limit, stop, report),
+    }
+}
+
 /// Runs a program, if there is a layout with these numbers of actors.
 fn run_in(
     alloc: Global,
     verified: &Verified,
     inputs: &[Input],
-    options: Options,
+    order: RunOrder,
     stop: Option<&AtomicU32>,
     report: &mut Handle,
 ) -> u8
-    ensures { IsRunIn (is_some stop.entry) verified.now inputs.now options report.old.held report.new.held result }
+    ensures { IsRunIn (is_some stop.entry) verified.now inputs.now order report.old.held report.new.held result }
 {
-    match Layout::new(options.engines, options.servers, options.workers) {
-        Ok(layout) => run_on(alloc, verified, inputs, layout, options.limit, stop, report),
+    let counts = order.options;
+    match Layout::new(counts.engines, counts.servers, counts.workers) {
+        Ok(layout) => run_admitted(alloc, verified, inputs, layout, order, stop, report),
         Err(_) => codes::NO_LAYOUT,
     }
 }
@@ -75,14 +127,14 @@ fn run_with_held(
     alloc: Global,
     verified: &Verified,
     inputs: &Held,
-    options: Options,
+    order: RunOrder,
     stop: Option<&AtomicU32>,
     report: &mut Handle,
 ) -> u8
-    ensures { IsRunWith (is_some stop.entry) verified.now (Some inputs.now) options report.old.held report.new.held result }
+    ensures { IsRunWith (is_some stop.entry) verified.now (Some inputs.now) order report.old.held report.new.held result }
 {
     match inputs {
-        Held::Inputs(inputs) => run_in(alloc, verified, inputs.as_slice(), options, stop, report),
+        Held::Inputs(inputs) => run_in(alloc, verified, inputs.as_slice(), order, stop, report),
         Held::Program(_) | Held::Report(_) | Held::Stop(_) | Held::Container(_) | Held::Text(_) =>
             codes::NO_INPUTS,
     }
@@ -93,18 +145,18 @@ fn run_with(
     alloc: Global,
     verified: &Verified,
     inputs: &mut Handle,
-    options: Options,
+    order: RunOrder,
     stop: Option<&AtomicU32>,
     report: &mut Handle,
 ) -> u8
     ensures kept { inputs.new.held ≡ inputs.old.held }
-    ensures is { IsRunWith (is_some stop.entry) verified.now inputs.old.held options report.old.held report.new.held result }
+    ensures is { IsRunWith (is_some stop.entry) verified.now inputs.old.held order report.old.held report.new.held result }
 {
     let Some(whole) = inputs.take(alloc) else {
         let none = Vec::new(alloc);
-        return run_in(alloc, verified, none.as_slice(), options, stop, report);
+        return run_in(alloc, verified, none.as_slice(), order, stop, report);
     };
-    let code = run_with_held(alloc, verified, &whole, options, stop, report);
+    let code = run_with_held(alloc, verified, &whole, order, stop, report);
     *inputs = Handle::of(whole);
     code
 }
@@ -113,15 +165,15 @@ fn run_held(
     alloc: Global,
     program: &Held,
     inputs: &mut Handle,
-    options: Options,
+    order: RunOrder,
     stop: Option<&AtomicU32>,
     report: &mut Handle,
 ) -> u8
     ensures kept { inputs.new.held ≡ inputs.old.held }
-    ensures is { IsRunBy (is_some stop.entry) (Some program.now) inputs.old.held options report.old.held report.new.held result }
+    ensures is { IsRunBy (is_some stop.entry) (Some program.now) inputs.old.held order report.old.held report.new.held result }
 {
     match program {
-        Held::Program(verified) => run_with(alloc, verified, inputs, options, stop, report),
+        Held::Program(verified) => run_with(alloc, verified, inputs, order, stop, report),
         Held::Inputs(_) | Held::Report(_) | Held::Stop(_) | Held::Container(_) | Held::Text(_) =>
             codes::NO_PROGRAM,
     }
@@ -132,18 +184,18 @@ fn run_program(
     alloc: Global,
     program: &mut Handle,
     inputs: &mut Handle,
-    options: Options,
+    order: RunOrder,
     stop: Option<&AtomicU32>,
     report: &mut Handle,
 ) -> u8
     ensures program { program.new.held ≡ program.old.held }
     ensures inputs { inputs.new.held ≡ inputs.old.held }
-    ensures is { IsRunBy (is_some stop.entry) program.old.held inputs.old.held options report.old.held report.new.held result }
+    ensures is { IsRunBy (is_some stop.entry) program.old.held inputs.old.held order report.old.held report.new.held result }
 {
     let Some(whole) = program.take(alloc) else {
         return codes::NO_PROGRAM;
     };
-    let code = run_held(alloc, &whole, inputs, options, stop, report);
+    let code = run_held(alloc, &whole, inputs, order, stop, report);
     *program = Handle::of(whole);
     code
 }
@@ -152,34 +204,55 @@ fn run_with_flag(
     alloc: Global,
     program: &mut Handle,
     inputs: &mut Handle,
-    options: Options,
+    order: RunOrder,
     flag: &AtomicU32,
     report: &mut Handle,
 ) -> u8
     ensures program { program.new.held ≡ program.old.held }
     ensures inputs { inputs.new.held ≡ inputs.old.held }
-    ensures is { IsRunBy true program.old.held inputs.old.held options report.old.held report.new.held result }
+    ensures is { IsRunBy true program.old.held inputs.old.held order report.old.held report.new.held result }
 {
-    run_program(alloc, program, inputs, options, Some(flag), report)
+    run_program(alloc, program, inputs, order, Some(flag), report)
 }
 
 fn run_until_held(
     alloc: Global,
     program: &mut Handle,
     inputs: &mut Handle,
-    options: Options,
+    order: RunOrder,
     stop: &Held,
     report: &mut Handle,
 ) -> u8
     ensures program { program.new.held ≡ program.old.held }
     ensures inputs { inputs.new.held ≡ inputs.old.held }
-    ensures is { IsRunUntil program.old.held inputs.old.held options (Some stop.now) report.old.held report.new.held result }
+    ensures is { IsRunUntil program.old.held inputs.old.held order (Some stop.now) report.old.held report.new.held result }
 {
     match stop {
-        Held::Stop(flag) => run_with_flag(alloc, program, inputs, options, flag, report),
+        Held::Stop(flag) => run_with_flag(alloc, program, inputs, order, flag, report),
         Held::Program(_) | Held::Inputs(_) | Held::Report(_) | Held::Container(_) | Held::Text(_) =>
             codes::NO_STOP,
     }
+}
+
+fn run_until_stopped(
+    alloc: Global,
+    program: &mut Handle,
+    inputs: &mut Handle,
+    order: RunOrder,
+    stop: &mut Handle,
+    report: &mut Handle,
+) -> u8
+    ensures program { program.new.held ≡ program.old.held }
+    ensures inputs { inputs.new.held ≡ inputs.old.held }
+    ensures stop { stop.new.held ≡ stop.old.held }
+    ensures is { IsRunUntil program.old.held inputs.old.held order stop.old.held report.old.held report.new.held result }
+{
+    let Some(whole) = stop.take(alloc) else {
+        return run_program(alloc, program, inputs, order, None, report);
+    };
+    let code = run_until_held(alloc, program, inputs, order, &whole, report);
+    *stop = Handle::of(whole);
+    code
 }
 
 /// Runs a loaded program in this thread, its actors in turn, until the run ends or the flag of `stop` is raised. A null handle is no flag. If
@@ -201,10 +274,35 @@ pub fn run(
     if options.size != OPTIONS_SIZE {
         return codes::NO_OPTIONS;
     }
-    let Some(whole) = stop.take(alloc) else {
-        return run_program(alloc, program, inputs, *options, None, report);
+    let order = RunOrder {
+        options: *options,
+        caps: None,
     };
-    let code = run_until_held(alloc, program, inputs, *options, &whole, report);
-    *stop = Handle::of(whole);
-    code
+    run_until_stopped(alloc, program, inputs, order, stop, report)
+}
+
+/// Like `run`, but returns `ABOVE_CAP` if a bound of the program's runs is above its cap. Otherwise each run that the limit allows is within the
+/// caps.
+pub fn run_within(
+    alloc: Global,
+    program: &mut Handle,
+    inputs: &mut Handle,
+    options: &Options,
+    caps: &RunCaps,
+    stop: &mut Handle,
+    report: &mut Handle,
+) -> u8
+    ensures program { program.new.held ≡ program.old.held }
+    ensures inputs { inputs.new.held ≡ inputs.old.held }
+    ensures stop { stop.new.held ≡ stop.old.held }
+    ensures is { IsRunWithin program.old.held inputs.old.held options.now caps.now stop.old.held report.old.held report.new.held result }
+{
+    if options.size != OPTIONS_SIZE || caps.size != RunCaps::SIZE {
+        return codes::NO_OPTIONS;
+    }
+    let order = RunOrder {
+        options: *options,
+        caps: Some(caps.caps()),
+    };
+    run_until_stopped(alloc, program, inputs, order, stop, report)
 }

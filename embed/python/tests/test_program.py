@@ -109,9 +109,10 @@ class Programs(unittest.TestCase):
         self.assertEqual([str(it) for it in program.parameters], ["numbers: cont int"])
         self.assertEqual(program.needs, (0, 0))
         self.assertEqual(yuglemit.load(EXAMPLES / "for_one_worker.twn").needs, (0, 2))
-        # main, eight squares, one reduce with eight adds and a copy; by hand as in examples/sessions.txt
+        # main, eight squares, one reduce with eight adds and a copy; main inserts two members for each of eight. By hand as in examples/sessions.txt
         bounds = program.bounds
         self.assertEqual((bounds.tasks, bounds.instructions, bounds.data, bounds.rules, bounds.events), (19, 275, 18, 18, 364))
+        self.assertEqual((bounds.members, bounds.bytes), (16, 0))
         self.assertEqual(program.bounds.greatest, max(it.budget for it in program.procedures))
 
     def test_bounds_with_a_limit(self) -> None:
@@ -121,6 +122,64 @@ class Programs(unittest.TestCase):
         self.assertEqual((bounds.greatest, bounds.instructions, bounds.events), (203, 205, 207))
         self.assertEqual((bounds.events_within(5), bounds.events_within()), (5, 207))
         self.assertEqual((bounds.instructions_within(1), bounds.instructions_within()), (203, 205))
+
+    def test_bounds_by_a_limit(self) -> None:
+        """Pipeline has 4 tasks, 24 instructions, 2 data, 3 rules and 37 events, and budgets of 6 (docs/FORMAT.md); a limit gives each event of
+        its runs one task, a datum and a rule, and 6 instructions."""
+        program = yuglemit.load(EXAMPLES / "pipeline.twn")
+        for limit, expected in ((3, (3, 18, 2, 3, 3)), (1, (1, 6, 1, 1, 1)), (1_000_000, (4, 24, 2, 3, 37))):
+            bounds = program.bounds_within(limit)
+            self.assertEqual((bounds.tasks, bounds.instructions, bounds.data, bounds.rules, bounds.events), expected)
+            self.assertEqual((bounds.members, bounds.bytes), (0, 0))
+            self.assertFalse(bounds.is_endless)
+        again = yuglemit.load("proc control\nregs\nPUT 0 0 any\nRET\n").bounds_within(5)
+        self.assertEqual((again.tasks, again.instructions, again.data, again.rules, again.events), (5, 10, 0, 0, 5))
+        for limit in (0, 1_000_001):
+            with self.assertRaises(ValueError):
+                program.bounds_within(limit)
+
+    def test_bounds_of_members_and_bytes(self) -> None:
+        """LONG makes 100 members of texts, by numbers: 4,096 bytes each. A limit gives each event a member and a text."""
+        program = yuglemit.load(LONG)
+        for bounds, expected in ((program.bounds, (100, 100 * 4096)), (program.bounds_within(3), (3, 3 * 4096))):
+            self.assertEqual((bounds.members, bounds.bytes), expected)
+
+    def test_a_bound_over_all_numbers(self) -> None:
+        """Main puts 2,000 leaves of 400,000,000 additions and as many ends of a loop: more than 1,600,000,000,000 instructions."""
+        loops = "REPEAT 400\nREPEAT 1000\nREPEAT 1000\n"
+        leaf = f"proc leaf\nregs int int\nINT v1 1\n{loops}ADD v0 v0 v1 no\nno:\nEND\nEND\nEND\nRET\n"
+        bounds = yuglemit.load(f"proc control\nregs\nREPEAT 2\nREPEAT 1000\nPUT 1 0 any\nEND\nEND\nRET\n{leaf}").bounds
+        self.assertEqual((bounds.tasks, bounds.instructions, bounds.is_endless), (2001, None, False))
+
+    def test_caps(self) -> None:
+        """Each bound of pipeline is admitted at its number, and rejected below it, as `tw run` does."""
+        program = yuglemit.load(EXAMPLES / "pipeline.twn")
+        exact = {"most_tasks": 4, "most_instructions": 24, "most_data": 2, "most_budget": 6}
+        self.assertEqual(program.run(39, **exact).outputs, [42])
+        self.assertEqual(program.run(39, most_tasks=None).outputs, [42])
+        for name, most in exact.items():
+            with self.assertRaises(yuglemit.Refused) as refused:
+                program.run(39, **{**exact, name: most - 1})
+            kind = name[len("most_") :]
+            self.assertEqual((refused.exception.code, refused.exception.text), ("O07", f"refused O07\n{kind}: bound {most}, at most {most - 1}\n"))
+        self.assertEqual(program.run(39, most_tasks=3, limit=3).end, "limit")
+        with self.assertRaises(yuglemit.Refused) as refused:
+            yuglemit.load("proc control\nregs\nPUT 0 0 any\nRET\n").run(most_tasks=9_999)
+        self.assertEqual(refused.exception.text, "refused O07\ntasks: bound 10000, at most 9999\n")
+        report = program.run(39, **exact)
+        self.assertEqual((report.made is not None, report.text), (True, "out 0 int 42\nquiet\n"))
+        self.assertEqual(len(report.timeline()) > 1000, True)
+        for wrong in (-1, 0, 1 << 64):
+            for name in exact:
+                with self.assertRaises(ValueError):
+                    program.run(39, **{name: wrong})
+
+    def test_caps_on_texts(self) -> None:
+        program = yuglemit.load(LONG)
+        self.assertEqual(program.run(most_bytes=100 * 4096).end, "quiet")
+        with self.assertRaises(yuglemit.Refused) as refused:
+            program.run(most_bytes=100 * 4096 - 1)
+        self.assertEqual(refused.exception.text, "refused O07\nbytes: bound 409600, at most 409599\n")
 
     def test_bounds_hold(self) -> None:
         chance = {number: number for number in range(8)}
@@ -137,6 +196,7 @@ class Programs(unittest.TestCase):
         program = yuglemit.load("proc control\nregs\nPUT 0 0 any\nRET\n")
         self.assertEqual((program.bounds.tasks, program.bounds.events), (None, None))
         self.assertEqual(program.bounds.events_within(500), 500)
+        self.assertTrue(program.bounds.is_endless)
         report = program.run(limit=500)
         self.assertEqual((report.end, report.events), ("limit", 500))
 

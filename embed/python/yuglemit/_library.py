@@ -47,6 +47,33 @@ class Options(ctypes.Structure):
     ]
 
 
+class Caps(ctypes.Structure):
+    """The most that a run may do."""
+
+    _fields_ = [
+        ("size", ctypes.c_size_t),
+        ("tasks", ctypes.c_uint64),
+        ("instructions", ctypes.c_uint64),
+        ("data", ctypes.c_uint64),
+        ("bytes", ctypes.c_uint64),
+        ("budget", ctypes.c_uint64),
+    ]
+
+
+class RawBounds(ctypes.Structure):
+    """The most that runs do, as the library writes it."""
+
+    _fields_ = [
+        ("tasks", ctypes.c_uint64),
+        ("instructions", ctypes.c_uint64),
+        ("data", ctypes.c_uint64),
+        ("members", ctypes.c_uint64),
+        ("rules", ctypes.c_uint64),
+        ("bytes", ctypes.c_uint64),
+        ("events", ctypes.c_uint64),
+    ]
+
+
 class Ending(ctypes.Structure):
     """How a run ended."""
 
@@ -91,13 +118,14 @@ _LONG_CALLS: Dict[str, Tuple[Any, Sequence[Any]]] = {
     "session": (ctypes.c_size_t, (*_BYTES, *_BYTES, *_ROOM, ctypes.POINTER(ctypes.c_uint8))),
     "verify": (None, (*_BYTES, ctypes.POINTER(RawVerdict))),
     "load_source": (None, (*_BYTES, ctypes.c_uint8, _AT, ctypes.POINTER(SourceVerdict))),
-    "run": (ctypes.c_uint8, (_AT, _AT, ctypes.POINTER(Options), _AT, _AT)),
+    "run_within": (ctypes.c_uint8, (_AT, _AT, ctypes.POINTER(Options), ctypes.POINTER(Caps), _AT, _AT)),
     "print_report": (ctypes.c_uint8, (_AT, _AT)),
     "print_trace": (ctypes.c_uint8, (_AT, _AT)),
     "print_json": (ctypes.c_uint8, (_AT, _AT)),
 }
 _SHORT_CALLS: Dict[str, Sequence[Any]] = {
     "program_share": (_AT, _AT),
+    "program_bounds": (_AT, ctypes.c_size_t, ctypes.POINTER(RawBounds)),
     "input_int": (_AT, ctypes.c_int64),
     "input_text": (_AT, *_BYTES),
     "input_container": (_AT, _AT),
@@ -109,7 +137,7 @@ _SHORT_CALLS: Dict[str, Sequence[Any]] = {
     "stop_new": (_AT,),
     "stop_share": (_AT, _AT),
     "stop_raise": (_AT,),
-    "run": _LONG_CALLS["run"][1],
+    "run_within": _LONG_CALLS["run_within"][1],
     "report_ending": (_AT, ctypes.POINTER(Ending)),
     "report_output": (_AT, ctypes.c_size_t, ctypes.POINTER(Item)),
     "report_member": (_AT, ctypes.c_size_t, ctypes.c_size_t, ctypes.POINTER(Member)),

@@ -7,6 +7,8 @@ import re
 from dataclasses import dataclass
 from typing import Iterator, List, NamedTuple, Optional, Tuple
 
+from ._native import NO_BOUND, OVER
+
 # Instructions and events a second, as a run is priced; examples/many/bound.sh has the same numbers.
 INSTRUCTIONS_A_SECOND = 50_000_000
 EVENTS_A_SECOND = 100_000
@@ -47,15 +49,19 @@ class Procedure:
 
 @dataclass(frozen=True)
 class Bounds:
-    """Bounds of a run, whatever its inputs are, as they are proved; `greatest` is the greatest budget. The others are None if a procedure
-    starts itself, directly or through others, or past 1,000,000,000,000: then only the limit of events bounds a run."""
+    """Bounds of a run, whatever its inputs are, as they are proved; `greatest` is the greatest budget. Another is None past 1,000,000,000,000,
+    or if a procedure starts itself, directly or through others (`is_endless`): then only the limit of events bounds a run. `members` and `bytes`
+    are what the store holds at any time beyond those of the inputs; a text has at most 4,096 bytes."""
 
     greatest: int
     tasks: Optional[int]
     instructions: Optional[int]
     data: Optional[int]
+    members: Optional[int]
     rules: Optional[int]
+    bytes: Optional[int]
     events: Optional[int]
+    is_endless: bool = False
 
     def events_within(self, limit: int = DEFAULT_LIMIT) -> int:
         """Returns how many events a run with this limit has at most."""
@@ -115,8 +121,8 @@ def procedures_of(listing: str, source: str, check: str) -> Tuple[Procedure, ...
     return tuple(found)
 
 
-def bounds_of(check: str, procedures: Tuple[Procedure, ...]) -> Bounds:
-    """Reads the lines `bound` of what `check --bounds` answers; `over` and `none` are no numbers."""
-    bound = {kind: int(number) for kind, number in re.findall(r"^bound (\w+) (\d+)$", check, re.M)}
+def bounds_of(found: List[int], procedures: Tuple[Procedure, ...]) -> Bounds:
+    """Reads the bounds that the library finds."""
     greatest = max(it.budget for it in procedures)
-    return Bounds(greatest, *(bound.get(kind) for kind in ("tasks", "instructions", "data", "rules", "events")))
+    tasks, instructions, data, members, rules, texts, events = (None if it in (OVER, NO_BOUND) else it for it in found)
+    return Bounds(greatest, tasks, instructions, data, members, rules, texts, events, NO_BOUND in found)

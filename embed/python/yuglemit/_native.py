@@ -12,7 +12,7 @@ import ctypes
 import threading
 from typing import Any, Callable, Dict, List, NamedTuple, Optional, Sequence, Tuple, TypeVar, Union
 
-from ._library import Ending, Handle, Item, Member, Options, RawVerdict, SourceVerdict, library, short
+from ._library import Caps, Ending, Handle, Item, Member, Options, RawBounds, RawVerdict, SourceVerdict, library, short
 
 Answer = Tuple[int, bytes]
 Result = TypeVar("Result")
@@ -43,12 +43,17 @@ class Given(NamedTuple):
 
 
 class Layout(NamedTuple):
-    """How many engines, servers and workers a run has, and its most events."""
+    """How many engines, servers and workers a run has, its most events, and its caps; None is no cap."""
 
     engines: int
     servers: int
     workers: int
     limit: int
+    most_tasks: Optional[int] = None
+    most_instructions: Optional[int] = None
+    most_data: Optional[int] = None
+    most_bytes: Optional[int] = None
+    most_budget: Optional[int] = None
 
 
 class Ran(NamedTuple):
@@ -62,7 +67,7 @@ class Ran(NamedTuple):
 
 
 class RunError(Exception):
-    """Says that a run isn't begun: `code` is the number of the error O01 to O04, or the letter of an error of the call."""
+    """Says that a run isn't begun: `code` is the number of the error O01 to O04 or O07, or the letter of an error of the call."""
 
     def __init__(self, code: int) -> None:
         super().__init__(f"O{code:02}" if code < 32 else chr(code))
@@ -122,6 +127,14 @@ class Loaded:
     def give(self, handle: _Owner) -> None:
         """Keeps a handle for the next run."""
         self._idle.append(handle)
+
+    def bounds(self, limit: int) -> List[int]:
+        """Returns the bounds of runs with at most so many events, or of all runs if it is 0: tasks, instructions, data, members, rules, bytes,
+        events. One over 1,000,000,000,000 is OVER, and none NO_BOUND."""
+        found = RawBounds()
+        with _shared:
+            _done(short().yuglemit_program_bounds(self._root.at, limit, ctypes.byref(found)))
+        return [found.tasks, found.instructions, found.data, found.members, found.rules, found.bytes, found.events]
 
 
 def _no_report() -> None:
@@ -193,6 +206,8 @@ def _verdict_of(raw: RawVerdict) -> Verdict:
 
 # ---- Runs
 
+OVER, NO_BOUND = (1 << 64) - 2, (1 << 64) - 1
+NO_CAP = (1 << 64) - 1
 LONG_SECONDS = 0.03  # a run that may take longer is made so that Ctrl-C can stop it
 _BRIEF_SECONDS = 0.001
 
@@ -230,9 +245,10 @@ def _inputs_of(given: Sequence[Given]) -> _Owner:
 def _call_run(calls: ctypes.CDLL, program: Loaded, inputs: _Owner, layout: Layout, stop: Optional[Flag]) -> _Owner:
     """Makes a run by calls that release the GIL or keep it, and returns the handle of its report."""
     options = Options(ctypes.sizeof(Options), layout.limit, layout.engines, layout.servers, layout.workers)
+    caps = Caps(ctypes.sizeof(Caps), *(NO_CAP if most is None else most for most in layout[4:]))
     flag = stop.of_run.at if stop is not None else ctypes.byref(Handle())
     report, own = _owner("report"), program.take()
-    code = calls.yuglemit_run(own.at, inputs.at, ctypes.byref(options), flag, report.at)
+    code = calls.yuglemit_run_within(own.at, inputs.at, ctypes.byref(options), ctypes.byref(caps), flag, report.at)
     program.give(own)
     if code in (5, ord("M")):
         raise MemoryError("yuglemit: out of memory")

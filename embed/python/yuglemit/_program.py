@@ -32,18 +32,39 @@ def ask(words: Sequence[str], data: bytes, long: bool = False) -> str:
     return text
 
 
-def _within(name: str, number: int, most: int) -> int:
+def _within(name: str, number: int, most: int, least: int = 1) -> int:
     if isinstance(number, bool) or not hasattr(number, "__index__"):
         raise TypeError(f"{name}: expected an int, got {type(number).__name__} {number!r:.40}")
-    if not 1 <= int(number) <= most:
-        raise ValueError(f"{name}: expected 1 to {most}, got {int(number)}")
+    if not least <= int(number) <= most:
+        raise ValueError(f"{name}: expected {least} to {most}, got {int(number)}")
     return int(number)
 
 
-def layout_of(engines: int = 1, servers: int = 1, workers: int = 1, limit: int = DEFAULT_LIMIT) -> _native.Layout:
+def _cap(name: str, most: Optional[int]) -> Optional[int]:
+    return None if most is None else _within(name, most, _native.NO_CAP)
+
+
+def layout_of(
+    engines: int = 1,
+    servers: int = 1,
+    workers: int = 1,
+    limit: int = DEFAULT_LIMIT,
+    most_tasks: Optional[int] = None,
+    most_instructions: Optional[int] = None,
+    most_data: Optional[int] = None,
+    most_bytes: Optional[int] = None,
+    most_budget: Optional[int] = None,
+) -> _native.Layout:
     """Returns the layout of a run, or raises the error that says which number is out of its range."""
     counts = (_within("engines", engines, 4), _within("servers", servers, 4), _within("workers", workers, 16))
-    return _native.Layout(*counts, _within("limit", limit, _MOST_EVENTS))
+    caps = (
+        _cap("most_tasks", most_tasks),
+        _cap("most_instructions", most_instructions),
+        _cap("most_data", most_data),
+        _cap("most_bytes", most_bytes),
+        _cap("most_budget", most_budget),
+    )
+    return _native.Layout(*counts, _within("limit", limit, _MOST_EVENTS), *caps)
 
 
 class Program:
@@ -110,7 +131,11 @@ class Program:
     @cached_property
     def bounds(self) -> Bounds:
         """The bounds of its runs."""
-        return bounds_of(ask(["check", "--bounds"], self._hex), self.procedures)
+        return bounds_of(self._kept.bounds(0), self.procedures)
+
+    def bounds_within(self, limit: int = DEFAULT_LIMIT) -> Bounds:
+        """Returns the bounds of its runs with at most so many events, with which `run` compares its caps."""
+        return bounds_of(self._kept.bounds(_within("limit", limit, _MOST_EVENTS)), self.procedures)
 
     def places(self) -> str:
         """Lists each instruction with the rights that it finds, as `tw check --places` does."""
@@ -142,12 +167,18 @@ class Program:
         servers: int = 1,
         workers: int = 1,
         limit: int = DEFAULT_LIMIT,
+        most_tasks: Optional[int] = None,
+        most_instructions: Optional[int] = None,
+        most_data: Optional[int] = None,
+        most_bytes: Optional[int] = None,
+        most_budget: Optional[int] = None,
         trace: bool = False,
         stop: Optional[Stop] = None,
     ) -> Report:
         """Runs the program on these inputs, one for each of `parameters`: an int, a str, or a dict of these by int or str.
 
-        The run makes at most `limit` events. Its actors take turns in the caller's thread, so the same run has the same events each time;
+        The run makes at most `limit` events. If a bound of such runs, or the greatest budget, is above its cap (`most_tasks` and so on), nothing is
+        run, and Refused has the code O07. Its actors take turns in the caller's thread, so the same run has the same events each time;
         other threads continue meanwhile. `trace=True` keeps the events with the report. `stop` ends the run when another thread sets it.
         Ctrl-C stops a run too, before its next event; an event takes up to the greatest budget, so a leaf may work on for some time, in a
         thread of its own, after KeyboardInterrupt is raised.
@@ -166,7 +197,7 @@ class Program:
         >>> program.run(21).outputs
         [42]
         """
-        layout = layout_of(engines, servers, workers, limit)
+        layout = layout_of(engines, servers, workers, limit, most_tasks, most_instructions, most_data, most_bytes, most_budget)
         checked = self.given(inputs)
         flag = None if stop is None else stop.flag()
         try:

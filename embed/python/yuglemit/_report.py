@@ -79,6 +79,12 @@ def read_numbers(text: str) -> _Numbers:
     return _Numbers(int(events[-1]) if events else 0, sum(map(int, done)))
 
 
+def _caps(layout: Layout) -> Tuple[str, ...]:
+    """Returns the options of `tw run` for the caps."""
+    given = ((name, most) for name, most in zip(layout._fields[4:], layout[4:]) if most is not None)
+    return tuple(word for name, most in given for word in (f"--{name.replace('_', '-')}", str(most)))
+
+
 def actors(layout: Layout) -> Tuple[str, ...]:
     """Returns the options of a command that say how many actors there are."""
     return ("--engines", str(layout.engines), "--servers", str(layout.servers), "--workers", str(layout.workers))
@@ -94,7 +100,7 @@ class Made:
 
     def words(self) -> Tuple[str, ...]:
         """Returns the options of `tw run`."""
-        return (*actors(self.layout), "--limit", str(self.layout.limit))
+        return (*actors(self.layout), "--limit", str(self.layout.limit), *_caps(self.layout))
 
     def until(self, report: "Report") -> "Made":
         """Returns the causes of a report: a run that was stopped is made again by a limit of as many events."""

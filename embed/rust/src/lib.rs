@@ -31,7 +31,7 @@ mod stop;
 mod value;
 
 pub use error::{Error, Refused};
-pub use program::{Format, Mode, Options, Parameter, Procedure, Program};
+pub use program::{Bound, Bounds, Caps, Format, Mode, Options, Parameter, Procedure, Program};
 pub use report::{End, Report};
 pub use session::{Reply, Verdict, session, verify};
 pub use stop::Stop;

@@ -14,6 +14,74 @@ pub enum Format {
     Text,
 }
 
+/// The most that a run may do. A program with a bound above a cap isn't run: `Error::Run(7)`.
+#[derive(Clone, Copy, Debug, Default, PartialEq, Eq)]
+pub struct Caps {
+    /// Tasks that are taken.
+    pub tasks: Option<u64>,
+    /// Instructions that are executed.
+    pub instructions: Option<u64>,
+    /// Data that are made.
+    pub data: Option<u64>,
+    /// Bytes of the texts that the store holds at any time, beyond those of the inputs.
+    pub bytes: Option<u64>,
+    /// Instructions of one task.
+    pub budget: Option<u64>,
+}
+
+impl Caps {
+    fn raw(&self) -> raw::Caps {
+        let cap = |most: Option<u64>| most.unwrap_or(u64::MAX);
+        let Caps { tasks, instructions, data, bytes, budget } = *self;
+        raw::Caps {
+            size: size_of::<raw::Caps>(),
+            tasks: cap(tasks),
+            instructions: cap(instructions),
+            data: cap(data),
+            bytes: cap(bytes),
+            budget: cap(budget),
+        }
+    }
+}
+
+/// A bound of runs.
+#[derive(Clone, Copy, Debug, PartialEq, Eq)]
+pub enum Bound {
+    AtMost(u64),
+    /// The number is over 1,000,000,000,000.
+    Over,
+    /// A procedure starts itself, directly or through others, so there is no such number.
+    Endless,
+}
+
+impl Bound {
+    fn of(number: u64) -> Bound {
+        match number {
+            raw::NO_BOUND => Bound::Endless,
+            raw::OVER => Bound::Over,
+            _ => Bound::AtMost(number),
+        }
+    }
+}
+
+/// The most that runs do, whatever the inputs, the layout and the order of events.
+#[derive(Clone, Copy, Debug, PartialEq, Eq)]
+pub struct Bounds {
+    /// Tasks that are taken, main's included.
+    pub tasks: Bound,
+    /// Instructions that are executed.
+    pub instructions: Bound,
+    /// Data that are made.
+    pub data: Bound,
+    /// Members that the store holds at any time, beyond those of the inputs.
+    pub members: Bound,
+    /// Rules that are made.
+    pub rules: Bound,
+    /// Bytes of the texts that the store holds at any time, beyond those of the inputs: 4,096 a text.
+    pub bytes: Bound,
+    pub events: Bound,
+}
+
 /// How a run is made.
 #[derive(Clone, Copy)]
 pub struct Options<'a> {
@@ -22,13 +90,14 @@ pub struct Options<'a> {
     pub engines: u8,
     pub servers: u8,
     pub workers: u8,
+    pub caps: Caps,
     /// Ends the run when it is raised.
     pub stop: Option<&'a Stop>,
 }
 
 impl Default for Options<'_> {
     fn default() -> Self {
-        Options { limit: 10_000, engines: 1, servers: 1, workers: 1, stop: None }
+        Options { limit: 10_000, engines: 1, servers: 1, workers: 1, caps: Caps::default(), stop: None }
     }
 }
 
@@ -152,6 +221,31 @@ impl Program {
         Ok(most)
     }
 
+    /// Returns the bounds of all runs.
+    pub fn bounds(&self) -> Result<Bounds, Error> {
+        self.bounds_by(0)
+    }
+
+    /// Returns the bounds of runs with at most `limit` events, 1 to 1,000,000.
+    pub fn bounds_within(&self, limit: usize) -> Result<Bounds, Error> {
+        if limit == 0 { Err(Error::Run(4)) } else { self.bounds_by(limit) }
+    }
+
+    fn bounds_by(&self, limit: usize) -> Result<Bounds, Error> {
+        let mut found = raw::Bounds::default();
+        done(unsafe { raw::yuglemit_program_bounds(self.owner.at(), limit, &mut found) })?;
+        let raw::Bounds { tasks, instructions, data, members, rules, bytes, events } = found;
+        Ok(Bounds {
+            tasks: Bound::of(tasks),
+            instructions: Bound::of(instructions),
+            data: Bound::of(data),
+            members: Bound::of(members),
+            rules: Bound::of(rules),
+            bytes: Bound::of(bytes),
+            events: Bound::of(events),
+        })
+    }
+
     /// Runs the program in this thread, its actors in turn, with at most 10,000 events.
     pub fn run(&self, inputs: &[Value]) -> Result<Report, Error> {
         self.run_with(inputs, &Options::default())
@@ -161,11 +255,12 @@ impl Program {
     pub fn run_with(&self, inputs: &[Value], options: &Options) -> Result<Report, Error> {
         let values = Owner::<OfInputs>::new();
         inputs.iter().try_for_each(|value| value.append(&values))?;
-        let Options { limit, engines, servers, workers, stop } = *options;
+        let Options { limit, engines, servers, workers, caps, stop } = *options;
         let raw_options = raw::Options { size: size_of::<raw::Options>(), limit, engines, servers, workers };
         let (none, report) = (Owner::new(), Owner::new());
         let stop = stop.map_or(&none, |stop| &stop.owner);
-        done(unsafe { raw::yuglemit_run(self.owner.at(), values.at(), &raw_options, stop.at(), report.at()) })?;
+        let caps = caps.raw();
+        done(unsafe { raw::yuglemit_run_within(self.owner.at(), values.at(), &raw_options, &caps, stop.at(), report.at()) })?;
         Report::of(report)
     }
 }

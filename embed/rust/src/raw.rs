@@ -40,6 +40,28 @@ pub struct Options {
 }
 
 #[repr(C)]
+pub struct Caps {
+    pub size: usize,
+    pub tasks: u64,
+    pub instructions: u64,
+    pub data: u64,
+    pub bytes: u64,
+    pub budget: u64,
+}
+
+#[repr(C)]
+#[derive(Clone, Copy, Default)]
+pub struct Bounds {
+    pub tasks: u64,
+    pub instructions: u64,
+    pub data: u64,
+    pub members: u64,
+    pub rules: u64,
+    pub bytes: u64,
+    pub events: u64,
+}
+
+#[repr(C)]
 #[derive(Clone, Copy, Default)]
 pub struct Ending {
     pub events: usize,
@@ -83,6 +105,11 @@ pub struct Parameter {
     pub by_third: u8,
 }
 
+/// A bound over 1,000,000,000,000.
+pub const OVER: u64 = u64::MAX - 1;
+/// No bound.
+pub const NO_BOUND: u64 = u64::MAX;
+
 #[link(name = "yuglemit", kind = "static")]
 unsafe extern "C" {
     pub fn yuglemit_session(words: *const u8, words_length: usize, input: *const u8, input_length: usize, room: *mut u8, room_length: usize, status: *mut u8) -> usize;
@@ -91,6 +118,7 @@ unsafe extern "C" {
     pub fn yuglemit_program_share(program: *mut Handle, other: *mut Handle) -> u8;
     pub fn yuglemit_program_procedures(program: *mut Handle, count: *mut usize) -> u8;
     pub fn yuglemit_program_budget(program: *mut Handle, procedure: usize, budget: *mut u64) -> u8;
+    pub fn yuglemit_program_bounds(program: *mut Handle, limit: usize, bounds: *mut Bounds) -> u8;
     pub fn yuglemit_program_procedure(program: *mut Handle, procedure: usize, found: *mut Procedure) -> u8;
     pub fn yuglemit_program_parameter(program: *mut Handle, procedure: usize, index: usize, found: *mut Parameter) -> u8;
     pub fn yuglemit_input_int(inputs: *mut Handle, number: i64) -> u8;
@@ -105,7 +133,7 @@ unsafe extern "C" {
     pub fn yuglemit_stop_share(stop: *mut Handle, other: *mut Handle) -> u8;
     pub fn yuglemit_stop_raise(stop: *mut Handle) -> u8;
     pub fn yuglemit_stop_lower(stop: *mut Handle) -> u8;
-    pub fn yuglemit_run(program: *mut Handle, inputs: *mut Handle, options: *const Options, stop: *mut Handle, report: *mut Handle) -> u8;
+    pub fn yuglemit_run_within(program: *mut Handle, inputs: *mut Handle, options: *const Options, caps: *const Caps, stop: *mut Handle, report: *mut Handle) -> u8;
     pub fn yuglemit_report_ending(report: *mut Handle, ending: *mut Ending) -> u8;
     pub fn yuglemit_report_output(report: *mut Handle, output: usize, item: *mut Item) -> u8;
     pub fn yuglemit_report_member(report: *mut Handle, output: usize, place: usize, member: *mut Member) -> u8;
@@ -193,7 +221,7 @@ pub fn done(code: u8) -> Result<(), Error> {
     match code {
         0 => Ok(()),
         5 | b'M' => Err(Error::NoMemory),
-        1..=4 => Err(Error::Run(code)),
+        1..=4 | 7 => Err(Error::Run(code)),
         b'L' => Err(Error::NoLayout),
         b'X' => Err(Error::NoIndex),
         b'E' => Err(Error::NoEnd),

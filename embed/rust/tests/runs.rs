@@ -4,9 +4,11 @@ use std::collections::BTreeMap;
 use std::fs;
 use std::thread;
 
-use yuglemit::{Container, End, Error, Format, Mode, Options, Parameter, Program, Stop, Type, Value, Verdict};
+use yuglemit::{Bound, Bounds, Caps, Container, End, Error, Format, Mode, Options, Parameter, Program, Stop, Type, Value, Verdict};
 
 const ENDLESS: &str = "proc control\nregs int int\nINT v1 1\nREPEAT 5\nREPEAT 1000\nADD v0 v0 v1 no\nno:\nEND\nEND\nPUT 0 0 any\nRET\n";
+/// Inserts a text by a text: the member is a text, and its subscript another.
+const MEMBER: &str = "version 2\nproc control\nregs text\nNEW d0 d1 tcont text\nDROPR d1\nNEW d2 d3 text\nSTORE d2 v0\nTINS d0 v0 d3 there\nJMP done\nthere:\nDROPR d3\ndone:\nDROPW d0\nRET\n";
 const REFUSED: &str = "proc control write int\nregs int\nINT v0 7\nRET\n";
 
 /// A program that gives its input back.
@@ -86,6 +88,62 @@ fn what_is_no_input() {
     assert_eq!(same("int").run(&["7".into()]).err(), Some(Error::Run(2)));
     let wide = Options { workers: 17, ..Options::default() };
     assert_eq!(same("int").run_with(&[7.into()], &wide).err(), Some(Error::NoLayout));
+}
+
+#[test]
+fn bounds_are_numbers() -> Result<(), Error> {
+    // docs/FORMAT.md has those of pipeline.tw, whose budgets are 6; it has neither members nor texts.
+    let Some(program) = example("pipeline.twn") else { return Ok(()) };
+    let bounds = |tasks, instructions, data, rules, events| Bounds {
+        tasks: Bound::AtMost(tasks),
+        instructions: Bound::AtMost(instructions),
+        data: Bound::AtMost(data),
+        members: Bound::AtMost(0),
+        rules: Bound::AtMost(rules),
+        bytes: Bound::AtMost(0),
+        events: Bound::AtMost(events),
+    };
+    assert_eq!(program.bounds()?, bounds(4, 24, 2, 3, 37));
+    assert_eq!(program.bounds_within(3)?, bounds(3, 18, 2, 3, 3));
+    assert_eq!((program.bounds_within(0), program.bounds_within(1_000_001)), (Err(Error::Run(4)), Err(Error::Run(4))));
+    let endless = Program::load(ENDLESS)?;
+    assert_eq!((endless.bounds()?.tasks, endless.bounds_within(5)?.tasks), (Bound::Endless, Bound::AtMost(5)));
+    let member = Program::load(MEMBER)?;
+    let held = |bounds: Bounds| (bounds.members, bounds.bytes);
+    assert_eq!(held(member.bounds()?), (Bound::AtMost(1), Bound::AtMost(8192)));
+    assert_eq!(held(member.bounds_within(1)?), (Bound::AtMost(1), Bound::AtMost(4096)));
+    Ok(())
+}
+
+#[test]
+fn caps_admit_programs() -> Result<(), Error> {
+    let Some(program) = example("pipeline.twn") else { return Ok(()) };
+    let run = |caps, limit| program.run_with(&[39.into()], &Options { caps, limit, ..Options::default() }).map(|report| report.end());
+    let exact = Caps { tasks: Some(4), instructions: Some(24), data: Some(2), bytes: Some(0), budget: Some(6) };
+    assert_eq!(run(exact, 10_000), Ok(End::Quiet));
+    assert_eq!(run(Caps { tasks: None, ..exact }, 10_000), Ok(End::Quiet));
+    let smaller = [
+        Caps { tasks: Some(3), ..exact },
+        Caps { instructions: Some(23), ..exact },
+        Caps { data: Some(1), ..exact },
+        Caps { budget: Some(5), ..exact },
+    ];
+    for caps in smaller {
+        assert_eq!(run(caps, 10_000), Err(Error::Run(7)), "{caps:?}");
+    }
+    assert_eq!(run(smaller[0], 3), Ok(End::Limit));
+    Ok(())
+}
+
+#[test]
+fn caps_on_texts() -> Result<(), Error> {
+    let program = Program::load(MEMBER)?;
+    let run = |most| {
+        let caps = Caps { bytes: Some(most), ..Caps::default() };
+        program.run_with(&[], &Options { caps, ..Options::default() }).map(|report| report.end())
+    };
+    assert_eq!((run(8192), run(8191)), (Ok(End::Quiet), Err(Error::Run(7))));
+    Ok(())
 }
 
 #[test]

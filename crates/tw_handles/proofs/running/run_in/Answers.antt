@@ -1,9 +1,9 @@
 use Rattle.std.proofs.Common.{is_some, inl, refl, subst}
 use Rattle.tw_types.specs.Layout.{ActorCounts}
-use Rattle.tw_handles.specs.Running.{IsRunOn}
+use Rattle.tw_handles.specs.Running.{IsRunAdmitted}
 use Rattle.tw_handles.proofs.running.run_in.Goals as goal
 
 pub returns-in-Ok : goal.returns-in-Ok
 returns-in-Ok c =
-    let Is : ActorCounts → Type 0 = λ counts. IsRunOn (is_some c.args.stop) c.args.verified.now c.args.inputs.now counts c.args.options.limit c.args.report.now.held c.run_on.new.report.held c.run_on.result in
-    inl (c.in-Ok.ensures.accepted.0 refl, subst Is c.in-Ok.ensures.value c.run_on.ensures)
+    let Is : ActorCounts → Type 0 = λ counts. IsRunAdmitted c.args.order.caps (is_some c.args.stop) c.args.verified.now c.args.inputs.now counts c.args.order.options.limit c.args.report.now.held c.run_admitted.new.report.held c.run_admitted.result in
+    inl (c.in-Ok.ensures.accepted.0 refl, subst Is c.in-Ok.ensures.value c.run_admitted.ensures)

@@ -7,6 +7,6 @@ use Rattle.tw_handles.proofs.running.run_with.Goals as goal
 pub returns-in_default-clause-is : goal.returns-in_default-clause-is
 returns-in_default-clause-is c =
     let old = c.args.report.now.held in let new = c.run_in.new.report.held in
-    let Is : List Input → Type 0 = λ given. IsRunIn (is_some c.args.stop) c.args.verified.now given c.args.options old new c.run_in.result in
-    let With : Option Held → Type 0 = λ held. IsRunWith (is_some c.args.stop) c.args.verified.now held c.args.options old new c.run_in.result in
+    let Is : List Input → Type 0 = λ given. IsRunIn (is_some c.args.stop) c.args.verified.now given c.args.order old new c.run_in.result in
+    let With : Option Held → Type 0 = λ held. IsRunWith (is_some c.args.stop) c.args.verified.now held c.args.order old new c.run_in.result in
     subst With c.in_default.ensures.taken (subst Is (c.as_slice.ensures.value ∙ c.new-none.ensures.items) c.run_in.ensures)

@@ -7,6 +7,6 @@ use Rattle.tw_handles.proofs.running.run_with_held.Goals as goal
 pub returns-in-Inputs : goal.returns-in-Inputs
 returns-in-Inputs c =
     let old = c.args.report.now.held in let new = c.run_in.new.report.held in
-    let Is : List Input → Type 0 = λ given. IsRunIn (is_some c.args.stop) c.args.verified.now given c.args.options old new c.run_in.result in
-    let With : Held → Type 0 = λ held. IsRunWith (is_some c.args.stop) c.args.verified.now (Some held) c.args.options old new c.run_in.result in
+    let Is : List Input → Type 0 = λ given. IsRunIn (is_some c.args.stop) c.args.verified.now given c.args.order old new c.run_in.result in
+    let With : Held → Type 0 = λ held. IsRunWith (is_some c.args.stop) c.args.verified.now (Some held) c.args.order old new c.run_in.result in
     subst With (sym c.in-Inputs.is) (subst Is c.as_slice.ensures.value c.run_in.ensures)
