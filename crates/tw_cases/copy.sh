@@ -5,7 +5,7 @@
 cd "$(dirname "$0")/../.." || exit 1
 data=${1:-crates/tw_cases/data}
 
-# Replaces the name of a file after a command by the options that the script `tw` makes of it.
+# Replaces the name of a file after a command by the options that `tw` makes of it.
 as_input() {
     sed -E '/^\$ /{
         s#^\$ \./tw asm ([^ :<]+\.tw)( |$)#$ ./tw asm < \1\2#

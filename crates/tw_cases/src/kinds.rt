@@ -21,7 +21,7 @@ use crate::shown::shown_text;
 use crate::stops::stops_text;
 use crate::streams::stream_text;
 use crate::threads::threads_text;
-use crate::woken::woken_text;
+use crate::woken::{SLOW, woken_text};
 use crate::words::read_words;
 use std::alloc::Global;
 use std::rt::Files;
@@ -99,11 +99,15 @@ fn program_kind<H: AllocGlobal + Threads + Wait + Clock + Sync>(
     rest: &str,
 ) -> Result<String, Complaint> {
     match kind {
-        "turns" | "rounds" | "stops" | "woken" | "unthreaded" | "scarce_pool" => {
+        "turns" | "rounds" | "stops" | "unthreaded" | "scarce_pool" => {
             run_kind(rt, kind, words, bytes, rest)
         }
         "threads" => match words.strip_prefix("held ") {
             Some(layout) => run_kind(rt, "held", layout, bytes, rest),
+            None => run_kind(rt, kind, words, bytes, rest),
+        },
+        "woken" => match words.strip_prefix("slow ") {
+            Some(layout) => run_kind(rt, "slow", layout, bytes, rest),
             None => run_kind(rt, kind, words, bytes, rest),
         },
         // `drives` needs an actor of each kind.
@@ -144,7 +148,8 @@ fn run_text<H: AllocGlobal + Threads + Wait + Clock + Sync>(
         "stops" => stops_text(rt, rt.alloc(), bytes, verified, given),
         "threads" => threads_text(rt, verified, given, false),
         "held" => threads_text(rt, verified, given, true),
-        "woken" => woken_text(rt, verified, given),
+        "woken" => woken_text(rt, verified, given, 0),
+        "slow" => woken_text(rt, verified, given, SLOW),
         "unthreaded" => unthreaded_text(rt, bytes, verified, given),
         "scarce_pool" => scarce_pool_text(rt, rt.alloc(), verified, given),
         "drives" => drives_text(rt, rt.alloc(), verified, given, false),

@@ -16,7 +16,7 @@ pub struct Course {
 }
 
 /// Returns whether an event executes at most 1,000,000,000 instructions.
-fn is_short(event: Event) -> bool
+fn has_few_instructions(event: Event) -> bool
     ensures { IsTrue result ↔ (size_of event ≤ 1000000000) }
 {
     match event {
@@ -43,7 +43,7 @@ fn play(alloc: Global, first: Plain, events: &[Event]) -> Result<Course, Complai
     let mut plain = first;
     let mut answers = Vec::new(alloc);
     for event in events {
-        if !is_short(*event) {
+        if !has_few_instructions(*event) {
             return Err(Complaint::LongEvent);
         }
         answers.push(plain.step(alloc, *event))?;

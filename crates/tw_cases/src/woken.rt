@@ -10,7 +10,7 @@ use std::sync::Wait;
 use std::sync::atomic::{AtomicBool, AtomicU64, Ordering};
 use std::thread;
 use std::thread::Threads;
-use std::time::Clock;
+use std::time::{Clock, Duration};
 use tw_host::Closed;
 use tw_types::Actor;
 use tw_verify::Verified;
@@ -23,16 +23,22 @@ const MOST_LOOKS: u64 = 10_000_000;
 /// How often a program is run.
 const TIMES: u64 = 5;
 
-/// A job observer that watches a run until it is over, and ignores its jobs.
+/// How long a slow job waits before it is run, in milliseconds: longer than an idle thread parks at most.
+pub const SLOW: u64 = 150;
+
+/// A job observer that watches a run until it is over. It may let jobs wait.
 #[derive(Drop)]
 struct Onlooker {
+    /// How long a job waits before it is run, in milliseconds. Jobs that are run under the lock don't.
+    pause: u64,
     saw_end: AtomicBool,
     late: AtomicU64,
 }
 
 impl Onlooker {
-    fn new() -> Onlooker {
+    fn new(pause: u64) -> Onlooker {
         Onlooker {
+            pause,
             saw_end: AtomicBool::new(false),
             late: AtomicU64::new(0),
         }
@@ -60,7 +66,12 @@ impl Gate for Onlooker {
         false
     }
 
-    fn before_job<R: Wait>(&self, _rt: &R, _actor: Actor, _task: u64) {}
+    fn before_job<R: Wait>(&self, rt: &R, _actor: Actor, _task: u64) {
+        if self.pause != 0 {
+            let nobody = AtomicU64::new(0);
+            nobody.park_timeout(rt, 0, Duration::from_millis(self.pause));
+        }
+    }
 
     fn after_job<R: Wait>(&self, _rt: &R, _actor: Actor, _task: u64) {}
 
@@ -95,9 +106,10 @@ fn put_run<R: Threads + Wait + Clock + Sync>(
     alloc: Global,
     verified: &Verified,
     given: &Given,
+    pause: u64,
     text: &mut Text,
 ) -> bool {
-    let onlooker = Onlooker::new();
+    let onlooker = Onlooker::new(pause);
     let (inputs, limit) = (given.inputs.as_slice(), given.limit);
     match run(rt, alloc, verified, inputs, given.layout, limit, &onlooker) {
         Ok((closed, false)) => {
@@ -113,20 +125,21 @@ fn put_run<R: Threads + Wait + Clock + Sync>(
 }
 
 /// Returns the report of a program that is run several times, if all reports are the same, each run ends soon, and no wake is late. Otherwise returns
-/// the output of a run that differs.
+/// the output of a run that differs. Each job that isn't run under the lock waits for `pause` milliseconds.
 pub fn woken_text<R: AllocGlobal + Threads + Wait + Clock + Sync>(
     rt: &R,
     verified: &Verified,
     given: &Given,
+    pause: u64,
 ) -> Result<String, Complaint> {
     let alloc = rt.alloc();
     let mut first = Text::new(alloc);
-    if !put_run(rt, alloc, verified, given, &mut first) {
+    if !put_run(rt, alloc, verified, given, pause, &mut first) {
         return first.into_line();
     }
     for _ in 1..TIMES {
         let mut next = Text::new(alloc);
-        if !put_run(rt, alloc, verified, given, &mut next) || !next.is(&first) {
+        if !put_run(rt, alloc, verified, given, pause, &mut next) || !next.is(&first) {
             next.put("another run: ");
             next.add(&first);
             return next.into_line();

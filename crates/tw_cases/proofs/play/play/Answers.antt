@@ -6,5 +6,5 @@ use Rattle.tw_cases.proofs.play.play.Goals as goal
 pub loop-event-preserved : goal.loop-event-preserved
 loop-event-preserved c =
     let n = opening_bound + 1000000000 * c.loop-event.event-index in
-    let short : size_of c.event-item.result ≤ 1000000000 = c.is_short.ensures.0 c.if-not-is_short.false in
+    let short : size_of c.event-item.result ≤ 1000000000 = c.has_few_instructions.ensures.0 c.if-not-has_few_instructions.false in
     below_more _ _ _ (omega arith) (c.step.ensures.below n c.loop-event.invariant)
