@@ -5,7 +5,7 @@
 # `N passed, M failed`, and fails if one does.
 #
 #   tools/many.sh                       all of it
-#   tools/many.sh scripts dask          these: scripts, threads, processes, dask, mpi, parallel, ssh, slurm
+#   tools/many.sh scripts dask          these: scripts, lines, threads, processes, dask, mpi, parallel, ssh, slurm
 #
 # COUNT is the number of inputs. TW and YUGLEMIT_LIBRARY may name the program and the library, which else are those of ./tw build and
 # ./tw build --library. An engine is left out if it isn't installed. Debian has them: python3-distributed, python3-mpi4py with openmpi-bin,
@@ -19,7 +19,7 @@ count=${COUNT:-10000}
 port=$((20000 + $$ % 20000))
 PYTHONPATH=$root/embed/python${PYTHONPATH:+:$PYTHONPATH}
 export PYTHONPATH PYTHONDONTWRITEBYTECODE=1
-[ $# -gt 0 ] || set -- scripts threads processes dask mpi parallel ssh slurm
+[ $# -gt 0 ] || set -- scripts lines threads processes dask mpi parallel ssh slurm
 room=$(mktemp -d)
 started=''
 passed=0 failed=0
@@ -85,6 +85,43 @@ mkdir "$room/more" && for i in $(seq 1 150); do echo 'ints:' >"$room/more/m$i.in
 # The expected results are arithmetic: the squares, and their sum.
 awk -v count="$count" 'BEGIN { for (i = 1; i <= count; i++)
     printf "n%d\t0\tout 0 cont int closed 2;  at 1 int %d;  at 2 int 49;out 1 int %d;quiet;\n", i, i * i, i * i + 49 }' | sort >"$room/wanted"
+
+# --- lines of inputs
+
+# lines_wanted FILE: whether the answers have the numbers and the outputs that arithmetic gives.
+lines_wanted() {
+    sed 's/^{"line":\([0-9]*\),.*"outputs":\(.*\),"status":"quiet"}$/\1 \2/' "$1" >"$room/lines.table"
+    awk -v count="$count" 'BEGIN { for (i = 1; i <= count; i++) printf "%d [{\"1\":%d,\"2\":49},%d]\n", i, i * i, i * i + 49 }' | cmp - "$room/lines.table"
+}
+
+whole_file() {
+    "$many/lines.sh" "$tw" "$program" "$room/inputs.jsonl" 1 "$count" >"$room/lines.out" && lines_wanted "$room/lines.out"
+}
+
+slices() {
+    quarter=$((count / 4 + 1))
+    for first in 1 $((quarter + 1)) $((2 * quarter + 1)) $((3 * quarter + 1)); do
+        "$many/lines.sh" "$tw" "$program" "$room/inputs.jsonl" "$first" $((first + quarter - 1)) >"$room/lines.$first" &
+        started="$started $!"
+    done
+    for first in 1 $((quarter + 1)) $((2 * quarter + 1)) $((3 * quarter + 1)); do
+        until_it 100 sh -c "[ \$(wc -l <'$room/lines.$first') -eq $((first + quarter - 1 > count ? count - first + 1 : quarter)) ]"
+        cat "$room/lines.$first"
+    done >"$room/lines.out"
+    lines_wanted "$room/lines.out"
+}
+
+one_line_refused() {
+    printf '[{"1": 3, "2": 7}]\n[7]\n' >"$room/two.jsonl"
+    refuses "$many/lines.sh" "$tw" "$program" "$room/two.jsonl" 1 2 >"$room/lines.out" && grep -q '^{"line":2,.*"refused O02' "$room/lines.out"
+}
+
+lines() {
+    awk -v count="$count" 'BEGIN { for (i = 1; i <= count; i++) print "[{\"1\": " i ", \"2\": 7}]" }' >"$room/inputs.jsonl"
+    check "lines: $count lines in one process" whole_file
+    check "lines: four slices side by side have the file's numbers" slices
+    check "lines: a rejected line is reported, and by the status" one_line_refused
+}
 
 # --- the scripts
 
@@ -431,7 +468,7 @@ slurm() {
 
 for engine; do
     case $engine in
-        scripts | threads | processes | dask | mpi | slurm) $engine ;;
+        scripts | lines | threads | processes | dask | mpi | slurm) $engine ;;
         ssh) ssh_runs ;;
         parallel) installed command -v parallel && parallel_runs ;;
         *) echo "many.sh: unknown engine $engine" >&2; exit 2 ;;
