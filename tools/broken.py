@@ -1,7 +1,7 @@
 # SPDX-License-Identifier: Apache-2.0
 """Gives a built `tw` broken input, and prints how often it ended in which way. Inputs are each beginning of a program's bytes, each of its bytes
-changed to each other, each beginning of a text, and a trace with each line left out, doubled, or changed to others. Ends with 1 where
-an end was none that the command's help names, or said nothing.
+changed to each other, each beginning of a text, a line of inputs likewise, and a trace with each line left out, doubled, or changed to others. Ends
+with 1 where an end was none that the command's help names, or said nothing.
 
     python3 tools/broken.py crates/tw_main/out/tw_main examples
 """
@@ -69,7 +69,10 @@ def histories(program: str, text: bytes, words: list[str]) -> list[bytes]:
 
 def trials(program: str, examples: Path) -> list[Trial]:
     code = bytes.fromhex("".join((examples / "store_seven.hex").read_text(encoding="ascii").split()))
+    two = subprocess.run([program, "asm", "--names"], input=(examples / "two_inputs.twn").read_bytes(), stdout=subprocess.PIPE, check=True).stdout
+    line = b'[{"1": 7, "5": -3}, -4]'
     made = [
+        Trial("a changed or shorter line of inputs, run --each", ["run", "--each"], [two + b"inputs\n" + other for other in [*beginnings(line)[1:], *changed(line)]]),
         Trial("beginnings of store_seven.hex, run", ["run"], as_hex(beginnings(code))),
         Trial("changed bytes of store_seven.hex, run", ["run"], as_hex(changed(code))),
         Trial("beginnings of members.twn, asm", ["asm", "--names"], beginnings((examples / "members.twn").read_bytes())),

@@ -26,6 +26,7 @@ from typing import Any
 
 sys.dont_write_bytecode = True
 import fuzz_calls
+import fuzz_each
 import fuzz_handles
 import fuzz_inputs
 import fuzz_reached
@@ -39,6 +40,7 @@ KINDS: dict[str, Kind] = {
     "check": Kind("budgets, needs and bounds against their definitions, and runs within them", fuzz_runs.make_check),
     "bounds": Kind("programs with bounds, run to their end with the bounds as limit and caps; which bounds are reached", fuzz_reached.make_bounds, 0.25),
     "run": Kind("runs in turn and in threads against the machine, and their replays", fuzz_runs.make_run),
+    "each": Kind("lines of inputs against a run of each, in turn and in threads", fuzz_each.make_each, 0.5),
     "names": Kind("symbolic assembly against the program's bytes, its expansion, and other names", fuzz_texts.make_names),
     "asm": Kind("texts in many forms against the program's bytes; damaged texts", fuzz_texts.make_asm),
     "decode": Kind("changed bytes against a second decoder", fuzz_texts.make_decode),

@@ -16,16 +16,21 @@ from fuzz_texts import damaged_text
 from fuzz_common import Corpus, RunTest, FuzzTest, case_word, difference, input_lines
 
 COMMANDS = ["asm", "disasm", "check", "run", "replay", "picture", "explain", "help", "--help", "-h", "--version", "-V", ""]
-FLAGS = ["--text", "--names", "--plain", "--places", "--bounds", "--trace", "--stats", "--picture", "--quiet", "--in-turn", "--inputs", "--help", "-h", "--", "-"]
-NUMBERED = ["--engines", "--servers", "--workers", "--limit", "--from", "--to"]
+FLAGS = ["--text", "--names", "--plain", "--places", "--bounds", "--trace", "--stats", "--picture", "--quiet", "--in-turn", "--inputs", "--help", "-h", "--", "-",
+         "--json", "--each", "--bounds=all"]
+NUMBERED = ["--engines", "--servers", "--workers", "--limit", "--from", "--to", "--jobs", "--most-tasks", "--most-instructions", "--most-data", "--most-bytes", "--most-budget"]
+READING = ("asm", "check", "disasm", "picture", "replay", "run")
 VALUES = ["0", "1", "2", "4", "5", "16", "17", "100", "1000000", "1000001", "4294967295", "4294967296", "-1", "+1", "01", "x", "", "1.0", "99999999999999999999"]
 INPUTS = ["int:7", "int:-4", "int:", "int:x", "int:9223372036854775808", "ints:", "ints:1=7,5=-3", "ints:5=1,1=2", "ints:1=2,", "text:", "text:a b ", "text:é",
           'texts:1="a",2="b,c"', "texts:1=a", 'tints:"a"=1', "tints:a=1", 'ttexts:"a"="x"', "Int:7", "7", "-7", "V04", "v4", "C5", "A99", "V", "run", "\r", "\t", "a" * 300, "\u00a0"]
-# A part of the text of each status.
+# A part of the text of each status; of JSON the last member.
 TEXTS = {
-    0: re.compile(r""), 2: re.compile(r"command line refused\n|input word \d+ refused\n"), 3: re.compile(r"(?m)^stuck \d+$|<svg"),
-    1: re.compile(r"(?m)^refused ([A-Z]\d\d|memory)|^not enabled at event \d+$"), 4: re.compile(r"(?m)^limit$|<svg"), 6: re.compile(r"(?m)^trap C\d+ at event \d+$"),
+    0: re.compile(r""), 2: re.compile(r"command line refused\n|input word \d+ refused\n"), 3: re.compile(r'(?m)^stuck \d+$|<svg|"status":"stuck"}$'),
+    1: re.compile(r'(?m)^refused ([A-Z]\d\d|memory)|^not enabled at event \d+$|"status":"refused"}$'), 4: re.compile(r'(?m)^limit$|<svg|"status":"limit"}$'),
+    6: re.compile(r'(?m)^trap C\d+ at event \d+$|"status":"trap"}$'),
 }
+# The status if a file can't be read.
+NO_FILE = 66
 
 
 def answer_fault(answer: Answer) -> str | None:
@@ -37,6 +42,19 @@ def answer_fault(answer: Answer) -> str | None:
 
 
 # --- args
+
+
+def named_files(words: list[str]) -> list[str]:
+    """Returns the arguments that name files: the first after `--inputs` or `--each`, and the first other one that is no value and no input."""
+    program = inputs = ""
+    for before, word in zip(words, words[1:]) if words[:1] and words[0] in READING else ():
+        if not word or word[0] == "-" and word != "-" or re.match("(int|ints|text|texts|tints|ttexts):", word):
+            continue
+        if before in ("--inputs", "--each") and not inputs:
+            inputs = word
+        elif not program and before not in NUMBERED and (before, word) not in (("--bounds", "main"), ("--bounds", "all")):
+            program = word
+    return [name for name in (program, inputs) if name]
 
 
 @dataclass(frozen=True)
@@ -59,6 +77,9 @@ class ArgsTest(FuzzTest):
         if why or not self.by_program:
             return why
         status, text = library.command(self.line, self.data)
+        files = named_files(self.line)
+        if files:
+            return None if "-" in files or status == NO_FILE else f"program: status {status}, but {files} can't be read"
         if status != answer[0]:
             return f"program: status {status} {text[:100]!r}, the library {answer[0]} {answer[1][:100]!r}"
         return difference("program", answer[1], text)

@@ -4,8 +4,10 @@
 from __future__ import annotations
 
 import argparse
+import itertools
 import os
 import resource
+import string
 import sys
 import tempfile
 from collections.abc import Callable, Iterator
@@ -30,6 +32,7 @@ TEXT = (
 HEX = ("check", "check --places", "disasm", "disasm --places", "run --in-turn", "replay", "picture")
 HISTORY = ("replay --text", "replay --text --stats", "picture --text")
 INPUTS = ("run --inputs --in-turn", "replay --inputs", "picture --inputs")
+EACH = ("run --each --text", "run --each --text --jobs 4")
 RUN = ("run --text --limit 1000000 --in-turn", "run --text --limit 1000000", "run --text --limit 1000000 --in-turn --stats")
 SHORT_RUN = ("run --text --in-turn", "run --text")
 
@@ -78,6 +81,18 @@ def numbered(front: str, line: str, back: str = "") -> Maker:
             lines.append(line.replace("%", str(len(lines))))
             size += len(lines[-1])
         return front + "".join(lines[:-1]) + back
+
+    return made
+
+
+def lettered(front: str, line: str, back: str) -> Maker:
+    """Makes a line, repeated between two texts with `%` as another name of four letters each time."""
+
+    def made(most: int) -> str:
+        letters = string.ascii_letters + string.digits + "_"
+        names = map("".join, itertools.product("bghjkqsuwxyz", letters, letters, letters))
+        count = (most - len(front) - len(back)) // (len(line) + 3)
+        return front + "".join(line.replace("%", name) for name in itertools.islice(names, count)) + back
 
     return made
 
@@ -154,6 +169,8 @@ def names() -> Iterator[Input]:
     yield Input("labels that collide after names", TEXT, colliding(NAMED, "%:\n", "RET\n"))
     yield Input("labels", TEXT, numbered("proc control\nregs\n", "l%:\n", "RET\n"))
     yield Input("labels after names", TEXT, numbered(NAMED, "l%:\n", "RET\n"))
+    yield Input("labels of four letters", TEXT, lettered("proc control\nregs\n", "%:\n", "RET\n"))
+    yield Input("labels of four letters after names", TEXT, lettered(NAMED, "%:\n", "RET\n"))
     yield Input("skips to labels", TEXT, numbered("proc control\nregs\n", "JMP l%\nl%:\n", "RET\n"))
     yield Input("skips to one label", TEXT, padded("proc control\nregs\n", "JMP end\n", "end:\nRET\n"))
 
@@ -163,6 +180,7 @@ def lines() -> Iterator[Input]:
     yield Input("one comment", TEXT, padded(RETURNS + ";", "x"))
     yield Input("empty comments", TEXT, padded(RETURNS, ";\n"))
     yield Input("empty comments after names", TEXT, padded("names\n" + RETURNS, ";\n"))
+    yield Input("blanks before comments after names", TEXT, padded("names\n" + RETURNS, " ;\n"))
     yield Input("quotes in a comment", TEXT, padded(RETURNS + ";", '"'))
     yield Input("one word", TEXT, padded("", "x"))
     yield Input("words in one line", TEXT, padded("", "a "))
@@ -170,6 +188,7 @@ def lines() -> Iterator[Input]:
     yield Input("spaces", TEXT, padded("", " ", RETURNS))
     yield Input("line ends", TEXT, padded("", "\n", RETURNS))
     yield Input("line ends after names", TEXT, padded("names\n", "\n", RETURNS))
+    yield Input("lines of a blank after names", TEXT, padded("names\n", " \n", RETURNS))
     yield Input("line ends and an error", TEXT, padded(RETURNS, "\n", "x\n"))
     yield Input("carriage returns", TEXT, padded("", "\r", "\n" + RETURNS))
     yield Input("letters of two bytes", TEXT, padded(RETURNS + ";", "é"))
@@ -246,6 +265,19 @@ def inputs() -> Iterator[Input]:
     yield Input("lines inputs", commands, padded(TAKES, "inputs\n"))
 
 
+def lines_of_inputs() -> Iterator[Input]:
+    """Yields lines of inputs, each of which has an answer."""
+    yield Input("blank lines", EACH, padded(TAKES, "\n"))
+    yield Input("a deep array", EACH, padded(TAKES, "["))
+    yield Input("items of an array", EACH, padded(TAKES + "[", "7,", "7]\n"))
+    yield Input("digits in an array", EACH, padded(TAKES + "[", "1", "]\n"))
+    yield Input("members of an object", EACH, numbered(TAKES + "[{", '"%":1,', '"x":1}]\n'))
+    yield Input("one key of an object", EACH, padded(TAKES + "[{", '"1":1,', '"1":1}]\n'))
+    yield Input("a string in an array", EACH, padded(TAKES + '["', "a", '"]\n'))
+    yield Input("escapes in an array", EACH, padded(TAKES + '["', "\\u0041", '"]\n'))
+    yield Input("objects of a thousand members", EACH, padded(TAKES, "[{" + ",".join(f'"{number}":1' for number in range(1000)) + "}]\n"))
+
+
 def circles() -> Iterator[Input]:
     """Rules that wait in a circle."""
     yield Input("a cycle of 3,000 rules", SHORT_RUN, padded("", "; x\n", circle(6, 250)))
@@ -255,7 +287,7 @@ def circles() -> Iterator[Input]:
 
 def all_inputs() -> Iterator[Input]:
     """Makes all of them."""
-    for kind in (heads, names, lines, values, programs, hex_texts, histories, inputs, circles):
+    for kind in (heads, names, lines, values, programs, hex_texts, histories, inputs, lines_of_inputs, circles):
         yield from kind()
 
 

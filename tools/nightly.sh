@@ -5,7 +5,7 @@
 #
 #   tools/nightly.sh                     100,000 tests a kind, and everything whole
 #   tools/nightly.sh --quick             1,000 tests a kind, and a small part of each harness
-#   tools/nightly.sh [--quick] NAME..    these: fuzz, fuzz_run, hostile, ..
+#   tools/nightly.sh [--quick] NAME..    these: fuzz, fuzz_run, hostile, ..; `harnesses` are all but the fuzz tests
 #   SECONDS_A_KIND=60 SEED=7 COUNT=500 tools/nightly.sh fuzz    bounds each kind's time; another seed, another count
 #   PATIENCE=5 tools/nightly.sh          each limit is five times as long, for a machine that does other things too
 #
@@ -31,7 +31,7 @@ whole_or_quick() {
 is_named() {
     [ -n "$names" ] || return 0
     for name in $names; do
-        case $1 in "$name" | "${name}_"*) return 0 ;; esac
+        case $name:$1 in "$1:$1" | fuzz:fuzz_*) return 0 ;; harnesses:fuzz*) ;; harnesses:*) return 0 ;; esac
     done
     return 1
 }
@@ -150,9 +150,12 @@ all_lines() {
 # Each request for memory or for a thread that fails ends in the answer or in `memory`; all runs of a load end alike.
 run_counted() {
     requests=$(whole_or_quick 100000 60)
+    { cat "$clone/examples/pipeline.tw" && printf 'inputs\n[39]\n[40]\n[41]\n[42]\n'; } >"$logs/lines"
     # shellcheck disable=SC2016
-    all_lines refused 3600 '^[0-9]+ allocations|status 5, memory|status 0, quiet' sh -c \
-        'tools/refused.sh -n "$1" "$0" run --text int:39 <examples/pipeline.tw && tools/refused.sh -t "$0" run --text --workers 4 int:39 <examples/pipeline.tw' "$program" "$requests"
+    all_lines refused 3600 '^[0-9]+ allocations|status 5, memory|status 0, quiet|status 0, \{"(events|line":4,)' sh -c '
+        tools/refused.sh -n "$1" "$0" run --text int:39 <examples/pipeline.tw && tools/refused.sh -n "$1" "$0" run --text --json int:39 <examples/pipeline.tw &&
+        tools/refused.sh -t "$0" run --text --workers 4 int:39 <examples/pipeline.tw &&
+        tools/refused.sh -n "$1" "$0" run --text --each --jobs 4 <"$2" && tools/refused.sh -t "$0" run --text --each --jobs 4 <"$2"' "$program" "$requests" "$logs/lines"
     times=$(whole_or_quick 100 3)
     all_lines load 1800 "^ *$times status 0, last line quiet, checksum [0-9a-f]+, errors ''\$|^[0-9]+ of $times\$" tools/load.sh "$times"
 }
@@ -178,6 +181,7 @@ run_harnesses() {
     harness broken 3600 python3 tools/broken.py "$program" examples
     # shellcheck disable=SC2046
     harness_with node mutants 3600 tools/mutants.py $(whole_or_quick "--table" cases)
+    [ -n "$quick" ] || harness_with rt wakes 3600 tools/wakes.py
     # shellcheck disable=SC2046
     harness many 2400 tools/many.sh $(whole_or_quick "" "threads")
     # shellcheck disable=SC2046
@@ -195,7 +199,7 @@ done
 logs=$root/out/nightly/$(date +%Y-%m-%dT%H%M%S)
 clone=$logs/clone
 mkdir -p "$logs" || exit
-trap 'rm -rf "$clone" "$logs/times"' EXIT
+trap 'rm -rf "$clone" "$logs/times" "$logs/lines"' EXIT
 # A harness is in a process group of its own, whose processes `timeout` ends.
 trap '[ -z "$child" ] || kill "$child"; exit 130' INT TERM HUP
 make_clone

@@ -375,7 +375,7 @@ class RunnerTest(unittest.TestCase):
     def test_cases_can_be_read(self) -> None:
         read = 0
         corpus = Corpus(Library())
-        for kind in ("check", "bounds", "run", "history", "stats", "names", "asm", "decode", "verify", "args", "library", "handles"):
+        for kind in ("check", "bounds", "run", "history", "stats", "names", "asm", "decode", "verify", "args", "library", "handles", "each"):
             for number in range(6):
                 test = fuzz.KINDS[kind].make(random.Random(number), corpus)
                 lines = Failure(kind, "1", number, test, "why").lines()[1:]

@@ -1,0 +1,140 @@
+"""The kind `each` of fuzz tests: the answer to each line of inputs is that of a run of its own."""
+
+from __future__ import annotations
+
+import json
+import random
+from dataclasses import dataclass, replace
+from typing import Iterator
+
+import fuzz_make
+from fuzz_code import INT
+from fuzz_library import Answer, Library
+from fuzz_machine import Value
+from fuzz_report import input_words
+from fuzz_runs import run_test
+from fuzz_common import Corpus, FuzzTest, RunTest, case_word, difference
+
+# Lines that no array of inputs is, with the first words of their errors.
+WRONG = {
+    "[": "inputs refused", "7": "inputs refused", "{}": "inputs refused", "[7,]": "inputs refused", "[7] 8": "inputs refused", "[" * 129: "inputs refused",
+    "null": "inputs refused", '"[7]"': "inputs refused", "[null]": "input 1 refused", "[true]": "input 1 refused", "[[7]]": "input 1 refused",
+}
+BLANK = ("", " ", "\t", " \r")
+
+
+@dataclass(frozen=True)
+class Line:
+    """A line as JSON, and its inputs; none if it is blank or wrong."""
+
+    text: str
+    inputs: tuple[Value, ...] | None = None
+
+
+@dataclass(frozen=True)
+class EachTest(RunTest):
+    """A program with lines of inputs, in turn, and by so many threads of the program if that isn't 0."""
+
+    lines: tuple[Line, ...] = ()
+    jobs: int = 0
+
+    @property
+    def data(self) -> str:
+        return "\n".join([self.hex, "inputs", *(line.text for line in self.lines)])
+
+    @property
+    def arguments(self) -> list[str]:
+        return ["run", "--each", "--limit", str(self.limit), *self.options]
+
+    def single(self, library: Library, values: tuple[Value, ...]) -> str:
+        """Returns the object of a run with these inputs."""
+        given = input_words(self.program.inputs, list(values))
+        return library.session(["run", "--in-turn", "--json", "--limit", str(self.limit), *self.options, *given], self.hex)[1]
+
+    def expected(self, library: Library) -> list[str]:
+        """Returns the answers; of wrong lines the first words."""
+        answers = []
+        for number, line in enumerate(self.lines, 1):
+            if line.inputs is not None:
+                answers.append(f'{{"line":{number},' + self.single(library, line.inputs)[1:].rstrip("\n"))
+            elif line.text in WRONG:
+                answers.append(f'{{"line":{number},"error":["{WRONG[line.text]}","line {number}, column ')
+        return answers
+
+    def answer_fault(self, expected: list[str], answer: Answer) -> str | None:
+        """Compares all answers."""
+        status, text = answer
+        got = text.split("\n")
+        cut = [line[:len(other)] if other.endswith("column ") else line for line, other in zip(got, expected)]
+        is_refused = any('"status":"refused"' in line for line in got)
+        if status != int(is_refused):
+            return f"status: {status} of {text[:300]!r}"
+        return difference("each", "\n".join([*expected, ""]), "\n".join([*cut, *got[len(expected):]]))
+
+    def fault(self, library: Library) -> str | None:
+        if not self.is_accepted(library):
+            return None
+        expected = self.expected(library)
+        why = self.answer_fault(expected, library.session(self.arguments, self.data))
+        if why or not self.jobs:
+            return why
+        return self.answer_fault(expected, library.command([*self.arguments, "--jobs", str(self.jobs)], self.data))
+
+    def smaller(self) -> Iterator[FuzzTest]:
+        for place in range(len(self.lines)):
+            yield replace(self, lines=self.lines[:place] + self.lines[place + 1:])
+        if self.jobs:
+            yield replace(self, jobs=0)
+
+    def case(self) -> list[str]:
+        return [f"# standard input: {self.data!r:.3000}", f"kind tw {' '.join(map(case_word, self.arguments))}"]
+
+
+# --- Lines as JSON
+
+
+def gap(chance: random.Random) -> str:
+    return chance.choice(["", "", "", " ", "\t", "  "])
+
+
+def json_text(chance: random.Random, text: str) -> str:
+    """Returns a text as a JSON string, with or without escapes for letters beyond ASCII."""
+    return json.dumps(text, ensure_ascii=chance.random() < 0.5)
+
+
+def json_value(chance: random.Random, value: Value) -> str:
+    """Returns a value as JSON; members are in any order."""
+    if isinstance(value, int):
+        return str(value)
+    if isinstance(value, str):
+        return json_text(chance, value)
+    pairs = list(value.items())
+    chance.shuffle(pairs)
+    members = [f"{json_text(chance, str(key))}{gap(chance)}:{gap(chance)}{json_value(chance, member)}" for key, member in pairs]
+    return "{" + f"{gap(chance)},{gap(chance)}".join(members) + "}"
+
+
+def json_line(chance: random.Random, values: tuple[Value, ...]) -> str:
+    parts = [json_value(chance, value) for value in values]
+    return gap(chance) + "[" + gap(chance) + f"{gap(chance)},{gap(chance)}".join(parts) + gap(chance) + "]" + chance.choice(["", " ", "\r"])
+
+
+def made_line(chance: random.Random, test: RunTest) -> Line:
+    """Makes a line of inputs that fit main; sometimes a blank or a wrong one, or one of too few inputs."""
+    kind = chance.random()
+    if kind < 0.1:
+        return Line(chance.choice(BLANK))
+    if kind < 0.2 and test.program.inputs == [(INT,)]:
+        return Line(chance.choice(list(WRONG)))
+    if kind < 0.2:
+        return Line(chance.choice([text for text, words in WRONG.items() if words == "inputs refused"]))
+    values = tuple(fuzz_make.inputs_of(chance, test.program))
+    if kind < 0.25:
+        values = values[:-1]
+    return Line(json_line(chance, values), values)
+
+
+def make_each(chance: random.Random, corpus: Corpus) -> FuzzTest:
+    test = run_test(chance, corpus)
+    lines = tuple(made_line(chance, test) for _ in range(chance.choice([0, 1, 2, 5, 9])))
+    return EachTest(**test.fields, lines=lines, jobs=chance.choice([1, 2, 3, 8, 64]) if chance.random() < 0.1 else 0)
