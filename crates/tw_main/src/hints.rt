@@ -52,12 +52,12 @@ pub fn print_notice(stderr: &Stderr, words: &[String]) -> io::Result<()> {
     )
 }
 
-/// Returns the code of the error that a line reports.
+/// Returns the code of the error that a line reports, which may be JSON.
 fn code_of(line: &[u8]) -> Option<&str> {
     let text = str::from_utf8(line).ok()?;
     let mut words = text.split(' ');
     let _kind = words.next()?;
-    let code = words.next()?;
+    let code = words.next()?.split('"').next()?;
     match code.as_bytes() {
         [b'A'..=b'Z', b'0'..=b'9', ..] => Some(code),
         _ => None,

@@ -4,7 +4,7 @@ use std::io;
 use std::io::Write;
 
 /// The number of bytes of a line that are kept.
-const KEPT: usize = 32;
+const KEPT: usize = 64;
 
 /// A writer that keeps the beginning of the line that may report an error: the first line, or of a check, which may list the program first, the
 /// first that does.
@@ -19,7 +19,7 @@ pub struct NotedWriter<W> {
 
 fn first_error(text: &[u8]) -> &[u8] {
     for line in text.split(|byte| *byte == b'\n') {
-        if line.starts_with(b"refused ") {
+        if line.starts_with(b"refused ") || line.starts_with(b"{\"error\":[\"refused ") {
             return line;
         }
     }
