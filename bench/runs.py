@@ -97,6 +97,18 @@ def beside_waiting():
         print(f"{cost:8.0f}   {cost / costs[100]:6.2f}  {waiting} waiting")
 
 
+def of_statistics():
+    print("The same runs with statistics or a timeline, for which the events are executed again: seconds of processors, and how many times as long")
+    runs, asked = {}, ("", "--stats", "--picture")
+    for name in (*ENGINE_RUNS, "load"):
+        for more in asked:
+            runs[name, more] = tw_run(read(name + ".tw"), LIMIT, "--workers=4", *more.split())
+    least = least_of(5, runs)
+    for name in (*ENGINE_RUNS, "load"):
+        used = [least[name, more][1] for more in asked]
+        print(f"{several(used)}   {several(time / used[0] for time in used[1:])}  {name}")
+
+
 def rate_of(written):
     return float(re.search(r"(\d+) tasks/s", written).group(1))
 
@@ -187,6 +199,7 @@ def print_table():
 
 of_one_engine()
 beside_waiting()
+of_statistics()
 empty_leaf_tasks()
 waiting_for_one_another()
 long_jobs(50, "3.5")

@@ -6,6 +6,9 @@ pub mod Parameters
 pub mod Calls
 pub mod Pending
 pub mod Growth
+pub mod RankOrder
+pub mod FirstRanks
+pub mod RankChanges
 pub mod Bests
 pub mod Numbered
 pub mod Moments

@@ -5,9 +5,10 @@ pub mod PlainView
 pub mod Opening
 pub mod Memory
 pub mod Moments
--- The code's data structures for tasks, rules and running tasks (Parts, Waiting), and contracts of private functions on parts of
--- the state.
+-- The code's data structures for tasks, rules and running tasks (Parts, Waiting), the order of waiting tasks (Rank, Ranking), and
+-- contracts of private functions on parts of the state.
 pub mod Parts
 pub mod Waiting
-pub mod Best
+pub mod Rank
+pub mod Ranking
 pub mod Events

@@ -12,6 +12,8 @@ mod events;
 mod opened;
 mod opening;
 mod plain;
+mod rank;
+mod ranks;
 mod rejection;
 mod rule;
 mod rules;

@@ -3,20 +3,22 @@
 ghost use Rattle.std.specs.Prelude.{◌≡◌, ◌<◌, ◌^◌, ◌==◌, option_map, OnErr, OnOk};
 ghost use Rattle.std.specs.FinMap.{empty, len};
 ghost use Rattle.tw_types.specs.Task.{best};
-ghost use Rattle.tw_machine.specs.Best.{is_better};
 ghost use Rattle.tw_machine.specs.Parts.{tasks_of};
 ghost use Rattle.tw_machine.specs.Waiting.{task_put, task_taken};
 
+use crate::rank::{Rank, kind_of};
+use crate::ranks::Ranks;
 use std::alloc::{AllocError, Global};
 use std::collections::BTreeMap;
 use std::marker::Model;
 use tw_instr::Task;
 use tw_types::Actor;
 
-/// The waiting tasks by their numbers, and the number of the next one. No number is reused.
+/// The waiting tasks by their numbers, their ranks, and the number of the next one. No number is reused.
 #[derive(Drop)]
 pub struct Tasks {
     waiting: BTreeMap<u64, Task>,
+    ranks: Ranks,
     next: u64,
 }
 
@@ -33,6 +35,10 @@ impl Model for Tasks {
     ghost coded = { Prim.hlevel (codes, code {X = TaskMeaning} {R = nat_cmp} coded_ℕ (Prim.hlevel codes)) };
 
     ghost view = { λ t. record { waiting = tasks_of t.waiting.entries; next = t.next } };
+
+    ghost use Rattle.tw_machine.specs.Ranking.{AreRanked};
+
+    ghost invariant = { λ t. AreRanked (tasks_of t.waiting.entries) t.next t.ranks };
 }
 
 impl Tasks {
@@ -42,6 +48,7 @@ impl Tasks {
     {
         Tasks {
             waiting: BTreeMap::new(alloc),
+            ranks: Ranks::new(alloc),
             next: 1,
         }
     }
@@ -64,7 +71,13 @@ impl Tasks {
         ensures put { OnOk result (self.new ≡ task_put self.old task) }
         ensures refused { OnErr result (self.new ≡ self.old) }
     {
-        self.waiting.insert(self.next, task)?;
+        let kind = kind_of(&task);
+        let rank = Rank::of(self.next, &task);
+        self.ranks.add(kind, rank)?;
+        if self.waiting.insert(self.next, task).is_err() {
+            self.ranks.remove(kind, rank);
+            return Err(AllocError);
+        }
         self.next += 1;
         Ok(())
     }
@@ -73,7 +86,10 @@ impl Tasks {
     pub fn remove(&mut self, number: u64)
         ensures { self.new ≡ task_taken self.old number }
     {
-        let _taken = self.waiting.remove(&number);
+        let Some(task) = self.waiting.remove(&number) else {
+            return;
+        };
+        self.ranks.remove(kind_of(&task), Rank::of(number, &task));
     }
 
     /// Returns the task that the actor takes, with its number: among those that it may take, the one with the greatest priority,
@@ -81,28 +97,8 @@ impl Tasks {
     pub fn best(&self, actor: Actor) -> Option<(u64, &Task)>
         ensures { option_map (λ e. (e.0, e.1.now)) result ≡ best actor self.now.waiting }
     {
-        best_of(&self.waiting, actor)
-    }
-}
-
-fn best_of(tasks: &BTreeMap<u64, Task>, actor: Actor) -> Option<(u64, &Task)>
-    ensures { option_map (λ e. (e.0, e.1.now)) result ≡ best actor (tasks_of tasks.now.entries) }
-{
-    let mut best: Option<(u64, &Task)> = None;
-    for (number, task) in tasks {
-        if task.is_eligible(actor) && is_better(best, task) {
-            best = Some((*number, task));
-        }
-    }
-    best
-}
-
-/// Returns whether a later task is preferred to the best of the earlier ones.
-fn is_better(best: Option<(u64, &Task)>, task: &Task) -> bool
-    ensures { result ≡ is_better (option_map (λ e. (e.0, e.1.now)) best.entry) task.now }
-{
-    match best {
-        Some((_, other)) => other.priority() < task.priority(),
-        None => true,
+        let number = self.ranks.first(&self.waiting, actor)?;
+        let task = self.waiting.get(&number)?;
+        Some((number, task))
     }
 }

@@ -1,12 +1,33 @@
-use Rattle.std.proofs.Common.{◌+◌, ap}
+use Rattle.std.proofs.Common.{◌≡◌, ◌+◌, ap, refl, subst, sym, true, false, is_err, OnOk, Result, Ok, Err}
 use Rattle.std.specs.Cmp.{nat_cmp_total}
 use Rattle.std.specs.FinMap.{nat_cmp-IsAntisymmetric}
+use Rattle.tw_types.specs.declared.actor.Kind.{Kind}
 use Rattle.tw_types.specs.Task.{Tasks}
 use Rattle.tw_types.proofs.Maps.{inserted_view}
+use Rattle.tw_machine.specs.declared.rank.Rank.{Rank}
+use Rattle.tw_machine.specs.Parts.{tasks_of}
+use Rattle.tw_machine.specs.Rank.{rank_of}
+use Rattle.tw_machine.specs.Ranking.{AreRanked, IsMarked}
 use Rattle.tw_machine.specs.Waiting.{TaskTable}
+use Rattle.tw_machine.proofs.RankChanges.{put_ranked}
 use Rattle.tw_machine.proofs.tasks.Tasks.put.Goals as goal
+
+on_ok : {A E : Type 0} (r : Result A E) (P : Type 0) → is_err r ≡ false → OnOk r P → P
+on_ok (Ok x) P e p = p
+on_ok (Err x) P e p = cc
 
 pub returns-clause-put : goal.returns-clause-put
 returns-clause-put c =
     let P : Tasks → TaskTable = λ ts. record { waiting = ts; next = c.self.inside.next + 1 } in
-    rw (← c.self.view_is) (ap P (inserted_view nat_cmp_total nat_cmp-IsAntisymmetric c.self.inside.waiting c.insert.new.self c.self.inside.next c.args.task c.in_ok-insert.ensures.updates))
+    rw (← c.self.view_is) (ap P (inserted_view nat_cmp_total nat_cmp-IsAntisymmetric c.self.inside.waiting c.insert.new.self c.self.inside.next c.args.task
+    (on_ok c.insert.result _ (sym c.if-is_err.ensures.value) c.insert.ensures.updates)))
+
+pub invariant_of-self-2 : goal.invariant_of-self-2
+invariant_of-self-2 c =
+    let tasks = tasks_of c.self.inside.waiting.entries in
+    let next = c.self.inside.next in
+    let old = c.self.inside.ranks in
+    let new = c.add.new.self in
+    let put = inserted_view nat_cmp_total nat_cmp-IsAntisymmetric c.self.inside.waiting c.insert.new.self next c.args.task (on_ok c.insert.result _ (sym c.if-is_err.ensures.value) c.insert.ensures.updates) in
+    let marked = subst (λ (k : Kind). IsMarked k (rank_of next c.args.task) true old new) c.kind_of-kind.ensures (subst (λ (r : Rank). IsMarked c.kind_of-kind.result r true old new) c.of-rank.ensures c.in_ok-add.ensures.added) in
+    subst (λ (ts : Tasks). AreRanked ts (next + 1) new) (sym put) (put_ranked tasks next old c.self.invariant next c.args.task new refl marked)

@@ -1,0 +1,92 @@
+-- The ranks after a task is put or removed.
+use Rattle.std.proofs.Common.{◌≡◌, ◌≤◌, ◌+◌, ℕ, Bool, true, false, cond, ◌&&◌, refl, sym, ap, ◌∙◌, arith, nat_cmp}
+use Rattle.std.specs.declared.option.Option.{Option}
+use Rattle.std.specs.declared.option.Option.TheVariants.{None, Some}
+use Rattle.std.specs.Cmp.{nat_cmp_total}
+use Rattle.std.specs.FinMap.{nat_cmp-IsAntisymmetric, empty, get, get-empty, get-insert, get-remove, insert, remove}
+use Rattle.std.specs.Ordering.{eq_by_cmp}
+use Rattle.tw_types.specs.declared.actor.Kind.{Kind}
+use Rattle.tw_types.specs.Actor.{same_kind}
+use Rattle.tw_types.specs.Task.{Task, Tasks}
+use Rattle.tw_types.proofs.Orders.{other_key, tied}
+use Rattle.tw_machine.specs.declared.rank.Rank.{Rank}
+use Rattle.tw_machine.specs.declared.ranks.Ranks.{Ranks}
+use Rattle.tw_machine.specs.Rank.{rank_cmp, rank_of}
+use Rattle.tw_machine.specs.Ranking.{AreRanked, IsMarked, has_rank, is_rank}
+use Rattle.tw_machine.proofs.RankOrder.{other_number}
+
+cond_same : (b : Bool) → cond b true false ≡ b
+cond_same true = refl
+cond_same false = refl
+
+cond_false : (b : Bool) → cond b false b ≡ false
+cond_false true = refl
+cond_false false = refl
+
+cond_none : (b : Bool) (o : Option Task) → o ≡ None → cond b None o ≡ None
+cond_none true o e = refl
+cond_none false o e = e
+
+and_false : (a b : Bool) → b ≡ false → (a && b) ≡ false
+and_false true b e = e
+and_false false b e = refl
+
+-- the kind and the rank are the task's
+is_it : Kind → Rank → ℕ → Task → Bool
+is_it kind r number task = same_kind task.kind kind && eq_by_cmp rank_cmp (rank_of number task) r
+
+pub none_ranked : (ranks : Ranks) → ((kind : Kind) (r : Rank) → has_rank ranks kind r ≡ false) → AreRanked empty 1 ranks
+none_ranked ranks none = record {
+  ranked = λ kind r. none kind r ∙ ap (is_rank kind r) (sym (get-empty nat_cmp r.number));
+  unused = λ number low. get-empty nat_cmp number;
+}
+
+module _ (tasks : Tasks) (next : ℕ) (old : Ranks) (are : AreRanked tasks next old) (number : ℕ) (task : Task) where
+  -- the task of the rank's number, if that is this one
+  at : (r : Rank) (there : Option Task) → eq_by_cmp nat_cmp r.number number ≡ true → get tasks number ≡ there → get tasks r.number ≡ there
+  at r there e is = ap (get tasks) (nat_cmp-IsAntisymmetric r.number number (tied (nat_cmp r.number number) e)) ∙ is
+
+  renumbered : (kind : Kind) (r : Rank) → eq_by_cmp nat_cmp r.number number ≡ true → is_it kind r number task ≡ is_it kind r r.number task
+  unfolding is_it
+  renumbered kind r e = ap (λ (n : ℕ). same_kind task.kind kind && eq_by_cmp rank_cmp (rank_of n task) r) (sym (nat_cmp-IsAntisymmetric r.number number (tied (nat_cmp r.number number) e)))
+
+  apart : (kind : Kind) (r : Rank) → eq_by_cmp nat_cmp r.number number ≡ false → is_it kind r number task ≡ false
+  unfolding is_it
+  apart kind r e = and_false (same_kind task.kind kind) _ (other_number number task r e)
+
+  pub put_ranked : (new : Ranks) → number ≡ next → IsMarked task.kind (rank_of number task) true old new → AreRanked (insert tasks number task) (next + 1) new
+  unfolding is_it
+  put_ranked new is marked = record { ranked = λ kind r. marked kind r ∙ by kind r (eq_by_cmp nat_cmp r.number number) refl; unused = later }
+    where
+      free : get tasks number ≡ None
+      free = are.unused number (omega (arith, is))
+
+      by : (kind : Kind) (r : Rank) (b : Bool) → eq_by_cmp nat_cmp r.number number ≡ b → cond (is_it kind r number task) true (has_rank old kind r) ≡ is_rank kind r (get (insert tasks number task) r.number)
+      by kind r true e =
+          ap (cond (is_it kind r number task) true) (are.ranked kind r ∙ ap (is_rank kind r) (at r None e free))
+          ∙ cond_same (is_it kind r number task) ∙ renumbered kind r e
+          ∙ ap (is_rank kind r) (sym (get-insert nat_cmp_total tasks number task r.number ∙ ap (λ (b : Bool). cond b (Some task) (get tasks r.number)) e))
+      by kind r false e =
+          ap (λ (b : Bool). cond b true (has_rank old kind r)) (apart kind r e) ∙ are.ranked kind r
+          ∙ ap (is_rank kind r) (sym (get-insert nat_cmp_total tasks number task r.number ∙ ap (λ (b : Bool). cond b (Some task) (get tasks r.number)) e))
+
+      later : (n : ℕ) → next + 1 ≤ n → get (insert tasks number task) n ≡ None
+      later n low =
+          get-insert nat_cmp_total tasks number task n ∙ ap (λ (b : Bool). cond b (Some task) (get tasks n)) (other_key nat_cmp-IsAntisymmetric n number (λ e. omega (arith, e, is)))
+          ∙ are.unused n (omega arith)
+
+  pub removed_ranked : (new : Ranks) → get tasks number ≡ Some task → IsMarked task.kind (rank_of number task) false old new → AreRanked (remove tasks number) next new
+  unfolding is_it
+  removed_ranked new there marked = record {
+    ranked = λ kind r. marked kind r ∙ by kind r (eq_by_cmp nat_cmp r.number number) refl;
+    unused = λ n low. get-remove nat_cmp_total tasks number n ∙ cond_none (eq_by_cmp nat_cmp n number) (get tasks n) (are.unused n low);
+  }
+    where
+      by : (kind : Kind) (r : Rank) (b : Bool) → eq_by_cmp nat_cmp r.number number ≡ b → cond (is_it kind r number task) false (has_rank old kind r) ≡ is_rank kind r (get (remove tasks number) r.number)
+      by kind r true e =
+          ap (cond (is_it kind r number task) false) (are.ranked kind r ∙ ap (is_rank kind r) (at r (Some task) e there) ∙ sym (renumbered kind r e))
+          ∙ cond_false (is_it kind r number task)
+          ∙ ap (is_rank kind r) (sym (get-remove nat_cmp_total tasks number r.number ∙ ap (λ (b : Bool). cond b None (get tasks r.number)) e))
+      by kind r false e =
+          ap (λ (b : Bool). cond b false (has_rank old kind r)) (apart kind r e) ∙ are.ranked kind r
+          ∙ ap (is_rank kind r) (sym (get-remove nat_cmp_total tasks number r.number ∙ ap (λ (b : Bool). cond b None (get tasks r.number)) e))

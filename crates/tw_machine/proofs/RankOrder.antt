@@ -1,0 +1,58 @@
+-- The order of ranks, and which ranks tie.
+use Rattle.std.proofs.Common.{◌≡◌, ℕ, Bool, true, false, refl, sym, ap, subst, rules}
+use Rattle.std.specs.declared.cmp.Ordering.{Ordering}
+use Rattle.std.specs.declared.cmp.Ordering.TheVariants.{Less, Equal, Greater}
+use Rattle.std.specs.Cmp.{IsTotalOrder, IsStrictWeakOrder, nat_cmp_total}
+use Rattle.std.specs.Cmp.Rules.{comparing}
+use Rattle.std.specs.FinMap.{int_cmp-IsAntisymmetric, nat_cmp-IsAntisymmetric}
+use Rattle.std.specs.Ordering.{eq_by_cmp, int_cmp, is_eq, is_lt, nat_cmp, ordering_then}
+use Rattle.std.proofs.lemmas.List.Sorted.{ranks_by}
+use Rattle.tw_types.specs.Task.{Task}
+use Rattle.tw_types.proofs.Orders.{own_key, tied}
+use Rattle.tw_machine.specs.declared.rank.Rank.{Rank}
+use Rattle.tw_machine.specs.Rank.{rank_cmp, rank_of}
+
+pub rank_cmp_total : IsTotalOrder rank_cmp
+rank_cmp_total = search (comparing, rules)
+
+weak : IsStrictWeakOrder (λ x y. is_lt (rank_cmp x y))
+weak = ranks_by rank_cmp_total (λ x. x)
+
+first_ties : (r s : Ordering) → is_eq (ordering_then r s) ≡ true → r ≡ Equal
+first_ties Less s e = cc
+first_ties Equal s e = refl
+first_ties Greater s e = cc
+
+second_ties : (r s : Ordering) → is_eq (ordering_then r s) ≡ true → s ≡ Equal
+second_ties Less s e = cc
+second_ties Equal s e = tied s e
+second_ties Greater s e = cc
+
+not_lt : (r : Ordering) → is_eq r ≡ true → is_lt r ≡ false
+not_lt Less e = cc
+not_lt Equal e = refl
+not_lt Greater e = cc
+
+pub same_priority : (q k : Rank) → is_eq (rank_cmp q k) ≡ true → k.priority ≡ q.priority
+same_priority q k e = int_cmp-IsAntisymmetric k.priority q.priority (first_ties (int_cmp k.priority q.priority) (nat_cmp q.number k.number) e)
+
+pub same_number : (q k : Rank) → is_eq (rank_cmp q k) ≡ true → q.number ≡ k.number
+same_number q k e = nat_cmp-IsAntisymmetric q.number k.number (second_ties (int_cmp k.priority q.priority) (nat_cmp q.number k.number) e)
+
+-- ranks of tasks with other numbers don't tie
+pub other_number : (n : ℕ) (task : Task) (r : Rank) → eq_by_cmp nat_cmp r.number n ≡ false → eq_by_cmp rank_cmp (rank_of n task) r ≡ false
+other_number n task r apart = by (eq_by_cmp rank_cmp (rank_of n task) r) refl
+  where
+    by : (b : Bool) → eq_by_cmp rank_cmp (rank_of n task) r ≡ b → b ≡ false
+    by true e =
+        let same : n ≡ r.number = same_number (rank_of n task) r e in
+        let itself : eq_by_cmp nat_cmp r.number n ≡ true = subst (λ (m : ℕ). eq_by_cmp nat_cmp r.number m ≡ true) (sym same) (own_key nat_cmp_total r.number) in
+        cc
+    by false e = refl
+
+pub tie_not_before : (q k : Rank) → is_eq (rank_cmp q k) ≡ true → is_lt (rank_cmp q k) ≡ false
+tie_not_before q k e = not_lt (rank_cmp q k) e
+
+-- what ties with a later rank isn't before the first
+pub tie_with_later : (first later q : Rank) → rank_cmp first later ≡ Less → is_eq (rank_cmp q later) ≡ true → is_lt (rank_cmp q first) ≡ false
+tie_with_later first later q below ties = weak.chain q later first (tie_not_before q later ties) (weak.one_way first later (ap is_lt below))
