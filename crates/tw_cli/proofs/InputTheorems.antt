@@ -10,7 +10,7 @@ use Rattle.tw_cli.specs.InputReasons.{diagnostic_line}
 use Rattle.tw_cli.specs.Order.{IsInputReason, IsRejection}
 use Rattle.tw_cli.specs.declared.command.NoOrder.{NoOrder}
 use Rattle.tw_cli.specs.declared.command.NoOrder.TheVariants.{Help, Refused, InputWord, Explanation, NoMemory}
-use Rattle.tw_cli.specs.CommandLine.{Asked, Assembles, Disassembles, Checks, Explains, Runs, RunsEach, Replays, IsAsked, IsRefusedInput}
+use Rattle.tw_cli.specs.CommandLine.{Asked, Assembles, Disassembles, Checks, Explains, Runs, RunsJson, RunsEach, Replays, IsAsked, IsRefusedInput}
 use Rattle.tw_cli.specs.declared.command.Order.{Order}
 use Rattle.tw_cli.proofs.InputReading.{IsOne, one_int, one_int_first, one_member, one_text_first}
 use Rattle.tw_cli.proofs.Members.{stops}
@@ -208,6 +208,7 @@ never_refused (Disassembles source listed) order number is_asked h = h
 never_refused (Checks source requested) order number is_asked h = h
 never_refused (Runs source answer layout caps most traced turns (Some words)) order number (run, is, answer_is, layout_is, caps_is, limit_is, trace_is, turns_is, spelled) h = none_refused words run.inputs number spelled h
 never_refused (Runs source answer layout caps most traced turns None) order number is_asked h = h
+never_refused (RunsJson source answer layout caps most traced turns) order number is_asked h = h
 never_refused (RunsEach source layout caps most threads) order number is_asked h = h
 never_refused (Replays source answer layout (Some words)) order number (replay, is, answer_is, layout_is, spelled) h = none_refused words replay.inputs number spelled h
 never_refused (Replays source answer layout None) order number is_asked h = h
@@ -219,6 +220,7 @@ one_refused (Disassembles source listed) number other h k = absurd h
 one_refused (Checks source requested) number other h k = absurd h
 one_refused (Runs source answer layout caps most traced turns (Some words)) number other h k = one_refused_word words number other h k
 one_refused (Runs source answer layout caps most traced turns None) number other h k = absurd h
+one_refused (RunsJson source answer layout caps most traced turns) number other h k = absurd h
 one_refused (RunsEach source layout caps most threads) number other h k = absurd h
 one_refused (Replays source answer layout (Some words)) number other h k = one_refused_word words number other h k
 one_refused (Replays source answer layout None) number other h k = absurd h

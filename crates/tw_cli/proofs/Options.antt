@@ -23,9 +23,9 @@ use Rattle.tw_lexer.specs.Number.{IsRead, SpellsDigits}
 use Rattle.tw_lexer.specs.declared.numbers.TokenError.{TokenError}
 use Rattle.tw_lexer.specs.declared.numbers.TokenError.TheVariants.{Form, Limit}
 use Rattle.tw_types.specs.Layout.{ActorCounts}
-use Rattle.tw_cli.specs.Options.{HasActors, HasCaps, HasStretch, bounds_faults, cap_options, check_options, each, given_bounds, given_check, given_form, given_places, named_limit, NumberOption, actor_options, engines, first_shown, inputs, is_given, jobs, last_shown, limit, number_in, number_of, number_options, option_faults, servers, stretch_options, workers}
+use Rattle.tw_cli.specs.Options.{HasActors, HasCaps, HasStretch, bounds_faults, cap_options, check_options, each, given_bounds, given_check, given_form, given_places, named_limit, NumberOption, actor_options, engines, first_shown, inputs, inputs_json, is_given, jobs, last_shown, limit, number_in, number_of, number_options, option_faults, servers, stretch_options, workers}
 use Rattle.tw_cli.specs.Order.{HasReason, IsRequest}
-use Rattle.tw_cli.specs.CommandLine.{Asked, check_faults, drawing_faults, each_excludes, given_faults, given_words, input_faults, is_json_with_more, picture_faults, replay_faults, report_faults, run_faults, stretch_faults}
+use Rattle.tw_cli.specs.CommandLine.{Asked, check_faults, drawing_faults, each_excludes, given_faults, given_words, input_faults, is_json_with_more, json_excludes, picture_faults, replay_faults, report_faults, run_faults, stretch_faults}
 use Rattle.tw_cli.specs.declared.command.NoOrder.TheVariants.{Refused}
 use Rattle.tw_cli.specs.declared.caps.Caps.{Caps}
 use Rattle.tw_cli.specs.declared.checks.BoundsOf.{BoundsOf}
@@ -216,10 +216,15 @@ pub jobs_refused : (rows : List Row) → option_faults number_options rows ≡ [
     → run_faults rows ≡ ValueValidation ∷ []
 jobs_refused rows numbers capped pictures given alone wrong = rw (numbers, capped, pictures, given, alone, wrong) refl
 
--- threads without `--each` are a fault of `run`
-pub jobs_alone_refused : (rows : List Row) → option_faults number_options rows ≡ [] → option_faults cap_options rows ≡ [] → picture_faults rows ≡ [] → is_given each rows ≡ false → is_some (first_of jobs.name rows) ≡ true
+-- what `--inputs-json` excludes is a fault of `run`
+pub json_refused : (rows : List Row) → option_faults number_options rows ≡ [] → option_faults cap_options rows ≡ [] → picture_faults rows ≡ [] → is_given each rows ≡ false → is_given inputs_json rows ≡ true → json_excludes rows ≡ true
     → run_faults rows ≡ ArgumentConflict ∷ []
-jobs_alone_refused rows numbers capped pictures single named = rw (numbers, capped, pictures, single, named) refl
+json_refused rows numbers capped pictures single given excluded = rw (numbers, capped, pictures, single, given, excluded) refl
+
+-- threads without `--each` are a fault of `run`
+pub jobs_alone_refused : (rows : List Row) → option_faults number_options rows ≡ [] → option_faults cap_options rows ≡ [] → picture_faults rows ≡ [] → is_given each rows ≡ false → is_given inputs_json rows ≡ false
+    → is_some (first_of jobs.name rows) ≡ true → run_faults rows ≡ ArgumentConflict ∷ []
+jobs_alone_refused rows numbers capped pictures single words named = rw (numbers, capped, pictures, single, words, named) refl
 
 -- a fault of an option is a fault of the command; without one, a fault of the inputs is
 pub run_refused : (rows : List Row) → option_faults number_options rows ≡ ValueValidation ∷ [] → run_faults rows ≡ ValueValidation ∷ []

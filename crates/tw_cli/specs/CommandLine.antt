@@ -8,14 +8,14 @@ use Rattle.clap.specs.declared.error.ErrorKind.TheVariants.{ArgumentConflict}
 use Rattle.tw_types.specs.declared.input.Input.{Input}
 use Rattle.tw_types.specs.Layout.{ActorCounts}
 use Rattle.tw_cli.specs.InputWords.{AreSpelled, IsRefusedWord, RefusedWord}
-use Rattle.tw_cli.specs.Options.{NumberOption, actor_options, ExplainOrder, explaining, given_actors, given_assembly, given_disassembly, given_form, each, first_shown, flag_rule, in_turn, inputs, bounds_rule, bounds_faults, cap_options, check_options, given_caps, given_check, checking, is_given, jobs, json, last_shown, limit, names, number_options, option_faults, option_rule, picture, picture_options, places, plain, quiet, given_source, stats, stretch_options, given_range, text, requested, trace}
+use Rattle.tw_cli.specs.Options.{NumberOption, actor_options, ExplainOrder, explaining, given_actors, given_assembly, given_disassembly, given_form, each, first_shown, flag_rule, in_turn, inputs, inputs_json, bounds_rule, bounds_faults, cap_options, check_options, given_caps, given_check, checking, is_given, jobs, json, last_shown, limit, names, number_options, option_faults, option_rule, picture, picture_options, places, plain, quiet, given_source, stats, stretch_options, given_range, text, requested, trace}
 use Rattle.tw_cli.specs.Explanations.{IsMeaningOf, number_faults, number_rule, number_word}
 use Rattle.tw_cli.specs.declared.command.Answer.{Answer}
 use Rattle.tw_cli.specs.declared.command.Answer.TheVariants.{Json, Numbers, Picture, Report}
 use Rattle.tw_cli.specs.declared.command.RunAnswer.{RunAnswer}
 use Rattle.tw_cli.specs.declared.command.RunAnswer.TheVariants as written
 use Rattle.tw_cli.specs.declared.command.Order.{Order}
-use Rattle.tw_cli.specs.declared.command.InputsOrder.TheVariants.{ToReplay, ToRun}
+use Rattle.tw_cli.specs.declared.command.InputsOrder.TheVariants.{ToReplay, ToRun, ToRunJson}
 use Rattle.tw_cli.specs.declared.command.Order.TheVariants.{Assemble, Each, Inputs, Program, Replay}
 use Rattle.tw_cli.specs.declared.caps.Caps.{Caps}
 use Rattle.tw_cli.specs.declared.checks.BoundsOf.TheVariants.{NoBounds}
@@ -81,7 +81,7 @@ abbrev pub written_line : App
 written_line = flags_line numbered_line (trace ∷ stats ∷ json ∷ each ∷ picture ∷ [])
 
 abbrev pub run_line : App
-run_line = reading_line (flags_line (capped_line written_line) (in_turn ∷ quiet ∷ []))
+run_line = reading_line (flags_line (capped_line written_line) (in_turn ∷ quiet ∷ inputs_json ∷ []))
 
 -- the commands that are given a trace
 abbrev pub replay_line : App
@@ -118,14 +118,15 @@ listed_words rows = if is_given inputs rows then None else Some (given_words row
 
 -- what a command requests. Each that reads a program has its format; `asm`, `disasm` and `check` have what they print. `run` has its
 -- output, its actors, its maximum number of events, whether its trace is written, whether it is single-threaded, and its input arguments. `replay`
--- and `picture` have their output, their actors and their input arguments. Without input arguments the inputs are read after the program. `explain`
--- has its code. `run` of each line has its actors, its caps, the maximum number of events of each run, and how many
--- threads answer lines.
+-- and `picture` have their output, their actors and their input arguments. Without input arguments the inputs are read after the program. `run` with
+-- JSON inputs has what `run` has, without input arguments. `run` of each line has its actors, its caps, the maximum number of events of each run, and
+-- how many threads answer lines. `explain` has its code.
 pub data Asked : Type 0 where
   Assembles : AssembleOrder → Asked
   Disassembles : Source → DisassembleOrder → Asked
   Checks : Source → CheckOrder → Asked
   Runs : Source → RunAnswer → ActorCounts → Caps → ℕ → Bool → Bool → Option (List Text) → Asked
+  RunsJson : Source → RunAnswer → ActorCounts → Caps → ℕ → Bool → Bool → Asked
   RunsEach : Source → ActorCounts → Caps → ℕ → ℕ → Asked
   Replays : Source → Answer → ActorCounts → Option (List Text) → Asked
   Explains : ExplainOrder → Asked
@@ -140,14 +141,20 @@ written_answer rows = if is_given json rows then written.Json else if is_given s
 abbrev pub run_answer : List Row → RunAnswer
 run_answer rows = if is_given picture rows then written.Picture (given_range rows) else written_answer rows
 
--- return the request of `run`, from what clap found after it: of one run, and of either
+-- return the request of `run`, from what clap found after it: of one run, of one with JSON inputs, and of any
 abbrev pub single_asked : List Row → Asked
 single_asked rows =
     Runs (given_source rows) (run_answer rows) (given_actors rows) (given_caps rows) (requested limit rows) (is_given trace rows) (is_given in_turn rows) (listed_words rows)
 
+abbrev pub json_asked : List Row → Asked
+json_asked rows =
+    RunsJson (given_source rows) (run_answer rows) (given_actors rows) (given_caps rows) (requested limit rows) (is_given trace rows) (is_given in_turn rows)
+
 abbrev pub run_asked : List Row → Asked
 run_asked rows =
-    if is_given each rows then RunsEach (given_source rows) (given_actors rows) (given_caps rows) (requested limit rows) (requested jobs rows) else single_asked rows
+    if is_given each rows then RunsEach (given_source rows) (given_actors rows) (given_caps rows) (requested limit rows) (requested jobs rows) else
+    if is_given inputs_json rows then json_asked rows else
+    single_asked rows
 
 -- returns the request of `replay` or `picture`, from what clap found after it
 abbrev pub replay_asked : Answer → List Row → Asked
@@ -190,6 +197,8 @@ IsAsked (Runs source answer layout caps most traced turns (Some words)) order =
     × (run.answer ≡ answer) × (run.layout ≡ layout) × (run.caps ≡ caps) × (run.limit ≡ most) × (run.trace ≡ traced) × (run.in_turn ≡ turns) × AreSpelled run.inputs words
 IsAsked (Runs source answer layout caps most traced turns None) order =
     (run : RunOptions) × (order ≡ Inputs source (ToRun run)) × (run.answer ≡ answer) × (run.layout ≡ layout) × (run.caps ≡ caps) × (run.limit ≡ most) × (run.trace ≡ traced) × (run.in_turn ≡ turns)
+IsAsked (RunsJson source answer layout caps most traced turns) order =
+    (run : RunOptions) × (order ≡ Inputs source (ToRunJson run)) × (run.answer ≡ answer) × (run.layout ≡ layout) × (run.caps ≡ caps) × (run.limit ≡ most) × (run.trace ≡ traced) × (run.in_turn ≡ turns)
 IsAsked (RunsEach source layout caps most threads) order =
     (run : EachOrder) × (order ≡ Each source run) × (run.layout ≡ layout) × (run.caps ≡ caps) × (run.limit ≡ most) × (run.jobs ≡ threads)
 IsAsked (Replays source answer layout (Some words)) order =
@@ -205,6 +214,7 @@ IsRefusedInput (Disassembles source listed) refused = ⊥
 IsRefusedInput (Checks source requested) refused = ⊥
 IsRefusedInput (Runs source answer layout caps most traced turns (Some words)) refused = IsRefusedWord words refused
 IsRefusedInput (Runs source answer layout caps most traced turns None) refused = ⊥
+IsRefusedInput (RunsJson source answer layout caps most traced turns) refused = ⊥
 IsRefusedInput (RunsEach source layout caps most threads) refused = ⊥
 IsRefusedInput (Replays source answer layout (Some words)) refused = IsRefusedWord words refused
 IsRefusedInput (Replays source answer layout None) refused = ⊥
@@ -216,6 +226,7 @@ IsExplained (Assembles what) explained = ⊥
 IsExplained (Disassembles source listed) explained = ⊥
 IsExplained (Checks source requested) explained = ⊥
 IsExplained (Runs source answer layout caps most traced turns words) explained = ⊥
+IsExplained (RunsJson source answer layout caps most traced turns) explained = ⊥
 IsExplained (RunsEach source layout caps most threads) explained = ⊥
 IsExplained (Replays source answer layout words) explained = ⊥
 IsExplained (Explains order) explained = (explained.form ≡ order.form) × IsMeaningOf order.word explained.code.items explained.text.items
@@ -232,7 +243,7 @@ has_more rows = is_given trace rows || is_given stats rows
 
 -- returns whether something is given that `--each` excludes
 abbrev pub each_excludes : List Row → Bool
-each_excludes rows = (is_given picture rows || has_more rows) || (is_given inputs rows || not (is_empty (given_words rows)))
+each_excludes rows = (is_given picture rows || has_more rows) || (is_given inputs_json rows || (is_given inputs rows || not (is_empty (given_words rows))))
 
 -- return the fault of `--each` with other output or other inputs, or of the number of its threads
 abbrev pub each_faults : List Row → Kinds
@@ -242,8 +253,15 @@ each_faults rows = if each_excludes rows then ArgumentConflict ∷ [] else optio
 abbrev pub single_faults : List Row → Kinds
 single_faults rows = if is_some (first_of jobs.name rows) then ArgumentConflict ∷ [] else input_faults rows
 
+-- return the fault of JSON inputs with other inputs, or with a number of threads
+abbrev pub json_excludes : List Row → Bool
+json_excludes rows = is_some (first_of jobs.name rows) || (is_given inputs rows || not (is_empty (given_words rows)))
+
+abbrev pub json_input_faults : List Row → Kinds
+json_input_faults rows = if json_excludes rows then ArgumentConflict ∷ [] else []
+
 abbrev pub given_faults : List Row → Kinds
-given_faults rows = if is_given each rows then each_faults rows else single_faults rows
+given_faults rows = if is_given each rows then each_faults rows else if is_given inputs_json rows then json_input_faults rows else single_faults rows
 
 -- returns the fault of a range whose last event is before its first
 abbrev pub stretch_faults : List Row → Kinds

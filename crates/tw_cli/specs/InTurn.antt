@@ -1,8 +1,8 @@
 -- Orders whose runs are single-threaded.
 use Rattle.std.specs.Prelude.{◌≡◌, true}
-use Rattle.tw_cli.specs.CommandLine.{Asked, Assembles, Disassembles, Checks, Runs, RunsEach, Replays, Explains}
+use Rattle.tw_cli.specs.CommandLine.{Asked, Assembles, Disassembles, Checks, Runs, RunsJson, RunsEach, Replays, Explains}
 use Rattle.tw_cli.specs.declared.command.InputsOrder.{InputsOrder}
-use Rattle.tw_cli.specs.declared.command.InputsOrder.TheVariants.{ToReplay, ToRun}
+use Rattle.tw_cli.specs.declared.command.InputsOrder.TheVariants.{ToReplay, ToRun, ToRunJson}
 use Rattle.tw_cli.specs.declared.command.Order.{Order}
 use Rattle.tw_cli.specs.declared.command.Order.TheVariants.{Assemble, Each, Inputs, Program, Replay}
 use Rattle.tw_cli.specs.declared.command.ProgramOrder.{ProgramOrder}
@@ -16,6 +16,7 @@ turned (Assembles what) = Assembles what
 turned (Disassembles source listed) = Disassembles source listed
 turned (Checks source listed) = Checks source listed
 turned (Runs source answer layout caps most traced turns words) = Runs source answer layout caps most traced true words
+turned (RunsJson source answer layout caps most traced turns) = RunsJson source answer layout caps most traced true
 turned (RunsEach source layout caps most threads) = RunsEach source layout caps most threads
 turned (Replays source answer layout words) = Replays source answer layout words
 turned (Explains number) = Explains number
@@ -31,6 +32,7 @@ IsProgramInTurn (Verified order) = IsVerifiedInTurn order
 
 abbrev pub IsInputsInTurn : InputsOrder → Type 0
 IsInputsInTurn (ToRun options) = options.in_turn ≡ true
+IsInputsInTurn (ToRunJson options) = options.in_turn ≡ true
 IsInputsInTurn (ToReplay options) = Unit {0}
 
 abbrev pub IsInTurn : Order → Type 0
@@ -51,6 +53,7 @@ program_in_turn (Verified order) = Verified (verified_in_turn order)
 
 abbrev pub inputs_in_turn : InputsOrder → InputsOrder
 inputs_in_turn (ToRun options) = ToRun (record options { in_turn = true })
+inputs_in_turn (ToRunJson options) = ToRunJson (record options { in_turn = true })
 inputs_in_turn (ToReplay options) = ToReplay options
 
 abbrev pub order_in_turn : Order → Order

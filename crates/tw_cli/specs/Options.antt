@@ -141,6 +141,10 @@ places = codes "places"
 abbrev pub inputs : Text
 inputs = codes "inputs"
 
+-- the flag of `run`: the inputs are part of what is read, as JSON
+abbrev pub inputs_json : Text
+inputs_json = codes "inputs-json"
+
 -- the option of `check`: bounds of whole runs are printed after the budgets, main's or those of each procedure
 abbrev pub bounds : Text
 bounds = codes "bounds"

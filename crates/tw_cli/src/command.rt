@@ -190,6 +190,8 @@ pub struct EachOrder {
 #[derive(Clone, Copy)]
 pub enum InputsOrder {
     ToRun(RunOptions),
+    /// Runs it with the inputs that a JSON array has.
+    ToRunJson(RunOptions),
     ToReplay(ReplayOptions),
 }
 

@@ -1,8 +1,8 @@
-//! The options of the order to run each line of inputs.
+//! The options of the orders whose inputs are JSON: to run each line of inputs, and one run.
 
 ghost use Rattle.std.specs.Prelude.{◌≡◌, true, false, is_some};
 ghost use Rattle.clap.specs.Words.{first_of, found_of, rows_of};
-ghost use Rattle.tw_cli.specs.CommandLine.{each_excludes};
+ghost use Rattle.tw_cli.specs.CommandLine.{each_excludes, json_excludes};
 ghost use Rattle.tw_cli.specs.Options.{jobs, number_of};
 
 use crate::found::{flag_given, has_words, number_given};
@@ -14,7 +14,8 @@ pub(crate) fn each_excludes(matches: &ArgMatches<'_>) -> bool
     ensures { result ≡ each_excludes (rows_of (found_of matches.now)) }
 {
     (flag_given(matches, "picture") || has_more(matches))
-        || (flag_given(matches, "inputs") || has_words(matches))
+        || (flag_given(matches, "inputs-json")
+            || (flag_given(matches, "inputs") || has_words(matches)))
 }
 
 /// Returns how many threads answer lines. Returns none if the number is out of its range.
@@ -31,13 +32,22 @@ pub(crate) fn names_jobs(matches: &ArgMatches<'_>) -> bool
     is_named(matches, "jobs")
 }
 
-/// Returns the conflict of `--each` and `--jobs` with other options.
+/// Returns whether an option or an input argument is given that `--inputs-json` excludes.
+pub(crate) fn json_excludes(matches: &ArgMatches<'_>) -> bool
+    ensures { result ≡ json_excludes (rows_of (found_of matches.now)) }
+{
+    names_jobs(matches) || (flag_given(matches, "inputs") || has_words(matches))
+}
+
+/// Returns the conflict of `--each`, `--jobs` and `--inputs-json` with other options.
 pub(crate) fn each_conflict(matches: &ArgMatches<'_>) -> Option<Conflict> {
     let each = flag_given(matches, "each");
     if each && each_excludes(matches) {
         Some(Conflict::EachWithMore)
     } else if !each && names_jobs(matches) {
         Some(Conflict::JobsAlone)
+    } else if flag_given(matches, "inputs-json") && json_excludes(matches) {
+        Some(Conflict::JsonInputsWithMore)
     } else {
         None
     }

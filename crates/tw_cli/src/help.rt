@@ -9,7 +9,7 @@ pub(crate) struct CommandHelp<'a> {
 }
 
 /// The program's version, which the newest section of CHANGELOG.md names.
-pub(crate) const VERSION: &str = "0.15";
+pub(crate) const VERSION: &str = "0.16";
 
 pub(crate) const ABOUT: &str = "Assembles, checks and runs dataflow programs of the task host.";
 
@@ -72,11 +72,12 @@ members. Between quotes \\\", \\\\, \\n and \\x with two hex digits are escapes.
 With --each the lines after the line `inputs` are JSON arrays, and the program, read once, runs in one thread on each. An input
 is a number, a string or an object of members by subscript: [39, \"abc\", {\"1\": 7}]. Each line that isn't blank is answered
 by one line, in order: the object of --json, with the line's number as `line`. With --jobs N, N threads answer parts of the lines.
+With --inputs-json all that follows the line `inputs` is one such array, which may have several lines, with the inputs of one run.
 With --inputs the inputs are read instead: after the program a line `inputs`, then one input a line, up to a line `end` or the
-end. An input is its whole line; empty lines are skipped. No input is an argument then. With --inputs FILE and --each FILE the
-lines after `inputs` are those of a file; - is standard input.
-Options may come before, after or between the inputs. --trace, --in-turn, --stats, --picture, --quiet, --text, --inputs
-and --each take no value; the others take a number in decimal digits.
+end. An input is its whole line; empty lines are skipped. No input is an argument then. With --inputs FILE, --inputs-json FILE
+and --each FILE the lines after `inputs` are those of a file; - is standard input.
+Options may come before, after or between the inputs. --trace, --in-turn, --stats, --picture, --quiet, --text, --inputs,
+--inputs-json and --each take no value; the others take a number in decimal digits.
 With --most-tasks, --most-instructions, --most-data, --most-bytes or --most-budget, a program is rejected before it runs, as O07,
 if its bound and that by --limit are larger; see `tw check --help`. So a run that begins stays below.
 The report has a line for each output, then one for each member if it is a container, and ends with how the run ended.
@@ -170,6 +171,9 @@ pub(crate) const INPUT_HELP: &str =
 pub(crate) const INPUTS_HELP: &str =
     "Read the inputs: they follow the program and a line `inputs`, one a line";
 
+pub(crate) const INPUTS_JSON_HELP: &str =
+    "Read the inputs as JSON: they follow the program and a line `inputs`, in one array";
+
 pub(crate) const JSON_HELP: &str = "Write a JSON object on one line in place of the output";
 
 pub(crate) const JOBS_HELP: &str =
@@ -202,7 +206,7 @@ pub(crate) const PLAIN_HELP: &str =
     "Write the assembly text to which symbolic assembly expands instead of hex text";
 
 pub(crate) const BOUNDS_HELP: &str =
-    "Print bounds of whole runs: tasks, instructions, data, rules, events; with =all, of each procedure";
+    "Print bounds of whole runs: tasks, instructions, data, members, rules, bytes and events; with =all, of each procedure";
 
 pub(crate) const PLACES_HELP: &str = "List the instructions, each with its place";
 

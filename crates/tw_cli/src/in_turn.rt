@@ -39,6 +39,10 @@ impl InputsOrder {
                 options.in_turn = true;
                 InputsOrder::ToRun(options)
             }
+            InputsOrder::ToRunJson(mut options) => {
+                options.in_turn = true;
+                InputsOrder::ToRunJson(options)
+            }
             InputsOrder::ToReplay(options) => InputsOrder::ToReplay(options),
         }
     }

@@ -10,9 +10,9 @@ use crate::arguments::{
     capped_command, flag_arg, input_arg, inputs_arg, json_arg, option_arg, plain_command, text_arg,
 };
 use crate::help::{
-    CommandHelp, EACH_HELP, ENGINES_HELP, FROM_HELP, IN_TURN_HELP, JOBS_HELP, LIMIT_HELP, PICTURE,
-    PICTURE_HELP, QUIET_HELP, REPLAY, RUN, SERVERS_HELP, STATS_HELP, TO_HELP, TRACE_HELP,
-    WORKERS_HELP,
+    CommandHelp, EACH_HELP, ENGINES_HELP, FROM_HELP, IN_TURN_HELP, INPUTS_JSON_HELP, JOBS_HELP,
+    LIMIT_HELP, PICTURE, PICTURE_HELP, QUIET_HELP, REPLAY, RUN, SERVERS_HELP, STATS_HELP, TO_HELP,
+    TRACE_HELP, WORKERS_HELP,
 };
 use clap::Command;
 use std::alloc::{AllocError, Global};
@@ -80,7 +80,8 @@ pub(crate) fn run_command<'a>(alloc: Global) -> Result<Command<'a>, AllocError>
     let capped = capped_command(alloc, written)?;
     let in_turn = capped.arg(flag_arg(alloc, "in-turn", IN_TURN_HELP))?;
     let quiet = in_turn.arg(flag_arg(alloc, "quiet", QUIET_HELP))?;
-    let whole = reading_command(alloc, quiet)?;
+    let inputs_json = quiet.arg(flag_arg(alloc, "inputs-json", INPUTS_JSON_HELP))?;
+    let whole = reading_command(alloc, inputs_json)?;
     Ok(whole)
 }
 

@@ -7,7 +7,7 @@ ghost use Rattle.tw_cli.specs.declared.command.Answer.{Answer as Answers};
 ghost use Rattle.tw_cli.specs.declared.command.Order.TheVariants.{Program};
 ghost use Rattle.tw_cli.specs.declared.command.ProgramOrder.TheVariants.{Verified};
 ghost use Rattle.tw_cli.specs.reading.Runs.{IsRunBy};
-ghost use Rattle.tw_cli.specs.Options.{each, explaining, given_check, given_range, given_source, is_given};
+ghost use Rattle.tw_cli.specs.Options.{each, explaining, given_check, given_range, given_source, inputs_json, is_given};
 ghost use Rattle.tw_cli.specs.Explanations.{number_faults, number_word};
 ghost use Rattle.tw_cli.specs.Order.{HasReason, IsReason};
 ghost use Rattle.tw_cli.specs.declared.command.NoOrder.TheVariants.{Refused};
@@ -18,7 +18,7 @@ use crate::command::{
     Answer, EachOrder, InputsOrder, NoOrder, Order, ProgramOrder, ReplayOptions, RunOptions,
     Source, VerifiedOrder, command,
 };
-use crate::each::{each_excludes, jobs_given, names_jobs};
+use crate::each::{each_excludes, jobs_given, json_excludes, names_jobs};
 use crate::explanations::explained;
 use crate::form::{Form, assembly_given, disassembly_given, form_given};
 use crate::found::{
@@ -89,6 +89,22 @@ fn each_order(matches: &ArgMatches<'_>, options: RunOptions) -> Result<Order, No
     Ok(Order::Each(source_given(matches), order))
 }
 
+/// Returns the order of one run with JSON inputs.
+fn json_order(matches: &ArgMatches<'_>, options: RunOptions) -> Result<Order, NoOrder>
+    requires single { is_given each (rows_of (found_of matches.now)) ≡ false }
+    requires json { is_given inputs_json (rows_of (found_of matches.now)) ≡ true }
+    requires options { IsRunBy (rows_of (found_of matches.now)) options }
+    ensures taken { IfOk result (λ order. (run_faults (rows_of (found_of matches.now)) ≡ [])
+        × IsAsked (run_asked (rows_of (found_of matches.now))) order) }
+    ensures refused { IfErr result
+        (HasReason (run_faults (rows_of (found_of matches.now))) (run_asked (rows_of (found_of matches.now)))) }
+{
+    if json_excludes(matches) {
+        return Err(NoOrder::Refused);
+    }
+    Ok(Order::Inputs(source_given(matches), InputsOrder::ToRunJson(options)))
+}
+
 /// Returns the order of one run.
 fn single_order(
     alloc: Global,
@@ -96,6 +112,7 @@ fn single_order(
     options: RunOptions,
 ) -> Result<Order, NoOrder>
     requires single { is_given each (rows_of (found_of matches.now)) ≡ false }
+    requires words { is_given inputs_json (rows_of (found_of matches.now)) ≡ false }
     requires options { IsRunBy (rows_of (found_of matches.now)) options }
     ensures taken { IfOk result (λ order. (run_faults (rows_of (found_of matches.now)) ≡ [])
         × IsAsked (run_asked (rows_of (found_of matches.now))) order) }
@@ -126,6 +143,9 @@ fn run_order(alloc: Global, matches: &ArgMatches<'_>) -> Result<Order, NoOrder>
     };
     if flag_given(matches, "each") {
         return each_order(matches, options);
+    }
+    if flag_given(matches, "inputs-json") {
+        return json_order(matches, options);
     }
     single_order(alloc, matches, options)
 }

@@ -33,6 +33,8 @@ pub(crate) enum Conflict {
     JsonWithMore,
     /// A run of each line, together with other output or other inputs.
     EachWithMore,
+    /// JSON inputs, together with other inputs.
+    JsonInputsWithMore,
     /// A number of threads without a run of each line.
     JobsAlone,
     /// A timeline, together with a trace, statistics or a JSON line.

@@ -2,7 +2,7 @@
 
 ghost use Rattle.std.specs.Prelude.{◌≡◌, ℕ, true, false, List, [], ◌∷◌, Some, None, codes};
 ghost use Rattle.clap.specs.declared.error.ErrorKind.TheVariants.{ArgumentConflict, DisplayHelp, DisplayVersion, InvalidSubcommand, InvalidValue, TooManyValues, UnknownArgument, ValueValidation};
-ghost use Rattle.tw_cli.specs.CommandLine.{Assembles, Checks, Disassembles, Explains, Replays, Runs, RunsEach, asked_by_words, word_faults};
+ghost use Rattle.tw_cli.specs.CommandLine.{Assembles, Checks, Disassembles, Explains, Replays, Runs, RunsEach, RunsJson, asked_by_words, word_faults};
 ghost use Rattle.tw_cli.specs.declared.command.Answer.TheVariants.{Json, Numbers, Picture, Report};
 ghost use Rattle.tw_cli.specs.declared.command.RunAnswer.TheVariants as written;
 ghost use Rattle.tw_cli.specs.declared.command.Assembling.TheVariants.{Names, Plain, Text};
@@ -60,6 +60,8 @@ pub fn commands_are_taken()
         × (asked_by_words (codes "run" ∷ codes "--json" ∷ []) ≡ Runs Hex written.Json (actors 1 1 1) uncapped 10000 false false (Some [])) }
     ensures run_each { (word_faults (codes "run" ∷ codes "--each" ∷ codes "--text" ∷ codes "--jobs" ∷ codes "9" ∷ []) ≡ [])
         × (asked_by_words (codes "run" ∷ codes "--each" ∷ codes "--text" ∷ codes "--jobs" ∷ codes "9" ∷ []) ≡ RunsEach Assembly (actors 1 1 1) uncapped 10000 9) }
+    ensures run_json_inputs { (word_faults (codes "run" ∷ codes "--inputs-json" ∷ codes "--trace" ∷ []) ≡ [])
+        × (asked_by_words (codes "run" ∷ codes "--inputs-json" ∷ codes "--trace" ∷ []) ≡ RunsJson Hex written.Report (actors 1 1 1) uncapped 10000 true false) }
     ensures run_picture { (word_faults (codes "run" ∷ codes "--picture" ∷ codes "--in-turn" ∷ []) ≡ [])
         × (asked_by_words (codes "run" ∷ codes "--picture" ∷ codes "--in-turn" ∷ []) ≡ Runs Hex (written.Picture (stretch 1 4294967295)) (actors 1 1 1) uncapped 10000 false true (Some [])) }
     ensures run_stretch { (word_faults (codes "run" ∷ codes "--from=5" ∷ codes "--picture" ∷ codes "--to" ∷ codes "9" ∷ []) ≡ [])
@@ -133,6 +135,7 @@ pub fn strangers_are_refused()
     ensures counted_json { word_faults (codes "replay" ∷ codes "--stats" ∷ codes "--json" ∷ []) ≡ ArgumentConflict ∷ [] }
     ensures jobs_alone { word_faults (codes "run" ∷ codes "--jobs" ∷ codes "2" ∷ []) ≡ ArgumentConflict ∷ [] }
     ensures each_input { word_faults (codes "run" ∷ codes "--each" ∷ codes "int:7" ∷ []) ≡ ArgumentConflict ∷ [] }
+    ensures two_inputs { word_faults (codes "run" ∷ codes "--inputs-json" ∷ codes "--inputs" ∷ []) ≡ ArgumentConflict ∷ [] }
     ensures traced_picture { word_faults (codes "run" ∷ codes "--picture" ∷ codes "--trace" ∷ []) ≡ ArgumentConflict ∷ [] }
     ensures counted_picture { word_faults (codes "run" ∷ codes "--stats" ∷ codes "--picture" ∷ []) ≡ ArgumentConflict ∷ [] }
     ensures stretch_alone { word_faults (codes "run" ∷ codes "--from" ∷ codes "1" ∷ []) ≡ ArgumentConflict ∷ [] }

@@ -43,7 +43,10 @@ fn conflict_line(conflict: Conflict) -> &'static str {
     match conflict {
         Conflict::JsonWithMore => "error: --json excludes --trace and --stats\n",
         Conflict::EachWithMore => {
-            "error: --each excludes --trace, --stats, --picture, --inputs and input arguments\n"
+            "error: --each excludes --trace, --stats, --picture, --inputs, --inputs-json and input arguments\n"
+        }
+        Conflict::JsonInputsWithMore => {
+            "error: --inputs-json excludes --inputs and input arguments\n"
         }
         Conflict::JobsAlone => "error: --jobs needs --each\n",
         Conflict::PictureWithMore => "error: --picture excludes --trace, --stats and --json\n",

@@ -8,5 +8,6 @@ mod numbered;
 mod reply;
 mod threads;
 
+pub use input_lines::{LineParts, line_parts};
 pub use reply::each_reply;
 pub use threads::{Answering, InOneThread, InThreads};

@@ -24,7 +24,7 @@ may_name (first ∷ others) = if first == 45 then bytes_eq others [] else not (i
 
 -- returns whether the argument after this one is the file of its inputs
 abbrev pub takes_inputs : List ℕ → Bool
-takes_inputs option = bytes_eq option (codes "--inputs") || bytes_eq option (codes "--each")
+takes_inputs option = bytes_eq option (codes "--inputs") || bytes_eq option (codes "--inputs-json") || bytes_eq option (codes "--each")
 
 abbrev pub takes_number : List ℕ → Bool
 takes_number option =
@@ -48,8 +48,8 @@ pub record Naming : Type 0 where
 abbrev pub naming : List ℕ → List (List ℕ) → Option (List ℕ) → Option (List ℕ) → Naming
 naming before others program inputs = record { before = before; others = others; program = program; inputs = inputs }
 
--- returns what the next argument is: the first after `--inputs` or `--each` names the file of inputs, and the first other one that may name a file
--- the program's
+-- returns what the next argument is: the first after `--inputs`, `--inputs-json` or `--each` names the file of inputs, and the first other one that
+-- may name a file the program's
 abbrev pub role : Naming → List ℕ → Role
 role n word =
     if may_name word then

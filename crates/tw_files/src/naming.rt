@@ -67,7 +67,7 @@ fn may_name(word: &[u8]) -> bool
 fn takes_inputs(option: &str) -> bool
     ensures { result ≡ takes_inputs_is option.now }
 {
-    option == "--inputs" || option == "--each"
+    option == "--inputs" || option == "--inputs-json" || option == "--each"
 }
 
 fn takes_number(option: &str) -> bool

@@ -2,7 +2,7 @@
 use Rattle.std.proofs.Common.{◌≡◌, ◌≢◌, ℕ, List, [], ◌∷◌, codes, Option, Some, None, IfOk, IfSome, Result, Ok, Err, OnErr, inl, inr, refl, sym, subst}
 use Rattle.std.specs.Io.KnownBytes.{Appends}
 use Rattle.clap.specs.Words.{Kinds, Text}
-use Rattle.tw_cli.specs.CommandLine.{Asked, Assembles, Checks, Disassembles, Explains, IsExplained, IsRefusedInput, Replays, Runs, RunsEach}
+use Rattle.tw_cli.specs.CommandLine.{Asked, Assembles, Checks, Disassembles, Explains, IsExplained, IsRefusedInput, Replays, Runs, RunsEach, RunsJson}
 use Rattle.tw_cli.proofs.InputTheorems.{never_refused, one_refused}
 use Rattle.tw_cli.specs.InputWords.{RefusedWord}
 use Rattle.tw_program_output.specs.Inputs.{PrintsInputWord}
@@ -76,6 +76,7 @@ not_refused (Assembles what) text number e r = e
 not_refused (Disassembles source listed) text number e r = e
 not_refused (Checks source printed) text number e r = e
 not_refused (Runs source answer layout caps most traced turns words) text number e r = e
+not_refused (RunsJson source answer layout caps most traced turns) text number e r = e
 not_refused (RunsEach source layout caps most threads) text number e r = e
 not_refused (Replays source answer layout words) text number e r = e
 not_refused (Explains explained) text number e r = r

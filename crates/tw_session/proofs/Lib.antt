@@ -1,4 +1,5 @@
 pub mod Leading
+pub mod JsonTexts
 pub mod Answering
 pub mod Ran
 pub mod Replies

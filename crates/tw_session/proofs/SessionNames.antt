@@ -9,8 +9,10 @@ pub use Rattle.tw_cli.specs.declared.command.VerifiedOrder.TheVariants.{Run}
 pub use Rattle.tw_program_output.specs.Program.{RepliesBySource, source_text}
 pub use Rattle.tw_program_output.specs.Reply.{Reply, reply}
 pub use Rattle.tw_program_output.specs.Source.{text_of}
-pub use Rattle.tw_session.specs.ProgramAction.{Comes, Leads}
+pub use Rattle.tw_session.specs.ProgramAction.{Comes, IsActionInTurn, IsRunOf, Leads, RepliesByAction}
 pub use Rattle.tw_session.specs.Session.{AnswersWords, MayAnswer, MayReply, MayReplyText, RepliesByInput, RepliesByProgram}
+pub use Rattle.tw_session.specs.declared.json_run.Action.{Action}
+pub use Rattle.tw_session.specs.declared.json_run.Action.TheVariants.{Ordered, RunWithJson}
 pub use Rattle.tw_session.specs.declared.order.OrderAction.{OrderAction}
 pub use Rattle.tw_session.specs.declared.programs.ProgramAction.{ProgramAction}
 pub use Rattle.tw_session.specs.declared.status.Status.TheVariants.{NoMemory, WriteFailed}

@@ -5,7 +5,7 @@ use Rattle.tw_cli.specs.declared.command.Answer.TheVariants as answer
 use Rattle.tw_cli.specs.declared.command.Assembling.{Assembling}
 use Rattle.tw_cli.specs.declared.command.Assembling.TheVariants as assembling
 use Rattle.tw_cli.specs.declared.command.InputsOrder.{InputsOrder}
-use Rattle.tw_cli.specs.declared.command.InputsOrder.TheVariants.{ToReplay, ToRun}
+use Rattle.tw_cli.specs.declared.command.InputsOrder.TheVariants.{ToReplay, ToRun, ToRunJson}
 use Rattle.tw_cli.specs.declared.command.Order.{Order}
 use Rattle.tw_cli.specs.declared.command.Order.TheVariants.{Assemble, Each, Inputs, Program, Replay}
 use Rattle.tw_cli.specs.declared.command.Places.{Places}
@@ -73,6 +73,7 @@ program_rendering (Verified order) = verified_rendering order
 
 abbrev pub inputs_rendering : InputsOrder → Rendering
 inputs_rendering (ToRun options) = run_as_json options.answer
+inputs_rendering (ToRunJson options) = run_as_json options.answer
 inputs_rendering (ToReplay options) = replayed_as options.answer
 
 -- returns the form of the reply to an order; those to lines of inputs are JSON already

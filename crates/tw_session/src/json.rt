@@ -107,6 +107,7 @@ fn inputs_rendering(order: &InputsOrder) -> Rendering
 {
     match order {
         InputsOrder::ToRun(options) => run_as_json(options.answer),
+        InputsOrder::ToRunJson(options) => run_as_json(options.answer),
         InputsOrder::ToReplay(options) => replayed_as(options.answer),
     }
 }

@@ -7,6 +7,7 @@
 mod in_turn;
 mod input;
 mod json;
+mod json_run;
 mod order;
 mod programs;
 mod run;

@@ -3,11 +3,11 @@
 ghost use Rattle.std.specs.Prelude.{◌≡◌, ◌≤◌, IfOk, length, true};
 ghost use Rattle.std.specs.Str.Lines.{lines};
 ghost use Rattle.tw_cli.specs.CommandLine.{run_with};
-ghost use Rattle.tw_cli.specs.InTurn.{IsInTurn, IsProgramInTurn};
+ghost use Rattle.tw_cli.specs.InTurn.{IsInTurn, IsInputsInTurn};
 ghost use Rattle.tw_cli.specs.declared.command.InputsOrder.TheVariants.{ToRun};
 ghost use Rattle.tw_cli.specs.declared.command.ProgramOrder.TheVariants as ordered;
 ghost use Rattle.tw_cli.specs.declared.command.VerifiedOrder.TheVariants.{Run};
-ghost use Rattle.tw_session.specs.ProgramAction.{Comes};
+ghost use Rattle.tw_session.specs.ProgramAction.{Comes, IsActionInTurn, RepliesByAction};
 ghost use Rattle.tw_program_output.specs.Inputs.{RepliesByWords, before_inputs, after_inputs, words_in};
 ghost use Rattle.tw_program_output.specs.Program.{RepliesBySource, source_text};
 ghost use Rattle.tw_program_output.specs.Reply.{reply};
@@ -18,7 +18,8 @@ ghost use Rattle.tw_session.specs.Session.{MayReply, MayReplyText, RepliesByInpu
 use crate::in_turn::reply_single_threaded;
 use crate::input::MOST_BYTES;
 use crate::json::{in_form, rendering_of};
-use crate::programs::{ProgramAction, RunRequest, program_reply};
+use crate::json_run::{Action, action_reply, run_json_step};
+use crate::programs::{ProgramAction, RunRequest};
 use crate::run::reply_threaded;
 use std::alloc::{AllocError, Global};
 use std::sync::Wait;
@@ -37,7 +38,7 @@ use tw_workers::Gate;
 #[derive(Drop)]
 pub struct ProgramRequest {
     pub source: Source,
-    pub order: ProgramOrder,
+    pub action: Action,
     pub program: Vec<u8>,
 }
 
@@ -63,7 +64,9 @@ fn inputs_step(
     match inputs_of(alloc, &parts.words) {
         Ok(inputs) => Ok(OrderAction::Request(ProgramRequest {
             source,
-            order: ProgramOrder::Verified(VerifiedOrder::Run(options.with_inputs(inputs))),
+            action: Action::Ordered(ProgramOrder::Verified(VerifiedOrder::Run(options.with_inputs(
+                inputs,
+            )))),
             program: parts.program,
         })),
         Err(why) => {
@@ -91,6 +94,26 @@ fn run_inputs_step(
     }
 }
 
+/// Returns the step of an order whose input is a program followed by its inputs, and perhaps by a trace.
+fn with_inputs_step(
+    alloc: Global,
+    source: Source,
+    order: InputsOrder,
+    input: &[u8],
+) -> Result<OrderAction, AllocError>
+    requires { length input.now ≤ 16777216 }
+    ensures { IfOk result (Comes (IsInputsInTurn order) (RepliesWithInputs source order input.now)) }
+{
+    match order {
+        InputsOrder::ToRun(options) => run_inputs_step(alloc, source, options, input),
+        InputsOrder::ToRunJson(options) => run_json_step(alloc, source, options, input),
+        InputsOrder::ToReplay(options) => {
+            let reply = replay_inputs_reply(alloc, source, options, input)?;
+            Ok(OrderAction::Finished(reply))
+        }
+    }
+}
+
 /// Returns the step of an order, if there aren't too many bytes.
 fn ordered_step<A: Answering>(
     alloc: Global,
@@ -109,20 +132,14 @@ fn ordered_step<A: Answering>(
         }
         Order::Program(source, order) => Ok(OrderAction::Request(ProgramRequest {
             source,
-            order,
+            action: Action::Ordered(order),
             program: input,
         })),
         Order::Replay(source, order) => {
             let reply = replay_reply(alloc, source, &order, &input)?;
             Ok(OrderAction::Finished(reply))
         }
-        Order::Inputs(source, InputsOrder::ToRun(options)) => {
-            run_inputs_step(alloc, source, options, &input)
-        }
-        Order::Inputs(source, InputsOrder::ToReplay(options)) => {
-            let reply = replay_inputs_reply(alloc, source, options, &input)?;
-            Ok(OrderAction::Finished(reply))
-        }
+        Order::Inputs(source, order) => with_inputs_step(alloc, source, order, &input),
         Order::Each(source, order) => {
             let reply = each_reply(alloc, answering, source, &order, &input)?;
             Ok(OrderAction::Finished(reply))
@@ -173,10 +190,10 @@ fn source_reply<H: Threads + Wait + Clock + Sync, G: Gate + Sync>(
     alloc: Global,
     gate: &G,
     source: Source,
-    order: ProgramOrder,
+    action: Action,
     input: &[u8],
 ) -> Result<Reply, AllocError>
-    ensures { IfOk result (λ r. RepliesBySource source input.now (RepliesByProgram (source_text source input.now) order) (reply r.text.items r.close)) }
+    ensures { IfOk result (λ r. RepliesBySource source input.now (RepliesByAction (source_text source input.now) action) (reply r.text.items r.close)) }
 {
     match read_program(alloc, source, input) {
         Ok(read) => {
@@ -184,7 +201,7 @@ fn source_reply<H: Threads + Wait + Clock + Sync, G: Gate + Sync>(
                 program,
                 source: text,
             } = read;
-            match program_reply(alloc, &text, order, program)? {
+            match action_reply(alloc, &text, action, program)? {
                 ProgramAction::Finished(reply) => Ok(reply),
                 ProgramAction::Run(ordered) => run_as_ordered(rt, alloc, gate, &text, ordered),
             }
@@ -197,11 +214,11 @@ fn source_reply<H: Threads + Wait + Clock + Sync, G: Gate + Sync>(
 fn source_in_turn(
     alloc: Global,
     source: Source,
-    order: ProgramOrder,
+    action: Action,
     input: &[u8],
 ) -> Result<Reply, AllocError>
-    requires { IsProgramInTurn order }
-    ensures { IfOk result (λ r. RepliesBySource source input.now (RepliesByProgram (source_text source input.now) order) (reply r.text.items r.close)) }
+    requires { IsActionInTurn action }
+    ensures { IfOk result (λ r. RepliesBySource source input.now (RepliesByAction (source_text source input.now) action) (reply r.text.items r.close)) }
 {
     match read_program(alloc, source, input) {
         Ok(read) => {
@@ -209,7 +226,7 @@ fn source_in_turn(
                 program,
                 source: text,
             } = read;
-            match program_reply(alloc, &text, order, program)? {
+            match action_reply(alloc, &text, action, program)? {
                 ProgramAction::Finished(reply) => Ok(reply),
                 ProgramAction::Run(ordered) => {
                     let RunRequest { order, verified } = ordered;
@@ -237,10 +254,10 @@ fn text_reply<H: Threads + Wait + Clock + Sync, G: Gate + Sync>(
         OrderAction::Request(asking) => {
             let ProgramRequest {
                 source,
-                order,
+                action,
                 program,
             } = asking;
-            source_reply(rt, alloc, gate, source, order, &program)
+            source_reply(rt, alloc, gate, source, action, &program)
         }
     }
 }
@@ -255,10 +272,10 @@ fn text_reply_in_turn(alloc: Global, order: Order, input: Vec<u8>) -> Result<Rep
         OrderAction::Request(asking) => {
             let ProgramRequest {
                 source,
-                order,
+                action,
                 program,
             } = asking;
-            source_in_turn(alloc, source, order, &program)
+            source_in_turn(alloc, source, action, &program)
         }
     }
 }

@@ -1,30 +1,30 @@
-use Rattle.std.proofs.Common.{◌≡◌, List, ℕ, Option, inl, rules, subst}
-use Rattle.tw_session.proofs.SessionNames.{ProgramAction, IfOk-weaker, Leads, RepliesByProgram, RepliesBySource, Run, RunOrder, Verified, reply, text_of, source_text}
+use Rattle.std.proofs.Common.{List, ℕ, Option, inl, rules, subst}
+use Rattle.tw_session.proofs.SessionNames.{ProgramAction, IfOk-weaker, IsRunOf, Leads, RepliesByAction, RepliesBySource, reply, text_of, source_text}
 use Rattle.tw_program_output.specs.declared.reply.Reply.{Reply}
 use Rattle.tw_program_output.proofs.Nones.{PrintsWhy, none_printed}
 use Rattle.tw_session.proofs.order.source_reply.Goals as goal
 
-pub program_reply-requires : goal.program_reply-requires
-program_reply-requires g c = c.in-Ok.ensures.source
+pub action_reply-requires : goal.action_reply-requires
+action_reply-requires g c = c.in-Ok.ensures.source
 
 pub run_as_ordered-requires : goal.run_as_ordered-requires
-run_as_ordered-requires g c = let run = subst (λ (a : ProgramAction). Leads (λ (run : RunOrder). c.args.order ≡ Verified (Run run)) c.in-Ok.read.source (RepliesByProgram (text_of c.in-Ok.read.source) c.args.order c.in-Ok.read.program) a) c.in-Run.is c.in_ok-reply-in-Ok.ensures in (search rules, (search rules, run.1))
+run_as_ordered-requires g c = let run = subst (λ (a : ProgramAction). Leads (IsRunOf c.args.action) c.in-Ok.read.source (RepliesByAction (text_of c.in-Ok.read.source) c.args.action c.in-Ok.read.program) a) c.in-Run.is c.in_ok-reply-in-Ok.ensures in (search rules, (search rules, run.1))
 
 pub returns-in-Finished : goal.returns-in-Finished
 returns-in-Finished g c =
     let r = c.in-Finished.reply in
-    let printed = subst (λ (a : ProgramAction). Leads (λ (run : RunOrder). c.args.order ≡ Verified (Run run)) c.in-Ok.read.source (RepliesByProgram (text_of c.in-Ok.read.source) c.args.order c.in-Ok.read.program) a) c.in-Finished.is c.in_ok-reply-in-Ok.ensures in
-    inl (c.in-Ok.read.program, c.in-Ok.ensures.spells, subst (λ (t : Option (List ℕ)). RepliesByProgram t c.args.order c.in-Ok.read.program (reply r.text.items r.close)) c.in-Ok.ensures.text printed)
+    let printed = subst (λ (a : ProgramAction). Leads (IsRunOf c.args.action) c.in-Ok.read.source (RepliesByAction (text_of c.in-Ok.read.source) c.args.action c.in-Ok.read.program) a) c.in-Finished.is c.in_ok-reply-in-Ok.ensures in
+    inl (c.in-Ok.read.program, c.in-Ok.ensures.spells, subst (λ (t : Option (List ℕ)). RepliesByAction t c.args.action c.in-Ok.read.program (reply r.text.items r.close)) c.in-Ok.ensures.text printed)
 
 pub returns-in-Ok : goal.returns-in-Ok
 returns-in-Ok g c =
-    let run = subst (λ (a : ProgramAction). Leads (λ (run : RunOrder). c.args.order ≡ Verified (Run run)) c.in-Ok.read.source (RepliesByProgram (text_of c.in-Ok.read.source) c.args.order c.in-Ok.read.program) a) c.in-Run.is c.in_ok-reply-in-Ok.ensures in
+    let run = subst (λ (a : ProgramAction). Leads (IsRunOf c.args.action) c.in-Ok.read.source (RepliesByAction (text_of c.in-Ok.read.source) c.args.action c.in-Ok.read.program) a) c.in-Run.is c.in_ok-reply-in-Ok.ensures in
     IfOk-weaker _ _ _
-    (λ (r : Reply) h. inl (c.in-Ok.read.program, c.in-Ok.ensures.spells, subst (λ (t : Option (List ℕ)). RepliesByProgram t c.args.order c.in-Ok.read.program (reply r.text.items r.close)) c.in-Ok.ensures.text (run.2 (reply r.text.items r.close) h))) c.run_as_ordered.ensures
+    (λ (r : Reply) h. inl (c.in-Ok.read.program, c.in-Ok.ensures.spells, subst (λ (t : Option (List ℕ)). RepliesByAction t c.args.action c.in-Ok.read.program (reply r.text.items r.close)) c.in-Ok.ensures.text (run.2 (reply r.text.items r.close) h))) c.run_as_ordered.ensures
 
 pub returns : goal.returns
 returns g c =
     let input = c.args.input.now in
     IfOk-weaker c.parse_error_reply.result (λ (r : Reply). PrintsWhy input c.in-Err.why (reply r.text.items r.close))
-    (λ (r : Reply). RepliesBySource c.args.source input (RepliesByProgram (source_text c.args.source input) c.args.order) (reply r.text.items r.close))
-    (λ (r : Reply) h. none_printed c.args.source input c.in-Err.why (RepliesByProgram (source_text c.args.source input) c.args.order) (reply r.text.items r.close) c.in-Err.ensures.none h) c.parse_error_reply.ensures
+    (λ (r : Reply). RepliesBySource c.args.source input (RepliesByAction (source_text c.args.source input) c.args.action) (reply r.text.items r.close))
+    (λ (r : Reply) h. none_printed c.args.source input c.in-Err.why (RepliesByAction (source_text c.args.source input) c.args.action) (reply r.text.items r.close) c.in-Err.ensures.none h) c.parse_error_reply.ensures

@@ -1,5 +1,5 @@
 use Rattle.std.proofs.Common.{List, ℕ, subst}
-use Rattle.tw_session.proofs.SessionNames.{Comes, IfOk-weaker, IsInTurn, MayReplyText, RepliesByProgram, RepliesBySource, OrderAction, reply, source_text}
+use Rattle.tw_session.proofs.SessionNames.{Comes, IfOk-weaker, IsInTurn, MayReplyText, RepliesByAction, RepliesBySource, OrderAction, reply, source_text}
 use Rattle.tw_program_output.specs.declared.reply.Reply.{Reply}
 use Rattle.tw_session.proofs.order.text_reply_in_turn.Goals as goal
 
@@ -12,4 +12,4 @@ returns-in-Request c =
     let asks = subst (λ (s : OrderAction). Comes (IsInTurn c.args.order) (MayReplyText c.args.order c.args.input.items) s) c.in-Request.is c.in_ok-reply.ensures in
     IfOk-weaker _ _ _
     (λ (r : Reply) h. asks.1 (reply r.text.items r.close)
-    (subst (λ (bytes : List ℕ). RepliesBySource a.source bytes (RepliesByProgram (source_text a.source bytes) a.order) (reply r.text.items r.close)) c.deref.ensures.value h)) c.source_in_turn.ensures
+    (subst (λ (bytes : List ℕ). RepliesBySource a.source bytes (RepliesByAction (source_text a.source bytes) a.action) (reply r.text.items r.close)) c.deref.ensures.value h)) c.source_in_turn.ensures

@@ -1,0 +1,12 @@
+use Rattle.std.proofs.Common.{subst, sym}
+use Rattle.std.specs.Prelude.{IfOk}
+use Rattle.tw_session.proofs.SessionNames.{Action, IsRunOf, Leads, RepliesByAction, text_of}
+use Rattle.tw_session.proofs.json_run.action_reply.Goals as goal
+
+pub returns-in-Ordered : goal.returns-in-Ordered
+returns-in-Ordered c =
+    subst (λ (a : Action). IfOk c.program_reply.result (Leads (IsRunOf a) c.args.source.now (RepliesByAction (text_of c.args.source.now) a c.args.program))) (sym c.in-Ordered.is) c.program_reply.ensures
+
+pub returns-in-RunWithJson : goal.returns-in-RunWithJson
+returns-in-RunWithJson c =
+    subst (λ (a : Action). IfOk c.json_reply.result (Leads (IsRunOf a) c.args.source.now (RepliesByAction (text_of c.args.source.now) a c.args.program))) (sym c.in-RunWithJson.is) c.json_reply.ensures
