@@ -1,2 +1,3 @@
 mod Sources
 mod Words
+mod Places

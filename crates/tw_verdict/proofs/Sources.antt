@@ -120,7 +120,7 @@ letter_of input NotHex v is = has_letter v 72 refl (ap (λ (x : SourceVerdict). 
 letter_of input NotUtf8 v is = has_letter v 72 refl (ap (λ (x : SourceVerdict). x.verdict.letter) is)
 letter_of input (Bytes f) v is = has_letter v 70 refl (ap (λ (x : SourceVerdict). x.verdict.letter) is)
 letter_of input (Text f) v (at, word, is) = has_letter v 65 refl (ap (λ (x : SourceVerdict). x.verdict.letter) is)
-letter_of input (Named f) v is = has_letter v 78 refl (ap (λ (x : SourceVerdict). x.verdict.letter) is)
+letter_of input (Named f) v (at, place, is) = has_letter v 78 refl (ap (λ (x : SourceVerdict). x.verdict.letter) is)
 letter_of input NoMemory v is = has_letter v 77 refl (ap (λ (x : SourceVerdict). x.verdict.letter) is)
 
 pub unreadable : (from : Source) (input : List ℕ) (why : NoProgram) (v : SourceVerdict) → (why ≢ NoMemory → SpellsNone from input why) → IsUnreadable input why v ⊎ (v ≡ without_line no_memory)

@@ -1,5 +1,5 @@
 -- Reading a program's bytes: the accepted program, with its verdict.
-use Rattle.std.specs.Prelude.{◌≡◌, ◌≢◌, ◌⊎◌, ℕ, List, Option, Some, None, Result, Ok, Err}
+use Rattle.std.specs.Prelude.{◌≡◌, ◌≢◌, ◌⊎◌, ℕ, List, Option, Some, None, Ok}
 use Rattle.tw_binary.specs.Reading.{program_of}
 use Rattle.tw_code.specs.accepting.WellTyped.{IsAccepted}
 use Rattle.tw_code.specs.format.Program.{Versioned}

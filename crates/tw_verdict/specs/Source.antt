@@ -1,5 +1,5 @@
 -- Reading a source: the accepted program, or the verdict with the position of its error.
-use Rattle.std.specs.Prelude.{◌≡◌, ◌≢◌, ◌⊎◌, ◌-◌, ℕ, List, false, true, slice_get, IsUtf8, Option, Some, None, Result, Ok, Err}
+use Rattle.std.specs.Prelude.{◌≡◌, ◌≢◌, ◌⊎◌, ◌-◌, ℕ, List, false, true, slice_get, IsUtf8, Option, Some, None, Ok, Err}
 use Rattle.std.specs.Str.Lines.{lines}
 use Rattle.tw_asm.specs.Fault as asm
 use Rattle.tw_asm.specs.Origins.{ComesFrom, instr_at}
@@ -25,6 +25,7 @@ use Rattle.tw_verify.specs.Typed.{TypedProgram}
 use Rattle.tw_verify.specs.declared.rejection.VerifyError.{VerifyError}
 use Rattle.tw_verify.specs.declared.rejection.VerifyError.TheVariants as error
 use Rattle.tw_program_output.specs.declared.program.ReadProgram.{ReadProgram}
+use Rattle.tw_verdict.specs.NamePlace.{IsNamePlace}
 use Rattle.tw_verdict.specs.Verdict.{accepted, fault, no_memory, rejection}
 use Rattle.tw_verdict.specs.declared.format.Format.{Format}
 use Rattle.tw_verdict.specs.declared.format.Format.TheVariants as format
@@ -79,13 +80,13 @@ IsFaultWord source which line at = IsUtf8 source → IsTextWord source which lin
 
 -- ---- errors
 
--- the verdict if the source encodes no program: H01, H03, a fault of the bytes, of the assembly text with its word, or of the names
+-- the verdict if the source encodes no program: H01, H03, a fault of the bytes, of the assembly text with its word, or of the names with its name's place
 abbrev pub IsUnreadable : List ℕ → NoProgram → SourceVerdict → Type 0
 IsUnreadable source NotHex v = v ≡ without_line (letter 72 1)
 IsUnreadable source NotUtf8 v = v ≡ without_line (letter 72 3)
 IsUnreadable source (Bytes f) v = v ≡ without_line (fault f)
 IsUnreadable source (Text f) v = (at : ℕ × ℕ) × IsFaultWord source f.no f.line at × (v ≡ at_line 65 (asm.fault_number f.no) f.line at)
-IsUnreadable source (Named f) v = v ≡ at_line 78 (name_number f.no) f.line (0, 0)
+IsUnreadable source (Named f) v = (at : ℕ × ℕ) × IsNamePlace source f.line f.word.now at × (v ≡ at_line 78 (name_number f.no) f.line at)
 IsUnreadable source NoMemory v = v ≡ without_line no_memory
 
 -- the source encodes no program, for this reason

@@ -3,6 +3,7 @@
 
 mod bytes;
 mod format;
+mod name_place;
 mod position;
 mod source;
 mod text;

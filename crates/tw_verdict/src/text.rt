@@ -4,11 +4,13 @@ ghost use Rattle.std.specs.Prelude.{◌≡◌, ◌⊎◌};
 ghost use Rattle.tw_verdict.specs.Source.{IsUnreadable, at_line as at_line_is, without_line as without_line_is};
 ghost use Rattle.tw_verdict.specs.Verdict.{no_memory as no_memory_is};
 
+use crate::name_place::name_place;
 use crate::position::fault_word;
 use crate::verdict::{Verdict, fault_at, refused_at};
 use std::alloc::Global;
 use tw_asm::AsmFault;
 use tw_program_output::NoProgram;
+use tw_symbols::NameError;
 
 /// A verdict on a source, with the position of an error in a text.
 #[repr(C)]
@@ -64,6 +66,15 @@ fn fault_verdict(alloc: Global, source: &[u8], fault: AsmFault) -> SourceVerdict
     }
 }
 
+fn name_verdict(alloc: Global, source: &[u8], error: NameError<'_>) -> SourceVerdict
+    ensures { IsUnreadable source.now (NoProgram.Named error.entry) result ⊎ (result ≡ without_line_is no_memory_is) }
+{
+    match name_place(alloc, source, error.line, error.word) {
+        Ok(at) => at_line(b'N', error.no.number(), error.line, at),
+        Err(_) => SourceVerdict::no_memory(),
+    }
+}
+
 /// Returns the verdict on a source that encodes no program.
 pub(crate) fn no_program_verdict(alloc: Global, source: &[u8], why: NoProgram<'_>) -> SourceVerdict
     ensures { IsUnreadable source.now why.entry result ⊎ (result ≡ without_line_is no_memory_is) }
@@ -73,7 +84,7 @@ pub(crate) fn no_program_verdict(alloc: Global, source: &[u8], why: NoProgram<'_
         NoProgram::NotUtf8 => without_line(refused_at(b'H', 3, 0, 0)),
         NoProgram::Bytes(fault) => without_line(fault_at(&fault)),
         NoProgram::Text(fault) => fault_verdict(alloc, source, fault),
-        NoProgram::Named(error) => at_line(b'N', error.no.number(), error.line, (0, 0)),
+        NoProgram::Named(error) => name_verdict(alloc, source, error),
         NoProgram::NoMemory => SourceVerdict::no_memory(),
     }
 }
