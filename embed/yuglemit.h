@@ -25,7 +25,7 @@ extern "C" {
 #endif
 
 /* The version: 1,000,000 times major, 1,000 times minor, and patch. The call returns that of the library. */
-#define YUGLEMIT_VERSION_NUMBER 15000
+#define YUGLEMIT_VERSION_NUMBER 16000
 uint32_t yuglemit_version(void);
 
 /* Writes the output of the command `tw` with these arguments and this input; `tw --help` lists the arguments. All are UTF-8, and each ends
@@ -34,7 +34,8 @@ uint32_t yuglemit_version(void);
  * was. *status is the exit status: 0 quiet or done, 1 refused, 2 arguments refused, 3 stuck, 4 limit, 5 memory ran out, 6 a trap.
  * Returns the length of the text: if it is more than `room_length`, nothing is written to `room`; call again with as much.
  * A program is run in the caller's thread, its actors in turn, as by `tw run --in-turn`: `--workers 4` are four workers of that one thread,
- * and the second call answers the same. Nothing is said on the way, nor on standard error. */
+ * and the second call answers the same. Nothing is said on the way, nor on standard error.
+ * yuglemit_session_text, below, takes arguments with line feeds, and needs no second call. */
 size_t yuglemit_session(const uint8_t *words, size_t words_length, const uint8_t *input, size_t input_length,
                         uint8_t *room, size_t room_length, uint8_t *status);
 
@@ -65,7 +66,7 @@ void yuglemit_verify(const uint8_t *bytes, size_t length, yuglemit_verdict *verd
  * A handle is used by one call at a time, and the handles of one call are different ones. It may be made in one thread and used in
  * another. It isn't copied: of two copies one would be freed by the other. A call that makes a handle frees what it held before.
  *
- * The calls return 0 or the letter of an error, and then they have written nothing: */
+ * Except for yuglemit_session_text, the calls return 0 or the letter of an error, and then they have written nothing: */
 enum {
     YUGLEMIT_DONE = 0,
     YUGLEMIT_NO_CONTAINER = 'C', /* the handle is empty or holds something else, or a container of other types */
@@ -97,8 +98,9 @@ void yuglemit_load(const uint8_t *bytes, size_t length, yuglemit_program *progra
 typedef struct yuglemit_source_verdict {
     yuglemit_verdict verdict;
     size_t line;       /* A, N, V of a text: the line, from 1; 0: none */
-    size_t word;       /* A: the word of the line at which the error is, from 1; 0: at no word, or the written line isn't the expanded one */
-    size_t column;     /* A: the character of the line at which this word begins, from 1; 0: there is no word */
+    size_t word;       /* A: the word of the line at which the error is, from 1; 0: at no word, or the written line isn't the expanded one.
+                        * N: the word in which the error's name is, from 1; 0: unknown, as if the line has this name twice */
+    size_t column;     /* A, N: the character of the line at which this word or name begins, from 1; 0: there is no word */
 } yuglemit_source_verdict;
 
 enum { YUGLEMIT_ANY_FORMAT = 0, YUGLEMIT_BYTES = 'b', YUGLEMIT_HEX = 'h', YUGLEMIT_TEXT = 't' };
@@ -252,6 +254,11 @@ uint8_t yuglemit_report_instructions(yuglemit_report *report, uint64_t *count);
 uint8_t yuglemit_print_report(yuglemit_report *report, yuglemit_text *text);
 uint8_t yuglemit_print_trace(yuglemit_report *report, yuglemit_text *text);
 uint8_t yuglemit_print_json(yuglemit_report *report, yuglemit_text *text);
+
+/* Makes the output of the command `tw` with these arguments and this input, like yuglemit_session, and puts it into the handle of a text. Each
+ * argument ends with a NUL, which the last may lack: "run\0--text\0text:a\nb". So an argument has any other character. Returns the exit status;
+ * if that is 5, memory ran out, and the text is as it was. */
+uint8_t yuglemit_session_text(const uint8_t *words, size_t words_length, const uint8_t *input, size_t input_length, yuglemit_text *output);
 
 /* Write the length of a text in bytes, and the text to the start of `room`, if it fits; the rest of `room` stays. */
 uint8_t yuglemit_text_length(yuglemit_text *text, size_t *length);

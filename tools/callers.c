@@ -89,13 +89,21 @@ static uint8_t load(handles *all, const uint8_t *source, size_t length, uint8_t 
 
 static int is_memory(uint8_t code) { return code == 0 || code == YUGLEMIT_NO_MEMORY || code == 5; }
 
+/* Makes a session. Returns whether the handle holds its text, or memory ran out and the handle is as it was. */
+static int is_kept(const uint8_t *words, size_t words_length, const uint8_t *input, size_t input_length, yuglemit_text *output) {
+    void *was = output->at;
+    uint8_t status = yuglemit_session_text(words, words_length, input, input_length, output);
+    return status == 5 ? output->at == was : output->at && output->at != was;
+}
+
 /* Makes every kind of handle, as far as memory allows. Returns whether each call was done or said that memory ran out. */
 static int make_all(handles *all) {
-    static const uint8_t digits[] = "41", source[] = "names\nproc control main(w: write int)\nregs n: int\nINT n 7\nSTORE w n\nRET\n";
+    static const uint8_t digits[] = "41", words[] = "run\0--text", source[] = "names\nproc control main(w: write int)\nregs n: int\nINT n 7\nSTORE w n\nRET\n";
     handles other = {{NULL}, {NULL}, {NULL}, {NULL}, {NULL}, {NULL}, {NULL}};
     yuglemit_ending ending = {0, 0, 0};
     yuglemit_bounds bounds;
     int holds = is_memory(load(all, program_bytes, program_length, YUGLEMIT_ANY_FORMAT)) && is_memory(load(&other, source, sizeof source - 1, YUGLEMIT_TEXT));
+    holds = holds && is_kept(words, sizeof words, source, sizeof source - 1, &other.text);
     holds = holds && is_memory(yuglemit_source_name(source, sizeof source - 1, 0, &all->text)) && is_memory(yuglemit_stop_new(&all->stop));
     holds = holds && is_memory(yuglemit_container_new(&all->container, 't', 't'));
     if (all->container.at) holds = holds && is_memory(yuglemit_member_text_by_text(&all->container, digits, 2, digits, 2)) && is_memory(yuglemit_input_container(&other.inputs, &all->container));
@@ -142,6 +150,7 @@ static void check_empty(void) {
         static const uint8_t formats[] = {YUGLEMIT_ANY_FORMAT, YUGLEMIT_BYTES, YUGLEMIT_HEX, YUGLEMIT_TEXT, 'x'};
         for (size_t f = 0; f < sizeof formats; f++) check(load(&all, p, 0, formats[f]) != 0 && !all.program.at, "no source");
         check(yuglemit_session(p, 0, p, 0, p, 0, &status) > 0 && status == 2, "a session without words");
+        check(yuglemit_session_text(p, 0, p, 0, &all.text) == 2 && all.text.at, "and its text");
         check(yuglemit_input_text(&all.inputs, p, 0) == 0 && all.inputs.at, "an empty text");
         check(yuglemit_container_new(&all.container, 't', 't') == 0 && yuglemit_member_text_by_text(&all.container, p, 0, p, 0) == 0, "an empty subscript");
         check(yuglemit_source_name(p, 0, 0, &all.text) == 0 && all.text.at, "the name in no source");

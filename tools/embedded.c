@@ -1,7 +1,7 @@
 /* SPDX-License-Identifier: Apache-2.0 */
-/* Measures how much stack a call of the library takes: makes one in a thread with a stack of 64 KiB, and prints how many bytes of it were
- * written. Its arguments are those of tw, and standard input is the input; with the one argument `verify` it is a program's bytes. The stack
- * ends at a page that can't be touched. tools/embedded.sh builds and runs it. */
+/* Measures how much stack calls of the library take: makes a session by both calls in a thread with a stack of 64 KiB, and prints how many bytes
+ * of it were written. Its arguments are those of tw, and standard input is the input; with the one argument `verify` it is a program's bytes,
+ * which are verified. The stack ends at a page that can't be touched. tools/embedded.sh builds and runs it. */
 #define _GNU_SOURCE /* MAP_ANONYMOUS, MAP_STACK */
 #include "../embed/yuglemit.h"
 #include <pthread.h>
@@ -12,19 +12,26 @@
 
 enum { STACK = 65536, GUARD = 4096, BLANK = 0xA5 };
 
-/* A call's arguments and input. */
+/* A call's arguments, each ended by a line feed or by a NUL, and its input. */
 typedef struct call {
-    uint8_t *words, *input;
+    uint8_t *lines, *words, *input;
     size_t words_length, input_length;
     int verifies;
 } call;
 
+static void make_session(const call *c) {
+    uint8_t status, room[1];
+    yuglemit_text output = {NULL};
+    yuglemit_session(c->lines, c->words_length, c->input, c->input_length, room, 0, &status);
+    yuglemit_session_text(c->words, c->words_length, c->input, c->input_length, &output);
+    yuglemit_text_free(output);
+}
+
 static void *made(void *given) {
     const call *c = given;
-    uint8_t status, room[1];
     yuglemit_verdict verdict;
     if (c->verifies) yuglemit_verify(c->input, c->input_length, &verdict);
-    else yuglemit_session(c->words, c->words_length, c->input, c->input_length, room, 0, &status);
+    else make_session(c);
     return NULL;
 }
 
@@ -41,12 +48,13 @@ static void read_input(call *c) {
 static void read_words(call *c, int count, char **word) {
     size_t room = 1;
     for (int i = 1; i < count; i++) room += strlen(word[i]) + 1;
-    if (!(c->words = malloc(room))) exit(5);
+    if (!(c->lines = malloc(room)) || !(c->words = malloc(room))) exit(5);
     for (int i = 1; i < count; i++) {
         size_t length = strlen(word[i]);
-        memcpy(c->words + c->words_length, word[i], length);
-        c->words[c->words_length + length] = '\n';
+        memcpy(c->words + c->words_length, word[i], length + 1);
+        memcpy(c->lines + c->words_length, word[i], length);
         c->words_length += length + 1;
+        c->lines[c->words_length - 1] = '\n';
     }
 }
 

@@ -209,7 +209,7 @@ def compare_all() -> None:
     """Compares all that was asked for."""
     for name in sorted(it for it in os.listdir(folder) if it.endswith((".tw", ".twn", ".hex", ".history"))):
         compare_example(name)
-    orders: list[list[str]] = [["--help"], ["--version"], ["run", "--help"], [], ["fly"], ["run", "--workers", "17"], ["run", "int:x"], ["explain"], ["run", "text:a\r"]]
+    orders: list[list[str]] = [["--help"], ["--version"], ["run", "--help"], [], ["fly"], ["run", "--workers", "17"], ["run", "int:x"], ["explain"], ["run", "text:a\r"], ["run", "text:a\nb"]]
     orders += [["explain", f"{letter}{number:02}"] for letter in "AFHOVEX" for number in range(20)]
     orders += [["explain", f"C{number}"] for number in range(17)]
     for words in orders:

@@ -107,3 +107,14 @@ class Library:
         start = ctypes.addressof(room) + 16
         length = self.native.library().yuglemit_session(line, len(line), data, len(data), start, size, ctypes.byref(status))
         return status.value, int(length), room.raw
+
+    def into_text(self, ended: bytes, data: bytes) -> tuple[int, bytes]:
+        """Returns status and text of a call whose arguments end with NULs."""
+        calls, output, length = self.native.short(), self.native.Handle(), ctypes.c_size_t()
+        at = ctypes.byref(output)
+        status = self.native.library().yuglemit_session_text(ended, len(ended), data, len(data), at)
+        calls.yuglemit_text_length(at, ctypes.byref(length))
+        room = ctypes.create_string_buffer(length.value or 1)
+        calls.yuglemit_text_copy(at, room, length.value)
+        calls.yuglemit_text_free(output)
+        return int(status), room.raw[:length.value]

@@ -73,6 +73,21 @@ static const wrong sources[] = {
     {"", YUGLEMIT_ANY_FORMAT, 'F', 3, 0, 0, 0},
     {"", YUGLEMIT_TEXT, 'A', 6, 1, 0, 0},
     {"proc leaf write int\n  regs\n  ENDS d0\n", YUGLEMIT_ANY_FORMAT, 'A', 1, 3, 1, 3},
+    {"names\nconst n 7\n", YUGLEMIT_TEXT, 'N', 1, 2, 3, 9},
+    {"names\n const n\n", YUGLEMIT_TEXT, 'N', 1, 2, 1, 2}, /* a word is missing */
+    {"names\nproc control main(out:write int)\n", YUGLEMIT_TEXT, 'N', 1, 2, 3, 19},
+    {"names\nconst n = n*2 ; n\n", YUGLEMIT_TEXT, 'N', 1, 2, 4, 11},
+    {"names\nconst n = n\n", YUGLEMIT_TEXT, 'N', 1, 2, 0, 0}, /* it isn't known which n is wrong */
+    {"names\n\tconst 7up = 8\n", YUGLEMIT_TEXT, 'N', 2, 2, 2, 8},
+    {"names\nconst ten = 10\nconst ten = 11\n", YUGLEMIT_TEXT, 'N', 3, 3, 2, 7},
+    {"names\nconst a = 1\nproc control main(aa: val int, a: val int)\n", YUGLEMIT_TEXT, 'N', 3, 3, 6, 32},
+    {"names\nproc control main()\nregs a: int, a: int\n", YUGLEMIT_TEXT, 'N', 3, 3, 0, 0}, /* it isn't known which a is wrong */
+    {"names\nproc control main()\nregs\nINT totl 7\n", YUGLEMIT_TEXT, 'N', 4, 4, 2, 5},
+    {"names\nproc control main()\nregs\nADD \xc3\xa9 v0 totl next\n", YUGLEMIT_TEXT, 'N', 4, 4, 4, 10}, /* columns are characters */
+    {"names\nproc control main(x: ref int, y: ref int)\nregs\nPUT main 0 any(x,totl)\n", YUGLEMIT_TEXT, 'N', 4, 4, 4, 18},
+    {"names\nconst turns = 8\nproc control main()\nregs\nINT turns 7 ; too many turns\n", YUGLEMIT_TEXT, 'N', 5, 5, 2, 5},
+    {"names\nproc control main()\nregs a: int, b: int, c: int, d: int, e: int, f: int, g: int, h: int, i: int, j: int, k: int, l: int, m: int, "
+     "n: int, o: int, p: int, q: int\n", YUGLEMIT_TEXT, 'N', 6, 3, 34, 134},
 };
 
 static void check_sources(void) {
@@ -335,6 +350,39 @@ static void check_containers(yuglemit_program *program) {
     }
 }
 
+/* Arguments, each ended by a NUL, with the session's status and text for a program that returns the text that it is given. */
+typedef struct spoken {
+    const char *words;
+    size_t words_length;
+    uint8_t status;
+    const char *text;
+} spoken;
+
+#define WORDS(words) (words), sizeof(words) - 1
+
+static const spoken sessions[] = {
+    {WORDS("run\0--text\0text:a\nb\0"), 0, "out 0 text \"a\\nb\"\nquiet\n"},
+    {WORDS("run\0--text\0text:a\n"), 0, "out 0 text \"a\\n\"\nquiet\n"},
+    {WORDS("run\n--text\ntext:a\n"), 2, "command line refused\n"},
+    {WORDS("run\0--text\0\0text:a\0"), 2, "input word 1 refused\ninput 1: \"\": expected int:, ints:, text:, texts:, tints: or ttexts: before it\n"},
+    {WORDS("run\0--text\0text:\xff\0"), 2, "command line refused\n"},
+    {WORDS("\0"), 2, "command line refused\n"},
+};
+
+static void check_sessions(void) {
+    static const char source[] = "proc control closed text write text\nregs text\nGET v0 d0\nDROPR d0\nSTORE d1 v0\nRET\n";
+    yuglemit_text text = {NULL};
+    for (size_t k = 0; k < sizeof sessions / sizeof *sessions; k++) {
+        const spoken *s = &sessions[k];
+        uint8_t room[128];
+        size_t size = 0;
+        check(yuglemit_session_text((const uint8_t *)s->words, s->words_length, (const uint8_t *)source, sizeof source - 1, &text) == s->status, "a status");
+        check(yuglemit_text_length(&text, &size) == 0 && size == strlen(s->text), "the text's length");
+        check(yuglemit_text_copy(&text, room, sizeof room) == 0 && !memcmp(room, s->text, size), "the text");
+    }
+    yuglemit_text_free(text);
+}
+
 /* What a thread does with its own handle of the program. */
 static void *work(void *given) {
     yuglemit_program *program = given;
@@ -385,6 +433,7 @@ static void *check_all(void *unused) {
     check_stop(&program);
     check_stopped_thread(&program);
     check_containers(&program);
+    check_sessions();
     check_threads(&program);
     return unused;
 }

@@ -19,8 +19,9 @@ Answer = tuple[int, bytes]
 
 
 def started(words: list[str], data: bytes = b"") -> Answer:
-    """Returns the status and the text of a program."""
-    done = subprocess.run(words, input=data, stdout=subprocess.PIPE, check=False)
+    """Returns the status and the text of a program. What tw says of codes isn't printed, but what valgrind says of the others is."""
+    errors = subprocess.DEVNULL if words[0] == tw else None
+    done = subprocess.run(words, input=data, stdout=subprocess.PIPE, stderr=errors, check=False)
     return done.returncode, done.stdout
 
 
@@ -75,12 +76,22 @@ def damaged(text: bytes) -> list[bytes]:
     return made
 
 
+def name_position(text: str) -> tuple[int, int]:
+    """Returns word and column of the name of which an error of names says something, if the line that is printed has it once."""
+    _, line, reason = text.split("\n")[:3]
+    name = reason.split(": ")[0]
+    places = [found.start() for found in re.finditer(rf"(?<![^\s(),]){re.escape(name)}(?![^\s(),:;])", line.split(";")[0])]
+    return (len(line[: places[0] + 1].split()), places[0] + 1) if len(places) == 1 else (0, 0)
+
+
 def position(text: str) -> tuple[str, int, int, int]:
     """Returns code, line, word and column of an error that `tw check --text` prints. A register's error has no word."""
     code = re.search(r"^refused ([A-Z])0?(\d+)", text, re.M)
     line = re.search(r" at line (\d+)$", text, re.M) or re.search(r"^at line (\d+)", text, re.M)
     word = re.search(r"^word (\d+), column (\d+): ", text, re.M)
     at = (int(word[1]), int(word[2])) if word and "expands to: " not in text else (0, 0)
+    if code and code[1] == "N":
+        at = name_position(text)
     return f"{code[1]}{int(code[2]):02}" if code else "", int(line[1]) if line else 0, *at
 
 

@@ -14,14 +14,16 @@ typedef struct bytes {
     size_t length, room;
 } bytes;
 
+static void no_memory(void) {
+    fputs("memory\n", stderr);
+    exit(5);
+}
+
 static void need(bytes *b, size_t room) {
     if (b->at && room <= b->room) return;
     b->room = room > 2 * b->room ? room : 2 * b->room;
     b->at = (uint8_t *)realloc(b->at, b->room ? b->room : 1);
-    if (!b->at) {
-        fputs("memory\n", stderr);
-        exit(5);
-    }
+    if (!b->at) no_memory();
 }
 
 static void add(bytes *b, const void *from, size_t length) {
@@ -37,13 +39,14 @@ static void read_all(FILE *file, bytes *all) {
 
 /* One session: the text comes to `text`, and the status is returned. */
 static int session(const bytes *words, const bytes *input, bytes *text) {
-    uint8_t status = 0;
-    need(text, 4096);
-    for (;;) {
-        text->length = yuglemit_session(words->at, words->length, input->at, input->length, text->at, text->room, &status);
-        if (text->length <= text->room) return status;
-        need(text, text->length);
-    }
+    yuglemit_text output = {NULL};
+    int status = yuglemit_session_text(words->at, words->length, input->at, input->length, &output);
+    text->length = 0;
+    if (status == 5 || yuglemit_text_length(&output, &text->length)) no_memory();
+    need(text, text->length);
+    yuglemit_text_copy(&output, text->at, text->length);
+    yuglemit_text_free(output);
+    return status;
 }
 
 /* Whether tw reads an input with these arguments: an empty one is refused by status 1 or comes to an empty text, and nothing else does. */
@@ -73,10 +76,7 @@ int main(int count, char **word) {
     long times = getenv("TIMES") ? atol(getenv("TIMES")) : 1;
     need(&words, 1);
     need(&input, 1);
-    for (int i = 1; i < count; i++) {
-        add(&words, word[i], strlen(word[i]));
-        add(&words, "\n", 1);
-    }
+    for (int i = 1; i < count; i++) add(&words, word[i], strlen(word[i]) + 1);
     if (verifies || is_read(&words, &input, &text)) read_all(stdin, &input);
     double from = seconds();
     for (long k = 0; k < times; k++) {

@@ -173,6 +173,13 @@ void test_caps() {
     CHECK_THROWS(Error, Program::load(MEMBER).run({}, texts));
 }
 
+void test_sessions() {
+    const auto reply = session({"run", "--text", "text:a\nb\n"}, same("text"));
+    CHECK(reply.status == 0 && reply.text == "out 0 text \"a\\nb\\n\"\nquiet\n");
+    CHECK(session({}, "").status == 2 && session({""}, "").status == 2);
+    CHECK(session({"run", "--text", "text:" + std::string(4097, 'a')}, same("text")).status == 1);
+}
+
 void test_errors() {
     try {
         Program::load("proc control write int\nregs int\nINT v0 7\nRET\n");
@@ -186,6 +193,12 @@ void test_errors() {
         CHECK(false);
     } catch (const Error &error) {
         CHECK(error.code() == "A02" && error.line == 3 && error.word == 4 && error.column == 11);
+    }
+    try {
+        Program::load("names\nproc control main()\nregs n: int\nINT totl 7\nRET\n");
+        CHECK(false);
+    } catch (const Error &error) {
+        CHECK(error.code() == "N04" && error.line == 4 && error.word == 2 && error.column == 5);
     }
     CHECK_THROWS(Error, Program::load(""));
     CHECK_THROWS(Error, Program::load("TWB", YUGLEMIT_BYTES));
@@ -226,6 +239,7 @@ int main(int count, char **word) {
     test_printed();
     test_bounds();
     test_caps();
+    test_sessions();
     test_errors();
     test_stops();
     std::cout << "C++: " << passed << " passed, " << failed << " failed\n";

@@ -142,13 +142,18 @@ template <class Call> std::string text_of(std::size_t length, Call call) {
     return text;
 }
 
+// Returns the text of a handle.
+inline std::string kept_text(TextHandle &kept) {
+    std::size_t length = 0;
+    done(yuglemit_text_length(kept.get(), &length));
+    return text_of(length, [&](auto room, auto size) { return yuglemit_text_copy(kept.get(), room, size); });
+}
+
 // Returns the text that a call puts into a handle.
 template <class Call> std::string made_text(Call call) {
     TextHandle made;
-    std::size_t length = 0;
     done(call(made.get()));
-    done(yuglemit_text_length(made.get(), &length));
-    return text_of(length, [&](auto room, auto size) { return yuglemit_text_copy(made.get(), room, size); });
+    return kept_text(made);
 }
 
 }  // namespace detail
@@ -372,20 +377,14 @@ struct Reply {
     std::string text;
 };
 
-// Returns what the command tw writes with these arguments, if it reads this input. An argument with a line feed is two.
+// Returns what the command tw writes with these arguments, if it reads this input. An argument with a NUL is two.
 inline Reply session(const std::vector<std::string> &words, std::string_view input) {
-    std::string lines;
-    for (const auto &word : words) lines += word + '\n';
-    std::string room(4096, '\0');
-    for (std::uint8_t status = 0;;) {
-        const auto length = yuglemit_session(detail::bytes_of(lines), lines.size(), detail::bytes_of(input), input.size(),
-                                             reinterpret_cast<std::uint8_t *>(room.data()), room.size(), &status);
-        const bool fits = length <= room.size();
-        room.resize(length);
-        if (!fits) continue;
-        if (status == 5) throw std::bad_alloc();
-        return {status, room};
-    }
+    std::string ended;
+    for (const auto &word : words) ended += word + '\0';
+    detail::TextHandle output;
+    const int status = yuglemit_session_text(detail::bytes_of(ended), ended.size(), detail::bytes_of(input), input.size(), output.get());
+    if (status == 5) throw std::bad_alloc();
+    return {status, detail::kept_text(output)};
 }
 
 // Returns the name that an assembly text gives the procedure of this number; it is empty if the text gives none.

@@ -1,6 +1,6 @@
 //! Sessions.
 
-ghost use Rattle.std.specs.Prelude.{◌≡◌, IfOk, length};
+ghost use Rattle.std.specs.Prelude.{◌≡◌, ◌<◌, IfOk, length};
 ghost use Rattle.tw_cli.specs.CommandLine.{asked_by_words, word_faults};
 ghost use Rattle.tw_cli.specs.InTurn.{turned};
 ghost use Rattle.tw_program_output.specs.Reply.{reply};
@@ -12,11 +12,18 @@ use crate::arguments::arguments_of;
 use std::alloc::{AllocError, Global};
 use tw_session::{Close, Reply, Status, answer_in_turn};
 
-/// Runs a session with arguments in lines and the bytes that `tw` would read. Returns an error if an allocation fails.
-fn answer(alloc: Global, words: &str, input: &[u8]) -> Result<Reply, AllocError>
-    ensures { IfOk result (λ r. AnswersWords (word_faults (arguments_in words.now)) (turned (asked_by_words (arguments_in words.now))) input.now (reply r.text.items r.close)) }
+/// Runs a session with the arguments of a text, which this ASCII character ends, and the bytes that `tw` would read. Returns an error if an allocation
+/// fails.
+pub(crate) fn answer(
+    alloc: Global,
+    words: &str,
+    ending: char,
+    input: &[u8],
+) -> Result<Reply, AllocError>
+    requires { ending < 128 }
+    ensures { IfOk result (λ r. AnswersWords (word_faults (arguments_in ending words.now)) (turned (asked_by_words (arguments_in ending words.now))) input.now (reply r.text.items r.close)) }
 {
-    let words = arguments_of(alloc, words)?;
+    let words = arguments_of(alloc, words, ending)?;
     answer_in_turn(alloc, words.as_slice(), input)
 }
 
@@ -52,7 +59,7 @@ pub fn session(alloc: Global, words: &[u8], input: &[u8], room: &mut [u8], statu
         let ended = Status::Ended(Close::CommandLine);
         return write_answer(room, status, ended, "command line refused\n".as_bytes());
     };
-    match answer(alloc, words, input) {
+    match answer(alloc, words, '\n', input) {
         Ok(reply) => write_answer(
             room,
             status,

@@ -1,6 +1,8 @@
 //! The C interface of Yuglemit, for programs in other languages.
 //!
-//! * `yuglemit_session`: the output and the status of the command `tw` with these arguments and this input; a run is single-threaded.
+//! * `yuglemit_session_text`: the output and the status of the command `tw` with these arguments and this input; a run is single-threaded. A handle
+//!   holds the output.
+//! * `yuglemit_session`: likewise, by arguments in lines, and with the output in the caller's buffer.
 //! * `yuglemit_verify`: only the verifier. It takes the bytes of a program, and its result is in numbers.
 //! * `yuglemit_load`, `yuglemit_run` and the calls on their handles: a program is loaded once, and run many times.
 //!
@@ -8,7 +10,7 @@
 #![tactic(auto)]
 
 ghost use Rattle.std.specs.Prelude.{◌≡◌};
-ghost use Rattle.tw_calls.specs.SessionAnswers.{IsAnswered};
+ghost use Rattle.tw_calls.specs.SessionAnswers.{IsAnswerKept, IsAnswered};
 ghost use Rattle.tw_verdict.specs.Verdict.{IsVerdict};
 
 mod handles;
@@ -31,15 +33,16 @@ pub use reports::{
     yuglemit_report_text, yuglemit_text_copy, yuglemit_text_free, yuglemit_text_length,
 };
 use std::alloc::Global;
+use tw_handles::Handle;
 pub use tw_verdict::Verdict;
 
 /// The version: major, minor and patch, three digits each.
-const VERSION: u32 = 15_000;
+const VERSION: u32 = 16_000;
 
 /// Returns the version of the library, as `YUGLEMIT_VERSION_NUMBER` of the header it is made for.
 #[unsafe(no_mangle)]
 pub extern "C" fn yuglemit_version() -> u32
-    ensures { result ≡ 15000 }
+    ensures { result ≡ 16000 }
 {
     VERSION
 }
@@ -56,6 +59,19 @@ pub extern "C" fn yuglemit_session(
     ensures { IsAnswered words.now input.now room.old room.new status.new result }
 {
     tw_calls::session(alloc, words, input, room, status)
+}
+
+/// Exports `tw_calls::session_text`.
+#[unsafe(no_mangle)]
+pub extern "C" fn yuglemit_session_text(
+    alloc: Global,
+    words: &[u8],
+    input: &[u8],
+    output: &mut Handle,
+) -> u8
+    ensures { IsAnswerKept words.now input.now output.old.held output.new.held result }
+{
+    tw_calls::session_text(alloc, words, input, output)
 }
 
 /// Exports `tw_calls::verify`.

@@ -28,7 +28,7 @@ impl Model for Handle {
 
 impl Handle {
     /// Returns the null handle.
-    pub(crate) fn empty(alloc: Global) -> Handle
+    pub fn empty(alloc: Global) -> Handle
         ensures { result.held ≡ None }
     {
         Handle {

@@ -39,5 +39,5 @@ pub use shape::{
     Needs, Parameter, Section, describe_parameter, describe_procedure, read_needs, source_name,
 };
 pub use stopping::{stop_lower, stop_new, stop_raise, stop_share};
-pub use texts::{text_copy, text_length};
+pub use texts::{text_copy, text_handle, text_length};
 pub use tw_verdict::{SourceVerdict, Verdict};

@@ -9,8 +9,8 @@ use crate::held::Held;
 use crate::item::fill;
 use std::alloc::{AllocError, Global};
 
-/// Puts a text into a handle.
-fn handle_of(alloc: Global, text: Vec<u8>) -> Result<Handle, AllocError>
+/// Puts a text into a new handle.
+pub fn text_handle(alloc: Global, text: Vec<u8>) -> Result<Handle, AllocError>
     ensures { IfOk result (λ h. text_in h.held ≡ Some text.items) }
 {
     Handle::of_held(alloc, Held::Text(text))
@@ -20,7 +20,7 @@ fn handle_of(alloc: Global, text: Vec<u8>) -> Result<Handle, AllocError>
 pub(crate) fn keep_text(alloc: Global, made: Vec<u8>, text: &mut Handle) -> u8
     ensures { IsTextKept made.items text.old.held text.new.held result }
 {
-    match handle_of(alloc, made) {
+    match text_handle(alloc, made) {
         Ok(handle) => {
             *text = handle;
             codes::DONE

@@ -20,9 +20,12 @@ class Calls(unittest.TestCase):
         with mock.patch("yuglemit._native.session", return_value=(5, b"memory\n")), self.assertRaises(MemoryError):
             ask(["check"], b"")
 
-    def test_line_feed_in_a_word(self) -> None:
+    def test_ends_of_words(self) -> None:
+        """A line feed or a NUL in a word doesn't end it."""
+        for word in ("run\n--help", "run\0--help", "\n", "\0", ""):
+            self.assertEqual(yuglemit.session([word]), (2, b"command line refused\n"))
         with self.assertRaisesRegex(ValueError, "line feed"):
-            yuglemit.session(["run\n--help"])
+            yuglemit.session(["\n", "\0"])
 
 
 class Outputs(unittest.TestCase):
@@ -80,7 +83,12 @@ class Positions(unittest.TestCase):
 
     def test_name_that_means_nothing(self) -> None:
         why = self.refusal("names\nproc control main(x: write int)\nregs n: int\nINT totl 7\nSTORE x n\nRET\n")
-        self.assertEqual((why.code, why.line), ("N04", 4))
+        self.assertEqual((why.code, why.line, why.column), ("N04", 4, 5))
+        self.assertEqual(pickle.loads(pickle.dumps(why)).column, 5)
+
+    def test_name_that_its_line_has_twice(self) -> None:
+        why = self.refusal("names\nproc control main()\nregs n: int, n: int\nRET\n")
+        self.assertEqual((why.code, why.line, why.column), ("N03", 3, None))
 
     def test_byte_of_what_is_no_program(self) -> None:
         for call in (yuglemit.verify, yuglemit.load):

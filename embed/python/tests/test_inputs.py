@@ -28,12 +28,18 @@ class Values(unittest.TestCase):
         report = yuglemit.load(Path(__file__).parents[3] / "examples" / "texts.twn").run({1: "a\nb", 2: "\r", 3: '"\\'})
         self.assertEqual(report.outputs[0], 'a\nb,\r,"\\')
 
-    def test_a_text_with_a_line_feed_has_no_command_line(self) -> None:
-        """A run takes it as a value, and its report is printed; what is made by a command, as a timeline, can't."""
-        report = yuglemit.load(same("closed", "text")).run("a\nb")
-        self.assertEqual((report.end, report.outputs), ("quiet", ["a\nb"]))
-        self.assertEqual((report.text, report.trace[:7]), ('out 0 text "a\\nb"\nquiet\n', "events\n"))
-        with self.assertRaisesRegex(ValueError, "input 1: .*line feed"):
+    def test_texts_on_a_command_line(self) -> None:
+        """A timeline is made by a command, whose words may have line feeds or NULs, but not both."""
+        program = yuglemit.load(same("closed", "text"))
+        for text, shown in (("a\nb\n", "a\\nb\\n"), ("a\0b", "a\\x00b")):
+            report = program.run(text)
+            self.assertEqual((report.end, report.outputs), ("quiet", [text]))
+            self.assertEqual(report.text, f'out 0 text "{shown}"\nquiet\n')
+            self.assertTrue(report.timeline().startswith("<svg"))
+            self.assertEqual(program.replay(report.trace, text).outputs, [text])
+        report = program.run("a\n\0b")
+        self.assertEqual((report.outputs, report.trace[:7]), (["a\n\0b"], "events\n"))
+        with self.assertRaisesRegex(ValueError, "NUL and a line feed"):
             _ = report.timeline()
 
     def test_texts_of_containers_have_a_trace(self) -> None:

@@ -142,7 +142,7 @@ def _spelled(value: Scalar) -> str:
     return quoted(value) if isinstance(value, str) else str(value)
 
 
-def word_of(checked: Given, where: str = "input") -> str:
+def word_of(checked: Given) -> str:
     """Returns the word for a value that is checked.
 
     No word is an option, whatever the value is, since each begins with its type.
@@ -153,8 +153,6 @@ def word_of(checked: Given, where: str = "input") -> str:
     kind, value = checked
     if isinstance(value, list):
         return _PREFIXES[kind] + ",".join(f"{_spelled(subscript)}={_spelled(member)}" for subscript, member in value)
-    if isinstance(value, str) and "\n" in value:
-        raise ValueError(f"{where}: a text with a line feed can be given to `run`, but no command line has it: replays, traces and timelines don't")
     return f"{kind}:{value}"
 
 

@@ -116,6 +116,7 @@ _KINDS = ("program", "inputs", "container", "stop", "report", "text")
 # The types of calls that release the GIL, and of those that keep it. The latter return 0 or the letter of an error. A run may be either.
 _LONG_CALLS: Dict[str, Tuple[Any, Sequence[Any]]] = {
     "session": (ctypes.c_size_t, (*_BYTES, *_BYTES, *_ROOM, ctypes.POINTER(ctypes.c_uint8))),
+    "session_text": (ctypes.c_uint8, (*_BYTES, *_BYTES, _AT)),
     "verify": (None, (*_BYTES, ctypes.POINTER(RawVerdict))),
     "load_source": (None, (*_BYTES, ctypes.c_uint8, _AT, ctypes.POINTER(SourceVerdict))),
     "run_within": (ctypes.c_uint8, (_AT, _AT, ctypes.POINTER(Options), ctypes.POINTER(Caps), _AT, _AT)),

@@ -33,6 +33,7 @@ class Verdict(NamedTuple):
     workers: int
     procedure: int
     place: int
+    column: int = 0  # in the line of a text, from 1; 0 if the error has none
 
 
 class Given(NamedTuple):
@@ -160,7 +161,7 @@ class Kept:
         if code == ord("E"):
             return None
         _done(code)
-        return _read_text(text)
+        return _read_text(text).decode()
 
     def instructions(self) -> int:
         """Returns how many instructions the run executed."""
@@ -170,12 +171,12 @@ class Kept:
         return count.value
 
 
-def _read_text(text: _Owner) -> str:
+def _read_text(text: _Owner) -> bytes:
     length = ctypes.c_size_t()
     _done(short().yuglemit_text_length(text.at, ctypes.byref(length)))
     room = ctypes.create_string_buffer(length.value or 1)
     _done(short().yuglemit_text_copy(text.at, room, length.value))
-    return room.raw[: length.value].decode()
+    return ctypes.string_at(room, length.value)
 
 
 class Flag:
@@ -196,7 +197,7 @@ def load(source: bytes, format_: str) -> Tuple[Verdict, Optional[Loaded]]:
     """Verifies a program, and keeps it if it is accepted. The format is "b" for bytes, "h" for hex text, "t" for assembly text."""
     root, verdict = _owner("program"), SourceVerdict()
     library().yuglemit_load_source(source, len(source), ord(format_), root.at, ctypes.byref(verdict))
-    answer = _verdict_of(verdict.verdict)
+    answer = _verdict_of(verdict.verdict)._replace(column=verdict.column)
     return answer, None if answer.letter else Loaded(root)
 
 
@@ -312,26 +313,23 @@ def _scalar(item: Item, call: str, report: _Owner, *places: int) -> Optional[Sca
 
 # ---- Sessions
 
-_rooms = threading.local()
+_NO_MEMORY = 5
 _FIRST_ROOM = 1 << 16
-_KEPT_ROOM = 1 << 22
 
 
-def _room_of(length: int) -> ctypes.Array[ctypes.c_char]:
-    """Returns this thread's buffer of at least this length; a thread keeps its buffer, so that few calls are made twice."""
-    room = getattr(_rooms, "room", None)
-    if room is None or len(room) < length:
-        room = ctypes.create_string_buffer(max(length, _FIRST_ROOM))
-        if len(room) <= _KEPT_ROOM:
-            _rooms.room = room
-    return room
+def _session(words: Sequence[str], data: bytes) -> Answer:
+    """Makes a session with words that have no NUL, since each ends with one."""
+    ended, output = "".join(word + "\0" for word in words).encode(), _owner("text")
+    status = library().yuglemit_session_text(ended, len(ended), data, len(data), output.at)
+    return status, b"memory\n" if status == _NO_MEMORY else _read_text(output)
 
 
-def _session(words: bytes, data: bytes) -> Answer:
-    length, status = 0, ctypes.c_uint8()
+def _session_by_lines(words: Sequence[str], data: bytes) -> Answer:
+    """Makes a session with words that have a NUL, but no line feed; again if its text is longer than the buffer."""
+    lines, length, status = "".join(word + "\n" for word in words).encode(), _FIRST_ROOM, ctypes.c_uint8()
     while True:
-        room = _room_of(length)
-        length = library().yuglemit_session(words, len(words), data, len(data), room, len(room), ctypes.byref(status))
+        room = ctypes.create_string_buffer(length)
+        length = library().yuglemit_session(lines, len(lines), data, len(data), room, len(room), ctypes.byref(status))
         if length <= len(room):
             return status.value, ctypes.string_at(room, length)
 
@@ -374,12 +372,13 @@ def session(words: Sequence[str], data: bytes = b"", long: bool = False) -> Answ
 
     A call that may be long gives way to Ctrl-C, which only the main thread gets.
     """
-    if any("\n" in word for word in words):
-        raise ValueError("a word of the command line has a line feed in it")
-    line = "".join(word + "\n" for word in words).encode()
+    has_nul, has_line_feed = (any(sign in word for word in words) for sign in "\0\n")
+    if has_nul and has_line_feed:
+        raise ValueError("no command line has both a NUL and a line feed in its words")
+    call = _session_by_lines if has_nul else _session
     if long and threading.current_thread() is threading.main_thread():
-        return _aside(lambda: _session(line, data))
-    return _session(line, data)
+        return _aside(lambda: call(words, data))
+    return call(words, data)
 
 
 def verify(program: bytes) -> Verdict:

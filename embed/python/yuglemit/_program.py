@@ -158,7 +158,7 @@ class Program:
 
     def words(self, inputs: Sequence[object]) -> Tuple[str, ...]:
         """Returns the words of inputs on a command line."""
-        return tuple(word_of(it, f"input {number}") for number, it in enumerate(self.given(inputs), 1))
+        return tuple(map(word_of, self.given(inputs)))
 
     def run(
         self,
@@ -257,7 +257,12 @@ def _kept(source: bytes, format_: str, words: Sequence[str]) -> Tuple[_native.Lo
         return kept, Needs(verdict.engines, verdict.workers)
     if verdict.letter == "M":
         raise MemoryError("yuglemit: out of memory")
-    ask(words, source if format_ == "t" else source.hex().encode())
+    try:
+        ask(words, source if format_ == "t" else source.hex().encode())
+    except Refused as why:
+        if verdict.letter == "N" and verdict.column:  # the text of an error of names has no column
+            why.column = verdict.column
+        raise
     raise Refused(f"refused {verdict.letter}{verdict.number:02}\n")
 
 

@@ -33,7 +33,7 @@ pub struct Refused {
     pub procedure: usize,
     /// V: the place in the procedure, from 0; F: the byte.
     pub place: usize,
-    /// Line, word of the line and column, from 1.
+    /// Line, word of the line and column, from 1. An error of names has no word and column if its line has the name twice.
     pub line: usize,
     pub word: usize,
     pub column: usize,

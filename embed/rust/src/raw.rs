@@ -112,7 +112,7 @@ pub const NO_BOUND: u64 = u64::MAX;
 
 #[link(name = "yuglemit", kind = "static")]
 unsafe extern "C" {
-    pub fn yuglemit_session(words: *const u8, words_length: usize, input: *const u8, input_length: usize, room: *mut u8, room_length: usize, status: *mut u8) -> usize;
+    pub fn yuglemit_session_text(words: *const u8, words_length: usize, input: *const u8, input_length: usize, output: *mut Handle) -> u8;
     pub fn yuglemit_verify(bytes: *const u8, length: usize, verdict: *mut Verdict);
     pub fn yuglemit_load_source(source: *const u8, length: usize, format: u8, program: *mut Handle, verdict: *mut SourceVerdict);
     pub fn yuglemit_program_share(program: *mut Handle, other: *mut Handle) -> u8;
@@ -144,8 +144,8 @@ unsafe extern "C" {
     pub fn yuglemit_print_report(report: *mut Handle, text: *mut Handle) -> u8;
     pub fn yuglemit_print_trace(report: *mut Handle, text: *mut Handle) -> u8;
     pub fn yuglemit_print_json(report: *mut Handle, text: *mut Handle) -> u8;
-    pub fn yuglemit_text_length(text: *mut Handle, length: *mut usize) -> u8;
-    pub fn yuglemit_text_copy(text: *mut Handle, room: *mut u8, length: usize) -> u8;
+    fn yuglemit_text_length(text: *mut Handle, length: *mut usize) -> u8;
+    fn yuglemit_text_copy(text: *mut Handle, room: *mut u8, length: usize) -> u8;
     fn yuglemit_program_free(program: Handle);
     fn yuglemit_inputs_free(inputs: Handle);
     fn yuglemit_container_free(container: Handle);
@@ -214,6 +214,16 @@ impl<K: Kind> Drop for Owner<K> {
         // The handle was made by a call of its kind, or is empty, and isn't used after this.
         unsafe { (K::FREE)(*self.handle.get()) };
     }
+}
+
+/// Returns the bytes of the text that a handle holds.
+pub fn kept_text(text: &Owner<OfText>) -> Result<Vec<u8>, Error> {
+    let mut length = 0;
+    // Each pointer is a local's or the owner's own.
+    done(unsafe { yuglemit_text_length(text.at(), &mut length) })?;
+    let mut bytes = vec![0; length];
+    done(unsafe { yuglemit_text_copy(text.at(), bytes.as_mut_ptr(), length) })?;
+    Ok(bytes)
 }
 
 /// Returns the error of a call, if there is one.

@@ -1,5 +1,5 @@
 // SPDX-License-Identifier: Apache-2.0
-use crate::raw::{self, Ending, Handle, Item, OfReport, OfText, Owner, done};
+use crate::raw::{self, Ending, Handle, Item, OfReport, OfText, Owner, done, kept_text};
 use crate::{Container, Error, Scalar, Type, Value};
 
 /// How a run ended.
@@ -69,12 +69,9 @@ impl Report {
 
     /// Returns the text that a call puts into a handle.
     fn printed(&self, call: impl Fn(*mut Handle) -> u8) -> Result<String, Error> {
-        let (made, mut length) = (Owner::<OfText>::new(), 0);
+        let made = Owner::<OfText>::new();
         done(call(made.at()))?;
-        done(unsafe { raw::yuglemit_text_length(made.at(), &mut length) })?;
-        let mut room = vec![0; length];
-        done(unsafe { raw::yuglemit_text_copy(made.at(), room.as_mut_ptr(), length) })?;
-        Ok(String::from_utf8(room).expect("texts are UTF-8"))
+        Ok(String::from_utf8(kept_text(&made)?).expect("texts are UTF-8"))
     }
 
     /// Returns all outputs of main.

@@ -1,5 +1,5 @@
 // SPDX-License-Identifier: Apache-2.0
-use crate::raw::{self, yuglemit_session, yuglemit_verify};
+use crate::raw::{self, OfText, Owner, kept_text, yuglemit_session_text, yuglemit_verify};
 
 /// The output of the command `tw`, and its exit status.
 #[derive(Clone, Debug, PartialEq, Eq)]
@@ -20,25 +20,22 @@ pub enum Verdict {
     NoMemory,
 }
 
-/// Returns what the command `tw` answers to these arguments if it reads this input; a run is in turn. An argument with a line feed in it is two.
+/// The status that leaves the handle as it was.
+const NO_MEMORY: u8 = 5;
+
+/// Returns what the command `tw` answers to these arguments if it reads this input; a run is in turn. An argument with a NUL in it is two.
 ///
 /// ```
 /// let reply = yuglemit::session(&["run", "--text"], b"proc control write int\nregs int\nINT v0 7\nSTORE d0 v0\nRET\n");
 /// assert!(reply.text.starts_with(b"out 0 int 7\n"));
 /// ```
 pub fn session(words: &[&str], input: &[u8]) -> Reply {
-    let lines: String = words.iter().flat_map(|word| [word, "\n"]).collect();
-    let mut text = vec![0; 4096];
-    loop {
-        let mut status = 0;
-        // Each pointer is a slice's own, and nothing else has the text and the status.
-        let length = unsafe { yuglemit_session(lines.as_ptr(), lines.len(), input.as_ptr(), input.len(), text.as_mut_ptr(), text.len(), &mut status) };
-        let fits = length <= text.len();
-        text.resize(length, 0);
-        if fits {
-            return Reply { status, text };
-        }
-    }
+    let ended: String = words.iter().flat_map(|word| [word, "\0"]).collect();
+    let output = Owner::<OfText>::new();
+    // Each pointer is a slice's or the owner's own.
+    let status = unsafe { yuglemit_session_text(ended.as_ptr(), ended.len(), input.as_ptr(), input.len(), output.at()) };
+    let text = if status == NO_MEMORY { b"memory\n".to_vec() } else { kept_text(&output).expect("the handle holds the output") };
+    Reply { status, text }
 }
 
 /// Verifies a program's bytes.

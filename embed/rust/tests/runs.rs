@@ -4,7 +4,7 @@ use std::collections::BTreeMap;
 use std::fs;
 use std::thread;
 
-use yuglemit::{Bound, Bounds, Caps, Container, End, Error, Format, Mode, Options, Parameter, Program, Stop, Type, Value, Verdict};
+use yuglemit::{Bound, Bounds, Caps, Container, End, Error, Format, Mode, Options, Parameter, Program, Stop, Type, Value, Verdict, session};
 
 const ENDLESS: &str = "proc control\nregs int int\nINT v1 1\nREPEAT 5\nREPEAT 1000\nADD v0 v0 v1 no\nno:\nEND\nEND\nPUT 0 0 any\nRET\n";
 /// Inserts a text by a text: the member is a text, and its subscript another.
@@ -40,6 +40,15 @@ fn values_return_as_they_are() -> Result<(), Error> {
         assert_eq!(same("text").run(&[text.into()])?.outputs()?, [Value::Text(text.into())]);
     }
     Ok(())
+}
+
+#[test]
+fn arguments_may_have_line_feeds() {
+    let text = b"proc control closed text write text\nregs text\nGET v0 d0\nDROPR d0\nSTORE d1 v0\nRET\n";
+    let reply = session(&["run", "--text", "text:a\nb\n"], text);
+    assert_eq!((reply.status, reply.text), (0, b"out 0 text \"a\\nb\\n\"\nquiet\n".to_vec()));
+    assert_eq!(session(&[], b"").status, 2);
+    assert_eq!(session(&[""], b"").status, 2);
 }
 
 #[test]
@@ -152,6 +161,8 @@ fn errors_say_where() {
     assert_eq!(refused.to_string(), "refused V10 in procedure 0 at place 1 at line 4");
     let Err(Error::Refused(refused)) = Program::load("proc control\nregs int\nADD v0 v0 1 +0\nRET\n") else { panic!("it is accepted") };
     assert_eq!((refused.code().as_str(), refused.line, refused.word, refused.column), ("A02", 3, 4, 11));
+    let Err(Error::Refused(refused)) = Program::load("names\nproc control main()\nregs n: int\nADD n é totl next\nRET\n") else { panic!("it is accepted") };
+    assert_eq!((refused.code().as_str(), refused.line, refused.word, refused.column), ("N04", 4, 4, 9));
     let why: Box<dyn std::error::Error> = Program::load_as("", Format::Bytes).err().expect("it is no program").into();
     assert_eq!(why.to_string(), "refused F03 at byte 0");
     assert_eq!(yuglemit::verify(b""), Verdict::NoProgram { number: 3, byte: 0 });

@@ -5,7 +5,7 @@ use Rattle.tw_program_output.specs.Reply.{reply}
 use Rattle.tw_session.specs.Session.{AnswersWords}
 use Rattle.tw_program_output.specs.declared.close.Close.TheVariants.{CommandLine}
 use Rattle.tw_session.specs.declared.status.Status.TheVariants.{Ended}
-use Rattle.tw_calls.specs.SessionAnswers.{Answers, arguments_in}
+use Rattle.tw_calls.specs.SessionAnswers.{Answers, arguments_in, line_feed}
 use Rattle.tw_calls.proofs.sessions.session.Goals as goal
 
 pub returns-in_default : goal.returns-in_default
@@ -23,11 +23,11 @@ returns-in-Ok-answer c =
     let r = c.in-Ok-answer.reply in
     let words = c.in-Ok.ensures.cases in
     let input = c.args.input.now in
-    let answered = subst (λ (ws : List ℕ). AnswersWords (word_faults (arguments_in ws)) (turned (asked_by_words (arguments_in ws))) input (reply r.text.items r.close)) words.0 c.in-Ok-answer.ensures in
+    let answered = subst (λ (ws : List ℕ). AnswersWords (word_faults (arguments_in line_feed ws)) (turned (asked_by_words (arguments_in line_feed ws))) input (reply r.text.items r.close)) words.0 c.in-Ok-answer.ensures in
     record {
       status = Ended r.close;
       text = c.as_slice.result.now;
-      answers = subst (λ (t : List ℕ). Answers c.args.words.now input (Ended r.close) t) (sym c.as_slice.ensures.value) (inl (words.1, answered));
+      answers = subst (λ (t : List ℕ). Answers line_feed c.args.words.now input (Ended r.close) t) (sym c.as_slice.ensures.value) (inl (words.1, answered));
       code_is = c.write_answer-in-Ok-answer.ensures.code;
       count_is = c.write_answer-in-Ok-answer.ensures.count;
       room = c.write_answer-in-Ok-answer.ensures.room;
