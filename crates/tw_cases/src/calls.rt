@@ -3,19 +3,20 @@
 use crate::text::Text;
 use std::alloc::{AllocError, Global};
 use std::ops::Range;
-use tw_calls::{Verdict, session, verify};
+use tw_calls::{Verdict, session, session_text, verify};
+use tw_handles::{Handle, text_copy, text_length};
 
 /// The content of each byte of a buffer before a call.
 const BLANK: u8 = b'.';
 
-/// Returns the arguments as the library takes them, each followed by a line feed.
-fn lines_of(alloc: Global, words: &[String]) -> Text {
-    let mut lines = Text::new(alloc);
+/// Returns the arguments as the library takes them, each followed by this ending.
+fn ended_words(alloc: Global, words: &[String], ending: &str) -> Text {
+    let mut text = Text::new(alloc);
     for word in words {
-        lines.put(word.as_str());
-        lines.put("\n");
+        text.put(word.as_str());
+        text.put(ending);
     }
-    lines
+    text
 }
 
 fn is_blank(bytes: &[u8]) -> bool {
@@ -57,12 +58,35 @@ pub fn is_answered(
     (code, text): (u8, &[u8]),
     sizes: Range<usize>,
 ) -> bool {
-    let lines = lines_of(alloc, words);
+    let lines = ended_words(alloc, words, "\n");
     let mut is_so = true;
     for size in sizes {
         is_so &= says(alloc, lines.written(), input, size, (code, text)).unwrap_or(false);
     }
     is_so
+}
+
+/// Returns whether a handle holds this text.
+fn holds(alloc: Global, output: &mut Handle, text: &[u8]) -> Result<bool, AllocError> {
+    let mut room = Vec::from_elem(alloc, BLANK, text.len().saturating_add(1))?;
+    let mut length = usize::MAX;
+    let is_text = text_length(alloc, output, &mut length) == 0;
+    let is_copied = text_copy(alloc, output, room.as_mut_slice()) == 0;
+    let is_read = is_text && is_copied && length == text.len();
+    Ok(is_read && is_filled(room.as_slice(), text))
+}
+
+/// Returns whether the library returns this status, and puts this text into a handle. In this call an argument with a NUL is two arguments.
+pub fn is_kept(alloc: Global, words: &[String], input: &[u8], (code, text): (u8, &[u8])) -> bool {
+    let words = ended_words(alloc, words, "\0");
+    let mut output = Handle::empty(alloc);
+    let status = session_text(alloc, words.written(), input, &mut output);
+    status == code && holds(alloc, &mut output, text).unwrap_or(false)
+}
+
+/// Returns whether an argument has a line feed, so that lines can't have it.
+pub fn has_line_feed(words: &[String]) -> bool {
+    words.iter().any(|word| word.as_str().contains('\n'))
 }
 
 /// Returns whether the library's verdict on these bytes has this letter and number, requires this many engines and workers, and names this procedure

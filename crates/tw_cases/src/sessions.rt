@@ -2,12 +2,13 @@
 
 use crate::book::Book;
 use crate::bytes::read_bytes;
-use crate::calls::is_answered;
+use crate::calls::{has_line_feed, is_answered, is_kept};
 use crate::complaint::Complaint;
 use crate::streams::Room;
 use crate::text::Text;
 use crate::words::{read_words, unescaped};
 use std::alloc::Global;
+use std::ops::Range;
 use std::sync::Wait;
 use std::thread::Threads;
 use std::time::Clock;
@@ -72,6 +73,22 @@ pub fn errors_text<H: AllocGlobal + Threads + Wait + Clock + Sync>(
 /// The status that is returned if the library's result differs from the session's.
 const OTHERWISE: u8 = 99;
 
+/// Returns whether the library's result is this status and this text: in a buffer of each of these sizes, unless an argument has a line feed, which
+/// only the call with a handle takes.
+fn is_called(
+    alloc: Global,
+    words: &[String],
+    input: &[u8],
+    printed: (u8, &[u8]),
+    sizes: Range<usize>,
+) -> bool {
+    if has_line_feed(words) {
+        is_kept(alloc, words, input, printed)
+    } else {
+        is_answered(alloc, words, input, printed, sizes)
+    }
+}
+
 /// Runs a session. Returns its status, the number of unread bytes, and the text. If the library's result differs, returns `OTHERWISE` and no text.
 pub fn ended<H: AllocGlobal + Threads + Wait + Clock + Sync>(
     rt: &H,
@@ -83,15 +100,15 @@ pub fn ended<H: AllocGlobal + Threads + Wait + Clock + Sync>(
     let code = code_of(rt, words, &mut reader, &mut writer);
     let printed = (code, writer.as_slice());
     let just_enough = writer.len()..writer.len().saturating_add(1);
-    if is_answered(rt.alloc(), words, input, printed, just_enough) {
+    if is_called(rt.alloc(), words, input, printed, just_enough) {
         (code, reader.len(), writer)
     } else {
         (OTHERWISE, reader.len(), Vec::new(rt.alloc()))
     }
 }
 
-/// Returns the status and the text of a session. The status is `OTHERWISE` if the library's result differs with any buffer size up to one byte more
-/// than the text.
+/// Returns the status and the text of a session. The status is `OTHERWISE` if the library's result differs with a handle, or with any buffer size up
+/// to one byte more than the text.
 pub fn called_text<H: AllocGlobal + Threads + Wait + Clock + Sync>(
     rt: &H,
     words: &[String],
@@ -100,7 +117,8 @@ pub fn called_text<H: AllocGlobal + Threads + Wait + Clock + Sync>(
     let (code, _, written) = ended(rt, words, input);
     let printed = (code, written.as_slice());
     let sizes = 0..written.len().saturating_add(2);
-    if is_answered(rt.alloc(), words, input, printed, sizes) {
+    let is_same = is_called(rt.alloc(), words, input, printed, sizes);
+    if is_same && is_kept(rt.alloc(), words, input, printed) {
         session_text(rt.alloc(), code, written, false)
     } else {
         session_text(rt.alloc(), OTHERWISE, written, false)
