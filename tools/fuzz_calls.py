@@ -16,16 +16,16 @@ from fuzz_texts import damaged_text
 from fuzz_common import Corpus, RunTest, FuzzTest, case_word, difference, input_lines
 
 COMMANDS = ["asm", "disasm", "check", "run", "replay", "picture", "explain", "help", "--help", "-h", "--version", "-V", ""]
-FLAGS = ["--text", "--names", "--plain", "--places", "--bounds", "--trace", "--stats", "--picture", "--quiet", "--in-turn", "--inputs", "--help", "-h", "--", "-",
+FLAGS = ["--text", "--names", "--plain", "--places", "--bounds", "--trace", "--stats", "--picture", "--quiet", "--in-turn", "--inputs", "--inputs-json", "--help", "-h", "--", "-",
          "--json", "--each", "--bounds=all"]
 NUMBERED = ["--engines", "--servers", "--workers", "--limit", "--from", "--to", "--jobs", "--most-tasks", "--most-instructions", "--most-data", "--most-bytes", "--most-budget"]
 READING = ("asm", "check", "disasm", "picture", "replay", "run")
 VALUES = ["0", "1", "2", "4", "5", "16", "17", "100", "1000000", "1000001", "4294967295", "4294967296", "-1", "+1", "01", "x", "", "1.0", "99999999999999999999"]
 INPUTS = ["int:7", "int:-4", "int:", "int:x", "int:9223372036854775808", "ints:", "ints:1=7,5=-3", "ints:5=1,1=2", "ints:1=2,", "text:", "text:a b ", "text:é",
-          'texts:1="a",2="b,c"', "texts:1=a", 'tints:"a"=1', "tints:a=1", 'ttexts:"a"="x"', "Int:7", "7", "-7", "V04", "v4", "C5", "A99", "V", "run", "\r", "\t", "a" * 300, "\u00a0"]
+          'texts:1="a",2="b,c"', "texts:1=a", 'tints:"a"=1', "tints:a=1", 'ttexts:"a"="x"', "Int:7", "7", "-7", "V04", "v4", "C5", "A99", "V", "run", "\r", "\t", "a" * 300, "\u00a0", "text:a\nb", "\n"]
 # A part of the text of each status; of JSON the last member.
 TEXTS = {
-    0: re.compile(r""), 2: re.compile(r"command line refused\n|input word \d+ refused\n"), 3: re.compile(r'(?m)^stuck \d+$|<svg|"status":"stuck"}$'),
+    0: re.compile(r""), 2: re.compile(r"command line refused\n|input (word )?\d+ refused\n|inputs refused\n"), 3: re.compile(r'(?m)^stuck \d+$|<svg|"status":"stuck"}$'),
     1: re.compile(r'(?m)^refused ([A-Z]\d\d|memory)|^not enabled at event \d+$|"status":"refused"}$'), 4: re.compile(r'(?m)^limit$|<svg|"status":"limit"}$'),
     6: re.compile(r'(?m)^trap C\d+ at event \d+$|"status":"trap"}$'),
 }
@@ -175,7 +175,7 @@ GUARD = b"\xa5" * 16
 
 @dataclass(frozen=True)
 class RoomTest(FuzzTest):
-    """A call with a buffer of each size: nothing is written outside it, nor if the text doesn't fit."""
+    """A call with a buffer of each size: nothing is written outside it, nor if the text doesn't fit. A handle holds the same text."""
 
     words: tuple[str, ...]
     data: bytes
@@ -199,6 +199,9 @@ class RoomTest(FuzzTest):
             expected = GUARD + (text.ljust(size, b"\xa5") if size >= length else b"\xa5" * size) + GUARD
             if found[:2] != (status, length) or found[2] != expected:
                 return f"room: of {size} bytes: status {found[0]}, length {found[1]}, expected {status} and {length}; the buffer {found[2] == expected}"
+        kept = library.into_text(self.line.replace(b"\n", b"\0"), self.data)
+        if kept != (status, text):
+            return f"text: {kept!r:.200}, expected {(status, text)!r:.200}"
         return self.answer_fault(library, (status, text.decode("utf-8", "backslashreplace")))
 
     def answer_fault(self, library: Library, answer: Answer) -> str | None:

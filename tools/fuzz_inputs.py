@@ -2,6 +2,7 @@
 
 from __future__ import annotations
 
+import json
 import random
 import re
 from dataclasses import dataclass, replace
@@ -84,12 +85,18 @@ def fits(given: tuple[Type, Scalar | Pairs], type_: Type) -> bool:
     return rises and len(keys) <= 1000 and all(size_of(each) <= 4096 for pair in given[1] for each in pair)
 
 
+def json_item(value: Scalar | Pairs) -> Scalar | dict[str, Scalar]:
+    """Returns an input as JSON: a container is an object, whose members come in the other order."""
+    return {str(key): member for key, member in reversed(value)} if isinstance(value, list) else value
+
+
 @dataclass(frozen=True)
 class InputsTest(RunTest):
-    """A run with any arguments as its inputs, or with any lines after a line `inputs`."""
+    """A run with any arguments as its inputs, with any lines after a line `inputs`, or with inputs that fit as JSON after it."""
 
     given: tuple[str, ...] = ()
     in_file: bool = False
+    as_json: bool = False
     line_end: str = "\n"
 
     def expected(self) -> tuple[int, str] | list[Value]:
@@ -110,10 +117,21 @@ class InputsTest(RunTest):
     @property
     def arguments(self) -> list[str]:
         words = ["run", "--in-turn", "--limit", str(self.limit), *self.options]
+        if self.as_json:
+            return [*words, "--inputs-json"]
         return [*words, "--inputs"] if self.in_file else [*words, *self.given]
 
     @property
+    def json_text(self) -> str:
+        """Returns the inputs as a JSON array, on one line or on several."""
+        items = [json_item(found[1]) for found in map(read_input, self.given) if found]
+        text = json.dumps(items, ensure_ascii=len(self.given) % 2 == 0, indent=None if self.line_end == "\n" else 1)
+        return text.replace("\n", self.line_end)
+
+    @property
     def data(self) -> str:
+        if self.as_json:
+            return f"{self.hex}\ninputs\n{self.json_text}"
         if not self.in_file:
             return self.hex
         return self.line_end.join([self.hex, "inputs", *self.given, "end", "int:7"]).replace(f"{self.line_end}inputs", "\ninputs")
@@ -123,6 +141,8 @@ class InputsTest(RunTest):
             return None
         status, text = library.session(self.arguments, self.data)
         expected = self.expected()
+        if isinstance(expected, tuple) and self.as_json:
+            return None
         if isinstance(expected, tuple):
             first = text.split("\n")[0]
             return None if (status, first) == expected else f"inputs: expected {expected}, got {(status, first)!r:.300}"
@@ -165,7 +185,8 @@ def make_inputs(chance: random.Random, corpus: Corpus) -> FuzzTest:
     if words and chance.random() < 0.1:
         words.pop(chance.randrange(len(words)))
     in_file = chance.random() < 0.4 and not any(word in ("", "end", "events") or word.endswith("\r") for word in words)
-    return InputsTest(**test.fields, given=tuple(words), in_file=in_file, line_end=chance.choice(["\n", "\r\n", "\n\n"]))
+    made = InputsTest(**test.fields, given=tuple(words), in_file=in_file, line_end=chance.choice(["\n", "\r\n", "\n\n"]))
+    return replace(made, as_json=chance.random() < 0.3 and isinstance(made.expected(), list))
 
 
 # --- Lines of a trace

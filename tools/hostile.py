@@ -28,12 +28,16 @@ REASON = 64 * 1024  # more bytes of an error fail, but for a listing
 TEXT = (
     "check --text", "asm --names", "run --text --inputs --in-turn", "asm --names --plain", "asm", "check --text --places", "disasm --text",
     "disasm --text --places", "run --text --in-turn", "replay --text", "replay --text --stats", "picture --text",
+    "check --text --places --json", "asm --names --json", "disasm --text --json",
 )
-HEX = ("check", "check --places", "disasm", "disasm --places", "run --in-turn", "replay", "picture")
-HISTORY = ("replay --text", "replay --text --stats", "picture --text")
-INPUTS = ("run --inputs --in-turn", "replay --inputs", "picture --inputs")
+HEX = ("check", "check --places", "disasm", "disasm --places", "run --in-turn", "replay", "picture", "check --places --json", "disasm --json")
+HISTORY = ("replay --text", "replay --text --stats", "picture --text", "replay --text --json")
+INPUTS = ("run --inputs --in-turn", "replay --inputs", "picture --inputs", "run --inputs --in-turn --json")
 EACH = ("run --each --text", "run --each --text --jobs 4")
-RUN = ("run --text --limit 1000000 --in-turn", "run --text --limit 1000000", "run --text --limit 1000000 --in-turn --stats")
+RUN = (
+    "run --text --limit 1000000 --in-turn", "run --text --limit 1000000", "run --text --limit 1000000 --in-turn --stats",
+    "run --text --limit 1000000 --in-turn --json",
+)
 SHORT_RUN = ("run --text --in-turn", "run --text")
 
 RETURNS = "proc control\nregs\nRET\n"

@@ -22,43 +22,52 @@ ROOT = Path(__file__).resolve().parent.parent
 SECONDS = 120  # of processor time
 ENDED = (0, 3, 4)  # quiet, stuck, at the limit
 
-
-class Price(NamedTuple):
-    """Bytes for each thing of one kind, without and with texts."""
-
-    plain: int
-    text: int
-
-
-# The table of docs/HOSTING.md, "Memory".
+# The table of docs/HOSTING.md, "Memory": bytes for each of one kind.
 RUN = 12_000_000
-INPUT = 40  # each byte of the program
-LIMIT = 10  # each event that the limit allows
+READ = 40  # a byte of the program and of its inputs
+LIMIT = 10  # an event that the limit allows
 THREAD = 30_000_000
-PRICES = {"tasks": Price(600, 36_000), "data": Price(500, 16_000), "rules": Price(2_500, 36_000), "events": Price(400, 400)}
-TEXT_MEMBER = 16_000  # each event, if texts are members or subscripts
+PRICES = {"tasks": 600, "data": 300, "members": 400, "rules": 3_500}
+ARGUMENT = 4_200  # a text that a task or a rule receives as a value
+BYTE = 1.1
+PRINTED = 80_000  # a text that an output prints of a member
+LISTED = 400  # an event of a trace, of statistics or of a timeline
+LISTS = {"--trace", "--stats", "--picture"}
+BOUNDS = (*PRICES, "bytes", "events")
+
+CONTROL = "\\x01"  # the letter that takes most in a report
 
 
 class Run(NamedTuple):
-    """A program as text, and the arguments of its run."""
+    """A program as text, the arguments of its run, and lines of inputs."""
 
     name: str
     text: str
     words: tuple[str, ...]
     limit: int = 10_000
+    inputs: str = ""
 
 
 # --- The formula
 
 
+def answer_of(program: str, run: Run, *words: str) -> str:
+    """Returns what a command prints of a run's program."""
+    return subprocess.run([program, *words], input=run.text, capture_output=True, text=True, check=False).stdout
+
+
 def bounds_of(program: str, run: Run) -> dict[str, int]:
     """Returns the bounds of a run, the smaller ones of main's and the limit's; none if the program is rejected."""
-    words = [program, "check", "--text", "--bounds", "--limit", str(run.limit)]
-    done = subprocess.run(words, input=run.text, capture_output=True, text=True, check=False)
+    printed = answer_of(program, run, "check", "--text", "--bounds", "--limit", str(run.limit))
     found: dict[str, int] = {}
-    for kind, number in re.findall(r"^(?:bound|limited) ([a-z]+) ([0-9]+)$", done.stdout, re.M):
+    for kind, number in re.findall(r"^(?:bound|limited) ([a-z]+) ([0-9]+)$", printed, re.M):
         found[kind] = min(int(number), found.get(kind, int(number)))
     return found
+
+
+def heads_of(program: str, run: Run) -> list[str]:
+    """Returns the parameters of each procedure, main's first."""
+    return re.findall(r"^proc (?:control|leaf)(.*)$", answer_of(program, run, "disasm", "--text"), re.M)
 
 
 def threads_of(words: tuple[str, ...]) -> int:
@@ -69,13 +78,20 @@ def threads_of(words: tuple[str, ...]) -> int:
     return sum(int(given.get(kind, 1)) for kind in ("engines", "servers", "workers"))
 
 
-def bytes_for(bounds: dict[str, int], run: Run) -> int:
+def texts_printed(main: str) -> int:
+    """Returns how many texts the report prints of a member, at most: its subscript, and itself."""
+    outputs = re.findall(r"write (t?)cont (int|text)", main)
+    return max(((by == "t") + (scalar == "text") for by, scalar in outputs), default=0)
+
+
+def bytes_for(bounds: dict[str, int], heads: list[str], run: Run) -> int:
     """Returns the memory that HOSTING.md says for a run with these bounds."""
-    has_texts = re.search(r"\btexts?\b|\btcont\b", run.text) is not None
-    has_text_members = re.search(r"\bcont text\b|\btcont\b", run.text) is not None
-    each = sum(bounds[kind] * (price.text if has_texts else price.plain) for kind, price in PRICES.items())
-    whole = RUN + INPUT * len(run.text) + LIMIT * run.limit + THREAD * threads_of(run.words)
-    return whole + each + (bounds["events"] * TEXT_MEMBER if has_text_members else 0)
+    texts = max(head.count(" val text") for head in heads)
+    read = RUN + READ * len(run.text + run.inputs) + LIMIT * run.limit + THREAD * threads_of(run.words)
+    kept = sum(bounds[kind] * price for kind, price in PRICES.items()) + int(BYTE * bounds["bytes"])
+    passed = (bounds["tasks"] + bounds["rules"]) * texts * ARGUMENT
+    printed = bounds["members"] * texts_printed(heads[0]) * PRINTED
+    return read + kept + passed + printed + (bounds["events"] * LISTED if LISTS & set(run.words) else 0)
 
 
 # --- Runs
@@ -97,59 +113,135 @@ def looped(head: str, start: str, body: str, end: str, times: int) -> str:
     return f"{head}{start}REPEAT {times}\nREPEAT 100\n{body}END\nEND\n{end}RET\n"
 
 
-def filling(kind: str, member: str, times: int) -> str:
+def literal(register: int, kind: str, letter: str = "a") -> str:
+    """Loads a value, a text the longest that there may be."""
+    return f'TEXT v{register} "{letter * 4096}"\n' if kind == "text" else f"INT v{register} -9223372036854775808\n"
+
+
+def filling(kind: str, member: str, times: int, letter: str = "a") -> str:
     """Makes a main that fills a container with members of its own, or with one of them again and again."""
-    literal = f'TEXT v2 "{"a" * 4096}"\n' if kind == "text" else "INT v2 5\n"
     new = f"NEW d1 d2 {kind}\nSTORE d1 v2\n"
     body = f"{new if member == 'own' else 'DUPR d2 d3' + chr(10)}INS d0 v0 d2 +1\nJMP +1\nDROPR d2\nADD v0 v0 v1 +0\n"
-    start = "INT v1 1\n" + literal + (f"NEW d1 d3 {kind}\nSTORE d1 v2\n" if member == "one" else "")
+    start = "INT v1 1\nINT v0 -9223372036854775808\n" + literal(2, kind, letter) + (f"NEW d1 d3 {kind}\nSTORE d1 v2\n" if member == "one" else "")
     return looped(f"proc control write cont {kind}\nregs int int {kind}\n", start, body, ("DROPR d3\n" if member == "one" else "") + "DROPW d0\n", times)
 
 
-def text_subscripts(times: int) -> str:
+def text_subscripts(kind: str, times: int, letter: str = "a") -> str:
     """Makes a main that fills a container by texts of 4,090 bytes and more."""
-    start = f'INT v1 1\nTEXT v4 "{"a" * 4085}"\nNEW d1 d2 int\nSTORE d1 v1\n'
+    start = f'INT v1 1\nTEXT v4 "{letter * 4085}"\n{literal(2, kind, letter)}NEW d1 d2 {kind}\nSTORE d1 v2\n'
     body = "DUPR d3 d2\nSHOW v3 v0\nCAT v5 v4 v3 +0\nTINS d0 v5 d3 +1\nJMP +1\nDROPR d3\nADD v0 v0 v1 +0\n"
-    return looped("version 2\nproc control write tcont int\nregs int int int text text text\n", start, body, "DROPR d2\nDROPW d0\n", times)
+    return looped(f"version 2\nproc control write tcont {kind}\nregs int int {kind} text text text\n", start, body, "DROPR d2\nDROPW d0\n", times)
+
+
+def containers(times: int) -> str:
+    """Makes a main that fills a container with containers of one member."""
+    start = "INT v1 1\nNEW d4 d5 cont cont int\nNEW d6 d7 int\nSTORE d6 v1\n"
+    inner = "NEW d1 d2 cont int\nDUPR d3 d7\nINS d1 v0 d3 +1\nJMP +1\nDROPR d3\nDROPW d1\n"
+    body = inner + "INS d4 v0 d2 +1\nJMP +1\nDROPR d2\nADD v0 v0 v1 +0\n"
+    return looped("proc control\nregs int int\n", start, body, "DROPR d7\nDROPW d4\nDROPR d5\n", times)
 
 
 def waiting(kind: str, times: int) -> str:
     """Makes a main that puts tasks with eight values; all wait until it ends."""
-    literal = f'TEXT v0 "{"a" * 4096}"\n' if kind == "text" else "INT v0 5\n"
     callee = f"proc control{f' val {kind}' * 8}\nregs{f' {kind}' * 8}\nRET\n"
-    return looped(f"proc control\nregs {kind}\n", literal, f"PUT 1 0 any{' 0' * 8}\n", "", times) + callee
+    return looped(f"proc control\nregs {kind}\n", literal(0, kind), f"PUT 1 0 any{' 0' * 8}\n", "", times) + callee
+
+
+def waiting_with_data(times: int) -> str:
+    """Makes a main that puts tasks with eight data, which are of no other task."""
+    new = "".join(f"NEW d{right + 8} d{right} int\nSTORE d{right + 8} v0\n" for right in range(8))
+    callee = f"proc control{' ref int' * 8}\nregs\n{''.join(f'DROPR d{right}{chr(10)}' for right in range(8))}RET\n"
+    return looped("proc control\nregs int\n", literal(0, "int"), f"{new}PUT 1 0 any 0 1 2 3 4 5 6 7\n", "", times) + callee
 
 
 def pending(kind: str, times: int) -> str:
     """Makes a main whose rules wait for a datum that is never closed, with seven more arguments."""
     register = "text" if kind == "val text" else "int"
-    literal = f'TEXT v0 "{"a" * 4096}"\n' if register == "text" else "INT v0 5\n"
     rights = range(2, 10) if kind == "closed int" else range(2, 3)
     copies = "".join(f"DUPR d{right} d0\n" for right in rights)
     args = " 3 4 5 6 7 8 9" if kind == "closed int" else " 0" * 7
     drops = "".join(f"DROPR d{right - 2}\n" for right in rights)
     callee = f"proc control closed int{f' {kind}' * 7}\nregs{f' {register}' * 7 if kind != 'closed int' else ''}\n{drops}RET\n"
     last = "proc leaf closed int write int\nregs int\nDROPR d0\nSTORE d1 v0\nRET\n"
-    return looped(f"proc control\nregs {register}\n", f"NEW d1 d0 int\n{literal}", f"{copies}RULE 1 0 any 2{args}\n", "RULE 2 0 any 0 1\n", times) + callee + last
+    start = f"NEW d1 d0 int\n{literal(0, register)}"
+    return looped(f"proc control\nregs {register}\n", start, f"{copies}RULE 1 0 any 2{args}\n", "RULE 2 0 any 0 1\n", times) + callee + last
+
+
+def circle(times: int) -> str:
+    """Makes a main whose rules wait in one circle, each with eight rights; the report has a long line of each."""
+    copied = "".join(f"DUPR d{right} d{{0}}\n" for right in range(4, 10))
+    rule = f"RULE 1 0 any {{0}} {{1}} 4 5 6 7 8 9 ; {'x' * 180}\n"
+    pair = copied.format(1) + "NEW d2 d3 int\n" + rule.format(1, 2) + copied.format(3) + "NEW d2 d1 int\n" + rule.format(3, 2)
+    callee = f"proc leaf closed int write int{' closed int' * 6}\nregs int\n{''.join(f'DROPR d{right}{chr(10)}' for right in (0, *range(2, 8)))}STORE d1 v0\nRET\n"
+    return looped("proc control\nregs\n", "NEW d0 d1 int\n", pair, copied.format(1) + rule.format(1, 0), times) + callee
+
+
+def texts_in_registers(tasks: int) -> str:
+    """Makes a main that puts tasks with fifteen texts in registers and many events, so that all of them are taken at once."""
+    texts = "".join(literal(register, "text") for register in range(15))
+    leaf = f"proc leaf\nregs{' text' * 15} int\n{texts}" + "NEW d0 d1 int\nSTORE d0 v15\nDROPR d1\n" * 30 + "RET\n"
+    return f"proc control\nregs\nREPEAT {tasks}\nPUT 1 0 any\nEND\nRET\n{leaf}"
+
+
+def with_inputs(name: str, kind: str, member: str) -> Run:
+    """Makes a run with seven inputs of a thousand members each."""
+    text = f"version 2\nproc control{f' closed {kind}' * 7} write int\nregs int\n{''.join(f'DROPR d{right}{chr(10)}' for right in range(7))}STORE d7 v0\nRET\n"
+    line = f"{kind.replace('cont ', '')}s:" + ",".join(member.format(number) for number in range(1000))
+    return Run(name, text, ("--in-turn", "--quiet", "--inputs"), inputs="inputs\n" + f"{line}\n" * 7)
+
+
+ENDLESS = "proc control\nregs\nPUT 0 0 any\nRET\n"
+TURN = ("--in-turn", "--quiet")
+MANY, FEW = 1_000_000, 50_000
+
+
+def hostile_events() -> Iterator[Run]:
+    """Yields programs that make many events and keep nothing."""
+    yield Run("events of one task after another", ENDLESS, TURN, MANY)
+    copies = looped("proc control\nregs\n", "NEW d0 d1 cont int\nDROPW d0\n", "DUPR d2 d1\nDROPR d2\n", "DROPR d1\n", 656)
+    for option in sorted(LISTS):
+        yield Run(f"events, written by {option}", copies, (*TURN, option), 200_000)
+    yield Run("all threads", ENDLESS, ("--quiet", "--engines", "4", "--servers", "4", "--workers", "16"))
+
+
+def hostile_members() -> Iterator[Run]:
+    """Yields programs that fill containers, just past the sizes at which memory grows; each in text and as JSON."""
+    for option in ((), ("--json",)):
+        words, name = (*TURN, *option), " ".join(("", *option))
+        yield Run(f"data in a container{name}", filling("int", "own", 656), words, MANY)
+        yield Run(f"one datum in a container{name}", filling("int", "one", 656), words, MANY)
+        yield Run(f"texts in a container{name}", filling("text", "own", 30), words, FEW)
+        yield Run(f"one text in a container{name}", filling("text", "one", 30), words, FEW)
+        yield Run(f"one text of control characters in a container{name}", filling("text", "one", 7, CONTROL), words, FEW)
+        yield Run(f"texts as subscripts{name}", text_subscripts("int", 30), words, FEW)
+        yield Run(f"control characters as subscripts and members{name}", text_subscripts("text", 7, CONTROL), words, FEW)
+    yield Run("containers in a container", containers(330), TURN, MANY)
+
+
+def hostile_tasks() -> Iterator[Run]:
+    """Yields programs that keep many tasks or rules."""
+    yield Run("tasks with ints", waiting("int", 656), TURN, MANY)
+    yield Run("tasks with data", waiting_with_data(166), TURN, MANY)
+    yield Run("tasks with texts", waiting("text", 30), TURN, FEW)
+    yield Run("texts in registers", texts_in_registers(16), (*TURN, "--workers", "16"))
+    yield Run("rules with ints", pending("val int", 328), TURN, MANY)
+    yield Run("rules with texts", pending("val text", 30), TURN, FEW)
+    yield Run("rules with rights", pending("closed int", 164), TURN, MANY)
+    yield Run("rules in a circle", circle(83), TURN, MANY)
+    yield Run("rules in a circle --json", circle(83), (*TURN, "--json"), MANY)
+
+
+def hostile_inputs() -> Iterator[Run]:
+    """Yields programs with the most inputs."""
+    yield with_inputs("inputs of ints", "cont int", "{0}={0}")
+    yield with_inputs("inputs of empty texts", "cont text", '{0}=""')
+    yield with_inputs("inputs of texts", "tcont text", '"{0:03}"="' + "a" * 2_000 + '"')
 
 
 def hostile() -> Iterator[Run]:
     """Yields programs that keep as much as they can of one thing."""
-    many, few = 1_000_000, 50_000
-    turn = ("--in-turn", "--quiet")
-    yield Run("events of one task after another", "proc control\nregs\nPUT 0 0 any\nRET\n", turn, many)
-    yield Run("events, written as a trace", "proc control\nregs\nPUT 0 0 any\nRET\n", (*turn, "--trace"), 100_000)
-    yield Run("data in a container", filling("int", "own", 1000), turn, many)
-    yield Run("one datum in a container", filling("int", "one", 1000), turn, many)
-    yield Run("texts in a container", filling("text", "own", 30), turn, few)
-    yield Run("one text in a container", filling("text", "one", 30), turn, few)
-    yield Run("texts as subscripts", text_subscripts(30), turn, few)
-    yield Run("tasks with ints", waiting("int", 1000), turn, many)
-    yield Run("tasks with texts", waiting("text", 30), turn, few)
-    yield Run("rules with ints", pending("val int", 500), turn, many)
-    yield Run("rules with texts", pending("val text", 30), turn, few)
-    yield Run("rules with rights", pending("closed int", 100), turn, many)
-    yield Run("all threads", "proc control\nregs\nPUT 0 0 any\nRET\n", ("--quiet", "--engines", "4", "--servers", "4", "--workers", "16"), 10_000)
+    for kind in (hostile_events, hostile_members, hostile_tasks, hostile_inputs):
+        yield from kind()
 
 
 def limited(most: int) -> None:
@@ -162,17 +254,17 @@ def limited(most: int) -> None:
 def status_of(program: str, run: Run, most: int) -> int:
     """Runs a program with so many bytes of memory, and returns its status, or the negative number of a signal."""
     words = [program, "run", "--text", "--limit", str(run.limit), *run.words]
-    done = subprocess.run(words, input=run.text.encode(), stdout=subprocess.DEVNULL, stderr=subprocess.DEVNULL, preexec_fn=lambda: limited(most), check=False)
+    done = subprocess.run(words, input=(run.text + run.inputs).encode(), stdout=subprocess.DEVNULL, stderr=subprocess.DEVNULL, preexec_fn=lambda: limited(most), check=False)
     return done.returncode
 
 
 def passes(program: str, run: Run) -> bool:
     """Runs a program with the memory of its formula, prints a line, and returns whether it was enough."""
     bounds = bounds_of(program, run)
-    if len(bounds) < len(PRICES):
+    if not all(kind in bounds for kind in BOUNDS):
         print(f"FAILED {run.name}: no bounds")
         return False
-    most = bytes_for(bounds, run)
+    most = bytes_for(bounds, heads_of(program, run), run)
     status = status_of(program, run, most)
     well = status in ENDED
     print(f"{'' if well else 'FAILED '}{run.name}: status {status} with {most / 1_000_000:.1f} MB", flush=True)

@@ -1,6 +1,6 @@
 #!/usr/bin/env python3
-"""Makes edits of what no contract holds, one after another, in a copy of the repository: the script tw, its tools, the page's JavaScript and
-the Python package. The tests of the edited part have to fail. Prints a line for each mutant and ends with `N killed, M survive`. It fails if
+"""Makes edits of what no contract holds, one after another, in a copy of the repository: the script tw, its tools, the page's JavaScript, the
+packages for Python, C++ and Rust, and what tw says on standard error. The tests of the edited part have to fail. Prints a line for each mutant and ends with `N killed, M survive`. It fails if
 a mutant survives that isn't said to be harmless, if one is killed that is, or if the tests fail without an edit.
 
     tools/mutants.py                  all of them, in some ten minutes
@@ -8,7 +8,8 @@ a mutant survives that isn't said to be harmless, if one is killed that is, or i
     tools/mutants.py --list           their names
     tools/mutants.py --table NAME..   prints a table of Markdown at the end
 
-Programs and library are the release's, unpacked, or those that are built; the page's tests need node.
+Programs and library are the release's, unpacked, or those that are built; the page's tests need node. The part `main` is built once, unproved, with
+all its edits (tools/breaks.py), which takes some minutes and needs the toolchain.
 """
 
 from __future__ import annotations
@@ -22,27 +23,34 @@ import sys
 import tempfile
 import time
 from dataclasses import dataclass
+from functools import cache
 from pathlib import Path
 
-ROOT = Path(__file__).resolve().parent.parent
+sys.path.insert(0, str(Path(__file__).resolve().parent))
+from breaks import ROOT, Place, built, names_of, write_broken  # noqa: E402
+
 # The tests of a part may take so many seconds without an edit, and so many times as long with one.
 SECONDS = 900
 TIMES = 10
 
-# The command that tests each part, its quick tests first. @LIBRARY@ and @MODULE@ are the library and the page's module.
+# The command that tests each part, its quick tests first. @LIBRARY@, @ARCHIVE@ and @MODULE@ are the libraries and the page's module.
 TESTS = {
+    "main": "tools/shown.sh && TW_PROGRAM=$PWD/crates/tw_main/out/tw_main tools/progress.py",
     "script": "tools/shown.sh",
     "release": "python3 -B tools/test_release.py -f",
     "cases": "python3 -B tools/test_cases.py -f",
     "python": "export PYTHONPATH=$PWD/embed/python YUGLEMIT_LIBRARY=@LIBRARY@ && cd embed/python/tests && "
     "python3 -B -m unittest -f test_inputs test_errors test_map test_program && python3 -B -m unittest discover -f -p 'test_*.py'",
+    "cpp": "c++ -std=c++17 -pthread -I embed -o out/cpp_test embed/cpp/test.cpp @ARCHIVE@ && out/cpp_test examples",
+    "rust": "cd embed/rust && YUGLEMIT_FOLDER=$(dirname @ARCHIVE@) CARGO_TARGET_DIR=../../out/rust cargo test --offline --quiet",
     "page": "node page/machine_test.js @MODULE@ page examples",
 }
 
 
 @dataclass(frozen=True)
 class Mutant:
-    """An edit: a text that a file has once, and what replaces it. `harmless` says why tests needn't notice it."""
+    """An edit: a text that a file has once, and what replaces it. `harmless` says why tests needn't notice it. Of the part `main`, `new` has the name
+    of the edit between two @, which asks whether it is the one that is tried."""
 
     name: str
     part: str
@@ -55,8 +63,29 @@ class Mutant:
 SOURCES = "tools/tw-sources.sh"
 FILES, RUNS, CASES = "tools/case_files.py", "tools/case_runs.py", "tools/cases.py"
 PYTHON = "embed/python/yuglemit/"
+MAIN = "crates/tw_main/src/"
+CPP, RUST = "embed/cpp/yuglemit.hpp", "embed/rust/src/"
 
 MUTANTS = (
+    # The program: which files it reads, and what it says on standard error.
+    Mutant("dash_is_a_file", "main", MAIN + "system_files.rt", 'if path == "-" {', 'if path == "-" && !@dash_is_a_file@ {'),
+    Mutant("long_files_are_cut", "main", MAIN + "system_files.rt", "MOST_BYTES as u64 + 1", "MOST_BYTES as u64 + (if @long_files_are_cut@ { 0 } else { 1 })"),
+    Mutant("missing_files_have_no_reason", "main", MAIN + "hints.rt", "        ErrorKind::NotFound =>", "        ErrorKind::NotFound if !@missing_files_have_no_reason@ =>"),
+    Mutant("folders_have_no_reason", "main", MAIN + "hints.rt", "        ErrorKind::IsADirectory =>", "        ErrorKind::IsADirectory if !@folders_have_no_reason@ =>"),
+    Mutant("terminals_are_read_silently", "main", MAIN + "tool.rt", "if stdin.is_terminal() {", "if stdin.is_terminal() && !@terminals_are_read_silently@ {"),
+    Mutant("help_reads_a_terminal", "main", MAIN + "hints.rt", "    if asks_help(words) {", "    if asks_help(words) && !@help_reads_a_terminal@ {"),
+    Mutant("errors_have_no_hint", "main", MAIN + "hints.rt", "=> print_error_hint(", "if !@errors_have_no_hint@ => print_error_hint("),
+    Mutant("hex_text_has_no_hint", "main", MAIN + "hints.rt", "    if answered.reads_input\n", "    if answered.reads_input && !@hex_text_has_no_hint@\n"),
+    Mutant("files_are_standard_input", "main", MAIN + "tool.rt", "self.hold(&words, &mut reader, unnamed, false)", "self.hold(&words, &mut reader, unnamed, @files_are_standard_input@)"),
+    Mutant("commands_have_no_hint", "main", MAIN + "hints.rt", "if tw_files::reads_program(command.as_str()) => {", "if !@commands_have_no_hint@ && tw_files::reads_program(command.as_str()) => {"),
+    Mutant("pictures_have_no_limit", "main", MAIN + "hints.rt", 'starts_with(b"<svg") => {', 'starts_with(b"<svg") && !@pictures_have_no_limit@ => {'),
+    Mutant("comments_hide_no_names", "main", MAIN + "symbolic.rt", "line.split(';').next().unwrap_or(\"\").trim()", "(if @comments_hide_no_names@ { line } else { line.split(';').next().unwrap_or(\"\") }).trim()"),
+    Mutant("any_twn_has_names", "main", MAIN + "symbolic.rt", "Ok(text) if !begins_with_names(text) =>", "Ok(text) if !@any_twn_has_names@ && !begins_with_names(text) =>"),
+    Mutant("checks_are_noted_from_the_top", "main", MAIN + "noted_writer.rt", 'command.as_str() == "check",', 'command.as_str() == "check" && !@checks_are_noted_from_the_top@,'),
+    Mutant("rejected_words_say_nothing", "main", MAIN + "tool.rt", "        complain(self.rt.alloc(), status, words, &mut stderr);\n", "        if !@rejected_words_say_nothing@ {\n            complain(self.rt.alloc(), status, words, &mut stderr);\n        }\n"),
+    Mutant("quiet_runs_print", "main", MAIN + "progress_printer.rt", "if !self.is_quiet && self.stderr", "if (!self.is_quiet || @quiet_runs_print@) && self.stderr"),
+    Mutant("pipes_get_progress", "main", MAIN + "progress_printer.rt", "&& self.stderr.is_terminal() {", "&& (self.stderr.is_terminal() || @pipes_get_progress@) {"),
+    Mutant("progress_at_each_look", "main", MAIN + "progress_printer.rt", "if second <= self.printed {", "if second <= self.printed && !@progress_at_each_look@ {"),
     # The script: what it answers itself, and the program that it calls.
     Mutant("versions_are_the_programs", "script", "tw", '--version:1 | -V:1) echo "tw $(cat "$root/VERSION")"; exit ;;', "--version:1 | -V:1) echo tw; exit ;;"),
     Mutant("statuses_are_lost", "script", "tw", '[ -n "$room" ] || exec "$program" "$@"', '[ -n "$room" ] || { "$program" "$@"; exit 0; }'),
@@ -101,6 +130,18 @@ MUTANTS = (
     Mutant("brief_runs_release_the_gil", "python", PYTHON + "_native.py", "calls = short() if seconds < _BRIEF_SECONDS else library()", "calls = library()"),
     Mutant("open_containers_are_finished", "python", PYTHON + "_native.py", 'item.kind == ord("c") and item.closed', 'item.kind == ord("c")'),
     Mutant("stops_come_too_late", "python", PYTHON + "_stop.py", "        if self._event.is_set():\n", "        if False:\n"),
+    # C++ and Rust: values, caps, bounds, errors and handles.
+    Mutant("caps_are_swapped", "cpp", CPP, "cap(data), cap(bytes)", "cap(bytes), cap(data)"),
+    Mutant("bounds_without_limit", "cpp", CPP, "yuglemit_program_bounds(handle_.get(), limit, &found)", "yuglemit_program_bounds(handle_.get(), 0, &found)"),
+    Mutant("null_for_empty_texts", "cpp", CPP, 'text.empty() ? "" : text.data()', "text.data()", "the library reads nothing of a length of 0, and no text of the tests has a null pointer"),
+    Mutant("errors_lose_zeros", "cpp", CPP, '(number < 10 ? "0" : "")', '""'),
+    Mutant("unset_members_are_set", "cpp", CPP, "member.value.kind != 'u' && member.value.kind != 0", "true", "no container of a finished run has a member that is unset"),
+    Mutant("moved_handles_stay", "cpp", CPP, "std::exchange(other.raw_, Raw{nullptr})", "other.raw_"),
+    Mutant("texts_are_a_byte_longer", "cpp", CPP, "    text.resize(length);\n", ""),
+    Mutant("caps_are_not_passed", "rust", RUST + "program.rs", "caps.raw()", "Caps::default().raw()"),
+    Mutant("bounds_of_all_runs", "rust", RUST + "program.rs", "yuglemit_program_bounds(self.owner.at(), limit, &mut found)", "yuglemit_program_bounds(self.owner.at(), 0, &mut found)"),
+    Mutant("limits_are_stops", "rust", RUST + "report.rs", "            4 => End::Limit,\n", ""),
+    Mutant("memory_is_no_error", "rust", RUST + "report.rs", "if ending.status == 5 { Err(Error::NoMemory) } else { Ok(Report { owner, ending }) }", "Ok(Report { owner, ending })", "only a run out of memory ends so"),
     # The page: its machine, its bounds, and what it reads of texts and answers.
     Mutant("sums_have_no_end", "page", "page/machine.js", "ADD: (a, b) => checked(a + b)", "ADD: (a, b) => a + b"),
     Mutant("texts_have_no_end", "page", "page/machine.js", "byteLength(a) + byteLength(b) > LONGEST_TEXT", "byteLength(a) + byteLength(b) > 2 * LONGEST_TEXT"),
@@ -141,6 +182,23 @@ def copy_repository(folder: Path) -> None:
         shutil.copy2(ROOT / program, folder / program)
 
 
+def places_of_main() -> tuple[Place, ...]:
+    """Returns the edits of the program, each of which asks whether it is tried."""
+    return tuple(Place(mutant.file, mutant.old, mutant.new) for mutant in MUTANTS if mutant.part == "main")
+
+
+@cache
+def main_with_edits() -> bytes:
+    return built("tw_main", places_of_main())
+
+
+def put_main(folder: Path, name: str) -> None:
+    """Puts the program in which an edit is tried into the copy, newer than its sources there; without a name no edit is."""
+    program = folder / "crates/tw_main/out/tw_main"
+    program.parent.mkdir(parents=True, exist_ok=True)
+    write_broken(program, main_with_edits(), names_of(places_of_main()).index(name))
+
+
 def unpacked(name: str, folder: Path) -> bytes:
     return gzip.decompress((folder / "release" / f"{name}.gz").read_bytes())
 
@@ -153,6 +211,16 @@ def library_of(folder: Path) -> Path:
     library.parent.mkdir(parents=True, exist_ok=True)
     library.write_bytes(unpacked("libyuglemit.so", folder))
     return library
+
+
+def archive_of(folder: Path) -> Path:
+    """Returns the library for C, C++ and Rust; its folder has no other file of that name."""
+    made = folder / "out" / "archive" / "libyuglemit.a"
+    if not made.exists():
+        made.parent.mkdir(parents=True)
+        archive = ROOT / "crates/tw_embed/out/libyuglemit.a"
+        made.write_bytes(archive.read_bytes() if archive.exists() else unpacked("libyuglemit.a", folder))
+    return made
 
 
 def module_of(folder: Path) -> Path:
@@ -173,10 +241,9 @@ def module_of(folder: Path) -> Path:
 def test(part: str, folder: Path, seconds: float = SECONDS) -> tuple[bool, str]:
     """Runs the tests of a part for so many seconds at most. Returns whether they pass, and the first that failed or the last line that they wrote."""
     command = TESTS[part]
-    if "@LIBRARY@" in command:
-        command = command.replace("@LIBRARY@", str(library_of(folder)))
-    if "@MODULE@" in command:
-        command = command.replace("@MODULE@", str(module_of(folder)))
+    for word, found in (("@LIBRARY@", library_of), ("@ARCHIVE@", archive_of), ("@MODULE@", module_of)):
+        if word in command:
+            command = command.replace(word, str(found(folder)))
     run = subprocess.Popen(command, shell=True, cwd=folder, stdin=subprocess.DEVNULL, stdout=subprocess.PIPE, stderr=subprocess.STDOUT, start_new_session=True)
     try:
         said, _ = run.communicate(timeout=seconds)
@@ -189,17 +256,25 @@ def test(part: str, folder: Path, seconds: float = SECONDS) -> tuple[bool, str]:
     return run.returncode == 0, (failed[:1] or lines[-1:] or [""])[0][:100]
 
 
-def attempt(mutant: Mutant, folder: Path, seconds: float) -> bool:
-    """Makes the edit, runs the tests, and takes the edit back. Returns whether the tests fail."""
+def tested_with(mutant: Mutant, folder: Path, seconds: float) -> tuple[bool, str]:
+    """Makes the edit, runs the tests, and takes the edit back."""
+    if mutant.part == "main":
+        put_main(folder, mutant.name)
+        return test(mutant.part, folder, seconds)
     path = folder / mutant.file
     text = path.read_text(encoding="utf-8")
     if text.count(mutant.old) != 1:
         sys.exit(f"mutants: {mutant.name}: {mutant.file} has its text {text.count(mutant.old)} times")
     path.write_text(text.replace(mutant.old, mutant.new), encoding="utf-8")
     try:
-        passes, last = test(mutant.part, folder, seconds)
+        return test(mutant.part, folder, seconds)
     finally:
         path.write_text(text, encoding="utf-8")
+
+
+def attempt(mutant: Mutant, folder: Path, seconds: float) -> bool:
+    """Tries an edit, and prints its line. Returns whether the tests fail."""
+    passes, last = tested_with(mutant, folder, seconds)
     word = "killed  " if not passes else "harmless" if mutant.harmless else "SURVIVES"
     print(f"{word} {mutant.name} ({mutant.part}): {mutant.harmless if passes and mutant.harmless else last}", flush=True)
     return not passes
@@ -231,6 +306,8 @@ def main(words: list[str]) -> int:
         copy_repository(folder)
         most: dict[str, float] = {}
         for part in dict.fromkeys(mutant.part for mutant in mutants):
+            if part == "main":
+                put_main(folder, "")
             begun = time.monotonic()
             passes, last = test(part, folder)
             if not passes:

@@ -3,8 +3,8 @@
 """Checks the progress that the built `tw` prints on standard error, with a pseudo terminal.
 
 A run of some seconds prints once a second how many events there are so far. Nothing is printed with --quiet, by --in-turn, into a pipe, or of a
-short run whose program comes late. A rejected command line prints the reason. Standard output and the status are the same each time. Prints each
-that differs, ends with `N as wanted, M not`, and fails if one differs.
+short run whose program comes late. A rejected command line prints the reason. Standard output and the status are the same each time. A command that
+reads a terminal says so first, except with --help. Prints each that differs, ends with `N as wanted, M not`, and fails if one differs.
 
     tools/progress.py             by the proved program, which is built where it isn't there
     TW_PROGRAM=FILE tools/progress.py    by another one
@@ -24,6 +24,7 @@ from typing import NamedTuple
 
 ROOT = Path(__file__).resolve().parent.parent
 PROGRAM = os.environ.get("TW_PROGRAM") or str(ROOT / "crates" / "tw_main" / "out" / "tw_main")
+SECONDS = 60
 SHORT = "proc control write int\nregs int\nINT v0 7\nSTORE d0 v0\nRET\n"
 # The most tasks that an event limit of 1,000,000 allows, with four events each.
 MOST_TASKS = 240_000
@@ -141,10 +142,30 @@ def short_faults() -> list[str]:
     return faults
 
 
+def read_terminal(words: list[str]) -> Answer:
+    """Runs a command whose standard input is a terminal, at which Ctrl-D is typed at once."""
+    ours, theirs = pty.openpty()
+    os.write(ours, b"\x04")
+    done = subprocess.run([PROGRAM, *words], stdin=theirs, capture_output=True, text=True, timeout=SECONDS, check=False)
+    os.close(theirs)
+    os.close(ours)
+    return Answer(done.stderr, done.stdout, done.returncode)
+
+
+def terminal_faults() -> list[str]:
+    """Returns what is wrong with commands that read a terminal, likewise."""
+    notice = "tw: reading standard input, which Ctrl-D ends; a FILE after the command is read instead\n"
+    read, asked = read_terminal(["check", "--text"]), read_terminal(["check", "--help"])
+    return [
+        "" if read.printed.startswith(notice) and read.status == 1 else f"a terminal that is read: {read}",
+        "" if asked.printed == "" and asked.status == 0 else f"--help on a terminal: {asked}",
+    ]
+
+
 def main() -> int:
     if not os.access(PROGRAM, os.X_OK) and subprocess.call([str(ROOT / "tw"), "build"]):
         return 70
-    results = long_faults() + short_faults()
+    results = long_faults() + short_faults() + terminal_faults()
     faults = [fault for fault in results if fault]
     print("\n".join([*faults, f"{len(results) - len(faults)} as wanted, {len(faults)} not"]))
     return 1 if faults else 0

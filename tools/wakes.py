@@ -12,39 +12,18 @@ Prints a line for each, ends with `N noticed, M not`, and fails where one isn't,
 """
 from __future__ import annotations
 
-import re
-import shutil
 import subprocess
 import sys
 import tempfile
 import time
-from dataclasses import dataclass
 from pathlib import Path
 
-ROOT = Path(__file__).resolve().parent.parent
+sys.path.insert(0, str(Path(__file__).resolve().parent))
+from breaks import ROOT, Place, built, names_of, write_broken  # noqa: E402
+
 KINDS = ("turns ", "rounds ", "stops ", "drives", "threads ", "woken ")
 # A run may take as many times as long as the one without a break, or so many seconds if that is more.
 TIMES, SECONDS = 5, 60
-# Is in the program where the number of a break is written.
-MARK = int.from_bytes(b"wakes.py", "little")
-TRIED = f"""//! Which break is tried.
-
-/// Returns whether this break is tried. The number is written over this one in the program.
-#[inline(never)]
-pub fn is_tried(number: u64) -> bool {{
-    number == {MARK}
-}}
-"""
-
-
-@dataclass(frozen=True)
-class Place:
-    """A text that a file has once, and the text in its place in the copy, in which @NAME@ asks whether the break NAME is tried."""
-
-    file: str
-    old: str
-    new: str
-
 
 HOST = "crates/tw_host/src/host.rt"
 PARKERS = "crates/tw_host/src/parkers.rt"
@@ -96,7 +75,7 @@ PLACES = (
     Place(WORK, "self.tasks.has_untargeted(kind)", "(!@tasks_wake_nobody@ && self.tasks.has_untargeted(kind))"),
 )
 # Break 0 is none.
-BREAKS = ["", *(name for place in PLACES for name in re.findall(r"@(\w+)@", place.new))]
+BREAKS = names_of(PLACES)
 
 
 def cases() -> str:
@@ -109,46 +88,10 @@ def cases() -> str:
     return "\n".join(kept) + "\n"
 
 
-def copy_to(folder: Path) -> None:
-    """The sources of all crates."""
-    for name in ("crates.txt", "HANDLES"):
-        shutil.copy2(ROOT / name, folder)
-    for crate in (ROOT / "crates").iterdir():
-        for part in ("src", "specs", "proofs"):
-            if (crate / part).is_dir():
-                shutil.copytree(crate / part, folder / "crates" / crate.name / part)
-
-
-def add_breaks(folder: Path) -> None:
-    """Puts all breaks into a copy. Exits if a place isn't there once."""
-    for place in PLACES:
-        file = folder / place.file
-        text = file.read_text()
-        if text.count(place.old) != 1:
-            sys.exit(f"wakes.py: {place.old.strip()!r} is {text.count(place.old)} times in {place.file}")
-        asks = re.sub(r"@(\w+)@", lambda found: f"tw_types::is_tried({BREAKS.index(found[1])})", place.new)
-        file.write_text(text.replace(place.old, asks))
-    root = folder / "crates/tw_types/src/lib.rt"
-    (root.parent / "tried.rt").write_text(TRIED)
-    root.write_text(root.read_text().replace("\nmod value;\n", "\nmod tried;\nmod value;\n") + "pub use tried::is_tried;\n")
-
-
-def build(folder: Path) -> bytes:
-    """Returns the program of the cases, which is built unproved."""
-    kit = Path(shutil.which("rt") or sys.exit("wakes.py: the toolchain isn't installed")).resolve().parent.parent
-    program = folder / "tw_cases"
-    subprocess.run([sys.executable, "-B", ROOT / "tools/unverified.py", kit, folder, "tw_cases", program], check=True)
-    made = program.read_bytes()
-    if MARK.to_bytes(8, "little") not in made:
-        sys.exit("wakes.py: the program has no place for the number of a break")
-    return made
-
-
 def played(folder: Path, made: bytes, number: int, given: str, seconds: float) -> tuple[bool, str]:
     """Runs all cases with a break. Returns whether all have the expected output, and what was said otherwise."""
     program = folder / f"tw_cases_{number}"
-    program.write_bytes(made.replace(MARK.to_bytes(8, "little"), number.to_bytes(8, "little")))
-    program.chmod(0o755)
+    write_broken(program, made, number)
     try:
         run = subprocess.run([program], cwd=ROOT / "crates/tw_cases/data", input=given.encode(), stdout=subprocess.PIPE, stderr=subprocess.STDOUT, timeout=seconds, check=False)
     except subprocess.TimeoutExpired:
@@ -186,10 +129,7 @@ def main(words: list[str]) -> int:
     if unknown:
         sys.exit(f"wakes.py: there is no break {unknown[0]}")
     with tempfile.TemporaryDirectory() as room:
-        folder = Path(room)
-        copy_to(folder)
-        add_breaks(folder)
-        return 1 if try_breaks(folder, build(folder), words or BREAKS[1:]) else 0
+        return 1 if try_breaks(Path(room), built("tw_cases", PLACES), words or BREAKS[1:]) else 0
 
 
 if __name__ == "__main__":
