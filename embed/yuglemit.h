@@ -2,8 +2,9 @@
 /* Yuglemit for C and C++: libyuglemit.a or libyuglemit.so for Linux on x86-64 (x86-64-v2: SSE4.2 and POPCNT), which `./tw build --library`
  * makes. All calls are proved (crates/tw_calls, crates/tw_handles, crates/tw_embed).
  *
- * No call keeps anything from one to the next but what the caller's handles hold, starts a thread or waits, so calls in several threads
- * may run at once. Memory comes from malloc; all of it is freed before a call returns, or when its handle is freed.
+ * Runs are in turn, in the caller's thread: no call starts a thread or waits. Several runs side by side, in threads of the caller, use
+ * several cores. No call keeps anything from one to the next but what the caller's handles hold. Memory comes from malloc; all of it is
+ * freed before a call returns, or when its handle is freed.
  *
  * How long a call takes. Reading, checking and verifying take time by the input's length. A run takes as long as its program: at most
  * `--limit` events (10,000 if nothing is said), each of at most as many instructions as the greatest budget, which may be 1,000,000,000.
@@ -28,10 +29,42 @@ extern "C" {
 #define YUGLEMIT_VERSION_NUMBER 16000
 uint32_t yuglemit_version(void);
 
+/* Exit statuses, and how a run ended. */
+enum {
+    YUGLEMIT_STATUS_QUIET = 0,     /* quiet or done */
+    YUGLEMIT_STATUS_REFUSED = 1,
+    YUGLEMIT_STATUS_ARGUMENTS = 2, /* the arguments are refused */
+    YUGLEMIT_STATUS_STUCK = 3,
+    YUGLEMIT_STATUS_LIMIT = 4,
+    YUGLEMIT_STATUS_MEMORY = 5,    /* memory ran out */
+    YUGLEMIT_STATUS_TRAP = 6,
+    YUGLEMIT_STATUS_STOPPED = 8    /* a run alone: its stop flag was raised */
+};
+
+/* The letters of verdicts. */
+enum {
+    YUGLEMIT_LETTER_NONE = 0,      /* accepted */
+    YUGLEMIT_LETTER_BYTES = 'F',   /* the bytes are no program */
+    YUGLEMIT_LETTER_VERIFIER = 'V',
+    YUGLEMIT_LETTER_ASSEMBLY = 'A',
+    YUGLEMIT_LETTER_NAMES = 'N',
+    YUGLEMIT_LETTER_SOURCE = 'H',  /* no hex text (1), or no UTF-8 (3) */
+    YUGLEMIT_LETTER_MEMORY = 'M'   /* memory ran out */
+};
+
+/* The kinds of data in a report, and the types of values and subscripts. */
+enum {
+    YUGLEMIT_KIND_NONE = 0,        /* not live */
+    YUGLEMIT_KIND_INT = 'i',
+    YUGLEMIT_KIND_TEXT = 't',
+    YUGLEMIT_KIND_UNSET = 'u',
+    YUGLEMIT_KIND_CONTAINER = 'c'
+};
+
 /* Writes the output of the command `tw` with these arguments and this input; `tw --help` lists the arguments. All are UTF-8, and each ends
  * with a line feed, which the last may lack: "run\n--text\n--workers\n4\n". So no argument has a line feed in it; any other character
  * is allowed, a carriage return at its end too. The text is written to the start of `room`, if it fits, and the rest of `room` stays as it
- * was. *status is the exit status: 0 quiet or done, 1 refused, 2 arguments refused, 3 stuck, 4 limit, 5 memory ran out, 6 a trap.
+ * was. *status is the exit status, a YUGLEMIT_STATUS_.
  * Returns the length of the text: if it is more than `room_length`, nothing is written to `room`; call again with as much.
  * A program is run in the caller's thread, its actors in turn, as by `tw run --in-turn`: `--workers 4` are four workers of that one thread,
  * and the second call answers the same. Nothing is said on the way, nor on standard error.
@@ -40,8 +73,7 @@ size_t yuglemit_session(const uint8_t *words, size_t words_length, const uint8_t
                         uint8_t *room, size_t room_length, uint8_t *status);
 
 typedef struct yuglemit_verdict {
-    uint8_t letter;    /* 0 accepted; 'F' the bytes are no program; 'V' refused by the verifier; 'M' memory ran out; of a text
-                        * also 'A' assembly; 'N' names; 'H' no hex text (1) or no UTF-8 (3) */
+    uint8_t letter;    /* a YUGLEMIT_LETTER_; 0 is accepted */
     uint8_t number;    /* the number after the letter: `tw explain V04` says what it means */
     uint8_t engines;   /* accepted: how many engines and workers its targets need */
     uint8_t workers;
@@ -219,14 +251,14 @@ uint8_t yuglemit_run_within(yuglemit_program *program, yuglemit_inputs *inputs, 
 
 typedef struct yuglemit_ending {
     size_t events, outputs;
-    uint8_t status;    /* as the exit status of tw: 0 quiet, 3 stuck, 4 limit, 5 memory ran out; 8 stopped: the report is of the events so far */
+    uint8_t status;    /* YUGLEMIT_STATUS_QUIET, _STUCK, _LIMIT or _MEMORY; _STOPPED: the report is of the events so far */
 } yuglemit_ending;
 
 /* A datum of a report. */
 typedef struct yuglemit_item {
     int64_t number;    /* i: the integer */
     size_t length;     /* t: the bytes of the text; c: the number of members */
-    uint8_t kind;      /* 'i' an integer; 't' a text; 'u' unset; 'c' a container; 0 not live */
+    uint8_t kind;      /* a YUGLEMIT_KIND_ */
     uint8_t closed;    /* 1: it never changes again */
     uint8_t scalar;    /* 'i' or 't': the type of the value or of the members */
     uint8_t by;        /* c: 'i' or 't', the type of the subscripts */
