@@ -1,7 +1,8 @@
 /* SPDX-License-Identifier: Apache-2.0 */
-/* Measures how much stack calls of the library take: makes a session by both calls in a thread with a stack of 64 KiB, and prints how many bytes
- * of it were written. Its arguments are those of tw, and standard input is the input; with the one argument `verify` it is a program's bytes,
- * which are verified. The stack ends at a page that can't be touched. tools/embedded.sh builds and runs it. */
+/* Measures how much stack calls of the library take: makes them in a thread, and prints how many bytes below the caller's frame were written.
+ * Fails if they are more than the 64 KiB that yuglemit.h asks for. The arguments are those of tw, for which the session is kept in a handle too,
+ * and standard input is the input; with the one argument `verify` it is a program's bytes. The stack ends at a page that can't be touched.
+ * tools/embedded.sh builds and runs it. */
 #define _GNU_SOURCE /* MAP_ANONYMOUS, MAP_STACK */
 #include "../embed/yuglemit.h"
 #include <pthread.h>
@@ -10,12 +11,13 @@
 #include <string.h>
 #include <sys/mman.h>
 
-enum { STACK = 65536, GUARD = 4096, BLANK = 0xA5 };
+enum { LEFT = 65536, STACK = 2 * LEFT, GUARD = 4096, BLANK = 0xA5 };
 
 /* A call's arguments, each ended by a line feed or by a NUL, and its input. */
 typedef struct call {
     uint8_t *lines, *words, *input;
     size_t words_length, input_length;
+    uintptr_t frame; /* an address in the caller's frame */
     int verifies;
 } call;
 
@@ -28,8 +30,9 @@ static void make_session(const call *c) {
 }
 
 static void *made(void *given) {
-    const call *c = given;
+    call *c = given;
     yuglemit_verdict verdict;
+    c->frame = (uintptr_t)&verdict;
     if (c->verifies) yuglemit_verify(c->input, c->input_length, &verdict);
     else make_session(c);
     return NULL;
@@ -62,7 +65,7 @@ int main(int count, char **word) {
     call c = {0};
     pthread_t thread;
     pthread_attr_t attributes;
-    size_t untouched = 0;
+    size_t untouched = 0, used;
     uint8_t *stack = mmap(NULL, STACK + GUARD, PROT_READ | PROT_WRITE, MAP_PRIVATE | MAP_ANONYMOUS | MAP_STACK, -1, 0);
     if (stack == MAP_FAILED || mprotect(stack, GUARD, PROT_NONE)) return 5;
     memset(stack + GUARD, BLANK, STACK);
@@ -72,6 +75,7 @@ int main(int count, char **word) {
     pthread_attr_init(&attributes);
     if (pthread_attr_setstack(&attributes, stack + GUARD, STACK) || pthread_create(&thread, &attributes, made, &c) || pthread_join(thread, NULL)) return 5;
     while (untouched < STACK && stack[GUARD + untouched] == BLANK) untouched++;
-    printf("%zu\n", STACK - untouched);
-    return 0;
+    used = (size_t)(c.frame - (uintptr_t)(stack + GUARD)) - untouched;
+    printf("%zu\n", used);
+    return used > LEFT ? 5 : 0;
 }

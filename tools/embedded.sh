@@ -8,8 +8,8 @@
 #   tools/embedded.sh           all five
 #   tools/embedded.sh c python  these
 #
-# `stack` makes calls over the inputs of tools/hostile.sh, 1 MiB of each, in a thread with a stack of 64 KiB, and prints the most that a
-# call took of it.
+# `stack` makes calls over the inputs of tools/hostile.sh, 1 MiB of each, in a thread, and prints the most stack that a
+# call took; more than 64 KiB fails.
 #
 # Needs a C and a C++ compiler (cc, c++), cargo, and Python 3.9.
 root=$(dirname "$(dirname "$(readlink -f "$0")")")
