@@ -3,7 +3,7 @@
 """Checks the progress that the built `tw` prints on standard error, with a pseudo terminal.
 
 A run of some seconds prints once a second how many events there are so far. Nothing is printed with --quiet, by --in-turn, into a pipe, or of a
-short run whose program comes late. A rejected command line prints the reason. Standard output and the status are the same each time. A command that
+short run whose program comes late. A rejected command line prints the reason and a hint. Standard output and the status are the same each time. A command that
 reads a terminal says so first, except with --help. Prints each that differs, ends with `N as wanted, M not`, and fails if one differs.
 
     tools/progress.py             by the proved program, which is built where it isn't there
@@ -26,6 +26,7 @@ ROOT = Path(__file__).resolve().parent.parent
 PROGRAM = os.environ.get("TW_PROGRAM") or str(ROOT / "crates" / "tw_main" / "out" / "tw_main")
 SECONDS = 60
 SHORT = "proc control write int\nregs int\nINT v0 7\nSTORE d0 v0\nRET\n"
+REFUSED = "error: --workers takes a number from 1 to 16\ntw: tw run --help lists its arguments\n"
 # The most tasks that an event limit of 1,000,000 allows, with four events each.
 MOST_TASKS = 240_000
 # Tasks of ten thousand iterations each, one after the other on one worker.
@@ -134,7 +135,7 @@ def short_faults() -> list[str]:
     faults: list[str] = []
     rows: list[tuple[str, list[str], float, Answer]] = [
         ("a short run whose program comes late", [], 3.5, Answer("", "out 0 int 7\nquiet\n", 0)),
-        ("a refused command line", ["--workers=17"], 0.0, Answer("error: --workers takes a number from 1 to 16\n", "command line refused\n", 2)),
+        ("a refused command line", ["--workers=17"], 0.0, Answer(REFUSED, "command line refused\n", 2)),
     ]
     for name, words, late, expected in rows:
         got, _ = run(words, SHORT, late=late)
