@@ -33,7 +33,7 @@ TEXT = (
 HEX = ("check", "check --places", "disasm", "disasm --places", "run --in-turn", "replay", "picture", "check --places --json", "disasm --json")
 HISTORY = ("replay --text", "replay --text --stats", "picture --text", "replay --text --json")
 INPUTS = ("run --inputs --in-turn", "replay --inputs", "picture --inputs", "run --inputs --in-turn --json")
-EACH = ("run --each --text", "run --each --text --jobs 4")
+EACH = ("run --each --text", "run --each --text --jobs 4", "run --inputs-json --text --in-turn")
 RUN = (
     "run --text --limit 1000000 --in-turn", "run --text --limit 1000000", "run --text --limit 1000000 --in-turn --stats",
     "run --text --limit 1000000 --in-turn --json",
