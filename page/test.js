@@ -128,7 +128,7 @@ async function steps(reader) {
     await reader.click("#first");
     await reader.choose("by", "s0");
     await reader.click("#on");
-    say((await reader.seen("#what")).startsWith("Server 0 tells"), "no event of an actor", await reader.seen("#what"));
+    say((await reader.seen("#what")).startsWith("Server 0 notifies"), "no event of an actor", await reader.seen("#what"));
     await reader.choose("by", "d3");
     await reader.click("#first"); await reader.click("#on");
     say((await reader.seen("#what")).includes("makes middle"), "no event of a datum", await reader.seen("#what"));
