@@ -3,17 +3,14 @@ use Rattle.std.proofs.Common.{◌≡◌, ◌+◌, ◌<◌, ℕ, zero, suc, List,
 use Rattle.std.specs.List.{Contains}
 use Rattle.std.specs.Prelude.{MatchOption}
 use Rattle.std.proofs.lemmas.List.{length-map, length-take, map-append, map_more, take-append-drop}
-use Rattle.json.specs.Json.{Json, Members, array, document, number}
-use Rattle.json.specs.Value.{items_of, members_view, value_view}
+use Rattle.json.specs.Json.{Json, Members, number}
+use Rattle.json.specs.Value.{members_view, value_view}
 use Rattle.json.specs.declared.value.Value.{Value, Number, the_lemmas}
 use Rattle.tw_types.specs.declared.input.Input.{Input}
 use Rattle.tw_types.specs.declared.input.Input.TheVariants.{Int}
 use Rattle.tw_types.specs.Nesting.{NestedScalar}
 use Rattle.tw_types.specs.declared.param.Param.{Param}
-use Rattle.tw_json_inputs.specs.Inputs.{AreInputsFrom, AreMembers, HasFault, IsBadItem, IsFirstBad, IsInput, NoMembers, entry_of, int_in, member_in, members_in, type_at}
-use Rattle.tw_json_inputs.specs.declared.inputs.NoInputs.{NoInputs}
-use Rattle.tw_json_inputs.specs.declared.inputs.NoInputs.TheVariants.{At, NoMemory}
-use Rattle.tw_json_inputs.specs.declared.inputs.Place.TheVariants as place
+use Rattle.tw_json_inputs.specs.Inputs.{AreInputsFrom, AreMembers, IsFirstBad, IsInput, NoMembers, entry_of, int_in, member_in, members_in, type_at}
 
 -- the members of a value are those of the JSON value that it shows
 pub seen_members : {A K V : Type 0} (key : List ℕ → Option K) (value : Json → Option V) (ms : List (Bor (List ℕ) × Value A)) → members_in key value (members_view ms) ≡ map (λ m. member_in key value (entry_of m)) ms
@@ -99,10 +96,3 @@ module _ {A : Type 0} (params : List Param) (items : List (Value A)) (i : ℕ) (
         read = h;
         bad = here (λ (j : Json). (given : Input) → IsInput (type_at params i) j given → ⊥) (λ given k. none given (subst (λ (t : NestedScalar). IsInput t (value_view item) given) (sym e) k));
       }
-
--- what is wrong with an item is wrong with the text
-pub bad_fault : (params : List Param) (text : List ℕ) (js : List Json) → document text ≡ Some (array (items_of js)) → (why : NoInputs) → IsBadItem params js why → HasFault params text why
-bad_fault params text js e (At place.Text) h = absurd h
-bad_fault params text js e (At place.Array) h = absurd h
-bad_fault params text js e (At (place.Item n)) h = (js, e, h)
-bad_fault params text js e NoMemory h = tt
