@@ -12,6 +12,7 @@ use Rattle.tw_bounds.specs.declared.limited.LimitedBounds.{LimitedBounds}
 use Rattle.tw_bounds.specs.Least.{LeastRuns, least, lesser, main_in, main_of}
 use Rattle.tw_bounds.specs.Limited.{IsRunWithinLimited, LimitsRuns}
 use Rattle.tw_bounds.specs.Reports.{BoundsRuns, IsAtMost, IsRunWithin}
+use Rattle.tw_bounds.proofs.Reporting.{number_of}
 
 main_at : (bounds : List Bound) (n : ℕ) → main_in bounds ≡ AtMost n → IsAtMost bounds n
 main_at bounds n e = by (slice_get bounds 0) e
@@ -19,11 +20,6 @@ main_at bounds n e = by (slice_get bounds 0) e
     by : (o : Option Bound) → unwrap_or o Endless ≡ AtMost n → o ≡ Some (AtMost n)
     by None at = cc
     by (Some b) at = ap (λ (x : Bound). Some x) at
-
-abbrev number_of : Bound → ℕ
-number_of (AtMost n) = n
-number_of Over = 0
-number_of Endless = 0
 
 module _ (P : ℕ → Type 0) where
   in_both : (a b : ℕ) → P a → P b → P (min a b)

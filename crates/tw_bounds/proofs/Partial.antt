@@ -76,16 +76,6 @@ pub unknown_all : (n : ℕ) → unknown_in (replicate n None) ≡ n
 unknown_all zero = refl
 unknown_all (suc n) = ap suc (unknown_all n)
 
-pub some_unknown : (known : List (Option ℕ)) → 0 < unknown_in known → (k : ℕ) × (slice_get known k ≡ Some None)
-some_unknown [] h = absurd (omega arith)
-some_unknown (None ∷ known) h = (0, refl)
-some_unknown (Some b ∷ known) h = let r = some_unknown known h in (suc r.0, r.1)
-
-pub none_unknown : (known : List (Option ℕ)) (k : ℕ) → unknown_in known ≡ 0 → k < length known → get_or known k None ≡ None → ⊥
-none_unknown known k none within e =
-    let h = unknown_found known k (slice_get-get_or known k None within ∙ ap Some e) in
-    absurd (omega arith)
-
 pub none_there : (known : List (Option ℕ)) (k : ℕ) (d : Option ℕ) → k < length known → (b : Bool) → is_some (get_or known k d) ≡ not b → b ≡ true → slice_get known k ≡ Some None
 none_there known k d within b e is = slice_get-get_or known k d within ∙ ap Some (by (get_or known k d) (e ∙ ap not is))
   where

@@ -13,7 +13,7 @@ use Rattle.tw_bounds.specs.Reports.{AreReported, IsAtMost, reported}
 use Rattle.tw_bounds.specs.Rows.{cap, greatest_bound}
 use Rattle.tw_bounds.specs.Runs.{IsBoundOfMain}
 
-abbrev number_of : Bound → ℕ
+abbrev pub number_of : Bound → ℕ
 number_of (AtMost n) = n
 number_of Over = 0
 number_of Endless = 0
