@@ -5,7 +5,7 @@ ghost use Rattle.tw_types.specs.declared.event.Event.TheVariants as event;
 ghost use Rattle.tw_code.specs.declared.instr.Instr.TheVariants as instr_is;
 ghost use Rattle.tw_frame.specs.Jobs.{FrameView, draft_of, job_of};
 ghost use Rattle.tw_pool_state.specs.Coming.{come};
-ghost use Rattle.tw_pool_state.specs.Data.{IsAnswer, IsDone, IsLentAnswer, MayDo, TakesNone};
+ghost use Rattle.tw_pool_state.specs.Data.{IsAnswer, IsDone, MayDo, TakesNone};
 ghost use Rattle.tw_pool_state.specs.Memory.{TakesMemory};
 ghost use Rattle.tw_pool_state.specs.Events.{IsLent, IsOwed, MakesAfter, IsAtInstr, Untouched};
 
@@ -59,7 +59,7 @@ fn run_at_once<'a>(
 
 /// Completes a task's job, executes an instruction, and returns a draft of the values then. Returns the `Done` if an allocation
 /// fails.
-fn run_data<'a>(
+pub(crate) fn run_data<'a>(
     store: &mut Store,
     frame: &mut Frame<'a>,
     alloc: Global,
@@ -100,25 +100,6 @@ fn run_data<'a>(
             run_at_once(store, frame, &mut draft, other);
             Ok(draft)
         }
-    }
-}
-
-/// Like `run_data`, but also issues the next job.
-pub(crate) fn run_and_lend<'a>(
-    store: &mut Store,
-    frame: &mut Frame<'a>,
-    alloc: Global,
-    event_no: u64,
-    done: Done<'a>,
-    instr: &DataInstr,
-) -> Result<Job<'a>, Done<'a>>
-    requires own { done.before ≡ job_of frame.old }
-    requires may { MayDo instr.now store.old (come frame.old done) }
-    ensures { IsLentAnswer instr.now store.old store.new frame.old frame.new event_no done.entry result }
-{
-    match run_data(store, frame, alloc, done, instr) {
-        Ok(draft) => Ok(frame.lend(event_no, draft)),
-        Err(done) => Err(done),
     }
 }
 

@@ -10,7 +10,7 @@ ghost use Rattle.tw_frame.specs.Jobs.{FrameView, MayBeAt, job_of};
 ghost use Rattle.tw_pool_state.specs.Coming.{come, gone_on, lent_as};
 ghost use Rattle.tw_pool_state.specs.Data.{IsLentAnswer, MayDo};
 
-use crate::data::run_and_lend;
+use crate::data::run_data;
 use std::alloc::{AllocError, Global};
 use tw_code::DataInstr;
 use tw_frame::{Done, Frame, Job};
@@ -138,7 +138,10 @@ impl<'a> TaskSlots<'a> {
     {
         let place = &mut self.frames[task_slot];
         match place {
-            Some(frame) => run_and_lend(store, frame, alloc, event_no, done, instr),
+            Some(frame) => match run_data(store, frame, alloc, done, instr) {
+                Ok(draft) => Ok(frame.lend(event_no, draft)),
+                Err(done) => Err(done),
+            },
             None => unreachable!(),
         }
     }
