@@ -14,7 +14,7 @@ ghost use Rattle.tw_pool.specs.declared.answer.Closing.TheVariants.{Limit};
 ghost use Rattle.tw_pool.specs.declared.answer.Turn.TheVariants as answer;
 ghost use Rattle.tw_pool.specs.Actors.{HasPlace, events_of};
 ghost use Rattle.tw_pool.specs.Kept.{IsOwedBy};
-ghost use Rattle.tw_pool.specs.Turns.{Answers, IsTurnBy, Lends, OrNoMemory, instr_after, is_last, steps_of, Makes, TakesBack, Turns, lent_to};
+ghost use Rattle.tw_pool.specs.Turns.{Answers, IsTurnBy, Lends, OrNoMemory, instr_after, is_last, steps_of, Makes, Turns, lent_to};
 ghost use Rattle.tw_pool.specs.Words.{FitsWord};
 ghost use Rattle.std.specs.Option.{option_and_then};
 ghost use Rattle.tw_code.specs.declared.instr.Instr.{Instr as AnInstr};
@@ -197,24 +197,7 @@ impl<'a> Pool<'a> {
         self.history.has_room_for_one()
     }
 
-    /// Completes the job that is issued to the actor.
-    fn complete_job(&mut self, alloc: Global, actor: Actor, done: Done<'a>) -> Turn<'a>
-        requires actor { is_in self.old.layout actor ≡ true }
-        requires room { length self.old.history < self.old.limit }
-        requires owed { IsOwedBy self.old actor done }
-        requires program { done.before.program ≡ self.old.program }
-        ensures { IsTurnBy (λ s. TakesBack done.entry.short (is_last self.old done.entry) self.old actor done.entry) self.old result self.new }
-    {
-        if done.short() {
-            return self.continue_task(actor, done);
-        }
-        if self.is_last(&done) {
-            return self.stop_at_limit(actor, done);
-        }
-        self.execute_next(alloc, actor, done)
-    }
-
-    /// Handles a job's result. Returns it as foreign if no job is issued to the actor, or another one.
+    /// Completes the job that is issued to the actor. Returns a result as foreign if no job is issued to the actor, or another one.
     pub(crate) fn submit(&mut self, alloc: Global, actor: Actor, done: Done<'a>) -> Turn<'a>
         requires actor { is_in self.old.layout actor ≡ true }
         requires room { length self.old.history < self.old.limit }
@@ -227,6 +210,12 @@ impl<'a> Pool<'a> {
         if !frame.is_current(done.before()) {
             return Turn::Foreign(done);
         }
-        self.complete_job(alloc, actor, done)
+        if done.short() {
+            return self.continue_task(actor, done);
+        }
+        if self.is_last(&done) {
+            return self.stop_at_limit(actor, done);
+        }
+        self.execute_next(alloc, actor, done)
     }
 }
