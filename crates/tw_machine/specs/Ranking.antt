@@ -36,7 +36,7 @@ pub record AreRanked (tasks : Tasks) (next : ℕ) (ranks : Ranks) : Type 0 where
 abbrev pub AreSame : Ranks → Ranks → Type 0
 AreSame old new = (kind : Kind) (rank : Rank) → has_rank new kind rank ≡ has_rank old kind rank
 
--- holds if the set has this rank or not, as told, and nothing else has changed
+-- holds if the set has this rank exactly if `there`, and nothing else has changed
 abbrev pub IsMarkedIn : Rank → Bool → BTreeSet Rank → BTreeSet Rank → Type 0
 IsMarkedIn rank there old new = (r : Rank) → contains rank_cmp new r ≡ (if eq_by_cmp rank_cmp rank r then there else contains rank_cmp old r)
 
