@@ -7,6 +7,7 @@ use Rattle.std.specs.FinMap as fin
 use Rattle.serde_json.specs.Data as json
 use Rattle.tw_types.specs.Store.{Data, Datum, Members}
 use Rattle.tw_types.specs.ValueOrder.{Subscript}
+use Rattle.tw_report.proofs.Reports.{entry_shown, member_of, some_entry}
 use Rattle.tw_json_output.specs.Outputs.{datum_json, key_of, members_json, with_members}
 
 -- the object with one member more
@@ -16,17 +17,6 @@ added live ms e = json.put (key_of e.0) (datum_json (fin.get live e.1)) ms
 after_all : (live : Data) (ms : json.Members) (es : List (Subscript × ℕ)) (e : Subscript × ℕ) → with_members live ms (es ++ e ∷ []) ≡ added live (with_members live ms es) e
 after_all live ms [] e = refl
 after_all live ms (x ∷ es) e = after_all live (added live ms x) es e
-
-some_entry : (x y : Subscript × ℕ) → ◌≡◌ {A = Option (Subscript × ℕ)} (Some x) (Some y) → x ≡ y
-some_entry x y e = cc
-
--- the subscript and the datum of an entry
-abbrev member_of : Data → Subscript × ℕ → Subscript × Option Datum
-member_of live e = (e.0, fin.get live e.1)
-
-entry_shown : (live : Data) (m : Subscript × Option Datum) (found : Option (Subscript × ℕ)) → ◌≡◌ {A = Option (Subscript × Option Datum)} (Some m) (option_map (member_of live) found) → (e : Subscript × ℕ) × (found ≡ Some e) × (m ≡ member_of live e)
-entry_shown live m None is = absurd (cc)
-entry_shown live m (Some e) is = (e, refl, cc)
 
 pub one_member_more : (live : Data) (es : List (Subscript × ℕ)) (i : ℕ) (m : Subscript × Option Datum) (old new : json.Members) → Some m ≡ option_map (member_of live) (slice_get es i) → old ≡ members_json live (take i es)
     → new ≡ json.put (key_of m.0) (datum_json m.1) old → new ≡ members_json live (take (i + 1) es)

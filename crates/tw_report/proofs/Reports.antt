@@ -35,7 +35,7 @@ one_output_more live ids n id old out new lt is before made =
 
 -- ---- members
 
-some_entry : (x y : Subscript × ℕ) → ◌≡◌ {A = Option (Subscript × ℕ)} (Some x) (Some y) → x ≡ y
+pub some_entry : (x y : Subscript × ℕ) → ◌≡◌ {A = Option (Subscript × ℕ)} (Some x) (Some y) → x ≡ y
 some_entry x y e = cc
 
 -- the subscript and the datum of an entry
@@ -43,7 +43,7 @@ abbrev pub member_of : Data → Subscript × ℕ → Subscript × Option Datum
 member_of live e = (e.0, fin.get live e.1)
 
 -- the entry at an index, by the member that is returned for it
-entry_shown : (live : Data) (m : Subscript × Option Datum) (found : Option (Subscript × ℕ)) → ◌≡◌ {A = Option (Subscript × Option Datum)} (Some m) (option_map (member_of live) found) → (e : Subscript × ℕ) × (found ≡ Some e) × (m ≡ member_of live e)
+pub entry_shown : (live : Data) (m : Subscript × Option Datum) (found : Option (Subscript × ℕ)) → ◌≡◌ {A = Option (Subscript × Option Datum)} (Some m) (option_map (member_of live) found) → (e : Subscript × ℕ) × (found ≡ Some e) × (m ≡ member_of live e)
 entry_shown live m None is = absurd (cc)
 entry_shown live m (Some e) is = (e, refl, cc)
 
