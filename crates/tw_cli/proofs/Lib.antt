@@ -5,3 +5,4 @@ pub mod Numbers
 pub mod Options
 pub mod Words
 pub mod Turned
+pub mod Tables

@@ -1,14 +1,15 @@
 //! The arguments and options of the commands, and the commands that take no inputs.
 
-ghost use Rattle.std.specs.Prelude.{◌≡◌, false, IfOk};
-ghost use Rattle.clap.specs.Words.{app_of, rule_of};
+ghost use Rattle.std.specs.Prelude.{◌≡◌, false, IfOk, map};
+ghost use Rattle.std.specs.List.{fold};
+ghost use Rattle.clap.specs.Words.{app_of, rule_of, with_rule};
 ghost use Rattle.clap.specs.declared.Command.TheViews.{out-Command};
 ghost use Rattle.tw_cli.specs.CommandLine.{asm_line, capped_line, check_line, explain_line, input_rule, plain_line, program_line};
 ghost use Rattle.tw_cli.specs.Options.{bounds_rule, flag_rule, inputs, json, option_rule, places, text};
 ghost use Rattle.tw_cli.specs.Explanations.{number_rule};
 
 use crate::help::{
-    ASM, BOUNDS_HELP, CHECK, CommandHelp, EXPLAIN, INPUT_HELP, INPUTS_HELP, JSON_HELP, LIMIT_HELP,
+    ASM, BOUNDS_HELP, CHECK, CommandHelp, EXPLAIN, INPUT_HELP, JSON_HELP, LIMIT_HELP,
     MOST_BUDGET_HELP, MOST_BYTES_HELP, MOST_DATA_HELP, MOST_INSTRUCTIONS_HELP, MOST_TASKS_HELP,
     NAMES_HELP, NUMBER_HELP, PLACES_HELP, PLAIN_HELP, TEXT_HELP,
 };
@@ -40,36 +41,41 @@ pub(crate) fn flag_arg<'a>(alloc: Global, name: &'a str, help: &'a str) -> Arg<'
     option_arg(alloc, name, help).action(ArgAction::SetTrue)
 }
 
-/// Makes the option that the program is assembly text.
-pub(crate) fn text_arg<'a>(alloc: Global) -> Arg<'a>
-    ensures rule { rule_of result ≡ flag_rule text }
-    ensures local { result.global ≡ false }
+/// The name of an option, and its help.
+pub(crate) type Named<'a> = (&'a str, &'a str);
+
+/// Adds options with a value.
+pub(crate) fn with_options<'a>(
+    alloc: Global,
+    command: Command<'a>,
+    rows: &[Named<'a>],
+) -> Result<Command<'a>, AllocError>
+    requires local { (out-Command command).has_globals ≡ false }
+    ensures app { IfOk result (λ c. app_of c ≡ fold with_rule (app_of command.entry) (map (λ r. option_rule r.0.now) rows.now)) }
+    ensures local { IfOk result (λ c. (out-Command c).has_globals ≡ false) }
 {
-    flag_arg(alloc, "text", TEXT_HELP)
+    let mut command = command;
+    for (name, help) in rows {
+        command = command.arg(option_arg(alloc, name, help))?;
+    }
+    Ok(command)
 }
 
-/// Makes the option to list the places of instructions.
-pub(crate) fn places_arg<'a>(alloc: Global) -> Arg<'a>
-    ensures rule { rule_of result ≡ flag_rule places }
-    ensures local { result.global ≡ false }
+/// Adds options without a value.
+pub(crate) fn with_flags<'a>(
+    alloc: Global,
+    command: Command<'a>,
+    rows: &[Named<'a>],
+) -> Result<Command<'a>, AllocError>
+    requires local { (out-Command command).has_globals ≡ false }
+    ensures app { IfOk result (λ c. app_of c ≡ fold with_rule (app_of command.entry) (map (λ r. flag_rule r.0.now) rows.now)) }
+    ensures local { IfOk result (λ c. (out-Command c).has_globals ≡ false) }
 {
-    flag_arg(alloc, "places", PLACES_HELP)
-}
-
-/// Makes the option for the output as JSON.
-pub(crate) fn json_arg<'a>(alloc: Global) -> Arg<'a>
-    ensures rule { rule_of result ≡ flag_rule json }
-    ensures local { result.global ≡ false }
-{
-    flag_arg(alloc, "json", JSON_HELP)
-}
-
-/// Makes the option to read the inputs after the program.
-pub(crate) fn inputs_arg<'a>(alloc: Global) -> Arg<'a>
-    ensures rule { rule_of result ≡ flag_rule inputs }
-    ensures local { result.global ≡ false }
-{
-    flag_arg(alloc, "inputs", INPUTS_HELP)
+    let mut command = command;
+    for (name, help) in rows {
+        command = command.arg(flag_arg(alloc, name, help))?;
+    }
+    Ok(command)
 }
 
 pub(crate) fn number_arg<'a>(alloc: Global) -> Arg<'a>
@@ -95,11 +101,12 @@ pub(crate) fn program_command<'a>(
     ensures app { IfOk result (λ c. app_of c ≡ program_line name.entry.now) }
     ensures local { IfOk result (λ c. (out-Command c).has_globals ≡ false) }
 {
-    let bare = plain_command(alloc, name, help);
-    let text = bare.arg(text_arg(alloc))?;
-    let places = text.arg(places_arg(alloc))?;
-    let whole = places.arg(json_arg(alloc))?;
-    Ok(whole)
+    let flags = [
+        ("text", TEXT_HELP),
+        ("places", PLACES_HELP),
+        ("json", JSON_HELP),
+    ];
+    with_flags(alloc, plain_command(alloc, name, help), &flags)
 }
 
 /// Makes the option for bounds of whole runs. Its value may be left out.
@@ -121,12 +128,14 @@ pub(crate) fn capped_command<'a>(
     ensures app { IfOk result (λ c. app_of c ≡ capped_line (app_of command.entry)) }
     ensures local { IfOk result (λ c. (out-Command c).has_globals ≡ false) }
 {
-    let tasks = command.arg(option_arg(alloc, "most-tasks", MOST_TASKS_HELP))?;
-    let instructions = tasks.arg(option_arg(alloc, "most-instructions", MOST_INSTRUCTIONS_HELP))?;
-    let data = instructions.arg(option_arg(alloc, "most-data", MOST_DATA_HELP))?;
-    let bytes = data.arg(option_arg(alloc, "most-bytes", MOST_BYTES_HELP))?;
-    let whole = bytes.arg(option_arg(alloc, "most-budget", MOST_BUDGET_HELP))?;
-    Ok(whole)
+    let caps = [
+        ("most-tasks", MOST_TASKS_HELP),
+        ("most-instructions", MOST_INSTRUCTIONS_HELP),
+        ("most-data", MOST_DATA_HELP),
+        ("most-bytes", MOST_BYTES_HELP),
+        ("most-budget", MOST_BUDGET_HELP),
+    ];
+    with_options(alloc, command, &caps)
 }
 
 /// Makes the command that verifies a program.
@@ -146,11 +155,12 @@ pub(crate) fn asm_command<'a>(alloc: Global) -> Result<Command<'a>, AllocError>
     ensures app { IfOk result (λ c. app_of c ≡ asm_line) }
     ensures local { IfOk result (λ c. (out-Command c).has_globals ≡ false) }
 {
-    let bare = plain_command(alloc, "asm", &ASM);
-    let names = bare.arg(flag_arg(alloc, "names", NAMES_HELP))?;
-    let plain = names.arg(flag_arg(alloc, "plain", PLAIN_HELP))?;
-    let whole = plain.arg(json_arg(alloc))?;
-    Ok(whole)
+    let flags = [
+        ("names", NAMES_HELP),
+        ("plain", PLAIN_HELP),
+        ("json", JSON_HELP),
+    ];
+    with_flags(alloc, plain_command(alloc, "asm", &ASM), &flags)
 }
 
 /// Makes the command that explains a code.
@@ -160,6 +170,6 @@ pub(crate) fn explain_command<'a>(alloc: Global) -> Result<Command<'a>, AllocErr
 {
     let bare = plain_command(alloc, "explain", &EXPLAIN);
     let number = bare.arg(number_arg(alloc))?;
-    let whole = number.arg(json_arg(alloc))?;
+    let whole = number.arg(flag_arg(alloc, "json", JSON_HELP))?;
     Ok(whole)
 }
