@@ -18,6 +18,7 @@ use Rattle.tw_types.proofs.ActorOrder.{actor_cmp_total, actor_cmp-IsAntisymmetri
 use Rattle.tw_types.proofs.Mapped.{get_mapped}
 use Rattle.tw_types.proofs.Outcomes.{went_of}
 use Rattle.tw_code.specs.declared.instr.Instr.{Instr}
+use Rattle.tw_code.specs.declared.instr.Instr.TheVariants as instr
 use Rattle.tw_code.specs.declared.procedure.Procedure.{Procedure}
 use Rattle.tw_code.specs.accepting.Walk.{greatest_budget}
 use Rattle.tw_code.specs.machine.Bounds.{opening_bound}
@@ -32,11 +33,12 @@ use Rattle.tw_code.proofs.Runs.{run_more}
 use Rattle.tw_soundness.proofs.Along.{small_along}
 use Rattle.tw_soundness.proofs.Safe.{opened_held}
 use Rattle.tw_verify.specs.Typed.{TypedProgram, typings_of}
+use Rattle.tw_store.specs.Served.{Served}
 use Rattle.tw_frame.specs.Jobs.{DoneView, FrameView, JobView, bare_frame, job_of}
 use Rattle.tw_pool_state.specs.Coming.{come, lent_as}
 use Rattle.tw_pool_state.specs.Events.{Goes, IsLent, IsOwed, IsSmall, Makes, MakesAfter, IsAtInstr, with_done}
 use Rattle.tw_pool_state.specs.Fits.{AreParts}
-use Rattle.tw_pool_state.specs.Memory.{EventTakes, InstrTakes, IsAtAllocating}
+use Rattle.tw_pool_state.specs.Memory.{CallTakes, EventTakes, InstrTakes, IsAtAllocating}
 use Rattle.tw_pool_state.specs.Parts.{state_of}
 use Rattle.tw_pool_state.specs.declared.parts.Parts.{Parts}
 use Rattle.tw_pool_state.proofs.Goings.{lent_parts, lent_state}
@@ -54,6 +56,14 @@ use Rattle.tw_pool.proofs.Freely.{has_state, lends, line_traced, room_here, stat
 use Rattle.tw_pool.proofs.Keeping.{no_task}
 
 -- ---- lists of one actor's events
+
+-- an instruction that takes memory of this store may take some
+takes_some : (i : Instr) (s : Served) (f : FrameView) → CallTakes i s f → InstrTakes i s.store (bare_frame f)
+takes_some (instr.Local i) s f takes = takes
+takes_some (instr.Data d) s f takes = (s.data_room, takes)
+takes_some (instr.Rule action) s f takes = tt
+takes_some (instr.Put action) s f takes = tt
+takes_some instr.Ret s f takes = takes
 
 pub steps_by : (actor : Actor) (done : DoneView) → AreBy actor (steps_of actor done)
 steps_by actor done = by (done.steps == 0) refl
@@ -231,7 +241,7 @@ module _ (verified : TypedProgram) (inputs : List Input) (layout : ActorCounts) 
 
   -- if the instruction there may allocate
   pub wanted : (o : Option Event) → HasCome o → (i : Instr) → instr_after w.program.program done ≡ Some i
-      → ((f : FrameView) → IsOwed old actor f done → InstrTakes i old.store.store (bare_frame (come f done))) → TakesMemory w (steps_of actor done) (Call actor)
+      → ((f : FrameView) → IsOwed old actor f done → CallTakes i old.store (come f done)) → TakesMemory w (steps_of actor done) (Call actor)
   wanted o c i e takes =
       let at : AreAt verified inputs layout (traced.events ++ steps_of actor done) came = subst (λ es. AreAt verified inputs layout (traced.events ++ es) came) c.is c.at in
       let here_is : instr_here verified.program (bare_frame (come its.0 done)) ≡ Some i =
@@ -241,7 +251,7 @@ module _ (verified : TypedProgram) (inputs : List Input) (layout : ActorCounts) 
         runs = get_mapped bare_frame came.running_tasks.tasks actor ∙ ap (option_map bare_frame) (get_own (come its.0 done) old.running_tasks.tasks actor);
         here = i;
         is = here_is;
-        takes = takes its.0 owed_now;
+        takes = takes_some i old.store (come its.0 done) (takes its.0 owed_now);
       } in
       record {
         state = state_of came at.notices;

@@ -1,20 +1,16 @@
 //! Scheduling steps of actors that submit a job's result.
 
-ghost use Rattle.std.specs.Prelude.{◌≡◌, ◌<◌, ◌≤◌, ◌++◌, ◌∷◌, [], IfErr, IfOk, IfSome, OnErr, OnOk, None, Some, true, false, length, option_to_list, slice_get};
+ghost use Rattle.std.specs.Prelude.{◌≡◌, ◌<◌, ◌≤◌, ◌++◌, ◌∷◌, [], IfSome, Some, true, false, length, option_to_list, slice_get};
 ghost use Rattle.tw_types.specs.Actor.{is_in};
 ghost use Rattle.tw_types.specs.declared.event.Event.TheVariants.{Call as CallBy, End as EndBy};
 ghost use Rattle.tw_code.specs.declared.instr.Instr.TheVariants as instr_is;
 ghost use Rattle.tw_code.specs.machine.Due.{event_of};
-ghost use Rattle.tw_code.specs.machine.Machine.{is_ret, local_of};
-ghost use Rattle.tw_frame.specs.Jobs.{FrameView, bare_frame};
-ghost use Rattle.tw_pool_state.specs.Coming.{come};
-ghost use Rattle.tw_pool_state.specs.Events.{IsLent, IsOwed, MakesAfter, IsAtInstr, Untouched};
-ghost use Rattle.tw_pool_state.specs.Memory.{InstrTakes};
+ghost use Rattle.tw_code.specs.machine.Machine.{is_ret};
 ghost use Rattle.tw_pool.specs.declared.answer.Closing.TheVariants.{Limit};
 ghost use Rattle.tw_pool.specs.declared.answer.Turn.TheVariants as answer;
 ghost use Rattle.tw_pool.specs.Actors.{HasPlace, events_of};
 ghost use Rattle.tw_pool.specs.Kept.{IsOwedBy};
-ghost use Rattle.tw_pool.specs.Turns.{Answers, IsTurnBy, Lends, OrNoMemory, instr_after, is_last, steps_of, Makes, Turns, lent_to};
+ghost use Rattle.tw_pool.specs.Turns.{Answers, IsTurnBy, Lends, instr_after, is_last, steps_of, Makes, Turns, lent_to};
 ghost use Rattle.tw_pool.specs.Words.{FitsWord};
 ghost use Rattle.std.specs.Option.{option_and_then};
 ghost use Rattle.tw_code.specs.declared.instr.Instr.{Instr as AnInstr};
@@ -25,38 +21,9 @@ use crate::history::History;
 use crate::pool::Pool;
 use std::alloc::Global;
 use tw_code::Instr;
-use tw_frame::{Done, Job};
-use tw_pool_state::Parts;
+use tw_frame::Done;
 use tw_types::{Actor, Event};
 use tw_verify::Verified;
-
-/// Completes the job, executes the instruction at which the actor's task then is, and issues the next job. The instruction is neither
-/// local nor RET.
-fn call_by<'a>(
-    parts: &mut Parts<'a>,
-    alloc: Global,
-    actor: Actor,
-    event_no: u64,
-    instr: &Instr,
-    done: Done<'a>,
-) -> Result<Job<'a>, Done<'a>>
-    requires fits_place { IsAtInstr parts.old actor done instr.now }
-    requires not_local { local_of instr.now ≡ None }
-    requires not_last { is_ret instr.now ≡ false }
-    ensures called { OnOk result (MakesAfter (CallBy actor) parts.old actor done.entry parts.new) }
-    ensures lent { IfOk result (λ job. IsLent parts.new actor event_no job) }
-    ensures refused { OnErr result (Untouched parts.old parts.new) }
-    ensures back { IfErr result (λ back. back ≡ done.entry) }
-    ensures memory { OnErr result ((f : FrameView) → IsOwed parts.old actor f done.entry → InstrTakes instr.now parts.old.store.store (bare_frame (come f done.entry))) }
-{
-    match instr {
-        Instr::Data(instr) => parts.call_data(alloc, actor, event_no, instr, done),
-        Instr::Rule(action) => parts.rule(alloc, actor, event_no, action, done),
-        Instr::Put(action) => parts.put(alloc, actor, event_no, action, done),
-        Instr::Local(_) => unreachable!(),
-        Instr::Ret => unreachable!(),
-    }
-}
 
 /// Records an event, if there is one.
 fn record_event(history: &mut History, event: Option<Event>)
@@ -127,29 +94,6 @@ impl<'a> Pool<'a> {
         Turn::Over(Closing::Limit)
     }
 
-    /// Completes the actor's job, and executes the instruction after it.
-    fn call(&mut self, alloc: Global, actor: Actor, instr: &Instr, done: Done<'a>) -> Turn<'a>
-        requires actor { is_in self.old.layout actor ≡ true }
-        requires room { length self.old.history < self.old.limit }
-        requires owed { IsOwedBy self.old actor done }
-        requires fits { is_last self.old done ≡ false }
-        requires following_is { instr_after self.old.program.program done ≡ Some instr.now }
-        requires not_local { local_of instr.now ≡ None }
-        requires not_last { is_ret instr.now ≡ false }
-        ensures { IsTurnBy (λ s. OrNoMemory self.old (Some done.entry) (steps_of actor done.entry) (CallBy actor) (Lends self.old actor (steps_of actor done.entry ++ CallBy actor ∷ []))) self.old result self.new }
-    {
-        let _steps = done.steps();
-        let event = self.parts.event_of(actor, &done);
-        let event_no = count_after(&self.history, actor, &done);
-        let job = match call_by(&mut self.parts, alloc, actor, event_no, instr, done) {
-            Ok(job) => job,
-            Err(done) => return Turn::NoMemory(Some(done)),
-        };
-        record_event(&mut self.history, event);
-        self.history.push(Event::Call(actor));
-        Turn::Run(job)
-    }
-
     /// Completes the actor's job, and ends its task.
     fn end(&mut self, alloc: Global, actor: Actor, done: Done<'a>) -> Turn<'a>
         requires actor { is_in self.old.layout actor ≡ true }
@@ -167,7 +111,7 @@ impl<'a> Pool<'a> {
         Turn::Ended
     }
 
-    /// Completes a job that isn't short, if all its events fit the limit.
+    /// Completes a job that isn't short, if all its events fit the limit, and executes the instruction after it.
     fn execute_next(&mut self, alloc: Global, actor: Actor, done: Done<'a>) -> Turn<'a>
         requires actor { is_in self.old.layout actor ≡ true }
         requires room { length self.old.history < self.old.limit }
@@ -180,10 +124,17 @@ impl<'a> Pool<'a> {
         let _steps = done.steps();
         let instr = instr_at(self.verified, done.before().procedure(), done.after_place());
         if is_ret(instr) {
-            self.end(alloc, actor, done)
-        } else {
-            self.call(alloc, actor, instr, done)
+            return self.end(alloc, actor, done);
         }
+        let event = self.parts.event_of(actor, &done);
+        let event_no = count_after(&self.history, actor, &done);
+        let job = match self.parts.call(alloc, actor, event_no, instr, done) {
+            Ok(job) => job,
+            Err(done) => return Turn::NoMemory(Some(done)),
+        };
+        record_event(&mut self.history, event);
+        self.history.push(Event::Call(actor));
+        Turn::Run(job)
     }
 
     /// Returns whether two events are due, and only one fits the limit.

@@ -71,6 +71,14 @@ InstrTakes (instr.Rule action) s f = Unit {0}
 InstrTakes (instr.Put action) s f = Unit {0}
 InstrTakes instr.Ret s f = ⊥
 
+-- holds like InstrTakes, for the data that fit the store's memory
+abbrev pub CallTakes : Instr → Served → FrameView → Type 0
+CallTakes (instr.Local i) s f = ⊥
+CallTakes (instr.Data d) s f = TakesMemory d s f
+CallTakes (instr.Rule action) s f = Unit {0}
+CallTakes (instr.Put action) s f = Unit {0}
+CallTakes instr.Ret s f = ⊥
+
 -- ---- an event
 
 -- the task that is taken is of a procedure with texts

@@ -1,13 +1,9 @@
 //! Instructions on data.
 
-ghost use Rattle.std.specs.Prelude.{◌≡◌, ◌<◌, IfErr, IfOk, OnErr, OnOk};
-ghost use Rattle.tw_types.specs.declared.event.Event.TheVariants as event;
-ghost use Rattle.tw_code.specs.declared.instr.Instr.TheVariants as instr_is;
-ghost use Rattle.tw_frame.specs.Jobs.{FrameView, draft_of, job_of};
+ghost use Rattle.std.specs.Prelude.{◌≡◌};
+ghost use Rattle.tw_frame.specs.Jobs.{draft_of, job_of};
 ghost use Rattle.tw_pool_state.specs.Coming.{come};
 ghost use Rattle.tw_pool_state.specs.Data.{IsAnswer, IsDone, MayDo, TakesNone};
-ghost use Rattle.tw_pool_state.specs.Memory.{TakesMemory};
-ghost use Rattle.tw_pool_state.specs.Events.{IsLent, IsOwed, MakesAfter, IsAtInstr, Untouched};
 
 mod containers;
 pub(crate) mod results;
@@ -19,12 +15,10 @@ use crate::data::rights::{
     exec_copy_read, exec_copy_write, exec_drop_read, exec_drop_write, exec_new,
 };
 use crate::data::scalars::{exec_get, exec_store};
-use crate::parts::Parts;
 use std::alloc::Global;
 use tw_code::DataInstr;
-use tw_frame::{Done, Draft, Frame, Job};
+use tw_frame::{Done, Draft, Frame};
 use tw_store::Store;
-use tw_types::Actor;
 
 /// Executes an instruction that doesn't allocate.
 fn run_at_once<'a>(
@@ -100,28 +94,5 @@ pub(crate) fn run_data<'a>(
             run_at_once(store, frame, &mut draft, other);
             Ok(draft)
         }
-    }
-}
-
-impl<'a> Parts<'a> {
-    /// Completes the actor's job, executes this instruction on data, at which the task then is, and issues the next job.
-    /// `event_no` is the number of its actor's events. Returns the `Done` if an allocation fails.
-    pub fn call_data(
-        &mut self,
-        alloc: Global,
-        actor: Actor,
-        event_no: u64,
-        instr: &DataInstr,
-        done: Done<'a>,
-    ) -> Result<Job<'a>, Done<'a>>
-        requires fits_place { IsAtInstr self.old actor done (instr_is.Data instr.now) }
-        ensures called { OnOk result (MakesAfter (event.Call actor) self.old actor done.entry self.new) }
-        ensures lent { IfOk result (λ job. IsLent self.new actor event_no job) }
-        ensures refused { OnErr result (Untouched self.old self.new) }
-        ensures back { IfErr result (λ back. back ≡ done.entry) }
-        ensures memory { OnErr result ((f : FrameView) → IsOwed self.old actor f done.entry → TakesMemory instr.now self.old.store (come f done.entry)) }
-    {
-        self.running_tasks
-            .exec_data(actor, &mut self.store, alloc, event_no, done, instr)
     }
 }

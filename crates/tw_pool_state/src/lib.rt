@@ -4,6 +4,7 @@
 
 mod advance;
 mod ask;
+mod call;
 mod data;
 mod deliver;
 mod end;

@@ -16,7 +16,7 @@ use tw_types::{Actor, TaskNo};
 impl<'a> Parts<'a> {
     /// Completes the actor's job, executes this PUT, at which the task then is, and issues the next job. `event_no` is the number of
     /// its actor's events. Returns the `Done` if an allocation fails.
-    pub fn put(
+    pub(crate) fn put(
         &mut self,
         alloc: Global,
         actor: Actor,

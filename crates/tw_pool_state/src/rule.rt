@@ -16,7 +16,7 @@ use tw_types::Actor;
 impl<'a> Parts<'a> {
     /// Completes the actor's job, executes this RULE, at which the task then is, and issues the next job. `event_no` is the number of
     /// its actor's events. Returns the `Done` if an allocation fails.
-    pub fn rule(
+    pub(crate) fn rule(
         &mut self,
         alloc: Global,
         actor: Actor,
