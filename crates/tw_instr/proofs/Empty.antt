@@ -1,5 +1,5 @@
--- Whether a list makes the empty set.
-use Rattle.std.proofs.Common.{◌≡◌, ◌==◌, ◌||◌, ℕ, Bool, true, false, List, [], ◌∷◌, length, sym, ap, ◌∙◌, arith}
+-- Whether keys make the empty set.
+use Rattle.std.proofs.Common.{◌≡◌, ◌==◌, ◌||◌, ℕ, Bool, true, false, List, [], ◌∷◌, length, sym, ap, ◌∙◌, arith, refl, IsTrue, ◌↔◌}
 use Rattle.std.proofs.lemmas.Bool.Decides.{nat_tests}
 use Rattle.std.specs.Cmp.{tied_itself}
 use Rattle.std.specs.FinSet.{contains, contains-empty, contains-insert, empty_of_len, from_list, insert, len, len-empty}
@@ -18,6 +18,8 @@ len_insert s n e =
 is_none : (k : ℕ) → (k ≡ 0 → ⊥) → (k == 0) ≡ false
 is_none k h = grind (arith, nat_tests)
 
-pub is_empty_set : (b : Bool) (k : ℕ) (ns : List Notice) → k ≡ length ns → b ≡ (k == 0) → b ≡ (len (from_list {R = notice_cmp} ns) == 0)
-is_empty_set b k [] count h = h ∙ ap (λ n. n == 0) (count ∙ sym (len-empty notice_cmp))
-is_empty_set b k (n ∷ ns) count h = h ∙ is_none k (λ e. omega (arith, e, count)) ∙ sym (is_none (len (insert (from_list ns) n)) (len_insert (from_list ns) n))
+pub is_empty_set : (b : Bool) (ns : List Notice) → IsTrue b ↔ (length ns ≡ 0) → b ≡ (len (from_list {R = notice_cmp} ns) == 0)
+is_empty_set true [] h = ap (λ n. n == 0) (sym (len-empty notice_cmp))
+is_empty_set false [] h = let e : false ≡ true = h.1 refl in cc
+is_empty_set true (n ∷ ns) h = absurd (omega (arith, h.0 refl))
+is_empty_set false (n ∷ ns) h = sym (is_none (len (insert (from_list ns) n)) (len_insert (from_list ns) n))

@@ -1,9 +1,8 @@
+pub mod NoticeSets
 pub mod Empty
 pub mod Filling
 pub mod Handing
-pub mod Removed
 pub mod Stretches
-pub mod Notified
 pub mod Live
 pub mod Views
 pub mod Closes

@@ -7,7 +7,8 @@ pub mod Memory
 pub mod Stretch
 pub mod Room
 pub mod Content
--- The code's data structures: Contexts makes store, notices and frame the machine's context.
+-- The code's data structures: Contexts makes store, notices and frame the machine's context, NoticeSets says which notices a set has.
 pub mod Contexts
 pub mod Arguments
 pub mod Parts
+pub mod NoticeSets

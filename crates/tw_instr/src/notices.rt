@@ -1,20 +1,23 @@
 //! Notices.
 
-ghost use Rattle.std.specs.Prelude.{◌≡◌, ◌==◌, ◌++◌, filter, map, not, OnErr, OnOk};
+ghost use Rattle.std.specs.Prelude.{◌≡◌, ◌==◌, ◌&&◌, ◌||◌, false, map, not, true, IfOk, OnErr, OnOk};
+ghost use Rattle.std.specs.Bool.{OnFalse};
 ghost use Rattle.std.specs.FinSet.{contains, empty, from_list, len, remove};
-ghost use Rattle.std.specs.List.{list_any};
-ghost use Rattle.std.specs.Ordering.{eq_by_cmp};
-ghost use Rattle.tw_types.specs.Notices.{notice_cmp, with_notices};
+ghost use Rattle.tw_types.specs.declared.notice.Notice.{Notice as ANotice};
+ghost use Rattle.tw_types.specs.Notices.{with_notices};
 ghost use Rattle.tw_types.specs.Store.{notice_to};
+ghost use Rattle.tw_instr.specs.NoticeSets.{is_among, is_in};
 
+use crate::notice_key::NoticeKey;
 use std::alloc::{AllocError, Global};
+use std::collections::BTreeSet;
 use std::marker::Model;
 use tw_types::{DatumId, Notice, Subscriber};
 
 /// Notices that wait to be delivered. Their model is a set.
 #[derive(Drop)]
 pub struct Notices {
-    list: Vec<Notice>,
+    keys: BTreeSet<NoticeKey>,
 }
 
 impl Model for Notices {
@@ -26,7 +29,7 @@ impl Model for Notices {
 
     ghost coded = { code {R = notice_cmp} (Prim.hlevel codes) };
 
-    ghost view = { λ n. from_list {R = notice_cmp} n.list.items };
+    ghost view = { λ n. from_list {R = notice_cmp} n.keys.keys };
 }
 
 impl Notices {
@@ -34,82 +37,89 @@ impl Notices {
         ensures { result ≡ empty }
     {
         Notices {
-            list: Vec::new(alloc),
+            keys: BTreeSet::new(alloc),
         }
     }
 
     pub fn is_empty(&self) -> bool
         ensures { result ≡ (len self.now == 0) }
     {
-        self.list.is_empty()
+        self.keys.is_empty()
     }
 
-    /// Returns all of them. The oldest is first, but no clause promises that.
-    pub fn as_slice(&self) -> &[Notice]
-        ensures { from_list result.now ≡ self.now }
+    pub fn keys(&self) -> &BTreeSet<NoticeKey>
+        ensures { from_list result.now.keys ≡ self.now }
     {
-        &self.list
+        &self.keys
     }
 
-    pub fn contains(&self, notice: &Notice) -> bool
-        ensures { result ≡ contains self.now notice.now }
+    /// Removes a notice, and returns whether it was there.
+    pub fn remove(&mut self, notice: &Notice) -> bool
+        ensures was { result ≡ contains self.old notice.now }
+        ensures removed { self.new ≡ remove self.old notice.now }
+        ensures same { OnFalse result (self.new ≡ self.old) }
     {
-        is_among(&self.list, notice)
-    }
-
-    /// Removes a notice.
-    pub fn remove(&mut self, notice: &Notice)
-        ensures { self.new ≡ remove self.old notice.now }
-    {
-        remove_in(&mut self.list, notice);
+        self.keys.remove(&NoticeKey::of(*notice))
     }
 
     /// Adds a notice of the datum for each subscriber, or none if an allocation fails.
-    pub fn add_for(&mut self, id: DatumId, subscribers: &[Subscriber]) -> Result<(), AllocError>
+    pub fn add_for(
+        &mut self,
+        alloc: Global,
+        id: DatumId,
+        subscribers: &[Subscriber],
+    ) -> Result<(), AllocError>
         ensures notified { OnOk result (self.new ≡ with_notices self.old (map (notice_to id) subscribers.now)) }
         ensures refused { OnErr result (self.new ≡ self.old) }
     {
-        notify_in(&mut self.list, id, subscribers)
+        let more = missing(alloc, &self.keys, id, subscribers)?;
+        add_all(&mut self.keys, &more)
     }
 }
 
-fn notify_in(
-    list: &mut Vec<Notice>,
+/// Returns the notices for the subscribers, without those that are in the set.
+fn missing(
+    alloc: Global,
+    keys: &BTreeSet<NoticeKey>,
     id: DatumId,
     subscribers: &[Subscriber],
-) -> Result<(), AllocError>
-    ensures notified { OnOk result (list.new.items ≡ list.old.items ++ map (notice_to id) subscribers.now) }
-    ensures refused { OnErr result (list.new.items ≡ list.old.items) }
+) -> Result<Vec<NoticeKey>, AllocError>
+    ensures apart { IfOk result (λ more. (n : ANotice) → is_among more.items n ≡ true → is_in keys.now n ≡ false) }
+    ensures all { IfOk result (λ more. (n : ANotice) → (is_among more.items n || is_in keys.now n) ≡ (is_among (map (notice_to id) subscribers.now) n || is_in keys.now n)) }
 {
-    let before = list.len();
+    let mut more = Vec::new(alloc);
     for subscriber in subscribers {
-        let notice = Notice {
+        let key = NoticeKey::of(Notice {
             datum: id,
             rule: subscriber.rule,
             parameter: subscriber.parameter,
-        };
-        if list.push(notice).is_err() {
-            list.truncate(before);
+        });
+        if !keys.contains(&key) {
+            more.push(key)?;
+        }
+    }
+    Ok(more)
+}
+
+/// Adds these keys, which aren't in the set. Changes nothing if an allocation fails.
+fn add_all(keys: &mut BTreeSet<NoticeKey>, more: &[NoticeKey]) -> Result<(), AllocError>
+    requires { (n : ANotice) → is_among more.now n ≡ true → is_in keys.old n ≡ false }
+    ensures added { OnOk result ((n : ANotice) → is_in keys.new n ≡ (is_among more.now n || is_in keys.old n)) }
+    ensures refused { OnErr result ((n : ANotice) → is_in keys.new n ≡ is_in keys.old n) }
+{
+    for key in more {
+        if keys.insert(*key).is_err() {
+            remove_all(keys, more);
             return Err(AllocError);
         }
     }
     Ok(())
 }
 
-fn are_same(notice: &Notice, other: &Notice) -> bool
-    ensures { result ≡ eq_by_cmp notice_cmp notice.now other.now }
+fn remove_all(keys: &mut BTreeSet<NoticeKey>, more: &[NoticeKey])
+    ensures { (n : ANotice) → is_in keys.new n ≡ (not (is_among more.now n) && is_in keys.old n) }
 {
-    notice == other
-}
-
-fn is_among(list: &[Notice], notice: &Notice) -> bool
-    ensures { result ≡ list_any (eq_by_cmp notice_cmp notice.now) list.now }
-{
-    list.iter().any(|other| are_same(notice, other))
-}
-
-fn remove_in(list: &mut Vec<Notice>, notice: &Notice)
-    ensures { list.new.items ≡ filter (λ other. not (eq_by_cmp notice_cmp notice.now other)) list.old.items }
-{
-    list.retain(|other| !are_same(notice, other));
+    for key in more {
+        let _there = keys.remove(key);
+    }
 }

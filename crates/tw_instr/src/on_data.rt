@@ -59,6 +59,6 @@ pub fn data_instr(
         DataInstr::CopyRead { to, from } => Ok(rights::copy_read(store, frame, to, from)?),
         DataInstr::CopyWrite { to, from } => Ok(rights::copy_write(store, frame, to, from)?),
         DataInstr::DropRead { right } => Ok(rights::drop_read(store, frame, right)?),
-        DataInstr::DropWrite { right } => rights::drop_write(store, notices, frame, right),
+        DataInstr::DropWrite { right } => rights::drop_write(alloc, store, notices, frame, right),
     }
 }

@@ -82,18 +82,24 @@ pub fn drop_read(store: &mut Data, frame: &mut Frame, right: u8) -> Result<(), C
 
 /// Takes a write of a container, and adds the notices of its subscribers if it closes. Changes nothing if an allocation
 /// fails.
-fn take_write(store: &mut Data, notices: &mut Notices, id: DatumId) -> Result<(), AllocError>
+fn take_write(
+    alloc: Global,
+    store: &mut Data,
+    notices: &mut Notices,
+    id: DatumId,
+) -> Result<(), AllocError>
     requires { may_drop_write (get store.old.live id) ≡ Ok tt }
     ensures dropped { OnOk result (store.new ≡ write_dropped store.old id) }
     ensures notified { OnOk result (notices.new ≡ with_notices notices.old (notices_of_write_dropped store.old id)) }
     ensures refused { OnErr result ((store.new ≡ store.old) × (notices.new ≡ notices.old)) }
 {
-    notices.add_for(id, store.heard_by_drop_write(id))?;
+    notices.add_for(alloc, id, store.heard_by_drop_write(id))?;
     store.drop_write(id);
     Ok(())
 }
 
 pub fn drop_write(
+    alloc: Global,
     store: &mut Data,
     notices: &mut Notices,
     frame: &mut Frame,
@@ -104,7 +110,7 @@ pub fn drop_write(
 {
     let id = held(frame, right)?;
     store.may_drop_write(id)?;
-    take_write(store, notices, id)?;
+    take_write(alloc, store, notices, id)?;
     frame.empty(right);
     frame.to_next_place();
     Ok(())

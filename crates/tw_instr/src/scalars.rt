@@ -42,13 +42,19 @@ fn datum_at<'a>(store: &'a Data, frame: &Frame, register: u8) -> Option<&'a Datu
 }
 
 /// Sets a scalar, and adds the notices of its subscribers. Changes nothing if an allocation fails.
-fn set(store: &mut Data, notices: &mut Notices, id: DatumId, value: Value) -> Result<(), AllocError>
+fn set(
+    alloc: Global,
+    store: &mut Data,
+    notices: &mut Notices,
+    id: DatumId,
+    value: Value,
+) -> Result<(), AllocError>
     requires { may_store value (get store.old.live id) ≡ Ok tt }
     ensures set { OnOk result (store.new ≡ stored store.old id value) }
     ensures notified { OnOk result (notices.new ≡ with_notices notices.old (notices_of_stored store.old id value)) }
     ensures refused { OnErr result ((store.new ≡ store.old) × (notices.new ≡ notices.old)) }
 {
-    notices.add_for(id, store.heard_by_set(id))?;
+    notices.add_for(alloc, id, store.heard_by_set(id))?;
     store.set(id, value);
     Ok(())
 }
@@ -71,7 +77,7 @@ pub fn store(
     let id = held(frame, datum)?;
     store.may_store(id, value)?;
     let value = value.try_clone(alloc)?;
-    set(store, notices, id, value)?;
+    set(alloc, store, notices, id, value)?;
     frame.empty(datum);
     frame.to_next_place();
     Ok(())

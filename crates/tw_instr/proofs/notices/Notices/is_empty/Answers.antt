@@ -5,4 +5,4 @@ use Rattle.tw_instr.proofs.Empty.{is_empty_set}
 use Rattle.tw_instr.proofs.notices.Notices.is_empty.Goals as goal
 
 pub returns : goal.returns
-returns c = is_empty_set c.is_empty.result _ c.self.inside.list.items c.self.inside.list.ok.0 c.is_empty.ensures ∙ ap (λ (s : Notices). len s == 0) c.self.view_is
+returns c = is_empty_set c.is_empty.result c.self.inside.keys.keys c.is_empty.ensures ∙ ap (λ (s : Notices). len s == 0) c.self.view_is

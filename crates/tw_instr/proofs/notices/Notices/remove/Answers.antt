@@ -1,9 +1,20 @@
-use Rattle.std.proofs.Common.{◌∙◌, ap}
-use Rattle.std.specs.FinSet.{from_list}
-use Rattle.tw_types.specs.Notices.{notice_cmp}
-use Rattle.tw_types.proofs.NoticeOrder.{notice_cmp_total, notice_cmp-IsAntisymmetric}
-use Rattle.tw_instr.proofs.Removed.{removed_is}
+use Rattle.std.proofs.Common.{◌∙◌, sym, ap, false, subst}
+use Rattle.std.specs.BTreeSet.{Updates}
+use Rattle.std.specs.FinSet.{contains, contains-from_list}
+use Rattle.tw_types.specs.declared.notice.Notice.{Notice}
+use Rattle.tw_types.specs.Notices.{Notices, notice_cmp}
+use Rattle.tw_types.proofs.NoticeOrder.{notice_cmp_total}
+use Rattle.tw_instr.specs.NoticeSets.{is_in}
+use Rattle.tw_instr.proofs.NoticeSets.{removed_notice}
 use Rattle.tw_instr.proofs.notices.Notices.remove.Goals as goal
 
-pub returns : goal.returns
-returns c = rw (← c.self.view_is) (ap (from_list {R = notice_cmp}) c.remove_in.ensures ∙ removed_is notice_cmp_total notice_cmp-IsAntisymmetric c.self.inside.list.items c.args.notice.now)
+pub returns-clause-was : goal.returns-clause-was
+returns-clause-was c =
+    c.remove.ensures.test ∙ ap (is_in c.self.inside.keys) c.of.ensures
+    ∙ sym (contains-from_list notice_cmp_total c.self.inside.keys.keys c.args.notice.now)
+    ∙ ap (λ (s : Notices). contains s c.args.notice.now) c.self.view_is
+
+pub returns-clause-removed : goal.returns-clause-removed
+returns-clause-removed c =
+    rw (← c.self.view_is) (removed_notice c.self.inside.keys c.remove.new.self c.args.notice.now
+    (subst (λ (n : Notice). Updates notice_cmp c.self.inside.keys c.remove.new.self n false) c.of.ensures c.remove.ensures.updates))

@@ -1,0 +1,7 @@
+use Rattle.std.proofs.Common.{◌≡◌, ◌&&◌, not, take}
+use Rattle.tw_types.specs.declared.notice.Notice.{Notice}
+use Rattle.tw_instr.specs.NoticeSets.{is_among, is_in}
+use Rattle.tw_instr.proofs.notices.remove_all.Given as goal
+
+abbrev pub invariant-loop-key : goal.invariant-loop-key
+invariant-loop-key l = (n : Notice) → is_in l.keys n ≡ (not (is_among (take l.key-index l.more) n) && is_in l.fn.keys n)
