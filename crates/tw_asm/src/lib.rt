@@ -3,6 +3,7 @@
 //! * `assemble` reads a text line by line. The first word of a line decides which statement is expected, and the other words are its
 //!   operands in this version. At the end skips are linked to labels.
 //! * `disassemble` writes one line for each statement.
+//! * `value_of`, `goal_of`, `mode_of` and others read one word.
 #![tactic(auto)]
 
 mod assembler;
@@ -30,8 +31,13 @@ pub use assembler::{LinedProgram, assemble, assemble_lined};
 pub use disassembler::disassemble;
 pub use fault::{AsmFault, FaultNo};
 pub use first::{first_of, is_plainly_blank};
+pub use heads::kind_of;
 pub use line_numbers::LineNumbers;
 pub use listing::{LabelPlaces, put_head_lines, put_right};
+pub use operands::{
+    Goal, byte_of, container_of, goal_of, iterations_of, mode_of, number_of, right_of, scalar_of,
+    target_of, value_of,
+};
 pub use statement::First;
 pub use theorems::{one_first_fault, one_line_each, spells_once};
 pub use write::put_version;
