@@ -24,4 +24,6 @@ pub mod RenamedTexts
 pub mod RightLines
 pub mod BlankLines
 pub mod UnchangedLines
+pub mod EachLine
+pub mod NoHeads
 mod TextNames

@@ -50,6 +50,10 @@ abbrev pub is_plainly_blank : List ℕ → Bool
 is_plainly_blank [] = true
 is_plainly_blank (b ∷ line) = b == 59
 
+abbrev pub begins_with_p : List ℕ → Bool
+begins_with_p [] = false
+begins_with_p (b ∷ bytes) = b == 112
+
 -- ---- parts of a line
 
 -- holds if the error is the one that the function returned

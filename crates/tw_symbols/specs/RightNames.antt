@@ -3,7 +3,7 @@ use Rattle.std.specs.Prelude.{◌≡◌, ◌⊎◌, ◌<◌, ◌+◌, ℕ, Bool,
 use Rattle.std.specs.Option.{option_map_or}
 use Rattle.std.specs.Str.{bytes_eq}
 use Rattle.std.specs.Str.Lines.{lines}
-use Rattle.tw_symbols.specs.Lines.{AreTaken, Line}
+use Rattle.tw_symbols.specs.Lines.{AreTaken, IsTaken, Line, line_words}
 use Rattle.tw_symbols.specs.Meanings.{Names, Table}
 use Rattle.tw_symbols.specs.Registers.{first_part, last_name, names_after_line, registers_at}
 use Rattle.tw_symbols.specs.Expansion.{HasNames}
@@ -47,6 +47,10 @@ named_text name text = first_part text ++ (bracketed name ++ drop (length (first
 abbrev pub begins_procedure : List (List ℕ) → Bool
 begins_procedure [] = false
 begins_procedure (first ∷ words) = bytes_eq first (codes "proc")
+
+-- holds if the line's words begin no procedure
+abbrev pub HasNoHead : List ℕ → Type 0
+HasNoHead line = (taken : Line) × IsTaken taken line × (begins_procedure (line_words taken) ≡ false)
 
 -- returns the entries of registers that a line keeps: none if it begins a procedure
 abbrev pub kept_entries : Bool → Table → Table

@@ -1,11 +1,12 @@
 //! The words of a line, as slices of it.
 
-ghost use Rattle.std.specs.Prelude.{◌≡◌, ◌++◌, ◌∷◌, [], ℕ, List, IfOk, IsUtf8};
+ghost use Rattle.std.specs.Prelude.{◌≡◌, ◌++◌, ◌∷◌, [], ℕ, List, IfOk, IsUtf8, false};
 ghost use Rattle.tw_lexer.specs.Seen.{seen};
 ghost use Rattle.tw_lexer.specs.Words.{IsFirstWord};
 ghost use Rattle.tw_lexer.specs.reading.Next.{IsAfterGap};
-ghost use Rattle.tw_symbols.specs.Answers.{IsFirst, is_plainly_blank};
+ghost use Rattle.tw_symbols.specs.Answers.{IsFirst, begins_with_p, is_plainly_blank};
 ghost use Rattle.tw_symbols.specs.Lines.{IsTaken, Line, StartsWith, line_rest, line_words};
+ghost use Rattle.tw_symbols.specs.RightNames.{HasNoHead};
 ghost use Rattle.tw_symbols.specs.Seen.{texts};
 
 use std::alloc::{AllocError, Global};
@@ -72,6 +73,22 @@ pub fn is_plainly_blank(line: &str) -> bool
         [byte, ..] => *byte == b';',
         [] => true,
     }
+}
+
+fn begins_with_p(bytes: &[u8]) -> bool
+    ensures { result ≡ begins_with_p bytes.now }
+{
+    match bytes {
+        [byte, ..] => *byte == b'p',
+        [] => false,
+    }
+}
+
+/// Returns whether a line may begin a procedure. Most lines of a long text don't, and nothing else of them has to be read then.
+pub fn may_begin_procedure(line: &str) -> bool
+    ensures { result ≡ false → HasNoHead line.now }
+{
+    begins_with_p(without_gap(line.as_bytes()))
 }
 
 /// Splits a line into its words.

@@ -8,7 +8,7 @@ ghost use Rattle.tw_symbols.specs.Seen.{now, seen_procedures, seen_table, texts}
 ghost use Rattle.tw_symbols.specs.Expansion.{procedures_of, with_head, with_line, with_name, with_words};
 
 use crate::heads::{banks_of_modes, procedure_name};
-use crate::line::{is_plainly_blank, take_line};
+use crate::line::{may_begin_procedure, take_line};
 use crate::meaning::{Bank, Binding};
 use crate::names::{Table, meaning, put_name};
 use crate::pieces::pieces_of;
@@ -108,7 +108,7 @@ pub fn procedures_of(alloc: Global, text: &str) -> Result<Procedures<'_>, AllocE
         heads: Vec::new(alloc),
     };
     for (index, line) in text.lines().enumerate() {
-        if !is_plainly_blank(line) {
+        if may_begin_procedure(line) {
             procedures = with_line(alloc, procedures, index + 1, line)?;
         }
     }

@@ -7,7 +7,7 @@ ghost use Rattle.tw_symbols.specs.Seen.{texts};
 ghost use Rattle.tw_symbols.specs.Symbols.{AreNames, bracketed, head_names, line_names, name_at};
 
 use crate::heads::procedure_name;
-use crate::line::take_line;
+use crate::line::{may_begin_procedure, take_line};
 use crate::pieces::pieces_of;
 use std::alloc::{AllocError, Global};
 use std::marker::Model;
@@ -95,7 +95,9 @@ impl Symbols {
     {
         let mut procedures = Vec::new(alloc);
         for line in text.lines() {
-            push_line(alloc, &mut procedures, line)?;
+            if may_begin_procedure(line) {
+                push_line(alloc, &mut procedures, line)?;
+            }
         }
         Ok(Symbols { procedures })
     }
