@@ -1,10 +1,11 @@
 -- The kind of statement that a first word begins.
 use Rattle.std.proofs.Common.{◌≡◌, ◌≢◌, ℕ, pos, Bool, true, false, List, [], ◌∷◌, ◌++◌, codes, Option, Some, None, sym, ap, subst, ◌∙◌, refl}
-use Rattle.tw_asm.proofs.AsmNames.{◌↔◌, Int, IsInstrWord, IsLabelWord, IsName, IsTrue, Name, Opcode, Part, Version, append_cancel_right, flat_map, further, is_name, is_some, operand_parts, row, scalar_type, word_of}
+use Rattle.tw_asm.proofs.AsmNames.{◌↔◌, Int, IsInstrWord, IsLabelWord, IsName, IsTrue, Name, Opcode, Part, Version, append_cancel_right, before_colon, flat_map, further, is_name, is_some, operand_parts, row, scalar_type, word_of}
 use Rattle.tw_asm.proofs.Lined.{Had, parts_of}
 use Rattle.tw_asm.proofs.Names.{name_decide}
 use Rattle.tw_asm.proofs.Table.{found_back, instr_of, is_sayable, line_of, made_had, named_in, parts_are, sayable, unsayable}
 use Rattle.tw_asm.specs.reading.Lines.{Content, Line, LineContent, Operand, args, goal, literal, more, natural, never, nothing, number, right, target, type, value}
+use Rattle.tw_code.specs.declared.opcode.Opcode.TheVariants as opcode
 use Rattle.tw_code.specs.format.Table.{opcode_in}
 
 pub label_by : (word name : List ℕ) (r : Bool) → word ≡ name ++ codes ":" → r ≡ is_name name → IsTrue r ↔ IsLabelWord word
@@ -66,3 +67,19 @@ named_word version word r is = (λ t. there (opcode_in version word) refl (sym i
       where
         one_name : (a b : List ℕ) (ps qs : List Part) → Name a ∷ ps ≡ Name b ∷ qs → a ≡ b
         one_name a b ps qs e = cc
+
+-- ---- labels
+
+no_colon : (o : Opcode) → before_colon (word_of o) ≡ None
+no_colon opcode.Int = refl
+no_colon o = refl
+
+pub label_unnamed : (version : Version) (word name : List ℕ) → before_colon word ≡ Some name → None ≡ opcode_in version word
+label_unnamed version word name label = by (opcode_in version word) refl
+  where
+    differ : ◌≡◌ {A = Option (List ℕ)} None (Some name) → ⊥
+    differ e = cc
+
+    by : (found : Option Opcode) → opcode_in version word ≡ found → None ≡ opcode_in version word
+    by None e = sym e
+    by (Some o) e = absurd (differ (sym (no_colon o) ∙ ap before_colon (sym (found_back version word o e).0) ∙ label))

@@ -16,7 +16,7 @@ use crate::operands::{both_of, byte_of, name_of};
 use crate::rejection::Rejection;
 use crate::statement::Statement;
 use std::alloc::Global;
-use tw_code::{Version, opcode_in};
+use tw_code::{Opcode, Version, opcode_in};
 use tw_lexer::{TokenError, Word, before_colon};
 
 /// Returns the version with this number, 1 or 2.
@@ -82,6 +82,16 @@ fn label_of<'a>(word: &'a [u8], others: &[Word<'_>]) -> Result<Statement<'a>, Re
     }
 }
 
+/// Like `opcode_in`, but no names are compared with a label. A long text may have millions of them.
+fn opcode_of(version: Version, word: &[u8]) -> Option<Opcode>
+    ensures { result ≡ opcode_in version word.now }
+{
+    match before_colon(word) {
+        Some(_) => None,
+        None => opcode_in(version, word),
+    }
+}
+
 /// Reads an instruction or a label.
 fn body_of<'a>(
     alloc: Global,
@@ -91,7 +101,7 @@ fn body_of<'a>(
 ) -> Result<Statement<'a>, Rejection>
     ensures { Gives seen result (body_in version (opcode_in version word.entry.now) word.entry.now (map seen_word others.now)) }
 {
-    match opcode_in(version, word) {
+    match opcode_of(version, word) {
         Some(opcode) => Ok(Statement::Code(draft_of(alloc, version, opcode, others)?)),
         None => label_of(word, others),
     }
