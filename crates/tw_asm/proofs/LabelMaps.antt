@@ -56,7 +56,3 @@ name_absent name (x ∷ es) e c = absent_at name x.0.now x.1 (found_in name es) 
 -- the entries after a new label is added
 pub added_is : (name : Bor (List ℕ)) (place : ℕ) (es fs : List (Bor (List ℕ) × ℕ)) → fs ≡ es ++ (name, place) ∷ [] → map seen_label fs ≡ map seen_label es ++ (record { name = name.now; place = place } ∷ [])
 added_is name place es fs e = ap (map seen_label) e ∙ map-append seen_label es ((name, place) ∷ [])
-
-pub none_is : (o : Option ℕ) → false ≡ is_some o → o ≡ None
-none_is None e = refl
-none_is (Some x) e = absurd cc

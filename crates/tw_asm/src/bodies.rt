@@ -20,11 +20,10 @@ fn add_label<'a>(
 ) -> Result<(), AsmFault>
     ensures { LabelAdded (map seen_label labels.old.entries) (map seen_label labels.new.entries) name.now place result number }
 {
-    if labels.contains_key(name) {
-        return Err(AsmFault::new(FaultNo::LabelTwice, number));
+    match labels.insert(name, place)? {
+        None => Ok(()),
+        Some(_) => Err(AsmFault::new(FaultNo::LabelTwice, number)),
     }
-    labels.insert(name, place)?;
-    Ok(())
 }
 
 fn with_label<'a>(section: &mut Section<'a>, number: usize, name: &'a [u8]) -> Result<(), AsmFault>
