@@ -77,7 +77,7 @@ impl Gate for Onlooker {
 
     fn monitor<R: Wait + Clock, P: Progress>(&self, _rt: &R, run: &P) {
         for _ in 0..MOST_LOOKS {
-            if run.events().is_none() {
+            if run.so_far().is_none() {
                 self.saw_end.store(true, Ordering::SeqCst);
                 return;
             }

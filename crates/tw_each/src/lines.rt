@@ -5,6 +5,7 @@ ghost use Rattle.tw_program_output.specs.Input.{is_gap_byte};
 ghost use Rattle.tw_each.specs.Answers.{AreAnswers, IsLine, is_blank, way};
 
 use crate::answer::{EachRun, put_answer};
+use crate::line_count::LineCount;
 use std::alloc::{AllocError, Global};
 use tw_json_inputs::Scratch;
 
@@ -49,6 +50,7 @@ fn put_line(
 pub fn answer_lines(
     alloc: Global,
     run: &EachRun<'_>,
+    count: &LineCount,
     before: usize,
     lines: &[&str],
 ) -> Result<Answers, AllocError>
@@ -61,6 +63,7 @@ pub fn answer_lines(
     for index in 0..lines.len() {
         let number = before + index + 1;
         refused |= put_line(alloc, &mut text, run, number, lines[index], &mut scratch)?;
+        count.add();
     }
     Ok(Answers { text, refused })
 }

@@ -5,6 +5,7 @@ ghost use Rattle.std.specs.Thread.{IsSync};
 ghost use Rattle.tw_each.specs.Answers.{AreAnswers, way};
 
 use crate::answer::EachRun;
+use crate::line_count::LineCount;
 use crate::lines::{Answers, answer_lines};
 use std::alloc::{AllocError, Global};
 use std::thread::{Threads, join};
@@ -31,10 +32,11 @@ pub trait Answering {
 #[derive(Clone, Copy)]
 pub struct InOneThread;
 
-/// Answers parts of the lines in threads of their own.
+/// Answers parts of the lines in threads of their own, and counts them.
 #[derive(Clone, Copy)]
 pub struct InThreads<'a, H> {
     pub rt: &'a H,
+    pub count: &'a LineCount,
 }
 
 impl Answering for InOneThread {
@@ -45,7 +47,7 @@ impl Answering for InOneThread {
         _jobs: usize,
         lines: &[&str],
     ) -> Result<Answers, AllocError> {
-        answer_lines(alloc, run, 0, lines)
+        answer_lines(alloc, run, &LineCount::new(), 0, lines)
     }
 }
 
@@ -59,7 +61,8 @@ impl<'a, H: Threads + Sync> Answering for InThreads<'a, H> {
         jobs: usize,
         lines: &[&str],
     ) -> Result<Answers, AllocError> {
-        divided(self.rt, alloc, run, jobs, 0, lines)
+        self.count.begin(lines.len());
+        divided(self.rt, alloc, run, self.count, jobs, 0, lines)
     }
 }
 
@@ -80,6 +83,7 @@ fn divided<H: Threads + Sync>(
     rt: &H,
     alloc: Global,
     run: &EachRun<'_>,
+    count: &LineCount,
     jobs: usize,
     before: usize,
     lines: &[&str],
@@ -88,7 +92,7 @@ fn divided<H: Threads + Sync>(
     ensures { IfOk result (λ answers. AreAnswers (way run.now) before (map (λ line. line.now) lines.now) answers.text.items answers.refused) }
 {
     if jobs <= 1 {
-        return answer_lines(alloc, run, before, lines);
+        return answer_lines(alloc, run, count, before, lines);
     }
     let low = jobs / 2;
     let high = jobs - low;
@@ -97,11 +101,11 @@ fn divided<H: Threads + Sync>(
     let ahead = move || -> Result<Answers, AllocError>
         requires { IsSync H.row × (before + length front.now < 2 ^ 63) }
         ensures { IfOk result (λ answers. AreAnswers (way run.entry.now) before (map (λ line. line.now) front.entry.now) answers.text.items answers.refused) }
-    { divided(rt, alloc, run, low, before, front) };
+    { divided(rt, alloc, run, count, low, before, front) };
     let after = move || -> Result<Answers, AllocError>
         requires { IsSync H.row × (next + length back.now < 2 ^ 63) }
         ensures { IfOk result (λ answers. AreAnswers (way run.entry.now) next (map (λ line. line.now) back.entry.now) answers.text.items answers.refused) }
-    { divided(rt, alloc, run, high, next, back) };
+    { divided(rt, alloc, run, count, high, next, back) };
     let (first, rest) = join(rt, ahead, after);
     joined(first?, rest?)
 }

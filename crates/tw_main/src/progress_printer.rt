@@ -1,4 +1,4 @@
-//! Prints the progress of a run in threads.
+//! Prints the progress of a run in threads, and of the runs of many lines.
 
 ghost use Rattle.std.specs.Prelude.{◌≡◌, false};
 
@@ -7,8 +7,11 @@ use std::rt::Stderr;
 use std::sync::Wait;
 use std::time::{Clock, Duration, Instant};
 use std::{io, thread};
-use tw_session::{Gate, Progress};
+use tw_session::{Gate, Progress, SoFar};
 use tw_types::Actor;
+
+/// Clears a terminal's line, and moves to its beginning.
+const CLEAR: &str = "\r\x1b[K";
 
 /// The first pause between two checks of a run, in microseconds.
 const SHORTEST: u64 = 20;
@@ -56,10 +59,18 @@ impl Look {
         self.printed = second;
         Ok(true)
     }
+
+    /// Clears what was printed last, if anything was.
+    fn clear(&self, terminal: &Stderr) -> io::Result<()> {
+        if self.printed == SILENT {
+            return Ok(());
+        }
+        eprint!(terminal; "{CLEAR}")
+    }
 }
 
-/// A job observer that prints on standard error, once a second, how many events a run in threads has so far, if it takes more than two seconds. It
-/// also prints there how many wakes of idle threads were lost; if any were, the host has a fault.
+/// A job observer that prints progress on standard error, once a second, if the work takes more than two seconds. It also prints there how many
+/// wakes of idle threads were lost; if any were, the host has a fault.
 #[derive(Drop)]
 pub struct ProgressPrinter {
     stderr: Stderr,
@@ -75,19 +86,40 @@ impl ProgressPrinter {
     }
 }
 
-/// Checks a run until it is over, and prints its progress when due.
+/// Prints how many lines are answered after some seconds, how many that is a second, and how long the others take at this rate.
+fn print_lines(terminal: &Stderr, answered: u64, lines: u64, seconds: u64) -> io::Result<()> {
+    let others = lines.saturating_sub(answered);
+    let Some(left) = others.saturating_mul(seconds).checked_div(answered) else {
+        return eprint!(terminal; "{CLEAR}tw: no line answered so far");
+    };
+    let tenths = answered.saturating_mul(10) / seconds.max(1);
+    let (rate, tenth) = (tenths / 10, tenths % 10);
+    eprint!(terminal;
+        "{CLEAR}tw: {answered} of {lines} lines, {rate}.{tenth} a second, {left} seconds left"
+    )
+}
+
+/// Prints how far work has got after some seconds, in place of what was printed before.
+fn print_so_far(terminal: &Stderr, so_far: SoFar, seconds: u64) -> io::Result<()> {
+    match so_far {
+        SoFar::Events(events) => eprint!(terminal; "{CLEAR}tw: {events} events so far"),
+        SoFar::Lines { answered, lines } => print_lines(terminal, answered, lines, seconds),
+    }
+}
+
+/// Checks work until it is over, and prints its progress when due.
 fn print_progress<R: Wait + Clock, P: Progress>(
     rt: &R,
     terminal: &Stderr,
-    run: &P,
+    work: &P,
 ) -> io::Result<()> {
     let mut look = Look::new(rt)?;
     for _ in rt.forever() {
-        let Some(events) = run.events() else {
-            return Ok(());
+        let Some(so_far) = work.so_far() else {
+            return look.clear(terminal);
         };
         if look.is_due(rt)? {
-            eprintln!(terminal; "tw: {events} events so far")?;
+            print_so_far(terminal, so_far, look.printed)?;
         }
         look.rest(rt);
     }
@@ -105,10 +137,10 @@ impl Gate for ProgressPrinter {
 
     fn after_job<R: Wait>(&self, _rt: &R, _actor: Actor, _task: u64) {}
 
-    /// Prints progress until the run is over. If the clock or the terminal fails, it stops.
-    fn monitor<R: Wait + Clock, P: Progress>(&self, rt: &R, run: &P) {
+    /// Prints progress until the work is over. If the clock or the terminal fails, it stops.
+    fn monitor<R: Wait + Clock, P: Progress>(&self, rt: &R, work: &P) {
         if !self.is_quiet && self.stderr.is_terminal() {
-            let _printed = print_progress(rt, &self.stderr, run);
+            let _printed = print_progress(rt, &self.stderr, work);
         }
     }
 

@@ -2,6 +2,7 @@
 
 ghost use Rattle.std.specs.Prelude.{◌≡◌, ◌≤◌, IfOk, length, true};
 ghost use Rattle.std.specs.Str.Lines.{lines};
+ghost use Rattle.std.specs.Thread.{IsSync};
 ghost use Rattle.tw_cli.specs.CommandLine.{run_with};
 ghost use Rattle.tw_cli.specs.InTurn.{IsInTurn, IsInputsInTurn};
 ghost use Rattle.tw_cli.specs.declared.command.InputsOrder.TheVariants.{ToRun};
@@ -19,14 +20,15 @@ use crate::in_turn::reply_single_threaded;
 use crate::input::MOST_BYTES;
 use crate::json::{in_form, rendering_of};
 use crate::json_run::{Action, action_reply, run_json_step};
+use crate::line_progress::LineProgress;
 use crate::programs::{ProgramAction, RunRequest};
 use crate::run::reply_threaded;
 use std::alloc::{AllocError, Global};
 use std::sync::Wait;
-use std::thread::Threads;
+use std::thread::{Threads, join};
 use std::time::Clock;
 use tw_cli::{InputsOrder, Order, ProgramOrder, RunOptions, Source, VerifiedOrder, inputs_of};
-use tw_each::{Answering, InOneThread, InThreads, each_reply};
+use tw_each::{Answering, InOneThread, InThreads, LineCount, each_reply};
 use tw_program_output::{
     Close, ReadProgram, Reply, SourceText, assembled_reply, fixed_reply, input_parts,
     not_utf8_reply, parse_error_reply, read_program, refused_words_reply,
@@ -165,6 +167,36 @@ fn step_of<A: Answering>(
     }
 }
 
+/// Like `step_of`, in threads. While lines are answered the observer monitors them; without a thread for it, it is called after the last one.
+fn threaded_step<H: Threads + Wait + Clock + Sync, G: Gate + Sync>(
+    rt: &H,
+    alloc: Global,
+    gate: &G,
+    order: Order,
+    input: Vec<u8>,
+) -> Result<OrderAction, AllocError>
+    ensures { IfOk result (Comes (IsInTurn order) (MayReplyText order input.items)) }
+{
+    let line_count = LineCount::new();
+    let count = &line_count;
+    if !matches!(&order, Order::Each(..)) {
+        return step_of(alloc, &InThreads { rt, count }, order, input);
+    }
+    let monitor = move ||
+        requires { IsSync H.row × IsSync G.row }
+    { gate.monitor(rt, &LineProgress { count }) };
+    let work = move || -> Result<OrderAction, AllocError>
+        requires { IsSync H.row }
+        ensures { IfOk result (Comes (IsInTurn order) (MayReplyText order input.items)) }
+    {
+        let step = step_of(alloc, &InThreads { rt, count }, order, input);
+        count.end();
+        step
+    };
+    let ((), step) = join(rt, monitor, work);
+    step
+}
+
 /// Runs an accepted program with threads, or single-threaded if that is ordered.
 fn run_as_ordered<H: Threads + Wait + Clock + Sync, G: Gate + Sync>(
     rt: &H,
@@ -249,7 +281,7 @@ fn text_reply<H: Threads + Wait + Clock + Sync, G: Gate + Sync>(
 ) -> Result<Reply, AllocError>
     ensures { IfOk result (λ r. MayReplyText order input.items (reply r.text.items r.close)) }
 {
-    match step_of(alloc, &InThreads { rt }, order, input)? {
+    match threaded_step(rt, alloc, gate, order, input)? {
         OrderAction::Finished(reply) => Ok(reply),
         OrderAction::Request(asking) => {
             let ProgramRequest {

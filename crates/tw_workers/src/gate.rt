@@ -7,15 +7,24 @@ use std::time::Clock;
 use tw_host::{Host, Named};
 use tw_types::Actor;
 
-/// Progress of a run.
+/// How far work has got.
+#[derive(Clone, Copy)]
+pub enum SoFar {
+    /// A run has this many events.
+    Events(u64),
+    /// This many of all lines of inputs are answered.
+    Lines { answered: u64, lines: u64 },
+}
+
+/// Progress of work that other threads do: of a run, or of the runs of many lines.
 pub trait Progress {
-    /// Returns a recent number of events, or `None` once the run is over.
-    fn events(&self) -> Option<u64>;
+    /// Returns how far it had got recently, or `None` once it is over.
+    fn so_far(&self) -> Option<SoFar>;
 }
 
 impl<'a, N: Named> Progress for Host<'a, N> {
-    fn events(&self) -> Option<u64> {
-        self.events_so_far()
+    fn so_far(&self) -> Option<SoFar> {
+        Some(SoFar::Events(self.events_so_far()?))
     }
 }
 
@@ -36,9 +45,8 @@ pub trait Gate {
 
     fn after_job<R: Wait>(&self, rt: &R, actor: Actor, task: u64);
 
-    /// Is called once, in the thread that has started the drivers and waits for them to end. It may monitor the run until that is over,
-    /// as often as it likes.
-    fn monitor<R: Wait + Clock, P: Progress>(&self, _rt: &R, _run: &P) {}
+    /// Is called once, beside the threads that do the work. It may look at their progress until the work is over, as often as it likes.
+    fn monitor<R: Wait + Clock, P: Progress>(&self, _rt: &R, _work: &P) {}
 
     /// Receives how many wakes of idle threads were lost. It is called once, after the last driver has ended. The number is 0 unless
     /// the host has a bug.

@@ -8,5 +8,5 @@ mod threads;
 
 pub use driver::{Driven, drive, drive_at};
 pub use driver_calls::{DriverCalls, ObservedHost};
-pub use gate::{Gate, NoGate, Progress};
+pub use gate::{Gate, NoGate, Progress, SoFar};
 pub use threads::{run, run_all};
