@@ -87,7 +87,8 @@ Each engine, server and worker is a thread. With --in-turn there is one thread, 
 the workers take turns, again and again. The same command makes the same trace each time; that is proved as long as no
 server has two notices to choose from.
 A run in threads of more than two seconds prints once a second on standard error, if that is a terminal, how many events
-there are so far; with --quiet it doesn't. A run with --in-turn prints nothing on the way.
+there are so far, and --each how many lines are answered, how many that is a second, and how long the others take. With
+--quiet nothing is printed, nor by a run with --in-turn.
 With --stats statistics of the run's own events follow the report, as `tw replay --stats` prints them. With --picture an SVG
 timeline of the events replaces the report, as `tw picture` draws it; --trace and --stats are excluded then. --from and --to
 need --picture: the timeline shows the events from one number to the other, counted from 1.
@@ -192,7 +193,7 @@ pub(crate) const TO_HELP: &str =
     "The number of the last event in the timeline: 1 to 4294967295 (default: the last of all)";
 
 pub(crate) const QUIET_HELP: &str =
-    "Don't print on standard error how many events there are so far";
+    "Don't print on standard error how many events there are so far, or how many lines of --each are answered";
 
 pub(crate) const PICTURE_HELP: &str = "Write an SVG timeline of the events instead of the report";
 
