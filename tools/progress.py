@@ -2,8 +2,9 @@
 # SPDX-License-Identifier: Apache-2.0
 """Checks the progress that the built `tw` prints on standard error, with a pseudo terminal.
 
-A run of some seconds prints once a second how many events there are so far. Nothing is printed with --quiet, by --in-turn, into a pipe, or of a
-short run whose program comes late. A rejected command line prints the reason and a hint. Standard output and the status are the same each time. A command that
+A run of some seconds prints once a second how many events there are so far, and --each how many lines are answered, at which rate, and how long the
+others take. Each such line replaces the one before, and the last is cleared. Nothing is printed with --quiet, by --in-turn, into a pipe, or of a short
+run whose program comes late. A rejected command line prints the reason and a hint. Standard output and the status are the same each time. A command that
 reads a terminal says so first, except with --help. Prints each that differs, ends with `N as wanted, M not`, and fails if one differs.
 
     tools/progress.py             by the proved program, which is built where it isn't there
@@ -49,6 +50,24 @@ END
 END
 RET
 """
+
+
+# A run of ten thousand iterations, which is made for each line of inputs.
+EACH = """proc control write int
+regs int int
+INT v1 1
+REPEAT 100
+REPEAT 100
+ADD v0 v0 v1 +0
+END
+END
+STORE d0 v0
+RET
+"""
+# The most lines that are tried.
+MOST_LINES = 2_000_000
+# Clears a terminal's line.
+CLEAR = "\r\x1b[K"
 
 
 class Answer(NamedTuple):
@@ -101,18 +120,90 @@ def long_text() -> str:
     return tasks(count)
 
 
-def is_progress(printed: str, took: float) -> bool:
-    """Returns whether these are the lines of a run that took so many seconds: one for each second from the second on, and the events rise.
+def printed_lines(printed: str) -> list[str]:
+    """Returns the lines of which each replaced the one before, or none if the last isn't cleared."""
+    parts = printed.split(CLEAR)
+    return parts[1:-1] if parts[0] == "" and parts[-1] == "" else []
+
+
+def is_timely(count: int, took: float) -> bool:
+    """Returns whether work of so many seconds prints this many lines: one for each second from the second on.
 
     One line in five may be missing, since the thread that writes them may be late on a busy machine.
     """
-    events: list[int] = []
-    for line in printed.splitlines():
-        found = re.fullmatch(r"tw: ([0-9]+) events so far", line)
-        if not found:
-            return False
-        events.append(int(found[1]))
-    return int(0.8 * took) - 2 <= len(events) <= int(took) - 1 and len(events) > 1 and events == sorted(events) and events[0] < events[-1]
+    return int(0.8 * took) - 2 <= count <= int(took) - 1 and count > 1
+
+
+def is_rising(numbers: list[int]) -> bool:
+    """Returns whether the numbers never fall, and the last is above the first."""
+    return numbers == sorted(numbers) and numbers[0] < numbers[-1]
+
+
+def is_progress(printed: str, took: float) -> bool:
+    """Returns whether these are the lines of a run that took so many seconds, and the events rise."""
+    found = [re.fullmatch(r"tw: ([0-9]+) events so far", line) for line in printed_lines(printed)]
+    events = [int(it[1]) for it in found if it]
+    return len(events) == len(found) and is_timely(len(events), took) and is_rising(events)
+
+
+def second_of(answered: int, rate: str, left: int, lines: int, took: float) -> int:
+    """Returns after how many seconds this rate is that of so many answered lines, and the time that is left fits it; 0 if it never is."""
+    for second in range(2, int(took) + 1):
+        tenths = answered * 10 // second
+        if rate == f"{tenths // 10}.{tenths % 10}" and left == (lines - answered) * second // answered:
+            return second
+    return 0
+
+
+def is_line_progress(printed: str, took: float, lines: int) -> bool:
+    """Returns whether these are the lines of `--each` that took so many seconds: answered lines and seconds rise, and the other numbers follow."""
+    form = re.compile(rf"tw: ([1-9][0-9]*) of {lines} lines, ([0-9]+\.[0-9]) a second, ([0-9]+) seconds left")
+    found = [form.fullmatch(line) for line in printed_lines(printed)]
+    rows = [(int(it[1]), it[2], int(it[3])) for it in found if it]
+    seconds = [second_of(answered, rate, left, lines, took) for answered, rate, left in rows]
+    return (
+        len(rows) == len(found) and is_timely(len(rows), took) and is_rising([row[0] for row in rows])
+        and rows[-1][0] <= lines and 0 not in seconds and seconds == sorted(set(seconds))
+    )
+
+
+def each_text(lines: int) -> str:
+    """Returns a program and so many lines of inputs."""
+    return EACH + "inputs\n" + "[]\n" * lines
+
+
+def most_lines(words: list[str]) -> int:
+    """Returns how many lines take some five seconds here."""
+    count, took = 1000, 0.0
+    while took < 4 and count < MOST_LINES:
+        count = min(MOST_LINES, int(count * min(8, 5.5 / max(took, 0.1))))
+        took = min(run(["--each", "--quiet", *words], each_text(count))[1] for _ in range(2 if took > 1 else 1))
+    return count
+
+
+def are_answers(written: str, lines: int) -> bool:
+    """Returns whether each line has its answer, in order: ten thousand iterations are counted."""
+    answers = written.splitlines()
+    return len(answers) == lines and all(
+        answer.startswith(f'{{"line":{number},') and answer.endswith('"kinds":["int"],"outputs":[10000],"status":"quiet"}')
+        for number, answer in enumerate(answers, 1)
+    )
+
+
+def each_faults() -> list[str]:
+    """Returns what is wrong with `--each` of some seconds, likewise."""
+    faults: list[str] = []
+    rows: list[tuple[str, list[str], bool, bool]] = [
+        ("--each on a terminal", [], True, True), ("--each --jobs 2", ["--jobs=2"], True, True),
+        ("--each --quiet", ["--quiet"], True, False), ("--each into a pipe", [], False, False),
+    ]
+    for name, words, on_terminal, is_printed in rows:
+        lines = most_lines([word for word in words if word != "--quiet"])
+        got, took = run(["--each", *words], each_text(lines), on_terminal=on_terminal)
+        is_right = is_line_progress(got.printed, took, lines) if is_printed else not got.printed
+        is_well = is_right and are_answers(got.written, lines) and got.status == 0
+        faults.append("" if is_well else f"{name}, {lines} lines, {took:.1f} seconds: {got.printed!r}, status {got.status}, {got.written[-200:]}")
+    return faults
 
 
 def long_faults() -> list[str]:
@@ -135,6 +226,7 @@ def short_faults() -> list[str]:
     faults: list[str] = []
     rows: list[tuple[str, list[str], float, Answer]] = [
         ("a short run whose program comes late", [], 3.5, Answer("", "out 0 int 7\nquiet\n", 0)),
+        ("--each of no line", ["--each"], 0.0, Answer("", "", 0)),
         ("a refused command line", ["--workers=17"], 0.0, Answer(REFUSED, "command line refused\n", 2)),
     ]
     for name, words, late, expected in rows:
@@ -166,7 +258,7 @@ def terminal_faults() -> list[str]:
 def main() -> int:
     if not os.access(PROGRAM, os.X_OK) and subprocess.call([str(ROOT / "tw"), "build"]):
         return 70
-    results = long_faults() + short_faults() + terminal_faults()
+    results = long_faults() + each_faults() + short_faults() + terminal_faults()
     faults = [fault for fault in results if fault]
     print("\n".join([*faults, f"{len(results) - len(faults)} as wanted, {len(faults)} not"]))
     return 1 if faults else 0
