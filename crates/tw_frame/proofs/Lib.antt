@@ -1,4 +1,5 @@
 pub mod Weave
+pub mod Firsts
 pub mod Deep
 pub mod Quickly
 pub mod Running

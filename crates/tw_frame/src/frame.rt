@@ -179,11 +179,11 @@ impl<'a> Frame<'a> {
     {
         let steps = done.steps();
         let Done { mut job_buffer } = done;
-        self.spent += steps;
         match job_buffer.as_mut() {
             Some(job_buffer) => job_buffer.commit(&mut self.own),
             None => unreachable!(),
         }
+        self.spent += steps;
         Draft { job_buffer }
     }
 

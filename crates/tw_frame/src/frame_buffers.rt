@@ -111,11 +111,13 @@ impl<'a> FrameBuffers<'a> {
         rights.shut();
     }
 
-    /// Frees the memory of texts.
+    /// Frees the memory of texts. The other contexts of a task have none if its frame's has none.
     pub(crate) fn empty(&mut self, alloc: Global) {
-        self.own.registers.empty(alloc);
-        self.lent.registers.empty(alloc);
-        self.scratch.after.registers.empty(alloc);
-        self.scratch.again.registers.empty(alloc);
+        if self.own.registers.has_texts() {
+            self.own.registers.empty(alloc);
+            self.lent.registers.empty(alloc);
+            self.scratch.after.registers.empty(alloc);
+            self.scratch.again.registers.empty(alloc);
+        }
     }
 }

@@ -150,10 +150,11 @@ impl<'a> JobState<'a> {
     )
         ensures { self.new ≡ record self.old { task = task; actor = actor; event_no = event_no; position = record self.old.position { place = place; loops = loops } } }
     {
+        // First, so that the loops are copied to their place at once.
+        self.at.set_position(place, loops);
         self.task = task;
         self.actor = actor;
         self.event_no = event_no;
-        self.at.set_position(place, loops);
     }
 
     /// Swaps its context with another, whose registers have the same types.

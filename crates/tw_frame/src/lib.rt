@@ -2,6 +2,7 @@
 //! local, which runs on registers without tags.
 #![tactic(auto)]
 
+mod arithmetic;
 mod context;
 mod dispatch;
 mod draft;
