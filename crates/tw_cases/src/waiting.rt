@@ -17,7 +17,8 @@ pub fn put_waiting(text: &mut Text, state: &State) {
         text.put("\n");
     }
     put_rules(text, state);
-    for notice in state.notices() {
+    for key in state.notices() {
+        let notice = key.notice();
         text.number("n", notice.datum.number());
         text.number(" r", notice.rule.number());
         text.number(" ", u64::from(notice.parameter));

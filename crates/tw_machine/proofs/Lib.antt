@@ -7,8 +7,11 @@ pub mod Calls
 pub mod Pending
 pub mod Growth
 pub mod RankOrder
-pub mod FirstRanks
+pub mod Targets
+pub mod RankSets
 pub mod RankChanges
+pub mod Leasts
+pub mod BestTasks
 pub mod Bests
 pub mod Numbered
 pub mod Moments

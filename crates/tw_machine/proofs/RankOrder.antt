@@ -1,11 +1,11 @@
 -- The order of ranks, and which ranks tie.
-use Rattle.std.proofs.Common.{◌≡◌, ℕ, Bool, true, false, refl, sym, ap, subst, rules}
+use Rattle.std.proofs.Common.{◌≡◌, ℕ, Bool, true, false, refl, sym, ap, subst, ◌∙◌, rules}
 use Rattle.std.specs.declared.cmp.Ordering.{Ordering}
 use Rattle.std.specs.declared.cmp.Ordering.TheVariants.{Less, Equal, Greater}
 use Rattle.std.specs.Cmp.{IsTotalOrder, IsStrictWeakOrder, nat_cmp_total}
 use Rattle.std.specs.Cmp.Rules.{comparing}
 use Rattle.std.specs.FinMap.{int_cmp-IsAntisymmetric, nat_cmp-IsAntisymmetric}
-use Rattle.std.specs.Ordering.{eq_by_cmp, int_cmp, is_eq, is_lt, nat_cmp, ordering_then}
+use Rattle.std.specs.Ordering.{eq_by_cmp, int_cmp, is_eq, is_gt, is_lt, nat_cmp, ordering_reverse, ordering_then}
 use Rattle.std.proofs.lemmas.List.Sorted.{ranks_by}
 use Rattle.tw_types.specs.Task.{Task}
 use Rattle.tw_types.proofs.Orders.{own_key, tied}
@@ -28,11 +28,6 @@ second_ties Less s e = cc
 second_ties Equal s e = tied s e
 second_ties Greater s e = cc
 
-not_lt : (r : Ordering) → is_eq r ≡ true → is_lt r ≡ false
-not_lt Less e = cc
-not_lt Equal e = refl
-not_lt Greater e = cc
-
 pub same_priority : (q k : Rank) → is_eq (rank_cmp q k) ≡ true → k.priority ≡ q.priority
 same_priority q k e = int_cmp-IsAntisymmetric k.priority q.priority (first_ties (int_cmp k.priority q.priority) (nat_cmp q.number k.number) e)
 
@@ -50,9 +45,18 @@ other_number n task r apart = by (eq_by_cmp rank_cmp (rank_of n task) r) refl
         cc
     by false e = refl
 
-pub tie_not_before : (q k : Rank) → is_eq (rank_cmp q k) ≡ true → is_lt (rank_cmp q k) ≡ false
-tie_not_before q k e = not_lt (rank_cmp q k) e
+-- ---- ranks that aren't before another
 
--- what ties with a later rank isn't before the first
-pub tie_with_later : (first later q : Rank) → rank_cmp first later ≡ Less → is_eq (rank_cmp q later) ≡ true → is_lt (rank_cmp q first) ≡ false
-tie_with_later first later q below ties = weak.chain q later first (tie_not_before q later ties) (weak.one_way first later (ap is_lt below))
+pub not_before_first : (first second rank : Rank) → is_lt (rank_cmp first second) ≡ true → is_lt (rank_cmp rank second) ≡ false → is_lt (rank_cmp rank first) ≡ false
+not_before_first first second rank below later = weak.chain rank second first later (weak.one_way first second below)
+
+pub not_before_other : (one other rank : Rank) → is_lt (rank_cmp other one) ≡ false → is_lt (rank_cmp rank other) ≡ false → is_lt (rank_cmp rank one) ≡ false
+not_before_other one other rank above later = weak.chain rank other one later above
+
+turned : (r : Ordering) → is_gt r ≡ false → is_lt (ordering_reverse r) ≡ false
+turned Less e = refl
+turned Equal e = refl
+turned Greater e = cc
+
+pub not_after : (first rank : Rank) → is_gt (rank_cmp first rank) ≡ false → is_lt (rank_cmp rank first) ≡ false
+not_after first rank e = ap is_lt (rank_cmp_total.antisymm rank first) ∙ turned (rank_cmp first rank) e

@@ -26,4 +26,4 @@ pub use plain::Plain;
 pub use rejection::{OpenError, OpenRefused};
 pub use rule::Rule;
 pub use state::State;
-pub use tw_instr::{Arg, Datum, Frame, Stopped, Task};
+pub use tw_instr::{Arg, Datum, Frame, NoticeKey, Stopped, Task};

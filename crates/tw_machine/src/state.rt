@@ -21,10 +21,10 @@ use crate::rules::Rules;
 use crate::tables::Tables;
 use crate::tasks::Tasks;
 use std::alloc::{AllocError, Global};
-use std::collections::BTreeMap;
+use std::collections::{BTreeMap, BTreeSet};
 use std::marker::Model;
 use tw_code::Procedure;
-use tw_instr::{Datum, Frame, Notices, Stopped, Task};
+use tw_instr::{Datum, Frame, NoticeKey, Notices, Stopped, Task};
 use tw_types::{Actor, DatumId, Ending, Event, Input, Layout, Notice, Param, RuleNo, TaskNo};
 
 /// The data, the rules, the waiting tasks, the notices, the running tasks, and the outputs.
@@ -90,7 +90,7 @@ impl State {
             outputs,
         } = Opened::of(alloc, params, inputs)?;
         let mut tasks = Tasks::new(alloc);
-        tasks.put(Task::main(alloc, &rights)?)?;
+        tasks.put(alloc, Task::main(alloc, &rights)?)?;
         let tables = Tables {
             store,
             rules: Rules::new(alloc),
@@ -146,11 +146,11 @@ impl State {
         self.tables.tasks.waiting()
     }
 
-    /// Returns the notices that wait. The oldest is first, but no clause promises that.
-    pub fn notices(&self) -> &[Notice]
-        ensures { from_list result.now ≡ self.now.notices }
+    /// Returns the notices that wait, in their order.
+    pub fn notices(&self) -> &BTreeSet<NoticeKey>
+        ensures { from_list result.now.keys ≡ self.now.notices }
     {
-        self.tables.notices.as_slice()
+        self.tables.notices.keys()
     }
 
     /// Returns whether no task runs or waits, no notice has to be delivered, and the rules are idle.

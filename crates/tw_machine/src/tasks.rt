@@ -66,16 +66,17 @@ impl Tasks {
     }
 
     /// Adds a task with the next number.
-    pub fn put(&mut self, task: Task) -> Result<(), AllocError>
+    pub fn put(&mut self, alloc: Global, task: Task) -> Result<(), AllocError>
         requires { self.old.next < 2 ^ 63 }
         ensures put { OnOk result (self.new ≡ task_put self.old task) }
         ensures refused { OnErr result (self.new ≡ self.old) }
     {
         let kind = kind_of(&task);
+        let target = task.target();
         let rank = Rank::of(self.next, &task);
-        self.ranks.add(kind, rank)?;
+        self.ranks.add(alloc, kind, target, rank)?;
         if self.waiting.insert(self.next, task).is_err() {
-            self.ranks.remove(kind, rank);
+            self.ranks.remove(kind, target, rank);
             return Err(AllocError);
         }
         self.next += 1;
@@ -89,7 +90,8 @@ impl Tasks {
         let Some(task) = self.waiting.remove(&number) else {
             return;
         };
-        self.ranks.remove(kind_of(&task), Rank::of(number, &task));
+        let rank = Rank::of(number, &task);
+        self.ranks.remove(kind_of(&task), task.target(), rank);
     }
 
     /// Returns the task that the actor takes, with its number: among those that it may take, the one with the greatest priority,
@@ -97,8 +99,8 @@ impl Tasks {
     pub fn best(&self, actor: Actor) -> Option<(u64, &Task)>
         ensures { option_map (λ e. (e.0, e.1.now)) result ≡ best actor self.now.waiting }
     {
-        let number = self.ranks.first(&self.waiting, actor)?;
-        let task = self.waiting.get(&number)?;
-        Some((number, task))
+        let rank = self.ranks.first(actor)?;
+        let task = self.waiting.get(&rank.number)?;
+        Some((rank.number, task))
     }
 }

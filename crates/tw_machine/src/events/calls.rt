@@ -91,7 +91,7 @@ fn put_task(
         frame,
         action,
     )?;
-    tables.tasks.put(task)?;
+    tables.tasks.put(alloc, task)?;
     frame.finish_action(rights);
     Ok(())
 }

@@ -90,10 +90,12 @@ pub fn deliver(
 ) -> Result<(), Barred>
     ensures { (s : Meaning) → Changes (deliver_event layout server notice.now (with_tables s tables.old)) (with_tables s tables.old) (unless_barred result) (with_tables s tables.new) }
 {
-    if !is_of_server(layout, server, notice.datum) || !tables.notices.contains(notice) {
+    if !is_of_server(layout, server, notice.datum) {
         return Err(Barred::NotEnabled);
     }
-    tables.notices.remove(notice);
+    if !tables.notices.remove(notice) {
+        return Err(Barred::NotEnabled);
+    }
     tables
         .rules
         .set_stage(notice.rule, notice.parameter, Stage::Ready);
@@ -121,7 +123,7 @@ pub fn release(
     }
     let procedure = procedure_of(program, rule.procedure())?;
     let task = rule.task(alloc, procedure.kind)?;
-    tables.tasks.put(task)?;
+    tables.tasks.put(alloc, task)?;
     tables.rules.remove(number);
     Ok(())
 }

@@ -1,4 +1,5 @@
-use Rattle.std.proofs.Common.{Some, ap, false, subst, sym}
+use Rattle.std.proofs.Common.{ℕ, Some, ap, false, subst, sym}
+use Rattle.std.specs.declared.option.Option.{Option}
 use Rattle.std.specs.Cmp.{nat_cmp_total}
 use Rattle.std.specs.FinMap.{nat_cmp-IsAntisymmetric}
 use Rattle.tw_types.specs.Task.{Tasks}
@@ -30,5 +31,7 @@ invariant_of-self-2 c =
     let new = c.remove-2.new.self in
     let there = found_view nat_cmp_total nat_cmp-IsAntisymmetric c.self.inside.waiting c.args.number (Some c.in-Some.task) c.in-Some.ensures.value in
     let gone = removed_view nat_cmp_total nat_cmp-IsAntisymmetric c.self.inside.waiting c.remove.new.self c.args.number c.remove.ensures.updates in
-    let marked = subst (λ (k : Kind). IsMarked k (rank_of c.args.number c.in-Some.task) false old new) c.kind_of.ensures (subst (λ (r : Rank). IsMarked c.kind_of.result r false old new) c.of.ensures c.remove-2.ensures) in
+    let ranked = subst (λ (r : Rank). IsMarked c.kind_of.result c.target.result r false old new) c.of-rank.ensures c.remove-2.ensures in
+    let aimed = subst (λ (t : Option ℕ). IsMarked c.kind_of.result t (rank_of c.args.number c.in-Some.task) false old new) c.target.ensures ranked in
+    let marked = subst (λ (k : Kind). IsMarked k c.in-Some.task.target (rank_of c.args.number c.in-Some.task) false old new) c.kind_of.ensures aimed in
     subst (λ (ts : Tasks). AreRanked ts next new) (sym gone) (removed_ranked tasks next old c.self.invariant c.args.number c.in-Some.task new there marked)
