@@ -42,6 +42,7 @@ SHORT_RUN = ("run --text --in-turn", "run --text")
 
 RETURNS = "proc control\nregs\nRET\n"
 PUTS = "proc control\nregs\nPUT 0 0 any\nRET\n"
+BOUND = "proc control\nregs\nPUT 1 0 1\nPUT 0 0 any\nRET\nproc control\nregs\nRET\nevents\n"
 NAMED = "names\nproc control main()\nregs one: int\n"
 WITH_TEXT = "proc control\nregs text\nTEXT v0 "
 WITH_INT = "proc control\nregs int\n"
@@ -140,6 +141,19 @@ def circle(turns: int, pairs: int) -> str:
     pair = "NEW d2 d3 int\nRULE 1 0 any 1 2\nNEW d2 d1 int\nRULE 1 0 any 3 2\n"
     main = f"proc control\nregs\nNEW d0 d1 int\nREPEAT {turns}\n{pair * pairs}END\nRULE 1 0 any 1 0\nRET\n"
     return main + "proc leaf closed int write int\nregs int\nDROPR d0\nSTORE d1 v0\nRET\n"
+
+
+def noticed(most: int) -> str:
+    """Makes a trace in which thousands of rules wait for one datum, whose notices are delivered last."""
+    line = "call e0\ncall e0\nlocal e0 1\nask e0 123456 0\ndeliver s0 1 123456 0\n"
+    turns = max(1, min(1000, (most - 400) // (1000 * len(line))))
+    main = f"proc control\nregs\nNEW d0 d1 int\nPUT 2 0 any 0\nREPEAT {turns}\nREPEAT 1000\nDUPR d2 d1\nRULE 1 0 any 2\nEND\nEND\nDROPR d1\nRET\n"
+    others = "proc control closed int\nregs\nDROPR d0\nRET\nproc control write int\nregs int\nSTORE d0 v0\nRET\n"
+    turn = "local e0 1\n" + "call e0\ncall e0\nlocal e0 1\n" * 1000 + "local e0 1\n"
+    makes = "take e0\ncall e0\ncall e0\nlocal e0 1\n" + turn * turns + "call e0\nend e0\n"
+    rules = range(1, 1000 * turns + 1)
+    asks = "".join(f"ask e0 {rule} 0\n" for rule in rules) + "take e0\ncall e0\nend e0\n"
+    return main + others + "events\n" + makes + asks + "".join(f"deliver s0 1 {rule} 0\n" for rule in rules)
 
 
 def heads() -> Iterator[Input]:
@@ -248,6 +262,8 @@ def histories() -> Iterator[Input]:
     yield Input("words of an event", HISTORY, padded(PUTS + "events\ntake", " e0", "\n"))
     yield Input("an event of one word", HISTORY, padded(PUTS + "events\n", "x"))
     yield Input("lines events", HISTORY, padded(PUTS, "events\n"))
+    yield Input("tasks for another engine", HISTORY, padded(BOUND, "take e0\ncall e0\ncall e0\nend e0\n"))
+    yield Input("notices that wait", HISTORY, noticed)
     yield Input("comments before a history", HISTORY, padded(PUTS, ";\n", "events\ntake e0\n"))
 
 
