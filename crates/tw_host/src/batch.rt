@@ -15,7 +15,7 @@ use tw_pool::{Pool, Turn};
 use tw_types::{Actor, Scalar};
 
 /// The greatest number of turns in a batch.
-pub(crate) const MOST_TURNS: usize = 64;
+pub const MOST_TURNS: usize = 64;
 
 /// After so many turns a batch ends when a task ends: a longer batch could end with a new job, which must be run without the lock.
 const ENOUGH_TURNS: usize = 56;

@@ -3,10 +3,9 @@
 ghost use Rattle.std.specs.Prelude.{◌≡◌, ◌<◌, ◌≤◌, IfErr, IfOk, [], map, vec_len, vec_capacity};
 ghost use Rattle.tw_pool.specs.Openings.{IsRejection, MayOpen};
 ghost use Rattle.tw_host.specs.Seats.{actors_of, actor_count};
-ghost use Rattle.tw_host.specs.Holds.{SeesAll, SeesUpTo};
+ghost use Rattle.tw_host.specs.Holds.{SeesUpTo, most_turns};
 ghost use Rattle.tw_host.specs.Sees.{IsAnswerOf, IsDoneOf, Sees};
 
-use crate::batch::MOST_TURNS;
 use crate::locked::{Locked, Strange};
 use crate::named::Named;
 use crate::parkers::Parkers;
@@ -117,9 +116,30 @@ impl<'a, N: Named> Host<'a, N> {
         self.verified
     }
 
-    /// Makes at most `most` steps of the seat's actor, and holds the lock once.
+    /// Makes one step of the seat's actor under the lock. The seat gets the events that it appends. If an allocation for these
+    /// fails, the pool doesn't change. If the seat's list isn't as long as the pool's, nothing changes either.
     #[inline(always)]
-    fn hold(
+    pub fn turn(
+        &self,
+        rt: &impl Wait,
+        alloc: Global,
+        seat: &mut Seat<N>,
+        done: Option<Done<'a>>,
+    ) -> Result<Turn<'a>, Strange<'a>>
+        requires program { IsDoneOf N.run.program done }
+        ensures actor { seat.new.actor ≡ seat.old.actor }
+        ensures events { Sees N.run seat.old.actor seat.old.events.items seat.new.events.items done.entry result }
+        ensures program { IfOk result (IsAnswerOf N.run.program) }
+    {
+        self.run_batch(rt, alloc, seat, done, 1)
+    }
+
+    /// Makes steps of the seat's actor, at most `most`, and holds the lock once. It continues while a step returns `Went` or `Ended`, or
+    /// issues a job that it runs at once: one whose next instruction isn't local or whose task is brief. The seat gets the events that
+    /// they append. If an allocation for these fails, the pool doesn't change. If the seat's list isn't as long as the pool's, nothing
+    /// changes either.
+    #[inline(always)]
+    pub fn run_batch(
         &self,
         rt: &impl Wait,
         alloc: Global,
@@ -128,7 +148,7 @@ impl<'a, N: Named> Host<'a, N> {
         most: usize,
     ) -> Result<Turn<'a>, Strange<'a>>
         requires some { 0 < most }
-        requires few { most ≤ 64 }
+        requires few { most ≤ most_turns }
         requires program { IsDoneOf N.run.program done }
         ensures actor { seat.new.actor ≡ seat.old.actor }
         ensures events { SeesUpTo most N.run seat.old.actor seat.old.events.items seat.new.events.items done.entry result }
@@ -151,44 +171,6 @@ impl<'a, N: Named> Host<'a, N> {
         }
         self.parkers.unpark(due);
         answer
-    }
-
-    /// Makes one step of the seat's actor under the lock. The seat gets the events that it appends. If an allocation for these
-    /// fails, the pool doesn't change. If the seat's list isn't as long as the pool's, nothing changes either.
-    #[inline(always)]
-    pub fn turn(
-        &self,
-        rt: &impl Wait,
-        alloc: Global,
-        seat: &mut Seat<N>,
-        done: Option<Done<'a>>,
-    ) -> Result<Turn<'a>, Strange<'a>>
-        requires program { IsDoneOf N.run.program done }
-        ensures actor { seat.new.actor ≡ seat.old.actor }
-        ensures events { Sees N.run seat.old.actor seat.old.events.items seat.new.events.items done.entry result }
-        ensures program { IfOk result (IsAnswerOf N.run.program) }
-    {
-        self.hold(rt, alloc, seat, done, 1)
-    }
-
-    /// Makes steps of the seat's actor, at most 64, and holds the lock once. It continues while a step returns `Went` or `Ended`, or
-    /// issues a job that it runs at once: one whose next instruction isn't local or whose task is brief. The seat gets the events that
-    /// they append. If an allocation for these fails, the pool doesn't change. If the seat's list isn't as long as the pool's, nothing
-    /// changes either.
-    #[inline(always)]
-    pub fn run_batch(
-        &self,
-        rt: &impl Wait,
-        alloc: Global,
-        seat: &mut Seat<N>,
-        done: Option<Done<'a>>,
-    ) -> Result<Turn<'a>, Strange<'a>>
-        requires program { IsDoneOf N.run.program done }
-        ensures actor { seat.new.actor ≡ seat.old.actor }
-        ensures events { SeesAll N.run seat.old.actor seat.old.events.items seat.new.events.items done.entry result }
-        ensures program { IfOk result (IsAnswerOf N.run.program) }
-    {
-        self.hold(rt, alloc, seat, done, MOST_TURNS)
     }
 
     /// Returns a recent number of events, or `None` once a step or a stop has found the run over. It is read without the lock. No

@@ -11,6 +11,7 @@ mod progress;
 mod seat;
 mod sleepers;
 
+pub use batch::MOST_TURNS;
 pub use close::Closed;
 pub use host::Host;
 pub use locked::Strange;

@@ -11,7 +11,7 @@ use crate::gate::Gate;
 use std::alloc::Global;
 use std::sync::Wait;
 use tw_frame::{Done, Job};
-use tw_host::{Host, Named, Seat, Strange};
+use tw_host::{Host, MOST_TURNS, Named, Seat, Strange};
 use tw_pool::Turn;
 use tw_types::Actor;
 
@@ -100,7 +100,7 @@ impl<'h, 'a, N: Named, G: Gate> DriverCalls<'a> for ObservedHost<'h, 'a, N, G> {
         if self.gate.watches() {
             self.host.turn(rt, alloc, seat, done)
         } else {
-            self.host.run_batch(rt, alloc, seat, done)
+            self.host.run_batch(rt, alloc, seat, done, MOST_TURNS)
         }
     }
 

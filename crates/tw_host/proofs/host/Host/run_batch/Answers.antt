@@ -1,5 +1,5 @@
 use Rattle.std.proofs.Common.{[], refl, sym, ◌∙◌, inr, arith, append-nil}
-use Rattle.tw_host.proofs.host.Host.hold.Goals as goal
+use Rattle.tw_host.proofs.host.Host.run_batch.Goals as goal
 
 pub returns-then-is_err-clause-events : goal.returns-then-is_err-clause-events
 returns-then-is_err-clause-events g c = record {
