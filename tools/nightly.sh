@@ -7,18 +7,19 @@
 #   tools/nightly.sh --quick             1,000 tests a kind, and a small part of each harness
 #   tools/nightly.sh [--quick] NAME..    these: fuzz, fuzz_run, hostile, ..; `harnesses` are all but the fuzz tests
 #   SECONDS_A_KIND=60 SEED=7 COUNT=500 tools/nightly.sh fuzz    bounds each kind's time; another seed, another count
+#   tools/nightly.sh --jobs 4            three kinds of fuzz tests beside the harnesses, which run one after another; then four
 #   PATIENCE=5 tools/nightly.sh          each limit is five times as long, for a machine that does other things too
 #
 # Program, libraries and page are those that are built here, else the release's. A harness is left out if its tools aren't installed, or
-# if it tests the release and that isn't fresh; its line says why. Logs are kept in out/nightly, a folder for each run. Exit status 1 if something failed.
+# if it tests the release and that isn't fresh; its line says why. Logs are kept in out/nightly, a folder for each run, with the lines in `summary`.
+# Exit status 1 if something failed.
 root=$(dirname "$(dirname "$(readlink -f "$0")")")
 seed=${SEED:-$(date +%F)}
 count=${COUNT:-100000} seconds=${SECONDS_A_KIND:-1200} patience=${PATIENCE:-1}
-quick='' names=''
-passed=0 failed=0 left=0 child=''
+quick='' names='' jobs=1 running='' child=''
 
 usage() {
-    sed -n '3,13s/^# \{0,1\}//p' "$0"
+    sed -n '3,15s/^# \{0,1\}//p' "$0"
     exit 2
 }
 
@@ -64,20 +65,20 @@ make_clone() {
 
 # --- Harnesses
 
-# Prints a harness's line, and counts it.
+# Prints a harness's line, which the summary keeps.
 report() {
-    case $1 in
-        ok) passed=$((passed + 1)) ;;
-        FAILED) failed=$((failed + 1)) ;;
-        *) left=$((left + 1)) ;;
-    esac
-    printf '%-8s %-14s %-16s %s\n' "$1" "$2" "$3" "$4"
+    printf '%-8s %-14s %-16s %s\n' "$1" "$2" "$3" "$4" | tee -a "$logs/summary"
 }
 
-# Sets `used` to the processor seconds that all harnesses have used so far.
+# Counts the lines of the summary that begin so.
+count_lines() {
+    grep -c "^$1 " "$logs/summary"
+}
+
+# Sets `used` to the processor seconds that all harnesses of this job have used so far.
 count_used() {
-    times >"$logs/times"
-    used=$(awk 'NR == 2 { for (i = 1; i <= 2; i++) { split($i, part, /[ms]/); all += 60 * part[1] + part[2] } printf "%d", all }' "$logs/times")
+    times >"$job/times"
+    used=$(awk 'NR == 2 { for (i = 1; i <= 2; i++) { split($i, part, /[ms]/); all += 60 * part[1] + part[2] } printf "%d", all }' "$job/times")
 }
 
 # The last line of a log that counts what passed, else the last that isn't empty.
@@ -133,8 +134,10 @@ run_released() {
     fi
 }
 
+# Runs the kinds that no other job has begun.
 run_fuzz() {
     for kind in $(python3 -B "$clone/tools/fuzz.py" --list | sed 's/ .*//'); do
+        mkdir "$taken/$kind" 2>/dev/null || continue
         harness "fuzz_$kind" $((seconds + 120)) nice -n 10 python3 -B tools/fuzz.py "$kind" "$seed" "$count" --seconds "$seconds"
     done
 }
@@ -188,22 +191,48 @@ run_harnesses() {
     harness hostile 3600 tools/hostile.sh "$program" $(whole_or_quick "" "--commands 1")
 }
 
+# --- Jobs
+
+# Ends these processes, and then this one.
+stop() {
+    # shellcheck disable=SC2086
+    [ -z "$1" ] || kill $1
+    exit 130
+}
+
+# Runs one harness or kind after another, in a shell of its own. The first job has the harnesses.
+run_job() {
+    job=$taken/$1-job
+    # A harness is in a process group of its own, whose processes `timeout` ends.
+    trap 'stop "$child"' INT TERM HUP
+    mkdir "$job" || exit
+    [ "$1" != 1 ] || run_harnesses
+    run_fuzz
+}
+
 while [ $# -gt 0 ]; do
     case $1 in
         --quick) quick=1 count=${COUNT:-1000} seconds=${SECONDS_A_KIND:-60} ;;
+        --jobs)
+            jobs=${2:-0}
+            shift
+            [ "$jobs" -gt 0 ] 2>/dev/null || usage ;;
         -*) usage ;;
         *) names="$names $1" ;;
     esac
     shift
 done
 logs=$root/out/nightly/$(date +%Y-%m-%dT%H%M%S)
-clone=$logs/clone
-mkdir -p "$logs" || exit
-trap 'rm -rf "$clone" "$logs/times" "$logs/lines"' EXIT
-# A harness is in a process group of its own, whose processes `timeout` ends.
-trap '[ -z "$child" ] || kill "$child"; exit 130' INT TERM HUP
+clone=$logs/clone taken=$logs/taken
+mkdir -p "$taken" && : >"$logs/summary" || exit
+trap 'rm -rf "$clone" "$taken" "$logs/lines"' EXIT
+trap 'stop "$running"' INT TERM HUP
 make_clone
-run_harnesses
-run_fuzz
-echo "$passed passed, $failed failed, $left left out; seed $seed, logs in $logs"
+for number in $(seq "$jobs"); do
+    run_job "$number" &
+    running="$running $!"
+done
+wait
+passed=$(count_lines ok) failed=$(count_lines FAILED)
+echo "$passed passed, $failed failed, $(count_lines 'left out') left out; seed $seed, logs in $logs"
 [ "$failed" = 0 ] && [ "$passed" -gt 0 ]
