@@ -4,8 +4,8 @@ packages for Python, C++ and Rust, and what tw says on standard error. The tests
 a mutant survives that isn't said to be harmless, if one is killed that is, or if the tests fail without an edit.
 
     tools/mutants.py                  all of them, in some ten minutes
-    tools/mutants.py NAME..           these, or those of a part: script, release, cases, python, page
-    tools/mutants.py --list           their names
+    tools/mutants.py NAME..           these, or those of a part: main, script, release, cases, python, cpp, rust, page
+    tools/mutants.py --list           their names; like each call, it fails if an edit's text isn't in its file once
     tools/mutants.py --table NAME..   prints a table of Markdown at the end
 
 Programs and library are the release's, unpacked, or those that are built; the page's tests need node. The part `main` is built once, unproved, with
@@ -125,7 +125,8 @@ MUTANTS = (
     Mutant("maps_by_completion", "python", PYTHON + "_map.py", "            while following in waiting:\n", "            for following in sorted(waiting):\n"),
     Mutant("lost_chunks_stay_lost", "python", PYTHON + "_map.py", "        return run_chunk(part)\n\n\ndef _shower", "        return []\n\n\ndef _shower"),
     Mutant("small_buffers_cut", "python", PYTHON + "_native.py", "        if length <= len(room):\n            return", "        if True:\n            return"),
-    Mutant("words_may_have_line_feeds", "python", PYTHON + "_native.py", 'if any("\\n" in word for word in words):', "if False:"),
+    Mutant("words_end_at_either_sign", "python", PYTHON + "_native.py", "if has_nul and has_line_feed:", "if False:"),
+    Mutant("words_end_at_a_nul", "python", PYTHON + "_native.py", "_session_by_lines if has_nul else _session", "_session"),
     Mutant("interrupts_stop_nothing", "python", PYTHON + "_native.py", "        interrupt()\n", ""),
     Mutant("brief_runs_release_the_gil", "python", PYTHON + "_native.py", "calls = short() if seconds < _BRIEF_SECONDS else library()", "calls = library()"),
     Mutant("open_containers_are_finished", "python", PYTHON + "_native.py", 'item.kind == ord("c") and item.closed', 'item.kind == ord("c")'),
@@ -263,8 +264,6 @@ def tested_with(mutant: Mutant, folder: Path, seconds: float) -> tuple[bool, str
         return test(mutant.part, folder, seconds)
     path = folder / mutant.file
     text = path.read_text(encoding="utf-8")
-    if text.count(mutant.old) != 1:
-        sys.exit(f"mutants: {mutant.name}: {mutant.file} has its text {text.count(mutant.old)} times")
     path.write_text(text.replace(mutant.old, mutant.new), encoding="utf-8")
     try:
         return test(mutant.part, folder, seconds)
@@ -287,6 +286,14 @@ def chosen(words: list[str]) -> list[Mutant]:
     return [mutant for mutant in MUTANTS if not words or mutant.name in words or mutant.part in words]
 
 
+def check_texts() -> None:
+    """Ends the script if the text of an edit isn't in its file once."""
+    counts = {mutant: (ROOT / mutant.file).read_text(encoding="utf-8").count(mutant.old) for mutant in MUTANTS}
+    wrong = [f"mutants: {mutant.name}: {mutant.file} has its text {count} times" for mutant, count in counts.items() if count != 1]
+    if wrong:
+        sys.exit("\n".join(wrong))
+
+
 def table(results: list[tuple[Mutant, bool]]) -> None:
     print("\n| Part | Mutants | Killed | Survive |\n|---|---|---|---|")
     for part in TESTS:
@@ -297,6 +304,7 @@ def table(results: list[tuple[Mutant, bool]]) -> None:
 
 
 def main(words: list[str]) -> int:
+    check_texts()
     if words == ["--list"]:
         print("\n".join(f"{mutant.part:<8} {mutant.name}" for mutant in MUTANTS))
         return 0
