@@ -1,7 +1,7 @@
 #!/bin/sh
 # SPDX-License-Identifier: Apache-2.0
 # Tests the packages that `./tw package` writes, in minimal Debian systems that have no toolchain and no network. In one without a compiler the Debian
-# package and the wheel are installed and used. In one with gcc, CMake, pkg-config and cargo programs are built.
+# package and the wheel are installed and used. In one with g++, CMake, pkg-config and cargo programs in C, C++ and Rust are built.
 # Prints each check, and fails if one does. It wants root, mmdebstrap and a mirror of Debian. Without these it says so, and tries
 # the same in a clean prefix with a clean environment.
 #
@@ -102,25 +102,40 @@ check_plain_system() {
     check "the wheel is removed" "venv/bin/pip uninstall --yes --quiet yuglemit && ! ls venv/lib/python3*/site-packages | grep -i yuglemit"
 }
 
+# Copies the examples of C and C++ into a folder, where they take the headers that are installed.
+copy_examples() {
+    sed 's|"../yuglemit.h"|<yuglemit.h>|' "$root/embed/c/example.c" >"$1/example.c"
+    sed 's|"yuglemit.hpp"|<yuglemit.hpp>|' "$root/embed/cpp/example.cpp" >"$1/example.cpp"
+}
+
 CMAKE='cmake_minimum_required(VERSION 3.16)
-project(example C)
+project(example C CXX)
 find_package(yuglemit 0.1...1.0 REQUIRED)
 add_executable(shared example.c)
 target_link_libraries(shared yuglemit::yuglemit)
 add_executable(static example.c)
-target_link_libraries(static yuglemit::static)'
+target_link_libraries(static yuglemit::static)
+add_executable(cpp example.cpp)
+target_compile_features(cpp PRIVATE cxx_std_17)
+target_link_libraries(cpp yuglemit::yuglemit)
+add_executable(cpp_static example.cpp)
+target_compile_features(cpp_static PRIVATE cxx_std_17)
+target_link_libraries(cpp_static yuglemit::static)'
 
 check_system_with_compiler() {
     fill compiler
     echo "$CMAKE" | sed "s/0.1...1.0/$version/" >"$system/work/CMakeLists.txt"
-    sed 's|"../yuglemit.h"|<yuglemit.h>|' "$root/embed/c/example.c" >"$system/work/example.c"
+    copy_examples "$system/work"
     check "the Debian package installs beside a compiler" "dpkg -i $deb"
     run='run --text <examples/store_seven.tw'
     check "pkg-config knows the library" "[ \$(pkg-config --modversion yuglemit) = $version ]"
     check_output "a C program builds by pkg-config" "cc -O2 -o shared example.c \$(pkg-config --cflags --libs yuglemit) && ./shared $run" "out 0 int 7"
     check "it takes the library by its soname" "readelf -d shared | grep -q 'NEEDED.*libyuglemit.so.0'"
-    check_output "a C program builds by CMake" "cmake -S . -B build >/dev/null && cmake --build build >/dev/null && build/shared $run" "out 0 int 7"
+    check_output "a C program builds by CMake" "cmake -S . -B build >/dev/null && cmake --build build --target shared static >/dev/null && build/shared $run" "out 0 int 7"
     check_output "and with the static library" "build/static $run" "out 0 int 7"
+    check_output "a C++ program builds by pkg-config" "c++ -std=c++17 -O2 -o cpp example.cpp \$(pkg-config --cflags --libs yuglemit) && ./cpp" 8
+    check_output "a C++ program builds by CMake" "cmake --build build >/dev/null && build/cpp" 8
+    check_output "and with the static library, in C++" "build/cpp_static" 8
     check "the static library has its own calls alone" "nm --defined-only --extern-only /usr/lib/x86_64-linux-gnu/libyuglemit.a | awk 'NF == 3 && \$3 !~ /^yuglemit_/ { bad = 1 } END { exit bad }'"
     check_output "the tar archive unpacks and answers" "tar xf yuglemit-$version-x86_64-linux.tar.gz && dpkg -P yuglemit >/dev/null && yuglemit-$version/bin/tw run examples/store_seven.tw" "out 0 int 7"
     check "the Rust crate builds" "cd yuglemit-$version-crate && cargo build --offline --quiet && cargo run --offline --quiet --example example"
@@ -135,7 +150,7 @@ check_in_prefix() {
     system='' work=$room/work
     mkdir "$work"
     cp -R "$root/examples" "$work"
-    sed 's|"../yuglemit.h"|<yuglemit.h>|' "$root/embed/c/example.c" >"$work/example.c"
+    copy_examples "$work"
     here() {
         (cd "$work" && env -i PATH="$prefix/yuglemit-$version/bin:/usr/bin:/bin" PKG_CONFIG_PATH="$prefix/yuglemit-$version/lib/pkgconfig" sh -c "$1") >"$room/log" 2>&1
     }
@@ -147,6 +162,8 @@ check_in_prefix() {
     report "the Debian package can be read" $?
     here "cc -o shared example.c \$(pkg-config --cflags --libs yuglemit) -Wl,-rpath,'$prefix/yuglemit-$version/lib' && ./shared run --text <examples/store_seven.tw"
     report "a C program builds by pkg-config" $?
+    here "c++ -std=c++17 -o cpp example.cpp \$(pkg-config --cflags --libs yuglemit) -Wl,-rpath,'$prefix/yuglemit-$version/lib' && ./cpp | grep -qx 8"
+    report "a C++ program builds by pkg-config" $?
     python_lines >"$work/lines.txt"
     ln -s "$root/examples" "$room/examples"
     here "python3 -m zipfile -e '$root/dist/$wheel' wheel && PYTHONPATH=wheel python3 -m doctest lines.txt"
@@ -157,7 +174,7 @@ check_in_prefix() {
 report "./tw package" $?
 cat "$room/log"
 if [ "$(id -u)" = 0 ] && command -v mmdebstrap >/dev/null && make_system plain bookworm man-db,python3-venv &&
-    make_system compiler trixie gcc,libc6-dev,cmake,make,pkg-config,cargo,python3; then
+    make_system compiler trixie g++,libc6-dev,cmake,make,pkg-config,cargo,python3; then
     check_plain_system
     check_system_with_compiler
 else
