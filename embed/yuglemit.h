@@ -8,7 +8,7 @@
  *
  * How long a call takes. Reading, checking and verifying take time by the input's length. A run takes as long as its program: at most
  * `--limit` events (10,000 if nothing is said), each of at most as many instructions as the greatest budget, which may be 1,000,000,000.
- * Only yuglemit_run and yuglemit_run_within can be stopped from outside, between two events. So run a stranger's program by
+ * Only the calls that run a loaded program can be stopped from outside, between two events. So run a stranger's program by
  * yuglemit_run_within, whose caps reject it before it runs, or with --most-instructions and --most-budget in a session.
  *
  * What the caller sees to, since no proof can:
@@ -74,7 +74,7 @@ size_t yuglemit_session(const uint8_t *words, size_t words_length, const uint8_t
 
 typedef struct yuglemit_verdict {
     uint8_t letter;    /* a YUGLEMIT_LETTER_; 0 is accepted */
-    uint8_t number;    /* the number after the letter: `tw explain V04` says what it means */
+    uint8_t number;    /* the number after the letter: `tw explain V04` says what it means, also by yuglemit_session_text of "explain\0V04" */
     uint8_t engines;   /* accepted: how many engines and workers its targets need */
     uint8_t workers;
     size_t procedure;  /* V: the procedure, and the place in it; F: the byte, in `place` */
@@ -107,7 +107,7 @@ enum {
     YUGLEMIT_NO_INPUTS = 'I',  /* the handle of inputs holds something else */
     YUGLEMIT_NO_LAYOUT = 'L',  /* engines and servers are 1 to 4, workers 1 to 16 */
     YUGLEMIT_NO_MEMORY = 'M',  /* an allocation failed */
-    YUGLEMIT_NO_OPTIONS = 'O', /* the options or the caps have another size than this library's */
+    YUGLEMIT_NO_OPTIONS = 'O', /* the options have another size than this library's, or there are more caps than it knows */
     YUGLEMIT_NO_PROGRAM = 'P', /* the handle is empty or holds something else */
     YUGLEMIT_NO_REPORT = 'R',  /* the handle is empty or holds something else */
     YUGLEMIT_NO_ROOM = 'S',    /* the buffer is shorter than the text */
@@ -228,26 +228,41 @@ typedef struct yuglemit_options {
 
 /* Runs a program in this thread, its actors in turn. `stop` may be an empty handle; its flag is looked at before each event. If the call
  * returns 0, the report is that of the run; 1 to 5 is the code of an error: `tw explain O01` and so on say what it means, and 5 is out of
- * memory. */
+ * memory. yuglemit_unfit_input finds the input of O02. */
 uint8_t yuglemit_run(yuglemit_program *program, yuglemit_inputs *inputs, const yuglemit_options *options, yuglemit_stop *stop,
                      yuglemit_report *report);
 
-/* The most that a run may do: the options --most-tasks and so on of `tw run`. UINT64_MAX is no cap. */
+/* Writes which input doesn't fit its parameter of main, so that a run returns 2 (O02): the index of the first such input, from 0. Returns 1 (O01) if
+ * there are more or fewer inputs than main takes, and YUGLEMIT_NO_INDEX if each fits. */
+uint8_t yuglemit_unfit_input(yuglemit_program *program, yuglemit_inputs *inputs, size_t *index);
+
+/* The most that a run may do: the options --most-tasks and so on of `tw run`, and two more. UINT64_MAX is no cap. Later versions add fields at
+ * the end, so begin with YUGLEMIT_CAPS, which sets them all. */
 typedef struct yuglemit_caps {
-    size_t size;           /* sizeof(yuglemit_caps): a library that knows another one refuses the run */
+    size_t size;           /* sizeof(yuglemit_caps). The caps after a smaller size are none; a library that lacks some of a larger one refuses the run */
     uint64_t tasks;        /* tasks that are taken */
     uint64_t instructions; /* instructions that are executed */
     uint64_t data;         /* data made by NEW */
     uint64_t bytes;        /* bytes of the texts that the store holds at any time, beyond those of the inputs */
     uint64_t budget;       /* instructions of one task */
+    uint64_t members;      /* members that the store holds at any time, beyond those of the inputs */
+    uint64_t rules;        /* rules made by RULE */
 } yuglemit_caps;
 
-#define YUGLEMIT_CAPS {sizeof(yuglemit_caps), UINT64_MAX, UINT64_MAX, UINT64_MAX, UINT64_MAX, UINT64_MAX}
+#define YUGLEMIT_CAPS {sizeof(yuglemit_caps), UINT64_MAX, UINT64_MAX, UINT64_MAX, UINT64_MAX, UINT64_MAX, UINT64_MAX, UINT64_MAX}
 
 /* Like yuglemit_run, but returns 7 (O07), and runs nothing, if a bound of the program's runs with options->limit events, or its greatest budget,
- * is above its cap. */
-uint8_t yuglemit_run_within(yuglemit_program *program, yuglemit_inputs *inputs, const yuglemit_options *options, const yuglemit_caps *caps,
+ * is above its cap. `caps` are `count` numbers in the order of yuglemit_caps, without a size. Those that are left out are no caps; if there are
+ * more than the library knows, it returns YUGLEMIT_NO_OPTIONS. */
+uint8_t yuglemit_run_capped(yuglemit_program *program, yuglemit_inputs *inputs, const yuglemit_options *options, const uint64_t *caps, size_t count,
                             yuglemit_stop *stop, yuglemit_report *report);
+
+/* Likewise, with the caps as a struct. The library also has a function of this name, for callers of version 0.16, whose struct ends after `budget`. */
+static inline uint8_t yuglemit_run_within(yuglemit_program *program, yuglemit_inputs *inputs, const yuglemit_options *options,
+                                          const yuglemit_caps *caps, yuglemit_stop *stop, yuglemit_report *report) {
+    if (caps->size < sizeof(size_t) || caps->size % sizeof(uint64_t)) return YUGLEMIT_NO_OPTIONS;
+    return yuglemit_run_capped(program, inputs, options, &caps->tasks, caps->size / sizeof(uint64_t) - 1, stop, report);
+}
 
 typedef struct yuglemit_ending {
     size_t events, outputs;

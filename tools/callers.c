@@ -155,6 +155,8 @@ static void check_empty(void) {
         check(yuglemit_container_new(&all.container, 't', 't') == 0 && yuglemit_member_text_by_text(&all.container, p, 0, p, 0) == 0, "an empty subscript");
         check(yuglemit_source_name(p, 0, 0, &all.text) == 0 && all.text.at, "the name in no source");
         check(yuglemit_text_copy(&all.text, p, 0) == 0 && none[0] == 9, "an empty text is copied");
+        size_t place = 9;
+        check(yuglemit_unfit_input(&all.program, &all.inputs, &place) == YUGLEMIT_NO_PROGRAM && place == 9, "an empty text for no program");
         free_all(&all);
     }
 }
@@ -173,6 +175,8 @@ static void check_many(void) {
     for (int k = 0; k < MANY; k++) wrong += yuglemit_member_int(&all.container, k, -k) != 0;
     check(wrong == 0 && yuglemit_input_container(&all.inputs, &all.container) == 0, "900,000 members");
     check(run(&all) == 2 && !all.report.at, "O02: they are no text");
+    size_t index = 9;
+    check(yuglemit_unfit_input(&all.program, &all.inputs, &index) == 0 && index == 0, "they are the first that doesn't fit");
     free_all(&all);
 }
 

@@ -205,6 +205,70 @@ static void check_run(yuglemit_program *program) {
     yuglemit_report_free(report);
 }
 
+/* The struct of callers of version 0.16, who call this function by another name here. */
+typedef struct five_caps {
+    size_t size;
+    uint64_t tasks, instructions, data, bytes, budget;
+} five_caps;
+
+uint8_t run_within_five(yuglemit_program *program, yuglemit_inputs *inputs, const yuglemit_options *options, const five_caps *caps,
+                        yuglemit_stop *stop, yuglemit_report *report) __asm__("yuglemit_run_within");
+
+/* Lists of caps, and structs of other sizes. */
+static void check_cap_lists(yuglemit_program *program, yuglemit_inputs *inputs, const yuglemit_bounds *bounds, uint64_t budget) {
+    yuglemit_options options = YUGLEMIT_OPTIONS;
+    yuglemit_report report = {NULL};
+    yuglemit_stop no_stop = {NULL};
+    const uint64_t most = UINT64_MAX;
+    uint64_t caps[8] = {bounds->tasks, bounds->instructions, bounds->data, bounds->bytes, budget, bounds->members, bounds->rules, most};
+    check(yuglemit_run_capped(program, inputs, &options, caps, 8, &no_stop, &report) == YUGLEMIT_NO_OPTIONS && !report.at, "a cap more than there are");
+    check(yuglemit_run_capped(program, inputs, &options, caps, SIZE_MAX / 8, &no_stop, &report) == YUGLEMIT_NO_OPTIONS, "very many caps");
+    for (size_t count = 0; count <= 7; count++)
+        check(yuglemit_run_capped(program, inputs, &options, caps, count, &no_stop, &report) == 0 && report.at, "caps at the bounds, as many as are given");
+    caps[0]--;
+    check(yuglemit_run_capped(program, inputs, &options, caps, 0, &no_stop, &report) == 0, "a cap that isn't given");
+    check(yuglemit_run_capped(program, inputs, &options, caps, 1, &no_stop, &report) == 7, "O07: the first cap");
+    options.size--;
+    check(yuglemit_run_capped(program, inputs, &options, caps, 1, &no_stop, &report) == YUGLEMIT_NO_OPTIONS, "options of another size");
+    options.size++;
+    five_caps five = {sizeof(five_caps), bounds->tasks, bounds->instructions, bounds->data, bounds->bytes, budget};
+    check(run_within_five(program, inputs, &options, &five, &no_stop, &report) == 0, "the caps of version 0.16");
+    five.budget--;
+    check(run_within_five(program, inputs, &options, &five, &no_stop, &report) == 7, "O07: a cap of version 0.16");
+    five.size += 8;
+    check(run_within_five(program, inputs, &options, &five, &no_stop, &report) == YUGLEMIT_NO_OPTIONS, "another size than that of 0.16");
+    yuglemit_report_free(report);
+}
+
+/* Caps on members and rules: a program that makes one member of a container and one rule. */
+static void check_more_caps(void) {
+    const char *text = "proc control\nregs int\nNEW d0 d1 cont int\nDROPR d1\nNEW d2 d3 int\nSTORE d2 v0\nINS d0 v0 d3 there\nJMP done\nthere:\nDROPR d3\ndone:\nDROPW d0\nRULE 1 0 any\nRET\n\n"
+                       "proc leaf\nregs\nRET\n";
+    yuglemit_program program = {NULL};
+    yuglemit_inputs inputs = {NULL};
+    yuglemit_report report = {NULL};
+    yuglemit_source_verdict verdict;
+    yuglemit_bounds bounds;
+    yuglemit_load_source((const uint8_t *)text, strlen(text), 't', &program, &verdict);
+    check(verdict.verdict.letter == 0 && yuglemit_program_bounds(&program, LIMIT, &bounds) == 0, "a member and a rule");
+    check(bounds.members == 1 && bounds.rules == 1, "one member, one rule");
+    yuglemit_caps caps = YUGLEMIT_CAPS;
+    caps.members = caps.rules = 1;
+    check(run_within(&program, &inputs, LIMIT, caps, &report) == 0, "caps at the bounds");
+    caps.members = 0;
+    check(run_within(&program, &inputs, LIMIT, caps, &report) == 7, "O07: a member above its cap");
+    caps.size -= 8;
+    check(run_within(&program, &inputs, LIMIT, caps, &report) == 7, "without the cap on rules");
+    caps.size -= 8;
+    check(run_within(&program, &inputs, LIMIT, caps, &report) == 0, "the size of version 0.16: no cap on members");
+    caps.size += 16;
+    caps.members = 1;
+    caps.rules = 0;
+    check(run_within(&program, &inputs, LIMIT, caps, &report) == 7, "O07: a rule above its cap");
+    yuglemit_report_free(report);
+    yuglemit_program_free(program);
+}
+
 /* The bounds of a program, and caps at them and below them. */
 static void check_caps(yuglemit_program *program) {
     yuglemit_program empty = {NULL};
@@ -221,7 +285,7 @@ static void check_caps(yuglemit_program *program) {
     check(one.members == 0 && one.bytes == 0, "neither does one event");
     check(yuglemit_program_budget(program, 0, &budget) == 0 && budget == bounds.instructions, "one task executes at most its budget");
     check(yuglemit_input_text(&inputs, (const uint8_t *)"41", 2) == 0, "a text");
-    yuglemit_caps caps = {sizeof(yuglemit_caps), bounds.tasks, bounds.instructions, bounds.data, bounds.bytes, budget};
+    yuglemit_caps caps = {sizeof(yuglemit_caps), bounds.tasks, bounds.instructions, bounds.data, bounds.bytes, budget, bounds.members, bounds.rules};
     uint64_t *each[] = {&caps.tasks, &caps.instructions, &caps.budget};
     for (size_t k = 0; k < sizeof each / sizeof *each; k++) {
         most = (*each[k])--;
@@ -230,14 +294,45 @@ static void check_caps(yuglemit_program *program) {
         check(run_within(program, &inputs, 0, caps, &report) == 4, "O04: no event");
         *each[k] = most;
     }
-    caps.size--;
-    check(run_within(program, &inputs, LIMIT, caps, &report) == YUGLEMIT_NO_OPTIONS && !report.at, "caps of another size");
-    caps.size++;
+    const size_t sizes[] = {0, 7, sizeof caps - 1, sizeof caps + 8, SIZE_MAX, SIZE_MAX - 7}, size = caps.size;
+    for (size_t k = 0; k < sizeof sizes / sizeof *sizes; k++) {
+        caps.size = sizes[k];
+        check(run_within(program, &inputs, LIMIT, caps, &report) == YUGLEMIT_NO_OPTIONS && !report.at, "caps of another size");
+    }
+    caps.size = size;
     check(run_within(program, &inputs, LIMIT, caps, &report) == 0 && report.at, "caps at the bounds");
     yuglemit_caps none = YUGLEMIT_CAPS;
     check(run_within(program, &inputs, LIMIT, none, &report) == 0, "no caps");
+    check_cap_lists(program, &inputs, &bounds, budget);
     yuglemit_inputs_free(inputs);
     yuglemit_report_free(report);
+}
+
+/* Which input doesn't fit. */
+static void check_unfit(yuglemit_program *program) {
+    const char *text = "proc control closed int closed text closed int\nregs\nDROPR d0\nDROPR d1\nDROPR d2\nRET\n";
+    yuglemit_program three = {NULL}, empty = {NULL};
+    yuglemit_inputs inputs = {NULL}, none = {NULL};
+    yuglemit_report report = {NULL};
+    yuglemit_source_verdict verdict;
+    size_t index = 9;
+    yuglemit_load_source((const uint8_t *)text, strlen(text), 't', &three, &verdict);
+    check(verdict.verdict.letter == 0, "three inputs");
+    check(yuglemit_unfit_input(&empty, &inputs, &index) == YUGLEMIT_NO_PROGRAM && index == 9, "no program has no input");
+    check(yuglemit_unfit_input(&three, &none, &index) == 1 && index == 9, "O01: no inputs");
+    yuglemit_inputs of_program = {three.at};
+    check(yuglemit_unfit_input(program, &of_program, &index) == YUGLEMIT_NO_INPUTS && index == 9, "a program is no input");
+    check(yuglemit_input_int(&inputs, 7) == 0 && yuglemit_unfit_input(&three, &inputs, &index) == 1, "O01: one input");
+    check(yuglemit_input_int(&inputs, 8) == 0 && yuglemit_input_text(&inputs, (const uint8_t *)"", 0) == 0, "three of them");
+    check(run(&three, &inputs, LIMIT, &report) == 2 && !report.at, "O02: the second is no text");
+    check(yuglemit_unfit_input(&three, &inputs, &index) == 0 && index == 1, "the first that doesn't fit, from 0");
+    check(yuglemit_unfit_input(program, &inputs, &index) == 1 && index == 1, "O01: three for one");
+    yuglemit_inputs_free(inputs);
+    inputs.at = NULL;
+    check(yuglemit_input_text(&inputs, (const uint8_t *)"41", 2) == 0, "a text");
+    check(yuglemit_unfit_input(program, &inputs, &index) == YUGLEMIT_NO_INDEX && index == 1, "each fits");
+    yuglemit_inputs_free(inputs);
+    yuglemit_program_free(three);
 }
 
 static void check_report(yuglemit_program *program) {
@@ -429,6 +524,8 @@ static void *check_all(void *unused) {
     check_kinds(&program);
     check_run(&program);
     check_caps(&program);
+    check_more_caps();
+    check_unfit(&program);
     check_report(&program);
     check_stop(&program);
     check_stopped_thread(&program);

@@ -1,22 +1,19 @@
-//! Exports the calls of `tw_handles` that load and run programs.
+//! Exports the calls of `tw_handles` that load programs and make inputs.
 
 ghost use Rattle.std.specs.Prelude.{◌≡◌};
 ghost use Rattle.tw_handles.specs.Asking.{IsBudgetOf, IsCountOf, IsShared};
 ghost use Rattle.tw_handles.specs.Caps.{AreBounds};
 ghost use Rattle.tw_handles.specs.Containers.{IsBegun, IsContainerAdded, IsMemberAdded, WithText, container_in, empty_by};
 ghost use Rattle.tw_handles.specs.Loading.{IsLoaded, IsSourceLoaded};
-ghost use Rattle.tw_handles.specs.Running.{IsAdded, IsRun, IsRunWithin};
+ghost use Rattle.tw_handles.specs.Running.{IsAdded};
 ghost use Rattle.tw_handles.specs.Shape.{AreNeeds, IsNameRead, IsParameter, IsSection};
-ghost use Rattle.tw_handles.specs.Stops.{IsRaised, IsStopMade, IsStopShared};
 ghost use Rattle.tw_handles.specs.declared.container.NewMember.TheVariants as member;
 ghost use Rattle.tw_verdict.specs.Format.{format_of};
 ghost use Rattle.tw_verdict.specs.Verdict.{IsVerdict};
 ghost use Rattle.tw_types.specs.declared.input.Input.TheVariants as input;
 
 use std::alloc::Global;
-use tw_handles::{
-    Handle, Needs, Options, Parameter, RunBounds, RunCaps, Section, SourceVerdict, Verdict,
-};
+use tw_handles::{Handle, Needs, Parameter, RunBounds, Section, SourceVerdict, Verdict};
 
 /// Exports `tw_handles::load`.
 #[unsafe(no_mangle)]
@@ -248,78 +245,6 @@ pub extern "C" fn yuglemit_input_container(
     tw_handles::input_container(alloc, inputs, container)
 }
 
-/// Exports `tw_handles::stop_new`.
-#[unsafe(no_mangle)]
-pub extern "C" fn yuglemit_stop_new(alloc: Global, stop: &mut Handle) -> u8
-    ensures { IsStopMade stop.old.held stop.new.held result }
-{
-    tw_handles::stop_new(alloc, stop)
-}
-
-/// Exports `tw_handles::stop_share`.
-#[unsafe(no_mangle)]
-pub extern "C" fn yuglemit_stop_share(alloc: Global, stop: &mut Handle, other: &mut Handle) -> u8
-    ensures kept { stop.new.held ≡ stop.old.held }
-    ensures shared { IsStopShared stop.old.held other.old.held other.new.held result }
-{
-    tw_handles::stop_share(alloc, stop, other)
-}
-
-/// Exports `tw_handles::stop_raise`.
-#[unsafe(no_mangle)]
-pub extern "C" fn yuglemit_stop_raise(alloc: Global, stop: &mut Handle) -> u8
-    ensures kept { stop.new.held ≡ stop.old.held }
-    ensures raised { IsRaised stop.old.held result }
-{
-    tw_handles::stop_raise(alloc, stop)
-}
-
-/// Exports `tw_handles::stop_lower`.
-#[unsafe(no_mangle)]
-pub extern "C" fn yuglemit_stop_lower(alloc: Global, stop: &mut Handle) -> u8
-    ensures kept { stop.new.held ≡ stop.old.held }
-    ensures lowered { IsRaised stop.old.held result }
-{
-    tw_handles::stop_lower(alloc, stop)
-}
-
-/// Exports `tw_handles::run`.
-#[unsafe(no_mangle)]
-pub extern "C" fn yuglemit_run(
-    alloc: Global,
-    program: &mut Handle,
-    inputs: &mut Handle,
-    options: &Options,
-    stop: &mut Handle,
-    report: &mut Handle,
-) -> u8
-    ensures program { program.new.held ≡ program.old.held }
-    ensures inputs { inputs.new.held ≡ inputs.old.held }
-    ensures stop { stop.new.held ≡ stop.old.held }
-    ensures is { IsRun program.old.held inputs.old.held options.now stop.old.held report.old.held report.new.held result }
-{
-    tw_handles::run(alloc, program, inputs, options, stop, report)
-}
-
-/// Exports `tw_handles::run_within`.
-#[unsafe(no_mangle)]
-pub extern "C" fn yuglemit_run_within(
-    alloc: Global,
-    program: &mut Handle,
-    inputs: &mut Handle,
-    options: &Options,
-    caps: &RunCaps,
-    stop: &mut Handle,
-    report: &mut Handle,
-) -> u8
-    ensures program { program.new.held ≡ program.old.held }
-    ensures inputs { inputs.new.held ≡ inputs.old.held }
-    ensures stop { stop.new.held ≡ stop.old.held }
-    ensures is { IsRunWithin program.old.held inputs.old.held options.now caps.now stop.old.held report.old.held report.new.held result }
-{
-    tw_handles::run_within(alloc, program, inputs, options, caps, stop, report)
-}
-
 /// Frees the contents of a program's handle.
 #[unsafe(no_mangle)]
 pub extern "C" fn yuglemit_program_free(program: Handle) {
@@ -336,10 +261,4 @@ pub extern "C" fn yuglemit_inputs_free(inputs: Handle) {
 #[unsafe(no_mangle)]
 pub extern "C" fn yuglemit_container_free(container: Handle) {
     container.drop();
-}
-
-/// Frees what the handle of a stop flag holds.
-#[unsafe(no_mangle)]
-pub extern "C" fn yuglemit_stop_free(stop: Handle) {
-    stop.drop();
 }

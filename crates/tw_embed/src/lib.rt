@@ -15,6 +15,7 @@ ghost use Rattle.tw_verdict.specs.Verdict.{IsVerdict};
 
 mod handles;
 mod reports;
+mod runs;
 
 pub use handles::{
     yuglemit_container_free, yuglemit_container_new, yuglemit_input_container, yuglemit_input_int,
@@ -22,15 +23,19 @@ pub use handles::{
     yuglemit_member_int, yuglemit_member_int_by_text, yuglemit_member_text,
     yuglemit_member_text_by_text, yuglemit_program_bounds, yuglemit_program_budget,
     yuglemit_program_free, yuglemit_program_needs, yuglemit_program_parameter,
-    yuglemit_program_procedure, yuglemit_program_procedures, yuglemit_program_share, yuglemit_run,
-    yuglemit_run_within, yuglemit_source_name, yuglemit_stop_free, yuglemit_stop_lower,
-    yuglemit_stop_new, yuglemit_stop_raise, yuglemit_stop_share,
+    yuglemit_program_procedure, yuglemit_program_procedures, yuglemit_program_share,
+    yuglemit_source_name,
 };
 pub use reports::{
     yuglemit_print_json, yuglemit_print_report, yuglemit_print_trace, yuglemit_report_ending,
     yuglemit_report_free, yuglemit_report_instructions, yuglemit_report_member,
     yuglemit_report_member_text, yuglemit_report_output, yuglemit_report_subscript_text,
     yuglemit_report_text, yuglemit_text_copy, yuglemit_text_free, yuglemit_text_length,
+};
+pub use runs::{
+    yuglemit_run, yuglemit_run_capped, yuglemit_run_within, yuglemit_stop_free,
+    yuglemit_stop_lower, yuglemit_stop_new, yuglemit_stop_raise, yuglemit_stop_share,
+    yuglemit_unfit_input,
 };
 use std::alloc::Global;
 use tw_handles::Handle;

@@ -1,33 +1,106 @@
 -- Caps on the runs of a loaded program, and the bounds of its runs.
-use Rattle.std.specs.Prelude.{◌≡◌, ◌⊎◌, ◌<◌, ◌≤◌, ℕ, List, [], Option, Some, None, MatchOption}
+use Rattle.std.specs.Prelude.{◌≡◌, ◌⊎◌, ◌&&◌, ◌||◌, ◌+◌, ◌<◌, ◌≤◌, ℕ, Bool, true, false, List, Option, Some, None, MatchOption, nat_le, nat_lt, length, slice_get, unwrap_or}
+use Rattle.tw_types.specs.declared.event.Event.{Event}
+use Rattle.tw_types.specs.declared.input.Input.{Input}
+use Rattle.tw_types.specs.Layout.{ActorCounts}
+use Rattle.tw_types.specs.Outcome.{Went}
+use Rattle.tw_code.specs.accepting.Flow.{flows}
+use Rattle.tw_code.specs.accepting.Walk.{IsBudget}
+use Rattle.tw_code.specs.declared.procedure.Procedure.{Procedure}
+use Rattle.tw_code.specs.machine.Inputs.{AreInputsOf}
+use Rattle.tw_code.specs.machine.Opening.{opening, reached}
+use Rattle.tw_code.specs.machine.State.{State}
+use Rattle.tw_bounds.specs.Contents.{bytes_held, members_held}
 use Rattle.tw_bounds.specs.Least.{AreLeastBounds, LeastRuns}
+use Rattle.tw_bounds.specs.Limited.{IsLargestBudget}
+use Rattle.tw_bounds.specs.Runs.{instructions_in, tasks_in}
 use Rattle.tw_bounds.specs.declared.bound.Bound.{Bound}
 use Rattle.tw_bounds.specs.declared.bound.Bound.TheVariants.{AtMost, Over, Endless}
 use Rattle.tw_bounds.specs.declared.limited.LimitedBounds.{LimitedBounds}
-use Rattle.tw_cli.specs.declared.caps.Caps.{Caps}
-use Rattle.tw_program_output.specs.Admission.{AreExcessLines, StaysWithinCaps, has_cap}
+use Rattle.tw_cli.specs.Options.{greatest_cap}
+use Rattle.tw_program_output.specs.Admission.{is_within}
 use Rattle.tw_verify.specs.Typed.{TypedProgram}
 use Rattle.tw_handles.specs.Asking.{Fails}
 use Rattle.tw_handles.specs.Codes.{done, no_limit, no_memory, no_program}
 use Rattle.tw_handles.specs.Loading.{program_in}
 use Rattle.tw_handles.specs.declared.bounds.RunBounds.{RunBounds}
+use Rattle.tw_handles.specs.declared.caps.AllCaps.{AllCaps}
 use Rattle.tw_handles.specs.declared.caps.RunCaps.{RunCaps}
 use Rattle.tw_handles.specs.declared.held.Held.{Held}
 
 -- ---- caps
 
-abbrev pub caps_of : RunCaps → Caps
-caps_of given = record { tasks = given.tasks; instructions = given.instructions; «data» = given.«data»; bytes = given.bytes; budget = given.budget }
+-- the greatest cap is none
+abbrev pub caps_of : RunCaps → AllCaps
+caps_of given = record {
+  tasks = given.tasks;
+  instructions = given.instructions;
+  «data» = given.«data»;
+  bytes = given.bytes;
+  budget = given.budget;
+  members = greatest_cap;
+  rules = greatest_cap;
+}
+
+abbrev pub listed_cap : List ℕ → ℕ → ℕ
+listed_cap numbers index = unwrap_or (slice_get numbers index) greatest_cap
+
+-- the caps of a list, in this order; it has none for those that it lacks
+abbrev pub listed_caps : List ℕ → AllCaps
+listed_caps numbers = record {
+  tasks = listed_cap numbers 0;
+  instructions = listed_cap numbers 1;
+  «data» = listed_cap numbers 2;
+  bytes = listed_cap numbers 3;
+  budget = listed_cap numbers 4;
+  members = listed_cap numbers 5;
+  rules = listed_cap numbers 6;
+}
+
+abbrev pub is_cap : ℕ → Bool
+is_cap most = nat_lt most greatest_cap
+
+abbrev pub has_cap : AllCaps → Bool
+has_cap caps = is_cap caps.tasks || (is_cap caps.instructions || (is_cap caps.«data» || (is_cap caps.bytes || (is_cap caps.budget || (is_cap caps.members || is_cap caps.rules)))))
+
+-- holds if no bound is above its cap
+abbrev pub are_within : AllCaps → LimitedBounds → ℕ → Bool
+are_within caps bounds budget =
+    is_within bounds.tasks caps.tasks && (is_within bounds.instructions caps.instructions && (is_within bounds.«data» caps.«data» && (is_within bounds.bytes caps.bytes
+    && (nat_le budget caps.budget && (is_within bounds.members caps.members && is_within bounds.rules caps.rules)))))
 
 -- holds for a limit from 1 to 1,000,000
 abbrev pub IsLimit : ℕ → Type 0
 IsLimit limit = (1 ≤ limit) × (limit ≤ 1000000)
 
--- Holds for the lines with which `tw run` rejects the program as O07. If there are none, the program stays within the caps. A limit out of its range
--- has none, since no run is opened with it.
-abbrev pub AreExcess : TypedProgram → ℕ → Caps → List ℕ → Type 0
-AreExcess verified limit caps lines =
-    (IsLimit limit × AreExcessLines (has_cap caps) verified.program (Some limit) caps lines × (lines ≡ [] → StaysWithinCaps verified.program (Some limit) caps)) ⊎ ((IsLimit limit → ⊥) × (lines ≡ []))
+-- a run with these events, which led to this state, is within the caps
+pub record IsRunWithinCaps (program : List Procedure) (caps : AllCaps) (inputs : List Input) (events : List Event) (s : State) : Type 0 where
+  pub tasks : caps.tasks < greatest_cap → tasks_in events ≤ caps.tasks
+  pub instructions : caps.instructions < greatest_cap → instructions_in events ≤ caps.instructions
+  pub new_data : caps.«data» < greatest_cap → s.store.next ≤ (opening program inputs).store.next + caps.«data»
+  pub bytes : caps.bytes < greatest_cap → bytes_held s.store ≤ bytes_held (opening program inputs).store + caps.bytes
+  pub members : caps.members < greatest_cap → members_held s.store ≤ members_held (opening program inputs).store + caps.members
+  pub rules : caps.rules < greatest_cap → s.next_rule ≤ (opening program inputs).next_rule + caps.rules
+
+-- with any inputs and layout, each run of at most so many events is within the caps, and so is each budget
+pub record StaysWithin (program : List Procedure) (limit : ℕ) (caps : AllCaps) : Type 0 where
+  pub runs : (inputs : List Input) (layout : ActorCounts) (events : List Event) (s : State) → AreInputsOf program inputs → length events ≤ limit → reached program inputs layout events ≡ Went s
+      → IsRunWithinCaps program caps inputs events s
+  pub budgets : caps.budget < greatest_cap → (k : ℕ) (p : Procedure) (budget : ℕ) → slice_get program k ≡ Some p → IsBudget (flows p.code) budget → budget ≤ caps.budget
+
+-- whether the bounds of runs with so many events, and the greatest budget, are within the caps
+abbrev pub AreCompared : TypedProgram → ℕ → AllCaps → Bool → Type 0
+AreCompared verified limit caps within =
+    (bounds : LimitedBounds) × (budget : ℕ) × AreLeastBounds verified.program (Some limit) bounds × IsLargestBudget verified.program budget × (within ≡ are_within caps bounds budget)
+
+abbrev pub AreComparedIf : Bool → TypedProgram → ℕ → AllCaps → Bool → Type 0
+AreComparedIf false verified limit caps within = within ≡ true
+AreComparedIf true verified limit caps within = AreCompared verified limit caps within
+
+-- Whether the program is within the caps, and then its runs stay so. With a limit out of its range it is, since no run is opened.
+abbrev pub IsDecided : TypedProgram → ℕ → AllCaps → Bool → Type 0
+IsDecided verified limit caps within =
+    (IsLimit limit × AreComparedIf (has_cap caps) verified limit caps within × (within ≡ true → StaysWithin verified.program limit caps)) ⊎ ((IsLimit limit → ⊥) × (within ≡ true))
 
 -- ---- bounds
 

@@ -4,6 +4,10 @@ use Rattle.std.specs.Prelude.{ℕ}
 abbrev pub done : ℕ
 done = 0
 
+-- O01
+abbrev pub input_count : ℕ
+input_count = 1
+
 -- O04
 abbrev pub no_limit : ℕ
 no_limit = 4

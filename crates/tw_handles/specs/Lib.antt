@@ -22,3 +22,5 @@ pub mod Slot
 pub mod Stops
 -- Texts of reports and sources.
 pub mod Texts
+-- The first input that doesn't fit main.
+pub mod Unfit

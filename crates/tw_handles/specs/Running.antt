@@ -1,5 +1,5 @@
 -- The inputs of a run, and the result of running a loaded program.
-use Rattle.std.specs.Prelude.{◌≡◌, ◌≢◌, ◌⊎◌, Bool, true, ◌++◌, ◌∷◌, [], ℕ, List, Option, Some, None, MatchOption}
+use Rattle.std.specs.Prelude.{◌≡◌, ◌≢◌, ◌⊎◌, ◌<◌, ◌≤◌, Bool, true, false, ◌++◌, ◌∷◌, [], ℕ, List, length, Option, Some, None, MatchOption}
 use Rattle.tw_in_turn.specs.Stopping.{IsLeftOrStopped, IsStopped}
 use Rattle.tw_in_turn.specs.declared.run.StoppableResult.{StoppableResult}
 use Rattle.tw_pool.specs.Openings.{IsRejection, MayOpen, open_error_code, opened}
@@ -8,10 +8,10 @@ use Rattle.tw_types.specs.Layout.{ActorCounts, IsLayout}
 use Rattle.tw_types.specs.declared.input.Input.{Input}
 use Rattle.tw_verify.specs.Typed.{TypedProgram}
 use Rattle.tw_handles.specs.Asking.{Fails}
-use Rattle.tw_handles.specs.Caps.{AreExcess, caps_of}
+use Rattle.tw_handles.specs.Caps.{IsDecided, caps_of, listed_caps}
 use Rattle.tw_handles.specs.Codes.{above_cap, done, no_inputs, no_layout, no_memory, no_options, no_program, no_run_memory, no_stop}
 use Rattle.tw_handles.specs.Loading.{inputs_in, program_in, report_in, stop_in}
-use Rattle.tw_cli.specs.declared.caps.Caps.{Caps}
+use Rattle.tw_handles.specs.declared.caps.AllCaps.{AllCaps}
 use Rattle.tw_handles.specs.declared.caps.RunCaps.{RunCaps}
 use Rattle.tw_handles.specs.declared.held.Held.{Held}
 use Rattle.tw_handles.specs.declared.running.Options.{Options}
@@ -32,15 +32,15 @@ IsRunOn has_flag verified inputs counts limit old new code =
     ⊎ ((why : OpenError) × IsRejection verified.program inputs counts limit why × Fails (open_error_code why) old new code)
 
 -- holds if this is the result of a run, of a program that stays within the caps; or a bound is above its cap; or an allocation failed
-abbrev pub IsRunCapped : Bool → TypedProgram → List Input → ActorCounts → ℕ → Caps → Option Held → Option Held → ℕ → Type 0
-IsRunCapped has_flag verified inputs counts limit caps old new code =
-    ((lines : List ℕ) × AreExcess verified limit caps lines × (((lines ≡ []) × IsRunOn has_flag verified inputs counts limit old new code) ⊎ ((lines ≢ []) × Fails above_cap old new code)))
+abbrev pub IsRunIfWithin : Bool → TypedProgram → List Input → ActorCounts → ℕ → AllCaps → Option Held → Option Held → ℕ → Type 0
+IsRunIfWithin has_flag verified inputs counts limit caps old new code =
+    ((within : Bool) × IsDecided verified limit caps within × (((within ≡ true) × IsRunOn has_flag verified inputs counts limit old new code) ⊎ ((within ≡ false) × Fails above_cap old new code)))
     ⊎ Fails no_run_memory old new code
 
 -- holds if this is the result of a run, with caps if there are any
-abbrev pub IsRunAdmitted : Option Caps → Bool → TypedProgram → List Input → ActorCounts → ℕ → Option Held → Option Held → ℕ → Type 0
+abbrev pub IsRunAdmitted : Option AllCaps → Bool → TypedProgram → List Input → ActorCounts → ℕ → Option Held → Option Held → ℕ → Type 0
 IsRunAdmitted None has_flag verified inputs counts limit old new code = IsRunOn has_flag verified inputs counts limit old new code
-IsRunAdmitted (Some caps) has_flag verified inputs counts limit old new code = IsRunCapped has_flag verified inputs counts limit caps old new code
+IsRunAdmitted (Some caps) has_flag verified inputs counts limit old new code = IsRunIfWithin has_flag verified inputs counts limit caps old new code
 
 abbrev pub counts_of : Options → ActorCounts
 counts_of options = record { engines = options.engines; servers = options.servers; workers = options.workers }
@@ -76,3 +76,9 @@ abbrev pub IsRunWithin : Option Held → Option Held → Options → RunCaps →
 IsRunWithin program given options caps stop old new code =
     ((options.size ≡ 24) × (caps.size ≡ 48) × IsRunUntil program given (record { options = options; caps = Some (caps_of caps) }) stop old new code)
     ⊎ ((options.size ≢ 24) × Fails no_options old new code) ⊎ ((caps.size ≢ 48) × Fails no_options old new code)
+
+-- holds if this is the result of such a run with the caps of a list, or the options have another size, or the list is longer than the caps
+abbrev pub IsRunCapped : Option Held → Option Held → Options → List ℕ → Option Held → Option Held → Option Held → ℕ → Type 0
+IsRunCapped program given options caps stop old new code =
+    ((options.size ≡ 24) × (length caps ≤ 7) × IsRunUntil program given (record { options = options; caps = Some (listed_caps caps) }) stop old new code)
+    ⊎ ((options.size ≢ 24) × Fails no_options old new code) ⊎ ((7 < length caps) × Fails no_options old new code)

@@ -2,6 +2,8 @@
 
 /// The call succeeded.
 pub(crate) const DONE: u8 = 0;
+/// O01: there are more or fewer inputs than main takes.
+pub(crate) const INPUT_COUNT: u8 = 1;
 /// O04: the limit is out of its range.
 pub(crate) const NO_LIMIT: u8 = 4;
 /// O05: an allocation failed while a run was opened.

@@ -20,9 +20,10 @@ mod running;
 mod shape;
 mod stopping;
 mod texts;
+mod unfit;
 
 pub use bounds::{RunBounds, program_bounds};
-pub use caps::RunCaps;
+pub use caps::{AllCaps, RunCaps};
 pub use containers::{
     container_new, input_container, put_int, put_int_by_text, put_text, put_text_by_text,
 };
@@ -34,10 +35,11 @@ pub use members::{Member, member_text, output_member, subscript_text};
 pub use printing::{instructions, print_json, print_report, print_trace};
 pub use program::{budget, procedures, share};
 pub use report::{Ending, output, output_text, report_ending};
-pub use running::{Options, run, run_within};
+pub use running::{Options, run, run_capped, run_within};
 pub use shape::{
     Needs, Parameter, Section, describe_parameter, describe_procedure, read_needs, source_name,
 };
 pub use stopping::{stop_lower, stop_new, stop_raise, stop_share};
 pub use texts::{text_copy, text_handle, text_length};
 pub use tw_verdict::{SourceVerdict, Verdict};
+pub use unfit::unfit_input;

@@ -1,15 +1,14 @@
 //! Runs loaded programs.
 
 ghost use Rattle.std.specs.Prelude.{◌≡◌, None, Some, is_some, true};
-ghost use Rattle.tw_handles.specs.Running.{IsRun, IsRunAdmitted, IsRunBy, IsRunCapped, IsRunIn, IsRunOn, IsRunUntil, IsRunWith, IsRunWithin};
+ghost use Rattle.tw_handles.specs.Running.{IsRun, IsRunAdmitted, IsRunBy, IsRunCapped, IsRunIfWithin, IsRunIn, IsRunOn, IsRunUntil, IsRunWith, IsRunWithin};
 
-use crate::caps::{RunCaps, excess_lines};
+use crate::caps::{AllCaps, RunCaps, is_admitted};
 use crate::codes;
 use crate::handle::Handle;
 use crate::held::Held;
 use std::alloc::Global;
 use std::sync::atomic::AtomicU32;
-use tw_cli::Caps;
 use tw_in_turn::run_until;
 use tw_pool::OpenError;
 use tw_types::{Input, Layout};
@@ -35,7 +34,7 @@ pub struct Options {
 #[derive(Clone, Copy)]
 struct RunOrder {
     options: Options,
-    caps: Option<Caps>,
+    caps: Option<AllCaps>,
 }
 
 /// Runs a program in this thread.
@@ -64,25 +63,22 @@ fn run_on(
 }
 
 /// Runs a program, if no bound of it is above its cap.
-fn run_capped(
+fn run_if_within(
     alloc: Global,
     verified: &Verified,
     inputs: &[Input],
     layout: Layout,
     limit: usize,
-    caps: Caps,
+    caps: AllCaps,
     stop: Option<&AtomicU32>,
     report: &mut Handle,
 ) -> u8
-    ensures { IsRunCapped (is_some stop.entry) verified.now inputs.now layout limit caps report.old.held report.new.held result }
+    ensures { IsRunIfWithin (is_some stop.entry) verified.now inputs.now layout limit caps report.old.held report.new.held result }
 {
-    let Ok(lines) = excess_lines(alloc, verified, limit, caps) else {
-        return codes::NO_RUN_MEMORY;
-    };
-    if lines.is_empty() {
-        run_on(alloc, verified, inputs, layout, limit, stop, report)
-    } else {
-        codes::ABOVE_CAP
+    match is_admitted(alloc, verified, limit, caps) {
+        Ok(true) => run_on(alloc, verified, inputs, layout, limit, stop, report),
+        Ok(false) => codes::ABOVE_CAP,
+        Err(_) => codes::NO_RUN_MEMORY,
     }
 }
 
@@ -100,7 +96,7 @@ fn run_admitted(
 {
     let limit = order.options.limit;
     match order.caps {
-        Some(caps) => run_capped(alloc, verified, inputs, layout, limit, caps, stop, report),
+        Some(caps) => run_if_within(alloc, verified, inputs, layout, limit, caps, stop, report),
         None => run_on(alloc, verified, inputs, layout, limit, stop, report),
     }
 }
@@ -303,6 +299,32 @@ pub fn run_within(
     let order = RunOrder {
         options: *options,
         caps: Some(caps.caps()),
+    };
+    run_until_stopped(alloc, program, inputs, order, stop, report)
+}
+
+/// Like `run_within`, with the caps as a list: tasks, instructions, data, bytes, budget, members and rules. A list may end earlier; one that is
+/// longer is an error, since its last caps are unknown.
+pub fn run_capped(
+    alloc: Global,
+    program: &mut Handle,
+    inputs: &mut Handle,
+    options: &Options,
+    caps: &[u64],
+    stop: &mut Handle,
+    report: &mut Handle,
+) -> u8
+    ensures program { program.new.held ≡ program.old.held }
+    ensures inputs { inputs.new.held ≡ inputs.old.held }
+    ensures stop { stop.new.held ≡ stop.old.held }
+    ensures is { IsRunCapped program.old.held inputs.old.held options.now caps.now stop.old.held report.old.held report.new.held result }
+{
+    if options.size != OPTIONS_SIZE || caps.len() > AllCaps::COUNT {
+        return codes::NO_OPTIONS;
+    }
+    let order = RunOrder {
+        options: *options,
+        caps: Some(AllCaps::listed(caps)),
     };
     run_until_stopped(alloc, program, inputs, order, stop, report)
 }

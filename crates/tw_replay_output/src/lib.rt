@@ -11,7 +11,7 @@ mod stuck;
 
 pub use drawn::draw;
 pub use numbers::{Counting, budgets_of, count, put_bytes};
-pub use opening::inputs_refused_reply;
+pub use opening::{first_unfit, inputs_refused_reply};
 pub use replay::{replay_inputs_reply, replay_reply};
 pub use state_json::instructions_by;
 pub use stuck::put_stuck;

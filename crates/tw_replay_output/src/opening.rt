@@ -128,7 +128,7 @@ fn put_unfit_text(out: &mut Vec<u8>, asked: DataType, input: &Input) -> Result<(
 }
 
 /// Returns how many inputs precede the first that doesn't fit its parameter, if one doesn't.
-fn first_unfit(program: &[Procedure], inputs: &[Input]) -> Option<usize>
+pub fn first_unfit(program: &[Procedure], inputs: &[Input]) -> Option<usize>
     ensures { MatchOption result
         (has_fitting_inputs program.now inputs.now ≡ true)
         (λ index. (index < length inputs.now) × (has_fitting_inputs program.now (take index inputs.now) ≡ true)

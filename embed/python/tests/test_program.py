@@ -154,7 +154,7 @@ class Programs(unittest.TestCase):
     def test_caps(self) -> None:
         """Each bound of pipeline is admitted at its number, and rejected below it, as `tw run` does."""
         program = yuglemit.load(EXAMPLES / "pipeline.twn")
-        exact = {"most_tasks": 4, "most_instructions": 24, "most_data": 2, "most_budget": 6}
+        exact = {"most_tasks": 4, "most_instructions": 24, "most_data": 2, "most_budget": 6, "most_rules": 3}
         self.assertEqual(program.run(39, **exact).outputs, [42])
         self.assertEqual(program.run(39, most_tasks=None).outputs, [42])
         for name, most in exact.items():
@@ -180,6 +180,21 @@ class Programs(unittest.TestCase):
         with self.assertRaises(yuglemit.Refused) as refused:
             program.run(most_bytes=100 * 4096 - 1)
         self.assertEqual(refused.exception.text, "refused O07\nbytes: bound 409600, at most 409599\n")
+
+    def test_caps_on_members(self) -> None:
+        """A program that inserts one member and makes one rule. Nothing is run above a cap, of which no command knows."""
+        leaf = "proc leaf\nregs\nRET\n"
+        insert = "INS d0 v0 d3 there\nJMP done\nthere:\nDROPR d3\ndone:\nDROPW d0\nRULE 1 0 any\nRET\n"
+        program = yuglemit.load(f"proc control\nregs int\nNEW d0 d1 cont int\nDROPR d1\nNEW d2 d3 int\nSTORE d2 v0\n{insert}\n{leaf}")
+        self.assertEqual(program.run(most_members=1, most_rules=1).end, "quiet")
+        more = yuglemit.load(f"proc control\nregs\nRULE 1 0 any\nRULE 1 0 any\nRET\n\n{leaf}")
+        with self.assertRaises(yuglemit.Refused) as refused:
+            more.run(most_rules=1, most_tasks=2)
+        self.assertEqual(refused.exception.text, "refused O07\ntasks: bound 3, at most 2\nrules: bound 2, at most 1\n")
+        endless = yuglemit.load("proc control\nregs\nPUT 0 0 any\nRET\n")
+        with self.assertRaises(yuglemit.Refused) as refused:
+            endless.run(most_tasks=(1 << 64) - 2, most_members=1, limit=5, most_budget=1)
+        self.assertEqual((refused.exception.code, refused.exception.text), ("O07", "refused O07\nbudget: bound 2, at most 1\n"))
 
     def test_bounds_hold(self) -> None:
         chance = {number: number for number in range(8)}

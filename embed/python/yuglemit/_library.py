@@ -47,19 +47,6 @@ class Options(ctypes.Structure):
     ]
 
 
-class Caps(ctypes.Structure):
-    """The most that a run may do."""
-
-    _fields_ = [
-        ("size", ctypes.c_size_t),
-        ("tasks", ctypes.c_uint64),
-        ("instructions", ctypes.c_uint64),
-        ("data", ctypes.c_uint64),
-        ("bytes", ctypes.c_uint64),
-        ("budget", ctypes.c_uint64),
-    ]
-
-
 class RawBounds(ctypes.Structure):
     """The most that runs do, as the library writes it."""
 
@@ -119,7 +106,7 @@ _LONG_CALLS: Dict[str, Tuple[Any, Sequence[Any]]] = {
     "session_text": (ctypes.c_uint8, (*_BYTES, *_BYTES, _AT)),
     "verify": (None, (*_BYTES, ctypes.POINTER(RawVerdict))),
     "load_source": (None, (*_BYTES, ctypes.c_uint8, _AT, ctypes.POINTER(SourceVerdict))),
-    "run_within": (ctypes.c_uint8, (_AT, _AT, ctypes.POINTER(Options), ctypes.POINTER(Caps), _AT, _AT)),
+    "run_capped": (ctypes.c_uint8, (_AT, _AT, ctypes.POINTER(Options), ctypes.POINTER(ctypes.c_uint64), ctypes.c_size_t, _AT, _AT)),
     "print_report": (ctypes.c_uint8, (_AT, _AT)),
     "print_trace": (ctypes.c_uint8, (_AT, _AT)),
     "print_json": (ctypes.c_uint8, (_AT, _AT)),
@@ -138,7 +125,8 @@ _SHORT_CALLS: Dict[str, Sequence[Any]] = {
     "stop_new": (_AT,),
     "stop_share": (_AT, _AT),
     "stop_raise": (_AT,),
-    "run_within": _LONG_CALLS["run_within"][1],
+    "run_capped": _LONG_CALLS["run_capped"][1],
+    "unfit_input": (_AT, _AT, ctypes.POINTER(ctypes.c_size_t)),
     "report_ending": (_AT, ctypes.POINTER(Ending)),
     "report_output": (_AT, ctypes.c_size_t, ctypes.POINTER(Item)),
     "report_member": (_AT, ctypes.c_size_t, ctypes.c_size_t, ctypes.POINTER(Member)),

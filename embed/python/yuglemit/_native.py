@@ -12,7 +12,7 @@ import ctypes
 import threading
 from typing import Any, Callable, Dict, List, NamedTuple, Optional, Sequence, Tuple, TypeVar, Union
 
-from ._library import Caps, Ending, Handle, Item, Member, Options, RawBounds, RawVerdict, SourceVerdict, library, short
+from ._library import Ending, Handle, Item, Member, Options, RawBounds, RawVerdict, SourceVerdict, library, short
 
 Answer = Tuple[int, bytes]
 Result = TypeVar("Result")
@@ -55,6 +55,8 @@ class Layout(NamedTuple):
     most_data: Optional[int] = None
     most_bytes: Optional[int] = None
     most_budget: Optional[int] = None
+    most_members: Optional[int] = None
+    most_rules: Optional[int] = None
 
 
 class Ran(NamedTuple):
@@ -68,11 +70,12 @@ class Ran(NamedTuple):
 
 
 class RunError(Exception):
-    """Says that a run isn't begun: `code` is the number of the error O01 to O04 or O07, or the letter of an error of the call."""
+    """Says that a run isn't begun: `code` is the number of the error O01 to O04 or O07, or the letter of an error of the call. `input` is the
+    number of the input that doesn't fit, from 1, if the error is O02."""
 
-    def __init__(self, code: int) -> None:
+    def __init__(self, code: int, input_: Optional[int] = None) -> None:
         super().__init__(f"O{code:02}" if code < 32 else chr(code))
-        self.code = code
+        self.code, self.input = code, input_
 
 
 # ---- Handles
@@ -246,16 +249,25 @@ def _inputs_of(given: Sequence[Given]) -> _Owner:
 def _call_run(calls: ctypes.CDLL, program: Loaded, inputs: _Owner, layout: Layout, stop: Optional[Flag]) -> _Owner:
     """Makes a run by calls that release the GIL or keep it, and returns the handle of its report."""
     options = Options(ctypes.sizeof(Options), layout.limit, layout.engines, layout.servers, layout.workers)
-    caps = Caps(ctypes.sizeof(Caps), *(NO_CAP if most is None else most for most in layout[4:]))
+    most = [NO_CAP if cap is None else cap for cap in layout[4:]]
+    caps = (ctypes.c_uint64 * len(most))(*most)
     flag = stop.of_run.at if stop is not None else ctypes.byref(Handle())
     report, own = _owner("report"), program.take()
-    code = calls.yuglemit_run_within(own.at, inputs.at, ctypes.byref(options), ctypes.byref(caps), flag, report.at)
+    code = calls.yuglemit_run_capped(own.at, inputs.at, ctypes.byref(options), caps, len(most), flag, report.at)
+    unfit = _unfit_input(own, inputs) if code == 2 else None
     program.give(own)
     if code in (5, ord("M")):
         raise MemoryError("yuglemit: out of memory")
     if code:
-        raise RunError(code)
+        raise RunError(code, unfit)
     return report
+
+
+def _unfit_input(program: _Owner, inputs: _Owner) -> Optional[int]:
+    """Returns the number of the first input that doesn't fit main, from 1."""
+    index = ctypes.c_size_t()
+    code = short().yuglemit_unfit_input(program.at, inputs.at, ctypes.byref(index))
+    return None if code else index.value + 1
 
 
 def run(program: Loaded, given: Sequence[Given], layout: Layout, stop: Optional[Flag], seconds: float) -> Ran:

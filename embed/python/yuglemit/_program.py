@@ -7,7 +7,7 @@ import hashlib
 import os
 from functools import cached_property, lru_cache
 from pathlib import Path
-from typing import Optional, Sequence, Tuple, Union
+from typing import Iterator, Optional, Sequence, Tuple, Union
 
 from . import _native
 from ._errors import Refused, Trap
@@ -19,6 +19,7 @@ from ._stop import Stop
 Source = Union[str, bytes, bytearray, memoryview, "os.PathLike[str]"]
 Bytes = bytes  # in a class that has a property of this name
 _MOST_EVENTS = 1_000_000
+_BOUNDS = ("tasks", "instructions", "data", "members", "rules", "bytes", "events")
 
 
 def ask(words: Sequence[str], data: bytes, long: bool = False) -> str:
@@ -54,6 +55,8 @@ def layout_of(
     most_data: Optional[int] = None,
     most_bytes: Optional[int] = None,
     most_budget: Optional[int] = None,
+    most_members: Optional[int] = None,
+    most_rules: Optional[int] = None,
 ) -> _native.Layout:
     """Returns the layout of a run, or raises the error that says which number is out of its range."""
     counts = (_within("engines", engines, 4), _within("servers", servers, 4), _within("workers", workers, 16))
@@ -63,6 +66,8 @@ def layout_of(
         _cap("most_data", most_data),
         _cap("most_bytes", most_bytes),
         _cap("most_budget", most_budget),
+        _cap("most_members", most_members),
+        _cap("most_rules", most_rules),
     )
     return _native.Layout(*counts, _within("limit", limit, _MOST_EVENTS), *caps)
 
@@ -172,6 +177,8 @@ class Program:
         most_data: Optional[int] = None,
         most_bytes: Optional[int] = None,
         most_budget: Optional[int] = None,
+        most_members: Optional[int] = None,
+        most_rules: Optional[int] = None,
         trace: bool = False,
         stop: Optional[Stop] = None,
     ) -> Report:
@@ -197,7 +204,8 @@ class Program:
         >>> program.run(21).outputs
         [42]
         """
-        layout = layout_of(engines, servers, workers, limit, most_tasks, most_instructions, most_data, most_bytes, most_budget)
+        caps = (most_tasks, most_instructions, most_data, most_bytes, most_budget, most_members, most_rules)
+        layout = layout_of(engines, servers, workers, limit, *caps)
         checked = self.given(inputs)
         flag = None if stop is None else stop.flag()
         try:
@@ -217,13 +225,25 @@ class Program:
         """Returns the error of a run that can't begin, with the text that `tw run` writes."""
         if why.code >= 32:
             return RuntimeError(f"yuglemit: a run returned the error {why}")
+        if why.code == 7:
+            return Refused("refused O07\n" + "".join(self._excess(made.layout)))
         try:
             self.answer(made)
         except Refused as said:
             return said
         except ValueError:  # inputs that no command line has
             pass
-        return Refused(f"refused {why}\n")
+        return Refused(f"refused {why}\n" + (f"input {why.input}\n" if why.input else ""))
+
+    def _excess(self, layout: _native.Layout) -> Iterator[str]:
+        """Yields a line for each bound of a run that is above its cap."""
+        numbers = dict(zip(_BOUNDS, self._kept.bounds(layout.limit)), budget=self.bounds.greatest)
+        words = {_native.OVER: "bound over 1000000000000", _native.NO_BOUND: "no bound"}
+        for name, most in zip(layout._fields[4:], layout[4:]):
+            kind = name[len("most_") :]
+            number = numbers[kind]
+            if most is not None and most < _native.NO_CAP and (number > most or number in words):
+                yield f"{kind}: {words.get(number, f'bound {number}')}, at most {most}\n"
 
     def answer(self, made: Made, *options: str) -> str:
         """Makes a run again, and returns what `tw run` writes with these options."""

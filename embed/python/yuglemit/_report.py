@@ -80,8 +80,8 @@ def read_numbers(text: str) -> _Numbers:
 
 
 def _caps(layout: Layout) -> Tuple[str, ...]:
-    """Returns the options of `tw run` for the caps."""
-    given = ((name, most) for name, most in zip(layout._fields[4:], layout[4:]) if most is not None)
+    """Returns the options of `tw run` for the caps, which has none for members and rules."""
+    given = ((name, most) for name, most in zip(layout._fields[4:9], layout[4:9]) if most is not None)
     return tuple(word for name, most in given for word in (f"--{name.replace('_', '-')}", str(most)))
 
 

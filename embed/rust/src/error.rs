@@ -11,6 +11,8 @@ pub enum Error {
     Refused(Refused),
     /// A run can't begin: the number after the letter O, which `tw explain O01` explains.
     Run(u8),
+    /// A run can't begin, O02: the input of this index, from 0, is the first that doesn't fit its parameter of main.
+    Unfit(usize),
     /// Engines and servers are 1 to 4, workers 1 to 16.
     NoLayout,
     /// There is none of this index.
@@ -69,6 +71,7 @@ impl Display for Error {
         match self {
             Error::Refused(refused) => refused.fmt(f),
             Error::Run(number) => write!(f, "refused O{number:02}"),
+            Error::Unfit(index) => write!(f, "refused O02 at input {}", index + 1),
             Error::NoLayout => f.write_str("engines and servers are 1 to 4, workers 1 to 16"),
             Error::NoIndex => f.write_str("there is none of this index"),
             Error::NoEnd => f.write_str("the run was stopped"),

@@ -27,20 +27,17 @@ pub struct Caps {
     pub bytes: Option<u64>,
     /// Instructions of one task.
     pub budget: Option<u64>,
+    /// Members that the store holds at any time, beyond those of the inputs.
+    pub members: Option<u64>,
+    /// Rules that are made.
+    pub rules: Option<u64>,
 }
 
 impl Caps {
-    fn raw(&self) -> raw::Caps {
-        let cap = |most: Option<u64>| most.unwrap_or(u64::MAX);
-        let Caps { tasks, instructions, data, bytes, budget } = *self;
-        raw::Caps {
-            size: size_of::<raw::Caps>(),
-            tasks: cap(tasks),
-            instructions: cap(instructions),
-            data: cap(data),
-            bytes: cap(bytes),
-            budget: cap(budget),
-        }
+    /// Returns them in the order of the library, which has the greatest number for no cap.
+    fn raw(&self) -> [u64; 7] {
+        let Caps { tasks, instructions, data, bytes, budget, members, rules } = *self;
+        [tasks, instructions, data, bytes, budget, members, rules].map(|most| most.unwrap_or(u64::MAX))
     }
 }
 
@@ -260,8 +257,18 @@ impl Program {
         let (none, report) = (Owner::new(), Owner::new());
         let stop = stop.map_or(&none, |stop| &stop.owner);
         let caps = caps.raw();
-        done(unsafe { raw::yuglemit_run_within(self.owner.at(), values.at(), &raw_options, &caps, stop.at(), report.at()) })?;
-        Report::of(report)
+        let (program, inputs) = (self.owner.at(), values.at());
+        match unsafe { raw::yuglemit_run_capped(program, inputs, &raw_options, caps.as_ptr(), caps.len(), stop.at(), report.at()) } {
+            2 => Err(self.unfit(&values)),
+            code => done(code).and_then(|()| Report::of(report)),
+        }
+    }
+
+    /// Returns the error O02 of these inputs.
+    fn unfit(&self, values: &Owner<OfInputs>) -> Error {
+        let mut index = 0;
+        let found = done(unsafe { raw::yuglemit_unfit_input(self.owner.at(), values.at(), &mut index) });
+        found.map_or_else(|why| why, |()| Error::Unfit(index))
     }
 }
 

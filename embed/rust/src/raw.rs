@@ -40,16 +40,6 @@ pub struct Options {
 }
 
 #[repr(C)]
-pub struct Caps {
-    pub size: usize,
-    pub tasks: u64,
-    pub instructions: u64,
-    pub data: u64,
-    pub bytes: u64,
-    pub budget: u64,
-}
-
-#[repr(C)]
 #[derive(Clone, Copy, Default)]
 pub struct Bounds {
     pub tasks: u64,
@@ -133,7 +123,8 @@ unsafe extern "C" {
     pub fn yuglemit_stop_share(stop: *mut Handle, other: *mut Handle) -> u8;
     pub fn yuglemit_stop_raise(stop: *mut Handle) -> u8;
     pub fn yuglemit_stop_lower(stop: *mut Handle) -> u8;
-    pub fn yuglemit_run_within(program: *mut Handle, inputs: *mut Handle, options: *const Options, caps: *const Caps, stop: *mut Handle, report: *mut Handle) -> u8;
+    pub fn yuglemit_unfit_input(program: *mut Handle, inputs: *mut Handle, index: *mut usize) -> u8;
+    pub fn yuglemit_run_capped(program: *mut Handle, inputs: *mut Handle, options: *const Options, caps: *const u64, count: usize, stop: *mut Handle, report: *mut Handle) -> u8;
     pub fn yuglemit_report_ending(report: *mut Handle, ending: *mut Ending) -> u8;
     pub fn yuglemit_report_output(report: *mut Handle, output: usize, item: *mut Item) -> u8;
     pub fn yuglemit_report_member(report: *mut Handle, output: usize, place: usize, member: *mut Member) -> u8;

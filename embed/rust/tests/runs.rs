@@ -94,7 +94,9 @@ fn what_is_no_input() {
     assert_eq!(sized("cont int").run(&[Value::Container(mixed)]).err(), Some(Error::NoInput));
     assert_eq!(same("int").run(&[Value::Unset]).err(), Some(Error::NoInput));
     assert_eq!(same("int").run(&[]).err(), Some(Error::Run(1)));
-    assert_eq!(same("int").run(&["7".into()]).err(), Some(Error::Run(2)));
+    assert_eq!(same("int").run(&["7".into()]).err(), Some(Error::Unfit(0)));
+    let two = Program::load("proc control closed int closed text\nregs\nDROPR d0\nDROPR d1\nRET\n").expect("it is accepted");
+    assert_eq!(two.run(&[7.into(), 7.into()]).err().map(|why| why.to_string()).as_deref(), Some("refused O02 at input 2"));
     let wide = Options { workers: 17, ..Options::default() };
     assert_eq!(same("int").run_with(&[7.into()], &wide).err(), Some(Error::NoLayout));
 }
@@ -128,7 +130,7 @@ fn bounds_are_numbers() -> Result<(), Error> {
 fn caps_admit_programs() -> Result<(), Error> {
     let Some(program) = example("pipeline.twn") else { return Ok(()) };
     let run = |caps, limit| program.run_with(&[39.into()], &Options { caps, limit, ..Options::default() }).map(|report| report.end());
-    let exact = Caps { tasks: Some(4), instructions: Some(24), data: Some(2), bytes: Some(0), budget: Some(6) };
+    let exact = Caps { tasks: Some(4), instructions: Some(24), data: Some(2), bytes: Some(0), budget: Some(6), members: Some(0), rules: Some(3) };
     assert_eq!(run(exact, 10_000), Ok(End::Quiet));
     assert_eq!(run(Caps { tasks: None, ..exact }, 10_000), Ok(End::Quiet));
     let smaller = [
@@ -136,6 +138,7 @@ fn caps_admit_programs() -> Result<(), Error> {
         Caps { instructions: Some(23), ..exact },
         Caps { data: Some(1), ..exact },
         Caps { budget: Some(5), ..exact },
+        Caps { rules: Some(2), ..exact },
     ];
     for caps in smaller {
         assert_eq!(run(caps, 10_000), Err(Error::Run(7)), "{caps:?}");
@@ -152,6 +155,11 @@ fn caps_on_texts() -> Result<(), Error> {
         program.run_with(&[], &Options { caps, ..Options::default() }).map(|report| report.end())
     };
     assert_eq!((run(8192), run(8191)), (Ok(End::Quiet), Err(Error::Run(7))));
+    let run = |most| {
+        let caps = Caps { members: Some(most), ..Caps::default() };
+        program.run_with(&[], &Options { caps, ..Options::default() }).map(|report| report.end())
+    };
+    assert_eq!((run(1), run(0)), (Ok(End::Quiet), Err(Error::Run(7))));
     Ok(())
 }
 

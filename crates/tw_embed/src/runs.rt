@@ -1,0 +1,121 @@
+//! Exports the calls of `tw_handles` that run programs, and those on stop flags.
+
+ghost use Rattle.std.specs.Prelude.{◌≡◌};
+ghost use Rattle.tw_handles.specs.Running.{IsRun, IsRunCapped, IsRunWithin};
+ghost use Rattle.tw_handles.specs.Stops.{IsRaised, IsStopMade, IsStopShared};
+ghost use Rattle.tw_handles.specs.Unfit.{IsUnfit};
+
+use std::alloc::Global;
+use tw_handles::{Handle, Options, RunCaps};
+
+/// Exports `tw_handles::stop_new`.
+#[unsafe(no_mangle)]
+pub extern "C" fn yuglemit_stop_new(alloc: Global, stop: &mut Handle) -> u8
+    ensures { IsStopMade stop.old.held stop.new.held result }
+{
+    tw_handles::stop_new(alloc, stop)
+}
+
+/// Exports `tw_handles::stop_share`.
+#[unsafe(no_mangle)]
+pub extern "C" fn yuglemit_stop_share(alloc: Global, stop: &mut Handle, other: &mut Handle) -> u8
+    ensures kept { stop.new.held ≡ stop.old.held }
+    ensures shared { IsStopShared stop.old.held other.old.held other.new.held result }
+{
+    tw_handles::stop_share(alloc, stop, other)
+}
+
+/// Exports `tw_handles::stop_raise`.
+#[unsafe(no_mangle)]
+pub extern "C" fn yuglemit_stop_raise(alloc: Global, stop: &mut Handle) -> u8
+    ensures kept { stop.new.held ≡ stop.old.held }
+    ensures raised { IsRaised stop.old.held result }
+{
+    tw_handles::stop_raise(alloc, stop)
+}
+
+/// Exports `tw_handles::stop_lower`.
+#[unsafe(no_mangle)]
+pub extern "C" fn yuglemit_stop_lower(alloc: Global, stop: &mut Handle) -> u8
+    ensures kept { stop.new.held ≡ stop.old.held }
+    ensures lowered { IsRaised stop.old.held result }
+{
+    tw_handles::stop_lower(alloc, stop)
+}
+
+/// Exports `tw_handles::run`.
+#[unsafe(no_mangle)]
+pub extern "C" fn yuglemit_run(
+    alloc: Global,
+    program: &mut Handle,
+    inputs: &mut Handle,
+    options: &Options,
+    stop: &mut Handle,
+    report: &mut Handle,
+) -> u8
+    ensures program { program.new.held ≡ program.old.held }
+    ensures inputs { inputs.new.held ≡ inputs.old.held }
+    ensures stop { stop.new.held ≡ stop.old.held }
+    ensures is { IsRun program.old.held inputs.old.held options.now stop.old.held report.old.held report.new.held result }
+{
+    tw_handles::run(alloc, program, inputs, options, stop, report)
+}
+
+/// Exports `tw_handles::run_within`.
+#[unsafe(no_mangle)]
+pub extern "C" fn yuglemit_run_within(
+    alloc: Global,
+    program: &mut Handle,
+    inputs: &mut Handle,
+    options: &Options,
+    caps: &RunCaps,
+    stop: &mut Handle,
+    report: &mut Handle,
+) -> u8
+    ensures program { program.new.held ≡ program.old.held }
+    ensures inputs { inputs.new.held ≡ inputs.old.held }
+    ensures stop { stop.new.held ≡ stop.old.held }
+    ensures is { IsRunWithin program.old.held inputs.old.held options.now caps.now stop.old.held report.old.held report.new.held result }
+{
+    tw_handles::run_within(alloc, program, inputs, options, caps, stop, report)
+}
+
+/// Exports `tw_handles::run_capped`.
+#[unsafe(no_mangle)]
+pub extern "C" fn yuglemit_run_capped(
+    alloc: Global,
+    program: &mut Handle,
+    inputs: &mut Handle,
+    options: &Options,
+    caps: &[u64],
+    stop: &mut Handle,
+    report: &mut Handle,
+) -> u8
+    ensures program { program.new.held ≡ program.old.held }
+    ensures inputs { inputs.new.held ≡ inputs.old.held }
+    ensures stop { stop.new.held ≡ stop.old.held }
+    ensures is { IsRunCapped program.old.held inputs.old.held options.now caps.now stop.old.held report.old.held report.new.held result }
+{
+    tw_handles::run_capped(alloc, program, inputs, options, caps, stop, report)
+}
+
+/// Exports `tw_handles::unfit_input`.
+#[unsafe(no_mangle)]
+pub extern "C" fn yuglemit_unfit_input(
+    alloc: Global,
+    program: &mut Handle,
+    inputs: &mut Handle,
+    index: &mut usize,
+) -> u8
+    ensures program { program.new.held ≡ program.old.held }
+    ensures inputs { inputs.new.held ≡ inputs.old.held }
+    ensures is { IsUnfit program.old.held inputs.old.held index.old index.new result }
+{
+    tw_handles::unfit_input(alloc, program, inputs, index)
+}
+
+/// Frees what the handle of a stop flag holds.
+#[unsafe(no_mangle)]
+pub extern "C" fn yuglemit_stop_free(stop: Handle) {
+    stop.drop();
+}

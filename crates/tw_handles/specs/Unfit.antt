@@ -1,0 +1,29 @@
+-- The first input that doesn't fit main.
+use Rattle.std.specs.Prelude.{◌≡◌, ◌⊎◌, ◌<◌, ◌+◌, ℕ, true, false, List, length, take, Option, MatchOption}
+use Rattle.tw_code.specs.declared.procedure.Procedure.{Procedure}
+use Rattle.tw_code.specs.machine.Inputs.{has_fitting_inputs, has_input_count}
+use Rattle.tw_types.specs.declared.input.Input.{Input}
+use Rattle.tw_verify.specs.Typed.{TypedProgram}
+use Rattle.tw_handles.specs.Asking.{Fails}
+use Rattle.tw_handles.specs.Codes.{done, input_count, no_index, no_inputs, no_program}
+use Rattle.tw_handles.specs.Loading.{inputs_in, program_in}
+use Rattle.tw_handles.specs.declared.held.Held.{Held}
+
+-- the inputs before this one fit their parameters, and this one doesn't
+abbrev pub IsFirstUnfit : List Procedure → List Input → ℕ → Type 0
+IsFirstUnfit program inputs index =
+    (index < length inputs) × (has_fitting_inputs program (take index inputs) ≡ true) × (has_fitting_inputs program (take (index + 1) inputs) ≡ false)
+
+-- holds for the first input that doesn't fit; or there are more or fewer inputs than main takes, O01; or each fits
+abbrev pub IsUnfitIn : List Procedure → List Input → ℕ → ℕ → ℕ → Type 0
+IsUnfitIn program inputs old new code =
+    ((has_input_count program inputs ≡ true) × IsFirstUnfit program inputs new × (code ≡ done))
+    ⊎ ((has_input_count program inputs ≡ true) × (has_fitting_inputs program inputs ≡ true) × Fails no_index old new code)
+    ⊎ ((has_input_count program inputs ≡ false) × Fails input_count old new code)
+
+-- likewise for the inputs of a handle
+abbrev pub IsUnfitBy : TypedProgram → Option Held → ℕ → ℕ → ℕ → Type 0
+IsUnfitBy verified given old new code = MatchOption (inputs_in given) (Fails no_inputs old new code) (λ inputs. IsUnfitIn verified.program inputs old new code)
+
+abbrev pub IsUnfit : Option Held → Option Held → ℕ → ℕ → ℕ → Type 0
+IsUnfit held given old new code = MatchOption (program_in held) (Fails no_program old new code) (λ verified. IsUnfitBy verified given old new code)
