@@ -287,6 +287,11 @@ uint8_t yuglemit_report_output(yuglemit_report *report, size_t output, yuglemit_
 /* Writes a member of an output, by how many subscripts are smaller. */
 uint8_t yuglemit_report_member(yuglemit_report *report, size_t output, size_t place, yuglemit_member *member);
 
+/* Write the place of the member of an output with this subscript, for yuglemit_report_member and the calls below: how many subscripts are smaller.
+ * They return YUGLEMIT_NO_INDEX if the output isn't a container with this subscript. A place takes log n comparisons of n members. */
+uint8_t yuglemit_report_find_int(yuglemit_report *report, size_t output, int64_t subscript, size_t *place);
+uint8_t yuglemit_report_find_text(yuglemit_report *report, size_t output, const uint8_t *subscript, size_t length, size_t *place);
+
 /* Write the text of an output, a member or a subscript to the start of `room`, if it fits; the rest of `room` stays. Its item has the
  * length. There is no byte 0 after it. */
 uint8_t yuglemit_report_text(yuglemit_report *report, size_t output, uint8_t *room, size_t room_length);

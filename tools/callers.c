@@ -156,6 +156,7 @@ static void check_empty(void) {
         check(yuglemit_source_name(p, 0, 0, &all.text) == 0 && all.text.at, "the name in no source");
         check(yuglemit_text_copy(&all.text, p, 0) == 0 && none[0] == 9, "an empty text is copied");
         size_t place = 9;
+        check(yuglemit_report_find_text(&all.report, 0, p, 0, &place) == YUGLEMIT_NO_REPORT && place == 9, "an empty subscript in no report");
         check(yuglemit_unfit_input(&all.program, &all.inputs, &place) == YUGLEMIT_NO_PROGRAM && place == 9, "an empty text for no program");
         free_all(&all);
     }

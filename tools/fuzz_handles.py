@@ -73,13 +73,22 @@ def handles(library: Library) -> Any:
         "member_text_by_text": [pointer, ctypes.c_char_p, size, ctypes.c_char_p, size], "container_free": [pointer],
         "stop_new": [pointer], "stop_share": [pointer, pointer], "stop_raise": [pointer], "stop_lower": [pointer], "stop_free": [pointer],
         "program_budget": [pointer, size, pointer], "input_int": [pointer, ctypes.c_int64], "input_text": [pointer, ctypes.c_char_p, size],
-        "run": [pointer] * 5, "run_within": [pointer] * 6, "program_bounds": [pointer, size, pointer], "report_ending": [pointer, pointer], "report_output": [pointer, size, pointer],
+        "run": [pointer] * 5, "run_within": [pointer] * 6, "run_capped": [pointer] * 4 + [size] + [pointer] * 2, "unfit_input": [pointer] * 3,
+        "report_find_int": [pointer, size, ctypes.c_int64, pointer], "report_find_text": [pointer, size, ctypes.c_char_p, size, pointer],
+        "program_bounds": [pointer, size, pointer], "report_ending": [pointer, pointer], "report_output": [pointer, size, pointer],
         "report_member": [pointer, size, size, pointer], "report_text": [pointer, size, pointer, size], "report_member_text": [pointer, size, size, pointer, size],
         "report_subscript_text": [pointer, size, size, pointer, size], "program_free": [pointer], "inputs_free": [pointer], "report_free": [pointer],
     }.items():
         call = getattr(native, f"yuglemit_{name}")
         call.argtypes, call.restype = types, None if name.endswith("free") or name.startswith("load") else byte
     return native
+
+
+def near_by(subscript: Scalar) -> list[Scalar]:
+    """Returns subscripts beside one, and one of the other type."""
+    if isinstance(subscript, int):
+        return [max(subscript - 1, -1 << 63), min(subscript + 1, (1 << 63) - 1), str(subscript)]
+    return [subscript + "\0", subscript[:-1], len(subscript)]
 
 
 @dataclass
@@ -100,8 +109,19 @@ class Report:
             expect("report_member", 0, self.native.yuglemit_report_member(ctypes.byref(self.handle), output, place, ctypes.byref(found)))
             self.compare_scalar(f"subscript {place}", found.subscript, subscript, [self.native.yuglemit_report_subscript_text, output, place])
             self.compare_item(f"member {place}", found.value, self.machine.store[member], [self.native.yuglemit_report_member_text, output, place])
+            expect(f"the place of {subscript!r}", (0, place), self.place_of(output, subscript))
+        given = {subscript for subscript, _ in members}
+        for other in {near for subscript in given for near in near_by(subscript)} - given:
+            expect(f"no place of {other!r}", (ord("X"), 77), self.place_of(output, other))
         found = Member()
         expect("the member after the last", ord("X"), self.native.yuglemit_report_member(ctypes.byref(self.handle), output, len(members), ctypes.byref(found)))
+
+    def place_of(self, output: int, subscript: Scalar) -> tuple[int, int]:
+        """Returns the answer of the call that finds a member, and the place, which is 77 if it writes none."""
+        place = ctypes.c_size_t(77)
+        call = self.native.yuglemit_report_find_int if isinstance(subscript, int) else self.native.yuglemit_report_find_text
+        words: list[Any] = [subscript] if isinstance(subscript, int) else [subscript.encode(), len(subscript.encode())]
+        return call(ctypes.byref(self.handle), output, *words, ctypes.byref(place)), place.value
 
     def item(self, output: int) -> Item:
         found = Item()
@@ -174,6 +194,7 @@ class HandlesTest(RunTest):
             self.append(native, inputs)
             self.compare_run(native, program, inputs, report)
             self.compare_above(native, program, inputs)
+            self.compare_unfit(native, program, inputs)
             self.compare_stopped(native, program, inputs)
             self.compare_hex(native, data, program)
             native.yuglemit_program_free(program)
@@ -205,18 +226,35 @@ class HandlesTest(RunTest):
         limited = [number_of(line.split()[2]) for line in limited_lines(self.program, limit)] if limit else whole
         return [min(pair) for pair in zip(whole, limited)]
 
-    def caps(self) -> Caps:
-        """Returns the least caps that admit the program."""
+    def caps(self) -> list[int]:
+        """Returns the least caps that admit the program, in the order of the library."""
         found = {name: NO_BOUND if number == OVER else number for name, number in zip(COUNTED, self.least(self.limit))}
-        return Caps(ctypes.sizeof(Caps), found["tasks"], found["instructions"], found["data"], found["bytes"], max(budgets(self.program)))
+        return [found["tasks"], found["instructions"], found["data"], found["bytes"], max(budgets(self.program)), found["members"], found["rules"]]
+
+    def run_capped(self, native: Any, program: Any, inputs: Any, caps: list[int], report: Any) -> int:
+        options, no_stop = Options(ctypes.sizeof(Options), self.limit, *self.layout), ctypes.c_void_p()
+        given = [ctypes.byref(it) for it in (program, inputs, options, (ctypes.c_uint64 * 8)(*caps))]
+        return int(native.yuglemit_run_capped(*given, len(caps), ctypes.byref(no_stop), ctypes.byref(report)))
 
     def compare_above(self, native: Any, program: Any, inputs: Any) -> None:
-        """Makes no run, since the bound of the budgets is above its cap; or it is none for another reason."""
-        options, caps, no_stop, report = Options(ctypes.sizeof(Options), self.limit, *self.layout), self.caps(), ctypes.c_void_p(), ctypes.c_void_p()
-        caps.budget -= 1
-        answer = native.yuglemit_run_within(*map(ctypes.byref, (program, inputs, options, caps, no_stop, report)))
+        """Makes no run, since a bound is above its cap; or it is none for another reason."""
+        options, no_stop, report = Options(ctypes.sizeof(Options), self.limit, *self.layout), ctypes.c_void_p(), ctypes.c_void_p()
         is_layout, is_limit = self.expected() != ord("L"), 1 <= self.limit <= 1_000_000
-        expect("a budget above its cap", (7 if is_layout and is_limit else self.expected(), None), (answer, report.value))
+        expected = (7 if is_layout and is_limit else self.expected(), None)
+        caps = self.caps()
+        for index in (index for index, most in enumerate(caps) if most):
+            smaller = [most - (place == index) for place, most in enumerate(caps)][: index + 1]
+            expect(f"a bound above cap {index}", expected, (self.run_capped(native, program, inputs, smaller, report), report.value))
+        five = Caps(ctypes.sizeof(Caps), *caps[:4], caps[4] - 1)
+        answer = native.yuglemit_run_within(*map(ctypes.byref, (program, inputs, options, five, no_stop, report)))
+        expect("a budget above its cap, as by version 0.16", expected, (answer, report.value))
+
+    def compare_unfit(self, native: Any, program: Any, inputs: Any) -> None:
+        """Finds the input that doesn't fit, if the run has the error O02."""
+        types, index = self.program.inputs, ctypes.c_size_t(77)
+        unfit = [index for index, (type_, value) in enumerate(zip(types, self.inputs)) if type_ != self.type_of(index, value)]
+        expected = (1, 77) if len(types) != len(self.inputs) else (0, unfit[0]) if unfit else (ord("X"), 77)
+        expect("the input that doesn't fit", expected, (native.yuglemit_unfit_input(*map(ctypes.byref, (program, inputs, index))), index.value))
 
     def append(self, native: Any, inputs: Any) -> None:
         for index, value in enumerate(self.inputs):
@@ -265,8 +303,7 @@ class HandlesTest(RunTest):
         return 0 if 1 <= self.limit <= 1_000_000 else 4
 
     def compare_run(self, native: Any, program: Any, inputs: Any, report: Any) -> None:
-        options, caps, no_stop = Options(ctypes.sizeof(Options), self.limit, *self.layout), self.caps(), ctypes.c_void_p()
-        answer = native.yuglemit_run_within(*map(ctypes.byref, (program, inputs, options, caps, no_stop, report)))
+        answer = self.run_capped(native, program, inputs, self.caps(), report)
         expect("run", self.expected(), answer)
         ending = Ending()
         if answer:

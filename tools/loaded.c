@@ -352,7 +352,56 @@ static void check_report(yuglemit_program *program) {
     check(yuglemit_report_text(&report, 1, room, sizeof room) == YUGLEMIT_NO_INDEX, "the text of no output");
     check(yuglemit_report_member(&report, 0, 0, &member) == YUGLEMIT_NO_INDEX, "a text has no member");
     check(yuglemit_report_subscript_text(&report, 0, 0, room, sizeof room) == YUGLEMIT_NO_INDEX, "nor a subscript");
+    size_t place = 9;
+    check(yuglemit_report_find_int(&report, 0, 42, &place) == YUGLEMIT_NO_INDEX && place == 9, "nor a place of one");
     check(yuglemit_report_member(&report, SIZE_MAX, SIZE_MAX, &member) == YUGLEMIT_NO_INDEX, "no output, no member");
+    yuglemit_report_free(report);
+}
+
+/* Loads a text, and runs it with the inputs. */
+static void run_text(const char *text, yuglemit_inputs *inputs, yuglemit_report *report) {
+    yuglemit_program program = {NULL};
+    yuglemit_source_verdict verdict;
+    yuglemit_load_source((const uint8_t *)text, strlen(text), 't', &program, &verdict);
+    check(verdict.verdict.letter == 0 && run(&program, inputs, LIMIT, report) == 0, "a text is run");
+    yuglemit_program_free(program);
+}
+
+/* Members by subscript: -6, -3, 0, 3 and 6 in one output, a text in the other. */
+static void check_finds(void) {
+    const char *by_int = "proc control write cont int\nregs int int\nINT v0 -6\nINT v1 3\nREPEAT 5\nNEW d1 d2 int\nSTORE d1 v0\nINS d0 v0 d2 have\nJMP next\nhave:\nDROPR d2\n"
+                         "next:\nADD v0 v0 v1 too_large\ntoo_large:\nEND\nDROPW d0\nRET\n";
+    const char *by_text = "version 2\nproc control closed text write tcont int\nregs text int\nGET v0 d0\nDROPR d0\nNEW d2 d3 int\nSTORE d2 v1\nTINS d1 v0 d3 have\nJMP next\n"
+                          "have:\nDROPR d3\nnext:\nDROPW d1\nRET\n";
+    static const uint8_t name[] = "\xc3\xa9", none[] = "\xff";
+    yuglemit_inputs inputs = {NULL};
+    yuglemit_report report = {NULL};
+    yuglemit_member member;
+    size_t place = 9;
+    check(yuglemit_report_find_int(&report, 0, 0, &place) == YUGLEMIT_NO_REPORT && place == 9, "no report has no member");
+    check(yuglemit_report_find_text(&report, 0, none, 1, &place) == YUGLEMIT_NO_UTF8 && place == 9, "no UTF-8 comes first");
+    run_text(by_int, &inputs, &report);
+    for (int64_t subscript = -7; subscript <= 7; subscript++) {
+        uint8_t code = yuglemit_report_find_int(&report, 0, subscript, &place);
+        int is_there = subscript % 3 == 0;
+        check(code == (is_there ? 0 : YUGLEMIT_NO_INDEX), "every third subscript");
+        check(!is_there || place == (size_t)((subscript + 6) / 3), "as many smaller ones");
+        check(!is_there || (yuglemit_report_member(&report, 0, place, &member) == 0 && member.subscript.number == subscript), "its member");
+    }
+    place = 9;
+    check(yuglemit_report_find_int(&report, 0, INT64_MIN, &place) == YUGLEMIT_NO_INDEX, "the least integer");
+    check(yuglemit_report_find_int(&report, 0, INT64_MAX, &place) == YUGLEMIT_NO_INDEX, "the greatest");
+    check(yuglemit_report_find_int(&report, 1, 0, &place) == YUGLEMIT_NO_INDEX, "no output");
+    check(yuglemit_report_find_int(&report, SIZE_MAX, 0, &place) == YUGLEMIT_NO_INDEX, "nor this one");
+    check(yuglemit_report_find_text(&report, 0, name, 2, &place) == YUGLEMIT_NO_INDEX && place == 9, "a text among integers");
+    check(yuglemit_input_text(&inputs, name, 2) == 0, "a text");
+    run_text(by_text, &inputs, &report);
+    check(yuglemit_report_find_text(&report, 0, name, 1, &place) == YUGLEMIT_NO_UTF8 && place == 9, "half a character");
+    check(yuglemit_report_find_text(&report, 0, name, 0, &place) == YUGLEMIT_NO_INDEX && place == 9, "the empty text");
+    check(yuglemit_report_find_text(&report, 0, name, 3, &place) == YUGLEMIT_NO_INDEX && place == 9, "a longer one");
+    check(yuglemit_report_find_int(&report, 0, 0, &place) == YUGLEMIT_NO_INDEX && place == 9, "an integer among texts");
+    check(yuglemit_report_find_text(&report, 0, name, 2, &place) == 0 && place == 0, "the text itself");
+    yuglemit_inputs_free(inputs);
     yuglemit_report_free(report);
 }
 
@@ -527,6 +576,7 @@ static void *check_all(void *unused) {
     check_more_caps();
     check_unfit(&program);
     check_report(&program);
+    check_finds();
     check_stop(&program);
     check_stopped_thread(&program);
     check_containers(&program);

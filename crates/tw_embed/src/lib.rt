@@ -28,9 +28,10 @@ pub use handles::{
 };
 pub use reports::{
     yuglemit_print_json, yuglemit_print_report, yuglemit_print_trace, yuglemit_report_ending,
-    yuglemit_report_free, yuglemit_report_instructions, yuglemit_report_member,
-    yuglemit_report_member_text, yuglemit_report_output, yuglemit_report_subscript_text,
-    yuglemit_report_text, yuglemit_text_copy, yuglemit_text_free, yuglemit_text_length,
+    yuglemit_report_find_int, yuglemit_report_find_text, yuglemit_report_free,
+    yuglemit_report_instructions, yuglemit_report_member, yuglemit_report_member_text,
+    yuglemit_report_output, yuglemit_report_subscript_text, yuglemit_report_text,
+    yuglemit_text_copy, yuglemit_text_free, yuglemit_text_length,
 };
 pub use runs::{
     yuglemit_run, yuglemit_run_capped, yuglemit_run_within, yuglemit_stop_free,

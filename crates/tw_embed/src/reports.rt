@@ -1,9 +1,11 @@
 //! Exports the calls of `tw_handles` that read reports.
 
 ghost use Rattle.std.specs.Prelude.{◌≡◌};
+ghost use Rattle.tw_handles.specs.Finding.{IsPlace, IsTextPlace};
 ghost use Rattle.tw_handles.specs.Members.{IsMember, IsMemberText, IsSubscriptText};
 ghost use Rattle.tw_handles.specs.Reading.{IsEnding, IsOutput, IsOutputText};
 ghost use Rattle.tw_handles.specs.Texts.{IsInstructionCount, IsJsonPrinted, IsReportPrinted, IsTextCopied, IsTextLength, IsTracePrinted};
+ghost use Rattle.tw_types.specs.declared.value.Value.TheVariants as value;
 
 use std::alloc::Global;
 use tw_handles::{Ending, Handle, Item, Member};
@@ -92,6 +94,36 @@ pub extern "C" fn yuglemit_report_subscript_text(
     ensures is { IsSubscriptText report.old.held index place room.old room.new result }
 {
     tw_handles::subscript_text(alloc, report, index, place, room)
+}
+
+/// Exports `tw_handles::find_int`.
+#[unsafe(no_mangle)]
+pub extern "C" fn yuglemit_report_find_int(
+    alloc: Global,
+    report: &mut Handle,
+    index: usize,
+    subscript: i64,
+    place: &mut usize,
+) -> u8
+    ensures kept { report.new.held ≡ report.old.held }
+    ensures is { IsPlace report.old.held index (value.Int subscript) place.old place.new result }
+{
+    tw_handles::find_int(alloc, report, index, subscript, place)
+}
+
+/// Exports `tw_handles::find_text`.
+#[unsafe(no_mangle)]
+pub extern "C" fn yuglemit_report_find_text(
+    alloc: Global,
+    report: &mut Handle,
+    index: usize,
+    subscript: &[u8],
+    place: &mut usize,
+) -> u8
+    ensures kept { report.new.held ≡ report.old.held }
+    ensures is { IsTextPlace subscript.now report.old.held index place.old place.new result }
+{
+    tw_handles::find_text(alloc, report, index, subscript, place)
 }
 
 /// Exports `tw_handles::instructions`.

@@ -6,6 +6,7 @@ mod caps;
 mod codes;
 mod container;
 mod containers;
+mod finding;
 mod given;
 mod handle;
 mod held;
@@ -27,6 +28,7 @@ pub use caps::{AllCaps, RunCaps};
 pub use containers::{
     container_new, input_container, put_int, put_int_by_text, put_text, put_text_by_text,
 };
+pub use finding::{find_int, find_text};
 pub use given::{input_int, input_text};
 pub use handle::Handle;
 pub use item::Item;

@@ -128,6 +128,8 @@ unsafe extern "C" {
     pub fn yuglemit_report_ending(report: *mut Handle, ending: *mut Ending) -> u8;
     pub fn yuglemit_report_output(report: *mut Handle, output: usize, item: *mut Item) -> u8;
     pub fn yuglemit_report_member(report: *mut Handle, output: usize, place: usize, member: *mut Member) -> u8;
+    pub fn yuglemit_report_find_int(report: *mut Handle, output: usize, subscript: i64, place: *mut usize) -> u8;
+    pub fn yuglemit_report_find_text(report: *mut Handle, output: usize, subscript: *const u8, length: usize, place: *mut usize) -> u8;
     pub fn yuglemit_report_text(report: *mut Handle, output: usize, room: *mut u8, length: usize) -> u8;
     pub fn yuglemit_report_member_text(report: *mut Handle, output: usize, place: usize, room: *mut u8, length: usize) -> u8;
     pub fn yuglemit_report_subscript_text(report: *mut Handle, output: usize, place: usize, room: *mut u8, length: usize) -> u8;

@@ -94,6 +94,21 @@ impl Report {
         Ok(self.item(output)?.closed == 1)
     }
 
+    /// Returns the member of an output with this subscript, without reading the others: `Value::Unset` if it is unset, none if there is no such
+    /// member.
+    pub fn member(&self, output: usize, subscript: impl Into<Scalar>) -> Result<Option<Value>, Error> {
+        let (subscript, mut place) = (subscript.into(), 0);
+        let found = match &subscript {
+            Scalar::Int(number) => unsafe { raw::yuglemit_report_find_int(self.owner.at(), output, *number, &mut place) },
+            Scalar::Text(text) => unsafe { raw::yuglemit_report_find_text(self.owner.at(), output, text.as_ptr(), text.len(), &mut place) },
+        };
+        match done(found) {
+            Ok(()) => Ok(Some(self.member_at(output, place)?.1.map_or(Value::Unset, Value::from))),
+            Err(Error::NoIndex) => Ok(None),
+            Err(why) => Err(why),
+        }
+    }
+
     fn item(&self, output: usize) -> Result<Item, Error> {
         let mut item = Item::default();
         done(unsafe { raw::yuglemit_report_output(self.owner.at(), output, &mut item) })?;
@@ -101,11 +116,11 @@ impl Report {
     }
 
     fn container(&self, output: usize, item: &Item) -> Result<Container, Error> {
-        let members = (0..item.length).map(|place| self.member(output, place)).collect::<Result<_, _>>()?;
+        let members = (0..item.length).map(|place| self.member_at(output, place)).collect::<Result<_, _>>()?;
         Ok(Container { by: Type::of(item.by), of: Type::of(item.scalar), members })
     }
 
-    fn member(&self, output: usize, place: usize) -> Result<(Scalar, Option<Scalar>), Error> {
+    fn member_at(&self, output: usize, place: usize) -> Result<(Scalar, Option<Scalar>), Error> {
         let mut member = raw::Member::default();
         done(unsafe { raw::yuglemit_report_member(self.owner.at(), output, place, &mut member) })?;
         let text = |at, room, length| unsafe { raw::yuglemit_report_subscript_text(at, output, place, room, length) };

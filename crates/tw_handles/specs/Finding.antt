@@ -1,0 +1,47 @@
+-- The place of a subscript in an output.
+use Rattle.std.specs.Prelude.{◌≡◌, ◌⊎◌, ℕ, List, IsUtf8, Option, Some, None, MatchOption, slice_get}
+use Rattle.std.specs.declared.cmp.Ordering.{Ordering}
+use Rattle.std.specs.declared.cmp.Ordering.TheVariants.{Less}
+use Rattle.tw_pool.specs.Ends.{FinalView}
+use Rattle.tw_types.specs.ValueOrder.{Subscript, value_cmp}
+use Rattle.tw_types.specs.declared.value.Value.TheVariants as value
+use Rattle.tw_handles.specs.Asking.{Fails}
+use Rattle.tw_handles.specs.Codes.{done, no_index, no_report, no_utf8}
+use Rattle.tw_handles.specs.Loading.{report_in}
+use Rattle.tw_handles.specs.Members.{entry_at}
+use Rattle.tw_handles.specs.Reading.{final_of}
+use Rattle.tw_handles.specs.declared.held.Held.{Held}
+
+-- compares a subscript with one that may be missing, which is greater
+abbrev pub order_with : Subscript → Option (Subscript × ℕ) → Ordering
+order_with subscript None = Less
+order_with subscript (Some e) = value_cmp subscript e.0
+
+abbrev pub order_at : List (Subscript × ℕ) → ℕ → Subscript → Ordering
+order_at es index subscript = order_with subscript (slice_get es index)
+
+-- holds for the index of the entry with this subscript
+abbrev pub HasSubscript : List (Subscript × ℕ) → Subscript → ℕ → Type 0
+HasSubscript es subscript index = (id : ℕ) × (slice_get es index ≡ Some (subscript, id))
+
+abbrev pub HasNone : List (Subscript × ℕ) → Subscript → Type 0
+HasNone es subscript = (index : ℕ) → HasSubscript es subscript index → ⊥
+
+-- holds for the place of the member with this subscript
+abbrev pub IsThere : FinalView → ℕ → Subscript → ℕ → Type 0
+IsThere final index subscript place = (id : ℕ) × (entry_at final index place ≡ Some (subscript, id))
+
+abbrev pub IsNowhere : FinalView → ℕ → Subscript → Type 0
+IsNowhere final index subscript = (place : ℕ) → IsThere final index subscript place → ⊥
+
+-- holds if this is the place, or there is no member with this subscript
+abbrev pub IsPlaceIn : FinalView → ℕ → Subscript → ℕ → ℕ → ℕ → Type 0
+IsPlaceIn final index subscript old new code =
+    (IsThere final index subscript new × (code ≡ done)) ⊎ (IsNowhere final index subscript × Fails no_index old new code)
+
+abbrev pub IsPlace : Option Held → ℕ → Subscript → ℕ → ℕ → ℕ → Type 0
+IsPlace held index subscript old new code = MatchOption (report_in held) (Fails no_report old new code) (λ left. IsPlaceIn (final_of left) index subscript old new code)
+
+abbrev pub IsTextPlace : List ℕ → Option Held → ℕ → ℕ → ℕ → ℕ → Type 0
+IsTextPlace bytes held index old new code =
+    (IsUtf8 bytes × IsPlace held index (value.Text bytes) old new code) ⊎ ((IsUtf8 bytes → ⊥) × Fails no_utf8 old new code)
