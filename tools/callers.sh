@@ -68,6 +68,7 @@ compiled() {
         tried "c_hostile_$suffix" cc $c $flags -o "$room/hostile_$suffix" "$root/tools/loaded.c" "$library"
         tried "c_callers_$suffix" cc $c $flags $wrapped -o "$room/callers_$suffix" "$root/tools/callers.c" "$library"
         tried "cpp_$suffix" c++ $cpp $flags -o "$room/cpp_$suffix" "$root/embed/cpp/test.cpp" "$library"
+        tried "cpp_results_$suffix" c++ $cpp -fno-exceptions $flags -o "$room/cpp_results_$suffix" "$root/embed/cpp/test.cpp" "$library"
         tried "cpp_example_$suffix" c++ $cpp $flags -o "$room/cpp_example_$suffix" "$root/embed/cpp/example.cpp" "$library"
     }
 }
@@ -80,6 +81,7 @@ ran() {
     tried "hostile_$suffix" "$@" "$room/hostile_$suffix" "$room/read_number"
     tried "callers_$suffix" "$@" "$room/callers_$suffix" "$room/read_number" "$size"
     tried "cpp_test_$suffix" "$@" "$room/cpp_$suffix" "$root/examples"
+    tried "cpp_results_test_$suffix" "$@" "$room/cpp_results_$suffix" "$root/examples"
     tried "cpp_example_$suffix" "$@" "$room/cpp_example_$suffix" explain V04
     tried "loaded_$suffix" sh -c '"$@" <"$0"' "$room/fan_out" "$@" "$room/loaded_$suffix"
 }

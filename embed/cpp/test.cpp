@@ -18,17 +18,7 @@ void check(bool is_right, const char *what, int line) {
     if (!is_right) std::cout << "test.cpp:" << line << ": " << what << "\n";
 }
 
-template <class Failure, class Call> void check_throws(Call call, const char *what, int line) {
-    try {
-        call();
-        check(false, what, line);
-    } catch (const Failure &) {
-        check(true, what, line);
-    }
-}
-
 #define CHECK(is_right) check(is_right, #is_right, __LINE__)
-#define CHECK_THROWS(failure, call) check_throws<failure>([&] { call; }, #call, __LINE__)
 
 // A program that gives its input back.
 std::string same(const std::string &type) {
@@ -54,6 +44,81 @@ std::string read(const std::string &name) {
     std::ifstream file(examples + "/" + name);
     return {std::istreambuf_iterator<char>(file), {}};
 }
+
+// ---- Calls that don't throw
+
+using Kind = Error::Kind;
+
+template <class T> bool fails_as(const Result<T> &result, Kind kind) { return !result && result.error().kind == kind; }
+
+void test_results() {
+    auto text = Program::try_load(same("text"));
+    CHECK(text && text->try_run({std::string("a")}) && !text->try_run({}));
+    CHECK(*text->try_run({std::string("a\nb")})->try_output(0) == Value("a\nb"));
+    CHECK(fails_as(text->try_run({std::string("\xff")}), Kind::argument) && fails_as(text->try_run({Value()}), Kind::argument));
+    CHECK(text->try_run({}).error().code() == "O01" && text->try_run({}).error().input == 0);
+    const auto unfit = text->try_run({7});
+    CHECK(fails_as(unfit, Kind::rejected) && unfit.error().code() == "O02" && unfit.error().input == 1);
+    CHECK(unfit.error().what() == std::string("refused O02 at input 1"));
+    CHECK(fails_as(text->try_budget(1), Kind::index) && *text->try_budget(0) == 4 && *text->try_procedures() == 1);
+    CHECK(fails_as(text->try_procedure(1), Kind::index) && text->try_procedure(0)->parameters.size() == 2);
+    Options options;
+    options.workers = 17;
+    CHECK(fails_as(text->try_run({std::string()}, options), Kind::argument));
+    options.workers = 1, options.limit = 0;
+    CHECK(text->try_run({std::string()}, options).error().code() == "O04" && text->try_bounds(1000001).error().code() == "O04");
+    auto other = text->try_share();
+    { const auto gone = std::move(*text); }
+    CHECK(fails_as(text->try_run({std::string()}), Kind::use) && fails_as(text->try_share(), Kind::use) && other->try_run({std::string()}));
+}
+
+void test_result_outputs() {
+    auto program = Program::try_load(read("two_inputs.twn"));
+    auto report = program->try_run({Ints{{1, 7}, {5, -3}}, -4});
+    CHECK(report && report->end() == End::quiet && *report->try_is_closed(0));
+    CHECK(*report->try_outputs() == std::vector<Value>{Ints({{-4, 2}, {2, -4}})});
+    CHECK(*report->try_member(0, 2) == Value(-4) && *report->try_member(0, -4) == Value(2));
+    CHECK(!*report->try_member(0, 0) && !*report->try_member(1, 2) && !*report->try_member(0, "2"));
+    CHECK(fails_as(report->try_member(0, "\xff"), Kind::argument) && fails_as(report->try_output(1), Kind::index));
+    CHECK(report->try_text()->find("quiet") != std::string::npos && report->try_trace() && report->try_json() && *report->try_instructions() > 0);
+    CHECK(fails_as(program->try_run({Ints{{1, std::nullopt}}, -4}), Kind::argument));
+    CHECK(program->try_run({Ints{{1, 7}}, "4"}).error().input == 2);
+}
+
+void test_result_stops() {
+    auto endless = Program::try_load(ENDLESS);
+    auto stop = Stop::try_make();
+    auto other = stop->try_share();
+    CHECK(stop && other && other->try_raise());
+    auto report = endless->try_run({}, {}, *stop);
+    CHECK(report->end() == End::stopped && report->events() == 0 && fails_as(report->try_json(), Kind::use));
+    { const auto gone = std::move(*other); }
+    CHECK(stop->try_lower() && !other->try_lower() && !other->try_raise() && fails_as(other->try_share(), Kind::use));
+}
+
+void test_result_errors() {
+    const auto refused = Program::try_load("proc control write int\nregs int\nINT v0 7\nRET\n");
+    CHECK(fails_as(refused, Kind::rejected) && refused.error().code() == "V10" && refused.error().line == 4);
+    const auto meaning = try_explain(refused.error().code());
+    CHECK(meaning && meaning->substr(0, 5) == "V10: ");
+    CHECK(fails_as(try_explain("V99"), Kind::argument) && fails_as(try_explain(""), Kind::argument) && !try_explain("--help"));
+    CHECK(try_session({"explain", "V10"}, "")->status == 0 && *try_procedure_name(read("pipeline.twn"), 0) == "main");
+    CHECK(try_verify("TWB")->letter == 'F');
+}
+
+#ifdef __cpp_exceptions
+// ---- Calls that throw
+
+template <class Failure, class Call> void check_throws(Call call, const char *what, int line) {
+    try {
+        call();
+        check(false, what, line);
+    } catch (const Failure &) {
+        check(true, what, line);
+    }
+}
+
+#define CHECK_THROWS(failure, call) check_throws<failure>([&] { call; }, #call, __LINE__)
 
 void test_values() {
     auto number = Program::load(same("int"));
@@ -81,9 +146,12 @@ void test_output_containers() {
     auto report = Program::load(read("two_inputs.twn")).run({Ints{{1, 7}, {5, -3}}, -4});
     CHECK(report.end() == End::quiet && report.is_closed(0));
     CHECK(report.outputs() == std::vector<Value>{Ints({{-4, 2}, {2, -4}})});
+    CHECK(report.member(0, 2) == Value(-4) && report.member(0, -4) == Value(2));
+    CHECK(!report.member(0, 0) && !report.member(1, 2) && !report.member(0, "2"));
     CHECK(Program::load(read("two_inputs.twn")).run({report.output(0), 1}).end() == End::quiet);
     auto words = Program::load(read("words.twn")).run({Texts{{1, "the"}, {2, "a\"\n"}, {3, "the"}}});
     CHECK(words.outputs() == std::vector<Value>{IntsByText({{"the", 2}, {"a\"\n", 1}})});
+    CHECK(words.member(0, "the") == Value(2) && words.member(0, "a\"\n") == Value(1) && !words.member(0, "") && !words.member(0, 1));
 }
 
 // A run that is stuck leaves an output unset and one open.
@@ -155,9 +223,9 @@ bool is_above(const Options &options) {
 
 void test_caps() {
     Options options;
-    options.caps = {4, 24, 2, 0, 6};
+    options.caps = {4, 24, 2, 0, 6, 0, 3};
     CHECK(!is_above(options));
-    for (auto cap : {&Caps::tasks, &Caps::instructions, &Caps::data, &Caps::budget}) {
+    for (auto cap : {&Caps::tasks, &Caps::instructions, &Caps::data, &Caps::budget, &Caps::rules}) {
         Options smaller = options;
         --*(smaller.caps.*cap);
         CHECK(is_above(smaller));
@@ -171,6 +239,11 @@ void test_caps() {
     CHECK(Program::load(MEMBER).run({}, texts).end() == End::quiet);
     texts.caps.bytes = 8191;
     CHECK_THROWS(Error, Program::load(MEMBER).run({}, texts));
+    Options members;
+    members.caps.members = 1;
+    CHECK(Program::load(MEMBER).run({}, members).end() == End::quiet);
+    members.caps.members = 0;
+    CHECK_THROWS(Error, Program::load(MEMBER).run({}, members));
 }
 
 void test_sessions() {
@@ -200,6 +273,8 @@ void test_errors() {
     } catch (const Error &error) {
         CHECK(error.code() == "N04" && error.line == 4 && error.word == 2 && error.column == 5);
     }
+    CHECK(explain("V10").substr(0, 5) == "V10: ");
+    CHECK_THROWS(std::invalid_argument, explain("V99"));
     CHECK_THROWS(Error, Program::load(""));
     CHECK_THROWS(Error, Program::load("TWB", YUGLEMIT_BYTES));
 }
@@ -222,15 +297,7 @@ void test_stops() {
     CHECK(endless.run({}, options, stop).end() == End::limit);
 }
 
-static_assert(!std::is_copy_constructible_v<Program> && std::is_nothrow_move_constructible_v<Program>);
-static_assert(!std::is_copy_constructible_v<Report> && std::is_nothrow_move_constructible_v<Report>);
-static_assert(!std::is_copy_constructible_v<Stop> && std::is_nothrow_move_constructible_v<Stop>);
-
-}  // namespace
-
-int main(int count, char **word) {
-    if (count != 2) return 2;
-    examples = word[1];
+void test_throwing() {
     test_values();
     test_containers();
     test_output_containers();
@@ -242,6 +309,25 @@ int main(int count, char **word) {
     test_sessions();
     test_errors();
     test_stops();
+}
+#else
+void test_throwing() {}
+#endif
+
+static_assert(!std::is_copy_constructible_v<Program> && std::is_nothrow_move_constructible_v<Program>);
+static_assert(!std::is_copy_constructible_v<Report> && std::is_nothrow_move_constructible_v<Report>);
+static_assert(!std::is_copy_constructible_v<Stop> && std::is_nothrow_move_constructible_v<Stop>);
+
+}  // namespace
+
+int main(int count, char **word) {
+    if (count != 2) return 2;
+    examples = word[1];
+    test_results();
+    test_result_outputs();
+    test_result_stops();
+    test_result_errors();
+    test_throwing();
     std::cout << "C++: " << passed << " passed, " << failed << " failed\n";
     return failed != 0;
 }

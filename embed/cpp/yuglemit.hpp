@@ -5,8 +5,15 @@
 //     auto report = program.run({yuglemit::Ints{{1, 7}, {5, -3}}, -4});
 //     report.end(); report.outputs();
 //
-// All calls throw: Error for a program or inputs that are rejected, std::bad_alloc if memory runs out, std::logic_error for a call on an
-// object that was moved from. An object is used by one thread at a time; Program::share and Stop::share make one for another thread.
+// All of these calls throw: Error for a program or inputs that are rejected, std::bad_alloc if memory runs out, std::invalid_argument and
+// std::out_of_range for arguments, std::logic_error for a call on an object that was moved from. For each there is one that doesn't throw, whose name
+// begins with try_. It returns a Result: the value, or an Error whose kind says what failed. With -fno-exceptions there are only these:
+//
+//     auto program = yuglemit::Program::try_load(text);
+//     if (!program) return program.error().what();
+//     auto report = program->try_run({7});
+//
+// An object is used by one thread at a time; Program::share and Stop::share make one for another thread.
 #ifndef YUGLEMIT_HPP
 #define YUGLEMIT_HPP
 #include "yuglemit.h"
@@ -33,21 +40,36 @@ using TextsByText = Container<std::string, std::string>;
 // An input or an output. An output that is unset is std::monostate.
 using Value = std::variant<std::monostate, std::int64_t, std::string, Ints, Texts, IntsByText, TextsByText>;
 
-// Says that a program isn't accepted, or that a run can't begin. Positions are as in yuglemit_source_verdict; 0 where there is none.
+// Says why a call failed: a program isn't accepted, a run can't begin, or an Error::Kind that the calls that throw report by a type of std. Positions
+// are as in yuglemit_source_verdict; 0 where there is none.
 class Error : public std::runtime_error {
 public:
+    enum class Kind {
+        rejected,  // Error: the program, or the inputs and the options of a run; it has a letter and a number
+        memory,    // std::bad_alloc
+        argument,  // std::invalid_argument
+        index,     // std::out_of_range
+        use        // std::logic_error
+    };
+
     explicit Error(const yuglemit_source_verdict &verdict)
         : std::runtime_error(message(verdict)), letter(static_cast<char>(verdict.verdict.letter)), number(verdict.verdict.number),
           procedure(verdict.verdict.procedure), place(verdict.verdict.place), line(verdict.line), word(verdict.word), column(verdict.column) {}
 
-    explicit Error(int run_code) : std::runtime_error("refused " + code_of('O', run_code)), letter('O'), number(run_code) {}
+    explicit Error(int run_code, std::size_t input_number = 0)
+        : std::runtime_error("refused " + code_of('O', run_code) + (input_number ? " at input " + std::to_string(input_number) : "")), letter('O'),
+          number(run_code), input(input_number) {}
 
-    // As in `tw explain V04`.
+    Error(Kind failed, const std::string &message) : std::runtime_error("yuglemit: " + message), kind(failed) {}
+
+    // As explain takes it, as V04; only of an error that is rejected.
     std::string code() const { return code_of(letter, number); }
 
-    char letter;
-    int number;
+    Kind kind = Kind::rejected;
+    char letter = 0;
+    int number = 0;
     std::size_t procedure = 0, place = 0, line = 0, word = 0, column = 0;
+    std::size_t input = 0;  // O02: which input doesn't fit main, from 1
 
 private:
     static std::string code_of(char letter, int number) { return letter + std::string(number < 10 ? "0" : "") + std::to_string(number); }
@@ -59,6 +81,23 @@ private:
         if (it.letter == 'V') text += " in procedure " + std::to_string(it.procedure) + " at place " + std::to_string(it.place);
         return verdict.line ? text + " at line " + std::to_string(verdict.line) : text;
     }
+};
+
+// The result of a call that doesn't throw: a value, or the error. Test it before you use either.
+template <class T> class [[nodiscard]] Result {
+public:
+    Result(T value) : it_(std::in_place_index<0>, std::move(value)) {}
+    Result(Error error) : it_(std::in_place_index<1>, std::move(error)) {}
+
+    explicit operator bool() const { return it_.index() == 0; }
+    T &operator*() { return *std::get_if<0>(&it_); }
+    const T &operator*() const { return *std::get_if<0>(&it_); }
+    T *operator->() { return std::get_if<0>(&it_); }
+    const T *operator->() const { return std::get_if<0>(&it_); }
+    const Error &error() const { return *std::get_if<1>(&it_); }
+
+private:
+    std::variant<T, Error> it_;
 };
 
 namespace detail {
@@ -86,15 +125,44 @@ using StopHandle = Handle<yuglemit_stop, yuglemit_stop_free>;
 using ReportHandle = Handle<yuglemit_report, yuglemit_report_free>;
 using TextHandle = Handle<yuglemit_text, yuglemit_text_free>;
 
-// Throws the error of a call, if there is one.
-inline void done(std::uint8_t code) {
-    if (code == YUGLEMIT_DONE) return;
-    if (code == YUGLEMIT_NO_MEMORY || code == 5) throw std::bad_alloc();
-    if (code < 32) throw Error(code);
-    if (code == YUGLEMIT_NO_LAYOUT) throw std::invalid_argument("yuglemit: engines and servers are 1 to 4, workers 1 to 16");
-    if (code == YUGLEMIT_NO_UTF8) throw std::invalid_argument("yuglemit: a text isn't UTF-8");
-    if (code == YUGLEMIT_NO_INDEX) throw std::out_of_range("yuglemit: there is none of this index");
-    throw std::logic_error(std::string("yuglemit: a call returned the error ") + static_cast<char>(code));
+using Code = std::uint8_t;  // of a call: 0, the number of an error, or a letter
+constexpr Code UNSET = 32;  // no call returns it: an input is unset
+
+// Returns the error of a call, which failed.
+inline Error error_of(Code code) {
+    using Kind = Error::Kind;
+    if (code == YUGLEMIT_NO_MEMORY || code == YUGLEMIT_STATUS_MEMORY) return {Kind::memory, "out of memory"};
+    if (code < UNSET) return Error(code);
+    if (code == UNSET) return {Kind::argument, "an input or a member of one is unset"};
+    if (code == YUGLEMIT_NO_LAYOUT) return {Kind::argument, "engines and servers are 1 to 4, workers 1 to 16"};
+    if (code == YUGLEMIT_NO_UTF8) return {Kind::argument, "a text isn't UTF-8"};
+    if (code == YUGLEMIT_NO_INDEX) return {Kind::index, "there is none of this index"};
+    return {Kind::use, std::string("a call returned the error ") + static_cast<char>(code)};
+}
+
+#ifdef __cpp_exceptions
+[[noreturn]] inline void raise(const Error &error) {
+    switch (error.kind) {
+    case Error::Kind::memory: throw std::bad_alloc();
+    case Error::Kind::argument: throw std::invalid_argument(error.what());
+    case Error::Kind::index: throw std::out_of_range(error.what());
+    case Error::Kind::use: throw std::logic_error(error.what());
+    default: throw error;
+    }
+}
+
+template <class T> T value_of(Result<T> result) {
+    if (!result) raise(result.error());
+    return std::move(*result);
+}
+#endif
+
+// Returns what a call writes.
+template <class T, class Call> Result<T> written(Call call) {
+    T found{};
+    const Code code = call(&found);
+    if (code) return error_of(code);
+    return found;
 }
 
 // The library takes no null pointer, also if the length is 0.
@@ -102,14 +170,12 @@ inline const std::uint8_t *bytes_of(std::string_view text) {
     return reinterpret_cast<const std::uint8_t *>(text.empty() ? "" : text.data());
 }
 
-inline std::uint8_t add(yuglemit_container *to, std::int64_t by, std::int64_t number) { return yuglemit_member_int(to, by, number); }
-inline std::uint8_t add(yuglemit_container *to, std::int64_t by, const std::string &text) {
-    return yuglemit_member_text(to, by, bytes_of(text), text.size());
-}
-inline std::uint8_t add(yuglemit_container *to, const std::string &by, std::int64_t number) {
+inline Code add(yuglemit_container *to, std::int64_t by, std::int64_t number) { return yuglemit_member_int(to, by, number); }
+inline Code add(yuglemit_container *to, std::int64_t by, const std::string &text) { return yuglemit_member_text(to, by, bytes_of(text), text.size()); }
+inline Code add(yuglemit_container *to, const std::string &by, std::int64_t number) {
     return yuglemit_member_int_by_text(to, bytes_of(by), by.size(), number);
 }
-inline std::uint8_t add(yuglemit_container *to, const std::string &by, const std::string &text) {
+inline Code add(yuglemit_container *to, const std::string &by, const std::string &text) {
     return yuglemit_member_text_by_text(to, bytes_of(by), by.size(), bytes_of(text), text.size());
 }
 
@@ -120,39 +186,41 @@ inline std::uint8_t letter_of(const std::string &) { return 't'; }
 struct Append {
     InputsHandle &inputs;
 
-    void operator()(std::monostate) const { throw std::invalid_argument("yuglemit: an input is unset"); }
-    void operator()(std::int64_t number) const { done(yuglemit_input_int(inputs.get(), number)); }
-    void operator()(const std::string &text) const { done(yuglemit_input_text(inputs.get(), bytes_of(text), text.size())); }
-    template <class By, class Scalar> void operator()(const Container<By, Scalar> &members) const {
+    Code operator()(std::monostate) const { return UNSET; }
+    Code operator()(std::int64_t number) const { return yuglemit_input_int(inputs.get(), number); }
+    Code operator()(const std::string &text) const { return yuglemit_input_text(inputs.get(), bytes_of(text), text.size()); }
+    template <class By, class Scalar> Code operator()(const Container<By, Scalar> &members) const {
         ContainerHandle container;
-        done(yuglemit_container_new(container.get(), letter_of(By{}), letter_of(Scalar{})));
-        for (const auto &[by, member] : members) {
-            if (!member) throw std::invalid_argument("yuglemit: a member of an input is unset");
-            done(add(container.get(), by, *member));
-        }
-        done(yuglemit_input_container(inputs.get(), container.get()));
+        Code code = yuglemit_container_new(container.get(), letter_of(By{}), letter_of(Scalar{}));
+        for (auto member = members.begin(); !code && member != members.end(); ++member)
+            code = member->second ? add(container.get(), member->first, *member->second) : UNSET;
+        return code ? code : yuglemit_input_container(inputs.get(), container.get());
     }
 };
 
-// Returns a text of this length that a call writes.
-template <class Call> std::string text_of(std::size_t length, Call call) {
-    std::string text(length ? length : 1, '\0');
-    done(call(reinterpret_cast<std::uint8_t *>(text.data()), length));
+// Makes a text of this length, which a call writes.
+template <class Call> Code write_text(std::string &text, std::size_t length, Call call) {
+    text.assign(length ? length : 1, '\0');
+    const Code code = call(reinterpret_cast<std::uint8_t *>(text.data()), length);
     text.resize(length);
-    return text;
+    return code;
 }
 
 // Returns the text of a handle.
-inline std::string kept_text(TextHandle &kept) {
+inline Result<std::string> kept_text(TextHandle &kept) {
     std::size_t length = 0;
-    done(yuglemit_text_length(kept.get(), &length));
-    return text_of(length, [&](auto room, auto size) { return yuglemit_text_copy(kept.get(), room, size); });
+    std::string text;
+    Code code = yuglemit_text_length(kept.get(), &length);
+    if (!code) code = write_text(text, length, [&](auto room, auto size) { return yuglemit_text_copy(kept.get(), room, size); });
+    if (code) return error_of(code);
+    return text;
 }
 
 // Returns the text that a call puts into a handle.
-template <class Call> std::string made_text(Call call) {
+template <class Call> Result<std::string> made_text(Call call) {
     TextHandle made;
-    done(call(made.get()));
+    const Code code = call(made.get());
+    if (code) return error_of(code);
     return kept_text(made);
 }
 
@@ -161,14 +229,33 @@ template <class Call> std::string made_text(Call call) {
 // Stops runs: give it to Program::run, and raise one that shares its flag in another thread.
 class Stop {
 public:
-    Stop() { detail::done(yuglemit_stop_new(handle_.get())); }
-    Stop share() {
+    static Result<Stop> try_make() {
+        Stop made{detail::StopHandle()};
+        const auto code = yuglemit_stop_new(made.handle_.get());
+        if (code) return detail::error_of(code);
+        return made;
+    }
+    Result<Stop> try_share() {
         Stop other{detail::StopHandle()};
-        detail::done(yuglemit_stop_share(handle_.get(), other.handle_.get()));
+        const auto code = yuglemit_stop_share(handle_.get(), other.handle_.get());
+        if (code) return detail::error_of(code);
         return other;
     }
-    void raise() { detail::done(yuglemit_stop_raise(handle_.get())); }
-    void lower() { detail::done(yuglemit_stop_lower(handle_.get())); }
+
+    // Return false if the object was moved from.
+    bool try_raise() { return yuglemit_stop_raise(handle_.get()) == YUGLEMIT_DONE; }
+    bool try_lower() { return yuglemit_stop_lower(handle_.get()) == YUGLEMIT_DONE; }
+
+#ifdef __cpp_exceptions
+    Stop() : Stop(detail::value_of(try_make())) {}
+    Stop share() { return detail::value_of(try_share()); }
+    void raise() {
+        if (!try_raise()) detail::raise(detail::error_of(YUGLEMIT_NO_STOP));
+    }
+    void lower() {
+        if (!try_lower()) detail::raise(detail::error_of(YUGLEMIT_NO_STOP));
+    }
+#endif
 
 private:
     friend class Program;
@@ -186,83 +273,130 @@ public:
     std::size_t output_count() const { return ending_.outputs; }
 
     // How many instructions the run executed; the greatest number if they were more.
-    std::uint64_t instructions() {
-        std::uint64_t count = 0;
-        detail::done(yuglemit_report_instructions(handle_.get(), &count));
-        return count;
+    Result<std::uint64_t> try_instructions() {
+        return detail::written<std::uint64_t>([&](auto at) { return yuglemit_report_instructions(handle_.get(), at); });
     }
 
     // The report as `tw run` prints that of a program's bytes, the events as `tw run --trace` does, and the line of `tw run --json`, which a run
-    // that was stopped hasn't (std::logic_error). The run isn't made again.
-    std::string text() {
+    // that was stopped hasn't (Kind::use). The run isn't made again.
+    Result<std::string> try_text() {
         return detail::made_text([&](auto text) { return yuglemit_print_report(handle_.get(), text); });
     }
-    std::string trace() {
+    Result<std::string> try_trace() {
         return detail::made_text([&](auto text) { return yuglemit_print_trace(handle_.get(), text); });
     }
-    std::string json() {
+    Result<std::string> try_json() {
         return detail::made_text([&](auto text) { return yuglemit_print_json(handle_.get(), text); });
     }
 
     // Returns whether an output never changes again.
-    bool is_closed(std::size_t output) { return item(output).closed != 0; }
-
-    Value output(std::size_t output) {
-        const auto found = item(output);
-        switch (found.kind) {
-        case 'i': return found.number;
-        case 't': return text(output, found);
-        case 'c': return found.by == 't' ? by<std::string>(output, found) : by<std::int64_t>(output, found);
-        default: return std::monostate();
-        }
+    Result<bool> try_is_closed(std::size_t output) {
+        yuglemit_item found{};
+        const auto code = yuglemit_report_output(handle_.get(), output, &found);
+        if (code) return detail::error_of(code);
+        return found.closed != 0;
     }
 
-    std::vector<Value> outputs() {
-        std::vector<Value> values;
-        for (std::size_t number = 0; number < ending_.outputs; number++) values.push_back(output(number));
+    Result<Value> try_output(std::size_t output) {
+        return detail::written<Value>([&](Value *value) { return read_output(output, *value); });
+    }
+
+    Result<std::vector<Value>> try_outputs() {
+        std::vector<Value> values(ending_.outputs);
+        for (std::size_t output = 0; output < values.size(); output++)
+            if (const auto code = read_output(output, values[output])) return detail::error_of(code);
         return values;
     }
 
+    // Returns the member of an output with this subscript, without reading the others; std::monostate if it is unset, std::nullopt if there is none.
+    Result<std::optional<Value>> try_member(std::size_t output, std::int64_t subscript) {
+        return member_at(output, [&](auto place) { return yuglemit_report_find_int(handle_.get(), output, subscript, place); });
+    }
+    Result<std::optional<Value>> try_member(std::size_t output, std::string_view subscript) {
+        const auto bytes = detail::bytes_of(subscript);
+        return member_at(output, [&](auto place) { return yuglemit_report_find_text(handle_.get(), output, bytes, subscript.size(), place); });
+    }
+
+#ifdef __cpp_exceptions
+    std::uint64_t instructions() { return detail::value_of(try_instructions()); }
+    std::string text() { return detail::value_of(try_text()); }
+    std::string trace() { return detail::value_of(try_trace()); }
+    std::string json() { return detail::value_of(try_json()); }
+    bool is_closed(std::size_t output) { return detail::value_of(try_is_closed(output)); }
+    Value output(std::size_t output) { return detail::value_of(try_output(output)); }
+    std::vector<Value> outputs() { return detail::value_of(try_outputs()); }
+    std::optional<Value> member(std::size_t output, std::int64_t subscript) { return detail::value_of(try_member(output, subscript)); }
+    std::optional<Value> member(std::size_t output, std::string_view subscript) { return detail::value_of(try_member(output, subscript)); }
+#endif
+
 private:
     friend class Program;
-    explicit Report(detail::ReportHandle handle) : handle_(std::move(handle)) {
-        detail::done(yuglemit_report_ending(handle_.get(), &ending_));
-        if (ending_.status == 5) throw std::bad_alloc();
-    }
+    Report(detail::ReportHandle handle, const yuglemit_ending &ending) : handle_(std::move(handle)), ending_(ending) {}
 
-    yuglemit_item item(std::size_t output) {
-        yuglemit_item found{};
-        detail::done(yuglemit_report_output(handle_.get(), output, &found));
-        return found;
+    detail::Code read(std::size_t, std::size_t, const yuglemit_item &found, bool, std::int64_t &number) {
+        number = found.number;
+        return YUGLEMIT_DONE;
     }
-
-    std::string text(std::size_t output, const yuglemit_item &found) {
-        return detail::text_of(found.length, [&](auto room, auto size) { return yuglemit_report_text(handle_.get(), output, room, size); });
-    }
-
-    void read(std::size_t, std::size_t, const yuglemit_item &found, bool, std::int64_t &number) { number = found.number; }
-    void read(std::size_t output, std::size_t place, const yuglemit_item &found, bool is_subscript, std::string &text) {
+    detail::Code read(std::size_t output, std::size_t place, const yuglemit_item &found, bool is_subscript, std::string &text) {
         const auto call = is_subscript ? yuglemit_report_subscript_text : yuglemit_report_member_text;
-        text = detail::text_of(found.length, [&](auto room, auto size) { return call(handle_.get(), output, place, room, size); });
+        return detail::write_text(text, found.length, [&](auto room, auto size) { return call(handle_.get(), output, place, room, size); });
     }
 
-    template <class By> Value by(std::size_t output, const yuglemit_item &found) {
-        return found.scalar == 't' ? Value(members<By, std::string>(output, found)) : Value(members<By, std::int64_t>(output, found));
+    detail::Code read_text(std::size_t output, const yuglemit_item &found, Value &value) {
+        std::string text;
+        const auto code = detail::write_text(text, found.length, [&](auto room, auto size) { return yuglemit_report_text(handle_.get(), output, room, size); });
+        value = std::move(text);
+        return code;
     }
 
-    template <class By, class Scalar> Container<By, Scalar> members(std::size_t output, const yuglemit_item &found) {
-        Container<By, Scalar> all;
-        for (std::size_t place = 0; place < found.length; place++) {
-            yuglemit_member member{};
-            detail::done(yuglemit_report_member(handle_.get(), output, place, &member));
-            By subscript{};
-            Scalar value{};
-            read(output, place, member.subscript, true, subscript);
-            const bool is_set = member.value.kind != 'u' && member.value.kind != 0;
-            if (is_set) read(output, place, member.value, false, value);
-            all.emplace_hint(all.end(), std::move(subscript), is_set ? std::optional<Scalar>(std::move(value)) : std::nullopt);
+    detail::Code read_output(std::size_t output, Value &value) {
+        yuglemit_item found{};
+        const auto code = yuglemit_report_output(handle_.get(), output, &found);
+        if (code) return code;
+        switch (found.kind) {
+        case YUGLEMIT_KIND_INT: value = found.number; return YUGLEMIT_DONE;
+        case YUGLEMIT_KIND_TEXT: return read_text(output, found, value);
+        case YUGLEMIT_KIND_CONTAINER:
+            return found.by == 't' ? read_by<std::string>(output, found, value) : read_by<std::int64_t>(output, found, value);
+        default: value = std::monostate(); return YUGLEMIT_DONE;
         }
-        return all;
+    }
+
+    template <class By> detail::Code read_by(std::size_t output, const yuglemit_item &found, Value &value) {
+        return found.scalar == 't' ? read_members<By, std::string>(output, found, value) : read_members<By, std::int64_t>(output, found, value);
+    }
+
+    template <class By, class Scalar> detail::Code read_members(std::size_t output, const yuglemit_item &found, Value &value) {
+        Container<By, Scalar> all;
+        detail::Code code = YUGLEMIT_DONE;
+        for (std::size_t place = 0; !code && place < found.length; place++) code = read_member(output, place, all);
+        value = std::move(all);
+        return code;
+    }
+
+    template <class By, class Scalar> detail::Code read_member(std::size_t output, std::size_t place, Container<By, Scalar> &all) {
+        yuglemit_member member{};
+        By subscript{};
+        Scalar value{};
+        auto code = yuglemit_report_member(handle_.get(), output, place, &member);
+        if (!code) code = read(output, place, member.subscript, true, subscript);
+        const bool is_set = member.value.kind != YUGLEMIT_KIND_UNSET && member.value.kind != YUGLEMIT_KIND_NONE;
+        if (!code && is_set) code = read(output, place, member.value, false, value);
+        if (!code) all.emplace_hint(all.end(), std::move(subscript), is_set ? std::optional<Scalar>(std::move(value)) : std::nullopt);
+        return code;
+    }
+
+    template <class Find> Result<std::optional<Value>> member_at(std::size_t output, Find find) {
+        std::size_t place = 0;
+        yuglemit_member found{};
+        auto code = find(&place);
+        if (code == YUGLEMIT_NO_INDEX) return std::optional<Value>();
+        if (!code) code = yuglemit_report_member(handle_.get(), output, place, &found);
+        std::string text;
+        if (!code && found.value.kind == YUGLEMIT_KIND_TEXT) code = read(output, place, found.value, false, text);
+        if (code) return detail::error_of(code);
+        if (found.value.kind == YUGLEMIT_KIND_TEXT) return std::optional<Value>(std::move(text));
+        return found.value.kind == YUGLEMIT_KIND_INT ? std::optional<Value>(found.value.number) : std::optional<Value>(std::monostate());
     }
 
     detail::ReportHandle handle_;
@@ -271,7 +405,7 @@ private:
 
 // The most that a run may do; std::nullopt is no cap.
 struct Caps {
-    std::optional<std::uint64_t> tasks, instructions, data, bytes, budget;  // as in yuglemit_caps
+    std::optional<std::uint64_t> tasks, instructions, data, bytes, budget, members, rules;  // as in yuglemit_caps
 };
 
 struct Options {
@@ -284,21 +418,22 @@ struct Options {
 class Program {
 public:
     // Loads a program from its bytes, hex text or assembly text.
-    static Program load(std::string_view source, std::uint8_t format = YUGLEMIT_ANY_FORMAT) {
+    static Result<Program> try_load(std::string_view source, std::uint8_t format = YUGLEMIT_ANY_FORMAT) {
         Program program;
         yuglemit_source_verdict verdict{};
         yuglemit_load_source(detail::bytes_of(source), source.size(), format, program.handle_.get(), &verdict);
-        if (verdict.verdict.letter == 'M') throw std::bad_alloc();
-        if (verdict.verdict.letter) throw Error(verdict);
+        if (verdict.verdict.letter == YUGLEMIT_LETTER_MEMORY) return detail::error_of(YUGLEMIT_NO_MEMORY);
+        if (verdict.verdict.letter) return Error(verdict);
         program.engines_ = verdict.verdict.engines;
         program.workers_ = verdict.verdict.workers;
         return program;
     }
 
     // Makes another object of the same program, for another thread.
-    Program share() {
+    Result<Program> try_share() {
         Program other;
-        detail::done(yuglemit_program_share(handle_.get(), other.handle_.get()));
+        const auto code = yuglemit_program_share(handle_.get(), other.handle_.get());
+        if (code) return detail::error_of(code);
         other.engines_ = engines_;
         other.workers_ = workers_;
         return other;
@@ -308,10 +443,8 @@ public:
     int needed_engines() const { return engines_; }
     int needed_workers() const { return workers_; }
 
-    std::size_t procedures() {
-        std::size_t count = 0;
-        detail::done(yuglemit_program_procedures(handle_.get(), &count));
-        return count;
+    Result<std::size_t> try_procedures() {
+        return detail::written<std::size_t>([&](auto at) { return yuglemit_program_procedures(handle_.get(), at); });
     }
 
     // A procedure: 'c' control or 'l' leaf, and its parameters as in yuglemit_parameter.
@@ -320,51 +453,75 @@ public:
         std::vector<yuglemit_parameter> parameters;
     };
 
-    Procedure procedure(std::size_t number) {
+    Result<Procedure> try_procedure(std::size_t number) {
         yuglemit_procedure found{};
-        detail::done(yuglemit_program_procedure(handle_.get(), number, &found));
+        auto code = yuglemit_program_procedure(handle_.get(), number, &found);
         Procedure procedure{static_cast<char>(found.kind), std::vector<yuglemit_parameter>(found.parameters)};
-        for (std::size_t index = 0; index < found.parameters; index++)
-            detail::done(yuglemit_program_parameter(handle_.get(), number, index, &procedure.parameters[index]));
+        for (std::size_t index = 0; !code && index < found.parameters; index++)
+            code = yuglemit_program_parameter(handle_.get(), number, index, &procedure.parameters[index]);
+        if (code) return detail::error_of(code);
         return procedure;
     }
 
     // The most instructions that one task of a procedure executes.
-    std::uint64_t budget(std::size_t procedure) {
-        std::uint64_t most = 0;
-        detail::done(yuglemit_program_budget(handle_.get(), procedure, &most));
-        return most;
+    Result<std::uint64_t> try_budget(std::size_t procedure) {
+        return detail::written<std::uint64_t>([&](auto at) { return yuglemit_program_budget(handle_.get(), procedure, at); });
     }
 
     // The bounds of runs with at most so many events, or of all runs if the limit is 0.
-    yuglemit_bounds bounds(std::size_t limit = 0) {
-        yuglemit_bounds found{};
-        detail::done(yuglemit_program_bounds(handle_.get(), limit, &found));
-        return found;
+    Result<yuglemit_bounds> try_bounds(std::size_t limit = 0) {
+        return detail::written<yuglemit_bounds>([&](auto at) { return yuglemit_program_bounds(handle_.get(), limit, at); });
     }
 
     // Runs the program in this thread, its actors in turn.
-    Report run(const std::vector<Value> &values = {}, const Options &options = {}) {
+    Result<Report> try_run(const std::vector<Value> &values = {}, const Options &options = {}) {
         detail::StopHandle none;
         return run_until(values, options, none);
     }
 
     // Runs the program until its end, or until `stop` is raised.
-    Report run(const std::vector<Value> &values, const Options &options, Stop &stop) { return run_until(values, options, stop.handle_); }
+    Result<Report> try_run(const std::vector<Value> &values, const Options &options, Stop &stop) { return run_until(values, options, stop.handle_); }
+
+#ifdef __cpp_exceptions
+    static Program load(std::string_view source, std::uint8_t format = YUGLEMIT_ANY_FORMAT) { return detail::value_of(try_load(source, format)); }
+    Program share() { return detail::value_of(try_share()); }
+    std::size_t procedures() { return detail::value_of(try_procedures()); }
+    Procedure procedure(std::size_t number) { return detail::value_of(try_procedure(number)); }
+    std::uint64_t budget(std::size_t procedure) { return detail::value_of(try_budget(procedure)); }
+    yuglemit_bounds bounds(std::size_t limit = 0) { return detail::value_of(try_bounds(limit)); }
+    Report run(const std::vector<Value> &values = {}, const Options &options = {}) { return detail::value_of(try_run(values, options)); }
+    Report run(const std::vector<Value> &values, const Options &options, Stop &stop) { return detail::value_of(try_run(values, options, stop)); }
+#endif
 
 private:
     Program() = default;
 
-    Report run_until(const std::vector<Value> &values, const Options &options, detail::StopHandle &stop) {
+    Result<Report> run_until(const std::vector<Value> &values, const Options &options, detail::StopHandle &stop) {
         detail::InputsHandle inputs;
-        for (const auto &value : values) std::visit(detail::Append{inputs}, value);
+        for (const auto &value : values)
+            if (const auto code = std::visit(detail::Append{inputs}, value)) return detail::error_of(code);
+        detail::ReportHandle report;
+        const auto code = run_into(report, inputs, options, stop);
+        std::size_t index = 0;
+        if (code == 2 && yuglemit_unfit_input(handle_.get(), inputs.get(), &index) == YUGLEMIT_DONE) return Error(code, index + 1);
+        if (code) return detail::error_of(code);
+        return read(std::move(report));
+    }
+
+    detail::Code run_into(detail::ReportHandle &report, detail::InputsHandle &inputs, const Options &options, detail::StopHandle &stop) {
         const yuglemit_options raw = {sizeof(yuglemit_options), options.limit, options.engines, options.servers, options.workers};
         const auto cap = [](const std::optional<std::uint64_t> &most) { return most.value_or(UINT64_MAX); };
-        const auto &[tasks, instructions, data, bytes, budget] = options.caps;
-        const yuglemit_caps caps = {sizeof(yuglemit_caps), cap(tasks), cap(instructions), cap(data), cap(bytes), cap(budget)};
-        detail::ReportHandle report;
-        detail::done(yuglemit_run_within(handle_.get(), inputs.get(), &raw, &caps, stop.get(), report.get()));
-        return Report(std::move(report));
+        const auto &[tasks, instructions, data, bytes, budget, members, rules] = options.caps;
+        const yuglemit_caps caps = {sizeof(yuglemit_caps), cap(tasks), cap(instructions), cap(data), cap(bytes), cap(budget), cap(members), cap(rules)};
+        return yuglemit_run_within(handle_.get(), inputs.get(), &raw, &caps, stop.get(), report.get());
+    }
+
+    static Result<Report> read(detail::ReportHandle report) {
+        yuglemit_ending ending{};
+        auto code = yuglemit_report_ending(report.get(), &ending);
+        if (!code && ending.status == YUGLEMIT_STATUS_MEMORY) code = YUGLEMIT_NO_MEMORY;
+        if (code) return detail::error_of(code);
+        return Report(std::move(report), ending);
     }
 
     detail::ProgramHandle handle_;
@@ -378,27 +535,44 @@ struct Reply {
 };
 
 // Returns what the command tw writes with these arguments, if it reads this input. An argument with a NUL is two.
-inline Reply session(const std::vector<std::string> &words, std::string_view input) {
+inline Result<Reply> try_session(const std::vector<std::string> &words, std::string_view input) {
     std::string ended;
     for (const auto &word : words) ended += word + '\0';
     detail::TextHandle output;
     const int status = yuglemit_session_text(detail::bytes_of(ended), ended.size(), detail::bytes_of(input), input.size(), output.get());
-    if (status == 5) throw std::bad_alloc();
-    return {status, detail::kept_text(output)};
+    if (status == YUGLEMIT_STATUS_MEMORY) return detail::error_of(YUGLEMIT_NO_MEMORY);
+    auto text = detail::kept_text(output);
+    if (!text) return text.error();
+    return Reply{status, std::move(*text)};
+}
+
+// Returns the explanation of a code, as V04: what it means, what is required, the usual mistake and its correction.
+inline Result<std::string> try_explain(const std::string &code) {
+    auto reply = try_session({"explain", code}, "");
+    if (!reply) return reply.error();
+    if (code.empty() || code[0] == '-' || reply->status != YUGLEMIT_STATUS_QUIET) return Error(Error::Kind::argument, "there is no such code");
+    return std::move(reply->text);
 }
 
 // Returns the name that an assembly text gives the procedure of this number; it is empty if the text gives none.
-inline std::string procedure_name(std::string_view source, std::size_t procedure) {
+inline Result<std::string> try_procedure_name(std::string_view source, std::size_t procedure) {
     return detail::made_text([&](auto name) { return yuglemit_source_name(detail::bytes_of(source), source.size(), procedure, name); });
 }
 
 // Returns what the verifier says of a program's bytes.
-inline yuglemit_verdict verify(std::string_view bytes) {
+inline Result<yuglemit_verdict> try_verify(std::string_view bytes) {
     yuglemit_verdict verdict{};
     yuglemit_verify(detail::bytes_of(bytes), bytes.size(), &verdict);
-    if (verdict.letter == 'M') throw std::bad_alloc();
+    if (verdict.letter == YUGLEMIT_LETTER_MEMORY) return detail::error_of(YUGLEMIT_NO_MEMORY);
     return verdict;
 }
+
+#ifdef __cpp_exceptions
+inline Reply session(const std::vector<std::string> &words, std::string_view input) { return detail::value_of(try_session(words, input)); }
+inline std::string explain(const std::string &code) { return detail::value_of(try_explain(code)); }
+inline std::string procedure_name(std::string_view source, std::size_t procedure) { return detail::value_of(try_procedure_name(source, procedure)); }
+inline yuglemit_verdict verify(std::string_view bytes) { return detail::value_of(try_verify(bytes)); }
+#endif
 
 }  // namespace yuglemit
 #endif
