@@ -33,6 +33,6 @@ mod value;
 pub use error::{Error, Refused};
 pub use program::{Bound, Bounds, Caps, Format, Mode, Options, Parameter, Procedure, Program};
 pub use report::{End, Report};
-pub use session::{Reply, Verdict, session, verify};
+pub use session::{Reply, Verdict, explain, session, verify};
 pub use stop::Stop;
 pub use value::{Container, IntoScalar, Scalar, Type, Value};

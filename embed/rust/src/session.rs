@@ -38,6 +38,18 @@ pub fn session(words: &[&str], input: &[u8]) -> Reply {
     Reply { status, text }
 }
 
+/// Returns the explanation of a code, as `V04`, if there is such a code: what it means, what is required, the usual mistake and its correction.
+///
+/// ```
+/// assert!(yuglemit::explain("V10").is_some_and(|text| text.starts_with("V10: ")));
+/// assert_eq!((yuglemit::explain("V99"), yuglemit::explain("--help")), (None, None));
+/// ```
+pub fn explain(code: &str) -> Option<String> {
+    let is_code = code.starts_with(|first: char| first.is_ascii_alphabetic());
+    let reply = session(&["explain", code], b"");
+    (is_code && reply.status == 0).then(|| String::from_utf8(reply.text).expect("texts are UTF-8"))
+}
+
 /// Verifies a program's bytes.
 pub fn verify(bytes: &[u8]) -> Verdict {
     let mut verdict = raw::Verdict::default();

@@ -71,6 +71,8 @@ fn outputs_are_inputs() -> Result<(), Error> {
     let report = program.run(&[[(1, 7), (5, -3)].into(), Value::Int(-4)])?;
     assert_eq!((report.end(), report.is_closed(0)?), (End::Quiet, true));
     assert_eq!(report.outputs()?, [Value::from([(-4, 2), (2, -4)])]);
+    assert_eq!((report.member(0, 2)?, report.member(0, -4)?), (Some(Value::Int(-4)), Some(Value::Int(2))));
+    assert_eq!((report.member(0, 0)?, report.member(1, 2)?, report.member(0, "2")?), (None, None, None));
     assert_eq!(program.run(&[report.output(0)?, 1.into()])?.end(), End::Quiet);
     Ok(())
 }
