@@ -80,7 +80,7 @@ PARTS: tuple[str, ...] = (
 # Proofs that show one instruction to the prover, and then all others at once: a new one needs nothing there.
 SHOWN_ONE: tuple[str, ...] = (
     "tw_asm/proofs/Skips.antt", "tw_asm/proofs/Written.antt", "tw_diagnostics/proofs/Fewness.antt", "tw_diagnostics/proofs/Starting.antt",
-    "tw_symbols/proofs/UnchangedLines.antt",
+    "tw_asm/proofs/Firsts.antt", "tw_symbols/proofs/UnchangedLines.antt",
 )
 
 

@@ -50,7 +50,7 @@ def unquoted(text: str) -> str:
 
 def options_of(source: str) -> dict[str, str]:
     """Returns the name of each option, and that of its help's constant."""
-    return {f"--{name}": text for name, text in re.findall(r'(?:flag|option)_arg\(\s*alloc,\s*"([a-z-]+)",\s*(\w+),?\s*\)', source)}
+    return {f"--{name}": text for name, text in re.findall(r'\(\s*(?:alloc,\s*)?"([a-z-]+)",\s*(\w+_HELP),?\s*\)', source)}
 
 
 def commands_of(source: str) -> dict[str, str]:

@@ -133,10 +133,10 @@ MUTANTS = (
     Mutant("stops_come_too_late", "python", PYTHON + "_stop.py", "        if self._event.is_set():\n", "        if False:\n"),
     # C++ and Rust: values, caps, bounds, errors and handles.
     Mutant("caps_are_swapped", "cpp", CPP, "cap(data), cap(bytes)", "cap(bytes), cap(data)"),
-    Mutant("bounds_without_limit", "cpp", CPP, "yuglemit_program_bounds(handle_.get(), limit, &found)", "yuglemit_program_bounds(handle_.get(), 0, &found)"),
+    Mutant("bounds_without_limit", "cpp", CPP, "yuglemit_program_bounds(handle_.get(), limit, at)", "yuglemit_program_bounds(handle_.get(), 0, at)"),
     Mutant("null_for_empty_texts", "cpp", CPP, 'text.empty() ? "" : text.data()', "text.data()", "the library reads nothing of a length of 0, and no text of the tests has a null pointer"),
     Mutant("errors_lose_zeros", "cpp", CPP, '(number < 10 ? "0" : "")', '""'),
-    Mutant("unset_members_are_set", "cpp", CPP, "member.value.kind != 'u' && member.value.kind != 0", "true", "no container of a finished run has a member that is unset"),
+    Mutant("unset_members_are_set", "cpp", CPP, "member.value.kind != YUGLEMIT_KIND_UNSET && member.value.kind != YUGLEMIT_KIND_NONE", "true", "no container of a finished run has a member that is unset"),
     Mutant("moved_handles_stay", "cpp", CPP, "std::exchange(other.raw_, Raw{nullptr})", "other.raw_"),
     Mutant("texts_are_a_byte_longer", "cpp", CPP, "    text.resize(length);\n", ""),
     Mutant("caps_are_not_passed", "rust", RUST + "program.rs", "caps.raw()", "Caps::default().raw()"),
