@@ -25,13 +25,6 @@ std::string same(const std::string &type) {
     return "proc control closed " + type + " write " + type + "\nregs " + type + "\nGET v0 d0\nDROPR d0\nSTORE d1 v0\nRET\n";
 }
 
-// A program that copies its members to its output.
-std::string copied(const std::string &by, const std::string &of) {
-    const bool is_named = by == "text";
-    const std::string type = (is_named ? "tcont " : "cont ") + of;
-    return std::string(is_named ? "version 2\n" : "") + "proc control closed " + type + " write int\nregs int\nSIZE v0 d0\nDROPR d0\nSTORE d1 v0\nRET\n";
-}
-
 // A program that inserts a text by a text: the member is a text, and its subscript another.
 const char *const MEMBER = "version 2\nproc control\nregs text\nNEW d0 d1 tcont text\nDROPR d1\nNEW d2 d3 text\nSTORE d2 v0\nTINS d0 v0 d3 there\nJMP done\n"
                            "there:\nDROPR d3\ndone:\nDROPW d0\nRET\n";
@@ -119,6 +112,13 @@ template <class Failure, class Call> void check_throws(Call call, const char *wh
 }
 
 #define CHECK_THROWS(failure, call) check_throws<failure>([&] { call; }, #call, __LINE__)
+
+// A program that copies its members to its output.
+std::string copied(const std::string &by, const std::string &of) {
+    const bool is_named = by == "text";
+    const std::string type = (is_named ? "tcont " : "cont ") + of;
+    return std::string(is_named ? "version 2\n" : "") + "proc control closed " + type + " write int\nregs int\nSIZE v0 d0\nDROPR d0\nSTORE d1 v0\nRET\n";
+}
 
 void test_values() {
     auto number = Program::load(same("int"));

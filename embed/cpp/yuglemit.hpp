@@ -86,7 +86,8 @@ private:
 // The result of a call that doesn't throw: a value, or the error. Test it before you use either.
 template <class T> class [[nodiscard]] Result {
 public:
-    Result(T value) : it_(std::in_place_index<0>, std::move(value)) {}
+    // Inlined, it makes GCC 12 warn of texts that a Value doesn't hold.
+    [[gnu::noinline]] Result(T &&value) : it_(std::in_place_index<0>, std::move(value)) {}
     Result(Error error) : it_(std::in_place_index<1>, std::move(error)) {}
 
     explicit operator bool() const { return it_.index() == 0; }
