@@ -123,6 +123,7 @@ MUTANTS = (
     Mutant("limits_bound_nothing", "python", PYTHON + "_listing.py", "min(limit, self.events)", "self.events"),
     Mutant("greatest_is_the_first", "python", PYTHON + "_listing.py", "max(it.budget for it in procedures)", "procedures[0].budget"),
     Mutant("maps_by_completion", "python", PYTHON + "_map.py", "            while following in waiting:\n", "            for following in sorted(waiting):\n"),
+    Mutant("dropped_maps_run_on", "python", PYTHON + "_map.py", "        if stop is not None:\n            stop.set()\n", ""),
     Mutant("lost_chunks_stay_lost", "python", PYTHON + "_map.py", "        return run_chunk(part)\n\n\ndef _shower", "        return []\n\n\ndef _shower"),
     Mutant("small_buffers_cut", "python", PYTHON + "_native.py", "        if length <= len(room):\n            return", "        if True:\n            return"),
     Mutant("words_end_at_either_sign", "python", PYTHON + "_native.py", "if has_nul and has_line_feed:", "if False:"),

@@ -101,6 +101,14 @@ def setUpModule() -> None:
     signal.signal(signal.SIGINT, signal.default_int_handler)
 
 
+def threads_left(expected: int) -> int:
+    """Returns how many threads there are, once they are as many as expected, or after five seconds."""
+    ended = time.perf_counter() + 5
+    while threading.active_count() > expected and time.perf_counter() < ended:
+        time.sleep(0.01)
+    return threading.active_count()
+
+
 class Programs(unittest.TestCase):
     def test_what_is_known_before_a_run(self) -> None:
         program = yuglemit.load(EXAMPLES / "mapreduce.twn")
@@ -350,8 +358,8 @@ class Threads(unittest.TestCase):
     def test_ctrl_c_ends_the_wait_for_a_long_event(self) -> None:
         program = yuglemit.load(SLOW.format(turns=400))
         started = time.perf_counter()
-        threading.Timer(0.3, _thread.interrupt_main).start()
         with self.assertRaises(KeyboardInterrupt):
+            threading.Timer(0.3, _thread.interrupt_main).start()
             program.run()
         self.assertLess(time.perf_counter() - started, 0.3 + 0.1 + 0.3)
 
@@ -372,8 +380,12 @@ class Threads(unittest.TestCase):
 class Stops(unittest.TestCase):
     def test_another_thread_stops_a_run(self) -> None:
         program, stop = yuglemit.load(ENDLESS), yuglemit.Stop()
-        threading.Timer(0.1, stop.set).start()
-        report = program.run(limit=1_000_000, stop=stop)
+        for seconds in (0.1, 1, 4):  # on a slow machine the run begins late
+            stop.clear()
+            threading.Timer(seconds, stop.set).start()
+            report = program.run(limit=1_000_000, stop=stop)
+            if report.events:
+                break
         self.assertEqual((report.end, report.outputs, report.error), ("stopped", [], None))
         self.assertTrue(0 < report.events < 1_000_000)
         again = program.run(limit=report.events)
@@ -413,8 +425,8 @@ class Stops(unittest.TestCase):
 
     def test_an_interrupt_leaves_the_stop_alone(self) -> None:
         program, stop = yuglemit.load(ENDLESS), yuglemit.Stop()
-        threading.Timer(0.1, _thread.interrupt_main).start()
         with self.assertRaises(KeyboardInterrupt):
+            threading.Timer(0.1, _thread.interrupt_main).start()
             program.run(limit=1_000_000, stop=stop)
         self.assertFalse(stop.is_set())
         self.assertEqual(program.run(limit=20, stop=stop).end, "limit")
@@ -424,13 +436,13 @@ class Stops(unittest.TestCase):
         self.assertEqual([it.end for it in reports], ["limit"] * 3)
         before = threading.active_count()
         reports = yuglemit.map(yuglemit.load(ENDLESS), [()] * 50, limit=1_000_000)
-        threading.Timer(0.2, lambda: os.kill(os.getpid(), signal.SIGINT)).start()
         with self.assertRaises(KeyboardInterrupt):
+            threading.Timer(0.2, lambda: os.kill(os.getpid(), signal.SIGINT)).start()
             next(reports)
-        ended = time.perf_counter() + 5
-        while threading.active_count() > before and time.perf_counter() < ended:
-            time.sleep(0.01)
-        self.assertLessEqual(threading.active_count(), before)
+        del reports
+        self.assertLessEqual(threads_left(before), before)
+        self.assertTrue(yuglemit.map(yuglemit.load(ENDLESS), [()] * 50, limit=1_000_000))  # dropped before its first report
+        self.assertLessEqual(threads_left(before), before)
 
     def test_a_stop_stays_in_its_process(self) -> None:
         with self.assertRaisesRegex(TypeError, "own process"):

@@ -8,7 +8,7 @@ import sys
 import warnings
 from concurrent.futures import BrokenExecutor, Executor, Future, ThreadPoolExecutor, as_completed
 from dataclasses import replace
-from typing import Any, Callable, Dict, Iterable, Iterator, List, Optional, Sequence, Tuple, Union
+from typing import Any, Callable, Dict, Iterable, Iterator, List, Optional, Sequence, Tuple, Union, cast
 
 from ._errors import Refused
 from ._listing import DEFAULT_LIMIT
@@ -111,7 +111,9 @@ def map(
     def finish(number: int, report: Report) -> Report:
         return report if report.error is not None else with_cause(report, Made(programs[number], listed[number], layout))
 
-    return _in_order(futures, len(listed), finish, _shower(progress, len(listed)), own, stop)
+    reports = _in_order(futures, len(listed), finish, _shower(progress, len(listed)), own, stop)
+    next(reports)
+    return cast("Iterator[Report]", reports)
 
 
 def _own_stop(programs: Sequence[Program], options: Dict[str, Any]) -> Optional[Stop]:
@@ -127,10 +129,12 @@ def _in_order(
     show: Callable[[int], None],
     own: Optional[Executor],
     stop: Optional[Stop],
-) -> Iterator[Report]:
+) -> Iterator[Optional[Report]]:
+    """Gives None, and then the reports. Since it has begun then, dropping it before the first report ends the runs, too."""
     waiting: Dict[int, Report] = {}
     following = 0
     try:
+        yield None
         for future in as_completed(futures):
             done = _result(future, futures[future])
             waiting.update(done)
