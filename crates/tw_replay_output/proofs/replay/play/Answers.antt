@@ -4,6 +4,9 @@ use Rattle.tw_code.proofs.Growth.{below_more}
 use Rattle.tw_replay_output.proofs.Playing.{all_played, event_small, stopped_so, went_on}
 use Rattle.tw_replay_output.proofs.replay.play.Goals as goal
 
+pub step-requires-clause-small : goal.step-requires-clause-small
+step-requires-clause-small c = below_more (opening_bound + 1000000000 * c.loop-index.index) _ _ (omega (arith, c.requires.few, c.loop-index-test.true)) c.loop-index.invariant.below
+
 pub returns-in-Err : goal.returns-in-Err
 returns-in-Err c =
     let at = c.loop-index.plain in
