@@ -173,6 +173,7 @@ run_harnesses() {
     # shellcheck disable=SC2046
     harness_with "cc c++ objcopy" callers 3600 env LIBRARY="${library%/*}" tools/callers.sh $(whole_or_quick "" --quick)
     harness python 900 embed/python/test.sh
+    [ -n "$quick" ] || harness_with valgrind python_calls 1800 embed/python/test.sh --valgrind
     run_wheel
     harness_with "chromium node cc" page 1800 page/test.sh "$program"
     # shellcheck disable=SC2046

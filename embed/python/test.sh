@@ -5,6 +5,7 @@
 #   embed/python/test.sh              the modules of this folder, with the library of ./tw build --library or YUGLEMIT_LIBRARY
 #   embed/python/test.sh FILE.whl     a wheel, from a folder of its own, offline
 #   embed/python/test.sh test_build   one file of tests
+#   embed/python/test.sh --valgrind   tests that call the library, under valgrind, which has to find no error in a call
 here=$(dirname "$(readlink -f "$0")")
 python=${PYTHON:-python3}
 room=$(mktemp -d)
@@ -19,8 +20,32 @@ esac
 PYTHONPATH=$source PYTHONDONTWRITEBYTECODE=1
 export PYTHONPATH PYTHONDONTWRITEBYTECODE
 failed=0
+
+# Runs Python with the arguments under valgrind, and writes the errors and leaks with a frame of the library to $room/errors.
+watched() {
+    rm -f "$room"/valgrind.*
+    PYTHONMALLOC=malloc valgrind --error-limit=no --num-callers=40 --leak-check=full --show-leak-kinds=definite --log-file="$room/valgrind.%p" \
+        "$@" || return
+    sed 's/^==[0-9]*== \{0,1\}//' "$room"/valgrind.* | awk 'BEGIN { RS = ""; ORS = "\n\n" } /libyuglemit/' >"$room/errors"
+}
+
+# The wrong calls have to be found. Tests of time and of other processes are left out.
+run_watched() {
+    binary=$("$python" -c 'import sys; print(sys.executable)')
+    watched "$binary" -m wrong_calls || return
+    for error in '^Invalid read' 'definitely lost'; do
+        grep -q "$error" "$room/errors" || { echo "valgrind doesn't report: $error"; return 1; }
+    done
+    watched "$binary" -m unittest test_inputs test_errors test_program.Programs test_program.Reports test_program.Stops \
+        test_program.Handles.test_threads_share_a_program || return
+    cat "$room/errors"
+    [ ! -s "$room/errors" ] && echo "no errors in calls of the library"
+}
+
 cd "$here/tests" || exit
-if [ $# -gt 0 ]; then
+if [ "$1" = --valgrind ]; then
+    run_watched || failed=1
+elif [ $# -gt 0 ]; then
     "$python" -m unittest "$@" || failed=1
 else
     "$python" -m unittest discover -p 'test_*.py' || failed=1
