@@ -435,7 +435,7 @@ class NightlyTest(unittest.TestCase):
         self.assertRegex(lines[3], r"status 1; two 7 9 --seconds 3$")
         self.assertRegex(lines[-1], r"^3 passed, 1 failed, 0 left out; seed 7, logs in ")
         logs = Path(lines[-1].split("logs in ")[1])
-        self.assertEqual((status, sorted(path.name for path in logs.iterdir())), (1, ["fuzz_one.log", "fuzz_two.log", "hostile.log", "shown.log"]))
+        self.assertEqual((status, sorted(path.name for path in logs.iterdir())), (1, ["fuzz_one.log", "fuzz_two.log", "hostile.log", "shown.log", "summary"]))
 
     def test_all_well(self) -> None:
         status, lines = self.nightly("fuzz_one", "released")
