@@ -4,7 +4,7 @@ use Rattle.std.specs.Fmt.{signed_decimal}
 use Rattle.tw_symbols.specs.Meanings.{TokenError, lists}
 use Rattle.std.specs.Str.Lines.{lines}
 use Rattle.tw_lexer.specs.Words.{IsBlank, IsBroken}
-use Rattle.tw_symbols.specs.Lines.{IsTaken, Line, StartsWith, line_words, pieces_after}
+use Rattle.tw_symbols.specs.Lines.{StartsWith, pieces_after}
 use Rattle.tw_symbols.specs.LineExpansion.{Said, is_names_line}
 use Rattle.tw_symbols.specs.Seen.{seen_names}
 use Rattle.tw_symbols.specs.Expansion.{HasNames, Rejection as SeenRejection}
@@ -92,11 +92,6 @@ SaidAt number (Err f) text says = IsMemory f ⊎ ((f.line ≡ number) × (says �
 abbrev pub named_by : List (List ℕ) → Option Bool
 named_by [] = None
 named_by (first ∷ words) = Some (is_names_line first words)
-
--- holds if `after` is the answer so far, or that of this line if there was none
-abbrev pub IsNamedAfter : Option Bool → List ℕ → Option Bool → Type 0
-IsNamedAfter (Some named) line after = after ≡ Some named
-IsNamedAfter None line after = (taken : Line) × IsTaken taken line × (after ≡ named_by (line_words taken))
 
 abbrev pub IsNamed : Bool → List ℕ → Type 0
 IsNamed true text = HasNames (lines text)

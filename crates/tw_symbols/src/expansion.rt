@@ -2,7 +2,7 @@
 
 ghost use Rattle.std.specs.Prelude.{◌≡◌, ◌⊎◌, ◌++◌, [], List, Ok, Err, IfOk, IsUtf8, MatchOption, MatchResult, string_bytes};
 ghost use Rattle.std.specs.Str.Lines.{lines};
-ghost use Rattle.tw_symbols.specs.Answers.{IsAtLine, IsMemory, IsNamed, IsNamedAfter, SaidAt, SaysAfter, named_by, seen_rejection};
+ghost use Rattle.tw_symbols.specs.Answers.{IsAtLine, IsMemory, IsNamed, SaidAt, SaysAfter, named_by, seen_rejection};
 ghost use Rattle.tw_symbols.specs.Lines.{AreTaken, IsTaken, Line, line_words};
 ghost use Rattle.tw_symbols.specs.Meanings.{and_then, no_names};
 ghost use Rattle.tw_symbols.specs.LineExpansion.{line_says};
@@ -36,25 +36,16 @@ fn names_in(alloc: Global, line: &str) -> Result<Option<bool>, AllocError>
     Ok(named_by(&taken.words))
 }
 
-/// Returns the answer so far if there is one, and else that of this line.
-fn first_named(alloc: Global, named: Option<bool>, line: &str) -> Result<Option<bool>, AllocError>
-    ensures { IfOk result (λ after. IsNamedAfter named line.now after) }
-{
-    match named {
-        Some(known) => Ok(Some(known)),
-        None => names_in(alloc, line),
-    }
-}
-
 /// Returns whether the first line that has a word has just `names`.
 pub fn is_named(alloc: Global, text: &str) -> Result<bool, AllocError>
     ensures { IfOk result (λ named. IsNamed named text.now) }
 {
-    let mut named = None;
     for line in text.lines() {
-        named = first_named(alloc, named, line)?;
+        if let Some(named) = names_in(alloc, line)? {
+            return Ok(named);
+        }
     }
-    Ok(named.unwrap_or(false))
+    Ok(false)
 }
 
 /// Adds the expansion of a line with these words, and its line feed. Returns the names after it.
