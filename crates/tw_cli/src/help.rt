@@ -9,7 +9,7 @@ pub(crate) struct CommandHelp<'a> {
 }
 
 /// The program's version, which the newest section of CHANGELOG.md names.
-pub(crate) const VERSION: &str = "0.17";
+pub(crate) const VERSION: &str = "0.18";
 
 pub(crate) const ABOUT: &str = "Assembles, checks and runs dataflow programs of the task host.";
 
