@@ -226,9 +226,20 @@ impl<'a> RightNames<'a> {
         ensures { (names : ℕ → ℕ → List ℕ) (ls before others : List (List ℕ)) → HasRead names ls (length before) self.old → ls ≡ before ++ line.entry.now ∷ others → number ≡ length before + 1
             → OnOk result (HasRead names ls number self.new × Knows (names number) self.new) }
     {
-        if !self.pass(alloc, line)? {
-            self.reader = read_next(alloc, self.reader.take(), number, line)?;
+        if self.pass(alloc, line)? {
+            Ok(())
+        } else {
+            self.read_moving(alloc, number, line)
         }
+    }
+
+    /// Reads a line that changes names, which moves all that is known. A function of its own, so that lines which are passed don't pay for that.
+    #[inline(never)]
+    fn read_moving(&mut self, alloc: Global, number: usize, line: &'a str) -> Result<(), AllocError>
+        ensures { (names : ℕ → ℕ → List ℕ) (ls before others : List (List ℕ)) → IsReady names ls (length before) self.old.reader → ls ≡ before ++ line.entry.now ∷ others → number ≡ length before + 1
+            → OnOk result (HasRead names ls number self.new × Knows (names number) self.new) }
+    {
+        self.reader = read_next(alloc, self.reader.take(), number, line)?;
         Ok(())
     }
 
