@@ -9,4 +9,3 @@ pub mod Prefixes
 pub mod Starting
 pub mod Beginning
 pub mod Frames
-pub mod Piecing

@@ -6,7 +6,7 @@ pub mod Drafts
 -- Definitions for private functions.
 pub mod JobBuffers
 pub mod Banks
-pub mod Pieces
+pub mod Slots
 pub mod Positions
 pub mod Innermost
 pub mod Requirements

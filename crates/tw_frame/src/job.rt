@@ -232,8 +232,8 @@ impl<'a> Job<'a> {
     }
 
     /// Runs it up to its next instruction that isn't local, or up to a local one for which an allocation fails (`short`). Copies the
-    /// values twice, before and after, so that the next job needs no allocation. Makes no copy if the first instruction isn't local, and
-    /// no step if the values can't be copied.
+    /// values twice, before and after, so that the next job needs no allocation. The copies share texts: the bytes of one are copied
+    /// once after it was set. Makes no copy if the first instruction isn't local, and no step if the values can't be copied.
     #[inline(always)]
     pub fn run(self, alloc: Global) -> Done<'a>
         ensures { result.before ≡ self.entry }

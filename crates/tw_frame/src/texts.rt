@@ -2,60 +2,59 @@
 
 ghost use Rattle.std.specs.Prelude.{◌≡◌, ◌<◌, ℕ, [], length, replicate, slice_index_or, slice_set, IfOk, OnErr, OnOk};
 ghost use Rattle.tw_types.specs.Text.{IsText};
-ghost use Rattle.tw_frame.specs.Pieces.{IsSlot, text_in};
+ghost use Rattle.tw_frame.specs.Slots.{text_in};
 
 use std::alloc::{AllocError, Global};
 use std::marker::Model;
+use std::sync::Arc;
 use tw_types::Text;
 
-/// A slot of a bank: where its text is.
+/// A slot of a bank. A text that was set is its own, and its copies share one.
 #[derive(Drop)]
 enum Slot {
-    /// In its own memory: it was set.
+    Empty,
     Own(Text),
-    /// In the bank's block, `count` bytes from `first` on: it was copied.
-    Piece { first: usize, count: usize },
+    Shared(Arc<Text>),
 }
 
-/// Texts by their numbers. Copying a bank makes two allocations, one for the slots and one for all bytes.
-#[derive(Drop)]
-pub(crate) struct Texts {
-    slots: Vec<Slot>,
-    block: Vec<u8>,
-}
+impl Slot {
+    /// Returns its text.
+    fn as_str(&self) -> &str
+        ensures is { result.now ≡ text_in self.now }
+        ensures text { IsText result.now }
+    {
+        match self {
+            Slot::Empty => "",
+            Slot::Own(text) => text.as_str(),
+            Slot::Shared(text) => text.as_str(),
+        }
+    }
 
-impl Model for Texts {
-    ghost use Rattle.std.specs.Prelude.{List, ℕ, All, map as each};
-    ghost use Rattle.tw_frame.specs.Pieces.{IsSlot, text_in};
-
-    ghost Value = { List (List ℕ) };
-
-    ghost view = { λ t. each (text_in t.block.items) t.slots.items };
-
-    ghost invariant = { λ t. All (IsSlot t.block.items) t.slots.items };
-}
-
-/// Returns the bytes of a slot's text.
-fn bytes_of<'a>(block: &'a [u8], slot: &'a Slot) -> &'a [u8]
-    requires { IsSlot block.now slot.now }
-    ensures is { result.now ≡ text_in block.now slot.now }
-    ensures text { IsText result.now }
-{
-    match slot {
-        Slot::Own(text) => text.as_str().as_bytes(),
-        Slot::Piece { first, count } => &block[*first..*first + *count],
+    /// Copies the slot. Copies the bytes of its own text only.
+    fn try_clone(&self, alloc: Global) -> Result<Slot, AllocError>
+        ensures { IfOk result (λ copy. text_in copy ≡ text_in self.now) }
+    {
+        match self {
+            Slot::Empty => Ok(Slot::Empty),
+            Slot::Own(text) => Ok(Slot::Shared(Arc::new(alloc, text.try_clone(alloc)?)?)),
+            Slot::Shared(text) => Ok(Slot::Shared(Arc::try_clone(text)?)),
+        }
     }
 }
 
-/// Returns a text's bytes as a string.
-fn string_of(bytes: &[u8]) -> &str
-    requires { IsText bytes.now }
-    ensures { result.now ≡ bytes.now }
-{
-    let Ok(string) = str::from_utf8(bytes) else {
-        unreachable!();
-    };
-    string
+/// Texts by their numbers. A copy of a bank has its own slots, and shares the texts. Only those that were set are copied.
+#[derive(Drop)]
+pub(crate) struct Texts {
+    slots: Vec<Slot>,
+}
+
+impl Model for Texts {
+    ghost use Rattle.std.specs.Prelude.{List, ℕ, map as each};
+    ghost use Rattle.tw_frame.specs.Slots.{text_in};
+
+    ghost Value = { List (List ℕ) };
+
+    ghost view = { λ t. each text_in t.slots.items };
 }
 
 impl Texts {
@@ -65,7 +64,6 @@ impl Texts {
     {
         Texts {
             slots: Vec::new(alloc),
-            block: Vec::new(alloc),
         }
     }
 
@@ -76,12 +74,9 @@ impl Texts {
     {
         let mut slots = Vec::with_capacity(alloc, count)?;
         for _index in 0..count {
-            slots.push(Slot::Piece { first: 0, count: 0 })?;
+            slots.push(Slot::Empty)?;
         }
-        Ok(Texts {
-            slots,
-            block: Vec::new(alloc),
-        })
+        Ok(Texts { slots })
     }
 
     /// Returns the number of texts.
@@ -97,7 +92,7 @@ impl Texts {
         ensures is { result.now ≡ slice_index_or self.now index result.now }
         ensures text { IsText result.now }
     {
-        bytes_of(&self.block, &self.slots[index])
+        self.text(index).as_bytes()
     }
 
     /// Returns a text.
@@ -106,10 +101,7 @@ impl Texts {
         ensures is { result.now ≡ slice_index_or self.now index result.now }
         ensures text { IsText result.now }
     {
-        match &self.slots[index] {
-            Slot::Own(text) => text.as_str(),
-            other => string_of(bytes_of(&self.block, other)),
-        }
+        self.slots[index].as_str()
     }
 
     /// Replaces one text.
@@ -120,34 +112,16 @@ impl Texts {
         self.slots[index] = Slot::Own(text);
     }
 
-    /// Returns how many bytes the texts have together.
-    fn room(&self) -> usize
-        ensures { 0 < result → 0 < length self.now }
-    {
-        let mut room: usize = 0;
-        for index in 0..self.len() {
-            room = room.saturating_add(self.bytes(index).len());
-        }
-        room
-    }
-
     /// Copies the texts.
     pub(crate) fn try_clone(&self, alloc: Global) -> Result<Texts, AllocError>
         ensures copy { IfOk result (λ copy. copy ≡ self.now) }
         ensures some { OnErr result (0 < length self.now) }
     {
-        let mut slots = Vec::with_capacity(alloc, self.slots.len())?;
-        let mut block = Vec::with_capacity(alloc, self.room())?;
+        let mut slots = Vec::with_capacity(alloc, self.len())?;
         for index in 0..self.len() {
-            let bytes = self.bytes(index);
-            let first = block.len();
-            block.extend_from_slice(bytes)?;
-            slots.push(Slot::Piece {
-                first,
-                count: bytes.len(),
-            })?;
+            slots.push(self.slots[index].try_clone(alloc)?)?;
         }
-        Ok(Texts { slots, block })
+        Ok(Texts { slots })
     }
 
     /// Becomes a bank of `count` empty texts.

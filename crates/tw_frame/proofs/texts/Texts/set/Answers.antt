@@ -1,8 +1,8 @@
 use Rattle.std.proofs.Common.{◌∙◌, ℕ, List, ap, set}
 use Rattle.std.proofs.lemmas.List.{map-set}
 use Rattle.tw_frame.specs.declared.texts.Slot.TheVariants.{Own}
-use Rattle.tw_frame.specs.Pieces.{text_in}
+use Rattle.tw_frame.specs.Slots.{text_in}
 use Rattle.tw_frame.proofs.texts.Texts.set.Goals as goal
 
 pub returns : goal.returns
-returns c = map-set (text_in c.self.inside.block.items) c.self.inside.slots.items c.args.index (Own c.args.text) ∙ ap (λ (texts : List (List ℕ)). set texts c.args.index c.args.text) c.self.view_is
+returns c = map-set text_in c.self.inside.slots.items c.args.index (Own c.args.text) ∙ ap (λ (texts : List (List ℕ)). set texts c.args.index c.args.text) c.self.view_is

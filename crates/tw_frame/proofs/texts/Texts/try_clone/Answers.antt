@@ -1,14 +1,15 @@
-use Rattle.std.proofs.Common.{◌≡◌, ◌∙◌, ℕ, List, ◌++◌, ◌∷◌, [], length, take, sym, ap, arith}
-use Rattle.std.proofs.lemmas.List.{take_more}
-use Rattle.tw_frame.proofs.Piecing.{pieces_more, slots_more}
+use Rattle.std.proofs.Common.{◌≡◌, ◌∙◌, ℕ, List, ◌++◌, ◌∷◌, [], get_or, take, sym, ap, arith}
+use Rattle.std.proofs.Math.ListN.{get_or-map}
+use Rattle.std.proofs.lemmas.List.{map-append, take_more}
+use Rattle.tw_frame.specs.Slots.{text_in}
 use Rattle.tw_frame.proofs.texts.Texts.try_clone.Goals as goal
 
 pub loop-index-preserved : goal.loop-index-preserved
 loop-index-preserved c =
-    let first : c.len-first.result ≡ length c.loop-index.block.items = c.len-first.ensures ∙ c.loop-index.block.ok.0 in
-    rw (c.in_ok-extend_from_slice.ensures.items, c.in_ok-push.ensures.items, first) (record {
-      texts = pieces_more c.loop-index.block.items c.bytes-bytes.result.now c.loop-index.slots.items (take c.loop-index.index c.args.self.now) c.loop-index.invariant.slots c.bytes-bytes.ensures.text c.loop-index.invariant.texts
-          ∙ ap (λ (text : List ℕ). take c.loop-index.index c.args.self.now ++ text ∷ []) c.bytes-bytes.ensures.is
-          ∙ sym (take_more c.args.self.now c.loop-index.index c.bytes-bytes.result.now (omega (arith, c.loop-index-test.true, c.len-index-end.ensures)));
-      slots = slots_more c.loop-index.block.items c.bytes-bytes.result.now c.loop-index.slots.items c.loop-index.invariant.slots c.bytes-bytes.ensures.text;
-    })
+    let text = text_in c.index.result.now in
+    let read : get_or c.args.self.now c.loop-index.index text ≡ text =
+    ap (λ (texts : List (List ℕ)). get_or texts c.loop-index.index text) (sym c.self.view_is) ∙ get_or-map text_in c.self.inside.slots.items c.loop-index.index c.index.result.now ∙ ap text_in (sym c.index.ensures) in
+    rw c.in_ok-push.ensures.items (map-append text_in c.loop-index.slots.items (c.in_ok-try_clone.field-0 ∷ [])
+    ∙ ap (λ (texts : List (List ℕ)). texts ++ text_in c.in_ok-try_clone.field-0 ∷ []) c.loop-index.invariant
+    ∙ ap (λ (bytes : List ℕ). take c.loop-index.index c.args.self.now ++ bytes ∷ []) (c.in_ok-try_clone.ensures ∙ sym read)
+    ∙ sym (take_more c.args.self.now c.loop-index.index text (omega (arith, c.loop-index-test.true, c.len-index-end.ensures))))
