@@ -2,8 +2,8 @@
 use Rattle.std.proofs.Common.{◌≡◌, ◌<◌, ◌∙◌, ℕ, Bool, true, false, nat_eq, List, length, length-set, Option, Some, None, is_some, get_or, set, refl, sym, ap, subst, arith}
 use Rattle.tw_types.proofs.Best.{best_found}
 use Rattle.tw_types.specs.declared.actor.Actor.TheVariants.{Engine, Server, Worker}
-use Rattle.tw_pool_state.proofs.PartNames.{Actor, ActorCounts, AreKept, Arg, FrameView, HasSlot, IsSome, TaskOf, TasksOf, actor_of, best, get_or-set_other, get_or-set_same, is_in, nat_tests, slot_of, takes_tasks}
-use Rattle.tw_pool_state.proofs.Runners.{actor_is}
+use Rattle.tw_pool_state.proofs.PartNames.{Actor, ActorCounts, AreKept, AreTaskSlots, Arg, FrameView, HasSlot, IsSome, RunningView, TaskOf, TasksOf, actor_of, best, get, get_or-set_other, get_or-set_same, is_in, nat_tests, slot_of, takes_tasks}
+use Rattle.tw_pool_state.proofs.Runners.{actor_is, low_slot, seen_as, still_running}
 
 abbrev RunningTasks : Type 0
 RunningTasks = List (Option FrameView)
@@ -56,10 +56,10 @@ module _ (layout : ActorCounts) (running_tasks : RunningTasks) (frame_buffers : 
         (λ empty. let no : Some f ≡ None = sym (get_or-set_same running_tasks k (Some f) None (omega (arith, inside, long))) ∙ empty in cc)
 
     -- its task changes
-    pub still_kept : (f : FrameView) (new : RunningTasks) → length running_tasks ≡ 24 → new ≡ set running_tasks k (Some f) → AreKept layout new frame_buffers
-    still_kept f new long is = subst (λ (xs : RunningTasks). AreKept layout xs frame_buffers) (sym is) (changed_at (set running_tasks k (Some f)) frame_buffers kept.many
+    still_kept : (f : FrameView) → length running_tasks ≡ 24 → AreKept layout (set running_tasks k (Some f)) frame_buffers
+    still_kept f long = changed_at (set running_tasks k (Some f)) frame_buffers kept.many
         (λ j other. get_or-set_other running_tasks k j (Some f) None other) (λ j other. refl)
-        (λ empty. let no : Some f ≡ None = sym (get_or-set_same running_tasks k (Some f) None (omega (arith, inside, long))) ∙ empty in cc))
+        (λ empty. let no : Some f ≡ None = sym (get_or-set_same running_tasks k (Some f) None (omega (arith, inside, long))) ∙ empty in cc)
 
     -- a task that ends leaves its memory
     pub kept_ended : AreKept layout (set running_tasks k None) (set frame_buffers k (Some tt))
@@ -72,3 +72,10 @@ module _ (layout : ActorCounts) (running_tasks : RunningTasks) (frame_buffers : 
     kept_laid = changed_at running_tasks (set (set frame_buffers k None) k (Some tt)) (length-set (set frame_buffers k None) k (Some tt) ∙ buffers_set None)
         (λ j other. refl) (λ j other. get_or-set_other (set frame_buffers k None) k j (Some tt) None other ∙ get_or-set_other frame_buffers k j None None other)
         (λ empty. ap is_some (get_or-set_same (set frame_buffers k None) k (Some tt) None (let long = buffers_set None in omega (arith, inside, long))))
+
+-- the slots and their memory after an actor's task changes
+pub slots_kept : {layout : ActorCounts} {running_tasks : RunningTasks} {frame_buffers : FrameBuffers} {taken : ℕ} → AreTaskSlots running_tasks taken × AreKept layout running_tasks frame_buffers
+    → {view : RunningView} → seen_as layout running_tasks ≡ view → (a : Actor) → HasSlot a → {k : ℕ} → k ≡ slot_of a → {f : FrameView} → get view.tasks a ≡ Some f → (g : FrameView)
+    → AreTaskSlots (set running_tasks k (Some g)) taken × AreKept layout (set running_tasks k (Some g)) frame_buffers
+slots_kept {layout} {running_tasks} {frame_buffers} (slots, kept) same a h {k} here at g =
+    (still_running slots same a h here at g, still_kept layout running_tasks frame_buffers kept k (omega (arith, here, low_slot a h)) g slots.many)

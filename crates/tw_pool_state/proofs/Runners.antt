@@ -1,6 +1,6 @@
 -- The slots, seen as a finite map by actors.
 use Rattle.std.proofs.Common.{◌≡◌, ◌≢◌, ◌<◌, ◌≤◌, ◌+◌, ◌-◌, ℕ, zero, suc, Bool, true, false, cond, nat_lt, if◌then◌else◌, List, [], ◌∷◌, length, Option, Some, None, is_some, count_by, length-set, refl, sym, ap, subst, ◌∙◌, get_or, set, arith}
-use Rattle.tw_pool_state.proofs.PartNames.{Actor, ActorCounts, AreTaskSlots, Equal-is, FinMap, FrameView, HasSlot, RunningView, TasksByActor, actor_cmp, actor_cmp-IsAntisymmetric, actor_cmp_total, actor_of, eq_by_cmp, find, from_entries, get, get-from_entries, get-insert, get-remove, get_or-set_other, get_or-set_same, insert, len, len-empty, len-insert, nat_tests, remove, same_map, slot_of, by_actor, by_actor_from}
+use Rattle.tw_pool_state.proofs.PartNames.{Actor, ActorCounts, AreTaskSlots, Equal-is, FinMap, FrameView, HasSlot, RunningView, TasksByActor, actor_cmp, actor_cmp-IsAntisymmetric, actor_cmp_total, actor_of, eq_by_cmp, find, from_entries, get, get-from_entries, get-insert, get-remove, get_or-set_other, get_or-set_same, insert, len, len-empty, len-insert, nat_tests, remove, same_map, slot_of, by_actor, by_actor_from, with_running}
 use Rattle.std.proofs.lemmas.List.Sums.{sum_by-cons}
 use Rattle.tw_types.specs.declared.actor.Actor.TheVariants.{Engine, Server, Worker}
 use Rattle.tw_types.proofs.Orders.{other_key, own_key}
@@ -137,23 +137,34 @@ in_list [] k d e l = absurd (omega (arith, l))
 in_list (x ∷ xs) zero d e l = refl
 in_list (x ∷ xs) (suc k) d e l = in_list xs k d e (omega (arith, l))
 
+-- the running tasks in these slots
+abbrev pub seen_as : ActorCounts → RunningTasks → RunningView
+seen_as layout running_tasks = record { layout = layout; tasks = by_actor running_tasks }
+
 -- the slots after the task in one changes
-module _ (running_tasks : RunningTasks) (taken : ℕ) (all : AreTaskSlots running_tasks taken) (m : TasksByActor) (same : by_actor running_tasks ≡ m) (a : Actor) (h : HasSlot a) (task_slot : ℕ) (here : task_slot ≡ slot_of a) where
+module _ {layout : ActorCounts} {running_tasks : RunningTasks} {taken : ℕ} (all : AreTaskSlots running_tasks taken) {view : RunningView} (same : seen_as layout running_tasks ≡ view) (a : Actor) (h : HasSlot a) {task_slot : ℕ} (here : task_slot ≡ slot_of a) where
   inside : task_slot < length running_tasks
   inside = omega (arith, here, low_slot a h, all.many)
 
-  pub is_running_there : (f : FrameView) → get m a ≡ Some f → get_or running_tasks task_slot None ≡ Some f
-  is_running_there f at = ap (λ k. get_or running_tasks k None) here ∙ sym (get_by_actor running_tasks a h) ∙ ap (λ x. get x a) same ∙ at
+  task_there : get_or running_tasks task_slot None ≡ get view.tasks a
+  task_there = ap (λ k. get_or running_tasks k None) here ∙ sym (get_by_actor running_tasks a h) ∙ ap (λ (r : RunningView). get r.tasks a) same
 
-  pub changed : (g : FrameView) (new : RunningTasks) → new ≡ set running_tasks task_slot (Some g) → by_actor new ≡ insert m a g
-  changed g new is = ap by_actor (is ∙ ap (λ k. set running_tasks k (Some g)) here) ∙ by_actor_put running_tasks a g h (subst (λ k. k < length running_tasks) here inside) ∙ ap (λ x. insert x a g) same
+  -- the task or none that is read there
+  pub read_there : {task found read : Option FrameView} → get view.tasks a ≡ task → read ≡ get_or running_tasks task_slot read → read ≡ found → task ≡ found
+  read_there {task} {found} {read} at is_read is = sym at ∙ sym task_there ∙ in_list running_tasks task_slot None read inside ∙ sym is_read ∙ is
 
-  pub still_running : (f g : FrameView) → get m a ≡ Some f → (new : RunningTasks) → new ≡ set running_tasks task_slot (Some g) → AreTaskSlots new taken
-  still_running f g at new is =
-      let one : ◌≡◌ {A = ℕ} (cond (is_some (get_or running_tasks task_slot None)) 1 0) 1 = ap (λ o. cond (is_some o) 1 0) (is_running_there f at) in
+  pub changed : (g : FrameView) → seen_as layout (set running_tasks task_slot (Some g)) ≡ with_running view a g
+  changed g =
+      ap (λ k. seen_as layout (set running_tasks k (Some g))) here
+      ∙ ap (λ (m : TasksByActor). record { layout = layout; tasks = m }) (by_actor_put running_tasks a g h (subst (λ k. k < length running_tasks) here inside))
+      ∙ ap (λ (r : RunningView). with_running r a g) same
+
+  pub still_running : {f : FrameView} → get view.tasks a ≡ Some f → (g : FrameView) → AreTaskSlots (set running_tasks task_slot (Some g)) taken
+  still_running {f} at g =
+      let one : ◌≡◌ {A = ℕ} (cond (is_some (get_or running_tasks task_slot None)) 1 0) 1 = ap (λ o. cond (is_some o) 1 0) (task_there ∙ at) in
       record {
-        many = ap length is ∙ length-set running_tasks task_slot (Some g) ∙ all.many;
-        counted = let e = count_set running_tasks task_slot (Some g) inside in omega (arith, e, one, all.counted, ap (count_by is_some) is);
+        many = length-set running_tasks task_slot (Some g) ∙ all.many;
+        counted = let e = count_set running_tasks task_slot (Some g) inside in omega (arith, e, one, all.counted);
       }
 
 -- other tasks of the layout

@@ -1,6 +1,6 @@
 //! The running tasks, by their actors.
 
-ghost use Rattle.std.specs.Prelude.{◌≡◌, ◌<◌, ◌≤◌, ◌+◌, ◌^◌, ℕ, IfOk, List, OnErr, Option, IsSome, None, Some, is_some, length, slice_index_or, slice_set, true};
+ghost use Rattle.std.specs.Prelude.{◌≡◌, ◌<◌, ◌≤◌, ◌+◌, ◌^◌, ℕ, IfOk, List, OnErr, Option, IsSome, None, Some, length, true};
 ghost use Rattle.std.specs.FinMap as map;
 ghost use Rattle.std.specs.FinMap.{get, remove, len};
 ghost use Rattle.std.specs.Option.{option_copied};
@@ -13,13 +13,17 @@ ghost use Rattle.tw_rights.specs.declared.arg.Arg.{Arg};
 ghost use Rattle.tw_frame.specs.Drafts.{MayStart};
 ghost use Rattle.tw_code.specs.machine.Position.{at_next_place};
 ghost use Rattle.tw_frame.specs.Jobs.{FrameView, MayBeAt, job_of};
-ghost use Rattle.tw_pool_state.specs.RunningTasks.{HasBuffers, HasSlot, actor_of, takes_tasks, with_running};
+ghost use Rattle.tw_pool_state.specs.RunningTasks.{HasSlot, with_running};
 ghost use Rattle.tw_pool_state.specs.Coming.{IsBegun, MayBegin, come, gone_on, lent_as};
 ghost use Rattle.tw_pool_state.specs.Data.{IsLentAnswer, MayDo};
 ghost use Rattle.tw_pool_state.specs.Memory.{TakesTexts};
 
+use crate::data::run_data;
 use crate::operands::ActionOperands;
-use crate::task_slots::TaskSlots;
+use crate::task_slots::{
+    all_frame_buffers, drop_frame_buffers, empty_slots, put_buffers, put_task, shut_tasks,
+    take_buffers, take_task,
+};
 use std::alloc::{AllocError, Global};
 use std::marker::Model;
 use tw_code::DataInstr;
@@ -33,7 +37,8 @@ use tw_verify::Verified;
 /// A slot for each actor of the greatest layout: engines, servers, workers.
 pub struct RunningTasks<'a> {
     layout: Layout,
-    task_slots: TaskSlots<'a>,
+    /// The task in each slot, if there is one.
+    frames: Vec<Option<Frame<'a>>>,
     /// Memory for a task, for each empty slot of an engine or a worker of the layout.
     frame_buffers: Vec<Option<FrameBuffers<'a>>>,
     taken: usize,
@@ -52,99 +57,9 @@ impl<'a> Model for RunningTasks<'a> {
 
     ghost use Rattle.tw_pool_state.specs.RunningTasks.{by_actor, AreKept, AreTaskSlots};
 
-    ghost view = { λ s. record { layout = s.layout; tasks = by_actor s.task_slots.frames.items } };
+    ghost view = { λ s. record { layout = s.layout; tasks = by_actor s.frames.items } };
 
-    ghost invariant = { λ s. AreTaskSlots s.task_slots.frames.items s.taken × AreKept s.layout s.task_slots.frames.items s.frame_buffers.items };
-}
-
-/// Takes the memory that is there.
-fn take_buffers<'a>(
-    frame_buffers: &mut Vec<Option<FrameBuffers<'a>>>,
-    task_slot: usize,
-) -> FrameBuffers<'a>
-    requires inside { task_slot < length frame_buffers.old.items }
-    requires there { IsSome (slice_index_or frame_buffers.old.items task_slot None) }
-    ensures { frame_buffers.new.items ≡ slice_set frame_buffers.old.items task_slot None }
-{
-    let place = &mut frame_buffers[task_slot];
-    match place.take() {
-        Some(frame_buffers) => frame_buffers,
-        None => unreachable!(),
-    }
-}
-
-/// Puts memory there, and frees what was there.
-fn put_buffers<'a>(
-    frame_buffers: &mut Vec<Option<FrameBuffers<'a>>>,
-    task_slot: usize,
-    room: FrameBuffers<'a>,
-)
-    requires { task_slot < length frame_buffers.old.items }
-    ensures { frame_buffers.new.items ≡ slice_set frame_buffers.old.items task_slot (Some tt) }
-{
-    let place = &mut frame_buffers[task_slot];
-    match std::mem::replace(place, Some(room)) {
-        None => {}
-        Some(before) => before.shut(),
-    }
-}
-
-/// Returns whether a slot is that of an engine or a worker of the layout.
-fn takes_tasks(layout: Layout, task_slot: usize) -> bool
-    requires { task_slot < 24 }
-    ensures { result ≡ takes_tasks layout (actor_of task_slot) }
-{
-    if task_slot < 4 {
-        task_slot < usize::from(layout.engines())
-    } else if task_slot < 8 {
-        false
-    } else {
-        task_slot - 8 < usize::from(layout.workers())
-    }
-}
-
-/// Allocates memory for a task in the slot, if its actor is one of the layout that takes tasks.
-fn slot_buffers<'a>(
-    alloc: Global,
-    layout: Layout,
-    task_slot: usize,
-) -> Result<Option<FrameBuffers<'a>>, AllocError>
-    requires { task_slot < 24 }
-    ensures { IfOk result (λ room. is_some room ≡ takes_tasks layout (actor_of task_slot)) }
-{
-    if takes_tasks(layout, task_slot) {
-        Ok(Some(FrameBuffers::new(alloc)?))
-    } else {
-        Ok(None)
-    }
-}
-
-/// Allocates memory for the slots of the layout's engines and workers.
-fn all_frame_buffers<'a>(
-    alloc: Global,
-    layout: Layout,
-) -> Result<Vec<Option<FrameBuffers<'a>>>, AllocError>
-    ensures { IfOk result (λ frame_buffers. HasBuffers layout 24 frame_buffers.items) }
-{
-    let mut frame_buffers = Vec::with_capacity(alloc, TaskSlots::COUNT)?;
-    for task_slot in 0..TaskSlots::COUNT {
-        let Ok(room) = slot_buffers(alloc, layout, task_slot) else {
-            drop_frame_buffers(frame_buffers);
-            return Err(AllocError);
-        };
-        frame_buffers.push_reserved(room);
-    }
-    Ok(frame_buffers)
-}
-
-/// Frees their memory.
-fn drop_frame_buffers<'a>(mut frame_buffers: Vec<Option<FrameBuffers<'a>>>) {
-    while let Some(room) = frame_buffers.pop() {
-        if let Some(room) = room {
-            room.shut();
-        }
-    }
-    frame_buffers.destroy_empty();
+    ghost invariant = { λ s. AreTaskSlots s.frames.items s.taken × AreKept s.layout s.frames.items s.frame_buffers.items };
 }
 
 impl<'a> RunningTasks<'a> {
@@ -153,13 +68,13 @@ impl<'a> RunningTasks<'a> {
         ensures { IfOk result (λ running_tasks. running_tasks ≡ record { layout = layout; tasks = map.empty }) }
     {
         let frame_buffers = all_frame_buffers(alloc, layout)?;
-        let Ok(task_slots) = TaskSlots::none(alloc) else {
+        let Ok(frames) = empty_slots(alloc) else {
             drop_frame_buffers(frame_buffers);
             return Err(AllocError);
         };
         Ok(RunningTasks {
             layout,
-            task_slots,
+            frames,
             frame_buffers,
             taken: 0,
         })
@@ -169,11 +84,11 @@ impl<'a> RunningTasks<'a> {
     pub fn shut(self) {
         let RunningTasks {
             layout: _,
-            task_slots,
+            frames,
             frame_buffers,
             taken: _,
         } = self;
-        task_slots.shut();
+        shut_tasks(frames);
         drop_frame_buffers(frame_buffers);
     }
 
@@ -189,7 +104,7 @@ impl<'a> RunningTasks<'a> {
         requires { HasSlot actor }
         ensures { option_copied result ≡ get self.now.tasks actor }
     {
-        self.task_slots.task_in_slot(actor.place())
+        self.frames[actor.place()].as_ref()
     }
 
     /// Starts the best task of an actor without one, if there is one, and issues its job.
@@ -228,7 +143,7 @@ impl<'a> RunningTasks<'a> {
         };
         let (mut frame, draft) = Frame::start(task, actor, verified, start);
         let job = frame.lend(event_no, draft);
-        self.task_slots.put_task(number, frame);
+        put_task(&mut self.frames, number, frame);
         self.taken += 1;
         Ok(Some(job))
     }
@@ -240,7 +155,7 @@ impl<'a> RunningTasks<'a> {
         ensures { self.new ≡ record self.old { tasks = remove self.old.tasks actor } }
     {
         let number = actor.place();
-        let Some(frame) = self.task_slots.take_task(number) else {
+        let Some(frame) = take_task(&mut self.frames, number) else {
             unreachable!();
         };
         self.taken -= 1;
@@ -254,7 +169,16 @@ impl<'a> RunningTasks<'a> {
         ensures { (f : FrameView) → get self.old.tasks actor ≡ Some f
             → (self.new ≡ with_running self.old actor (lent_as event_no (come f done.entry))) × (result ≡ job_of (lent_as event_no (come f done.entry))) }
     {
-        self.task_slots.advance(actor.place(), event_no, done)
+        let _steps = done.steps();
+        let number = actor.place();
+        let place = &mut self.frames[number];
+        match place {
+            Some(frame) => {
+                let draft = frame.complete_job(done);
+                frame.lend(event_no, draft)
+            }
+            None => unreachable!(),
+        }
     }
 
     /// Completes the actor's job, moves arguments out of its registers, moves to the next place, and issues the next job.
@@ -284,8 +208,16 @@ impl<'a> RunningTasks<'a> {
             vals,
         } = asked;
         let params = callee.params.as_slice();
-        self.task_slots
-            .take_args(actor.place(), event_no, done, params, args, vals, room)
+        let number = actor.place();
+        let place = &mut self.frames[number];
+        match place {
+            Some(frame) => {
+                let draft = frame.complete_job(done);
+                let bundle = frame.take_args(params, args, vals, room);
+                (bundle, frame.lend(event_no, draft))
+            }
+            None => unreachable!(),
+        }
     }
 
     /// Completes the actor's job, executes an instruction on data, and issues the next job. Returns the `Done` if an allocation fails.
@@ -303,7 +235,14 @@ impl<'a> RunningTasks<'a> {
         ensures { (f : FrameView) → get self.old.tasks actor ≡ Some f → (g : FrameView) × (self.new ≡ with_running self.old actor g)
             × IsLentAnswer instr.now store.old store.new f g event_no done.entry result }
     {
-        self.task_slots
-            .exec_data(actor.place(), store, alloc, event_no, done, instr)
+        let number = actor.place();
+        let place = &mut self.frames[number];
+        match place {
+            Some(frame) => match run_data(store, frame, alloc, done, instr) {
+                Ok(draft) => Ok(frame.lend(event_no, draft)),
+                Err(done) => Err(done),
+            },
+            None => unreachable!(),
+        }
     }
 }

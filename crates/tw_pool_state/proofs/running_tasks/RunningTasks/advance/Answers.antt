@@ -1,22 +1,35 @@
-use Rattle.std.proofs.Common.{ap}
+use Rattle.std.proofs.Common.{◌≡◌, ◌<◌, ◌∙◌, None, Some, ap, subst, sym}
+use Rattle.std.specs.Prelude.{◌^◌}
+use Rattle.tw_frame.proofs.Lending.{may_go_on}
 use Rattle.tw_pool_state.specs.Coming.{come, lent_as}
-use Rattle.tw_pool_state.proofs.FrameBufferLists.{still_kept}
-use Rattle.tw_pool_state.proofs.PartNames.{RunningView, by_actor, insert}
-use Rattle.tw_pool_state.proofs.Runners.{changed, is_running_there, still_running, with_tasks}
+use Rattle.tw_pool_state.proofs.FrameBufferLists.{slots_kept}
+use Rattle.tw_pool_state.proofs.PartNames.{FrameView, JobView, MayBeAt, job_of, same_Some, with_running}
+use Rattle.tw_pool_state.proofs.Runners.{changed, read_there}
 use Rattle.tw_pool_state.proofs.running_tasks.RunningTasks.advance.Goals as goal
 
-pub advance-requires-clause-is_running : goal.advance-requires-clause-is_running
-advance-requires-clause-is_running c = let m = c.requires.is_running in (m.0, is_running_there c.self.inside.task_slots.frames.items c.self.inside.taken c.self.invariant.0 c.args.self.now.tasks (ap (λ (r : RunningView). r.tasks) c.self.view_is) c.args.actor c.requires.task_slot c.place.result c.place.ensures.is m.0 m.1, m.2, m.3)
+pub unreachable-requires : goal.unreachable-requires
+unreachable-requires c = let m = c.requires.is_running in let no : Some m.0 ≡ None = read_there c.self.invariant.0 c.self.view_is c.args.actor c.requires.task_slot c.place-number.ensures.is m.1 c.index_mut-place.ensures.value c.in-None.is in cc
+
+pub complete_job-draft-requires-clause-own : goal.complete_job-draft-requires-clause-own
+complete_job-draft-requires-clause-own c = let m = c.requires.is_running in m.2 ∙ ap job_of (same_Some m.0 c.in-Some.frame (read_there c.self.invariant.0 c.self.view_is c.args.actor c.requires.task_slot c.place-number.ensures.is m.1 c.index_mut-place.ensures.value c.in-Some.is))
+
+pub complete_job-draft-requires-clause-spent : goal.complete_job-draft-requires-clause-spent
+complete_job-draft-requires-clause-spent c = let m = c.requires.is_running in subst (λ (f : FrameView). f.spent < 2 ^ 63) (same_Some m.0 c.in-Some.frame (read_there c.self.invariant.0 c.self.view_is c.args.actor c.requires.task_slot c.place-number.ensures.is m.1 c.index_mut-place.ensures.value c.in-Some.is)) m.3
+
+pub lend-requires-clause-fits_place : goal.lend-requires-clause-fits_place
+lend-requires-clause-fits_place c =
+    let m = c.requires.is_running in
+    let done = c.args.done in
+    let same = same_Some m.0 c.in-Some.frame (read_there c.self.invariant.0 c.self.view_is c.args.actor c.requires.task_slot c.place-number.ensures.is m.1 c.index_mut-place.ensures.value c.in-Some.is) in
+    subst (λ (f : FrameView). MayBeAt f.program.program f.procedure f.position) (sym c.complete_job-draft.ensures.taken)
+    (subst (λ (j : JobView). MayBeAt j.program.program j.procedure done.after) (m.2 ∙ ap job_of same)
+    (may_go_on done.before.program.program done.before.procedure done.before.position done.after done.steps done.short c.steps-steps.ensures.done))
 
 pub invariant_of-self : goal.invariant_of-self
-invariant_of-self c =
-    let m = c.requires.is_running in
-    let is_set = (c.advance.ensures m.0 (is_running_there c.self.inside.task_slots.frames.items c.self.inside.taken c.self.invariant.0 c.args.self.now.tasks (ap (λ (r : RunningView). r.tasks) c.self.view_is) c.args.actor c.requires.task_slot c.place.result c.place.ensures.is m.0 m.1)).0 in (
-      still_running c.self.inside.task_slots.frames.items c.self.inside.taken c.self.invariant.0 c.args.self.now.tasks (ap (λ (r : RunningView). r.tasks) c.self.view_is) c.args.actor c.requires.task_slot c.place.result c.place.ensures.is m.0 (lent_as c.args.event_no (come m.0 c.args.done)) m.1 c.advance.new.self.frames.items is_set,
-      still_kept c.self.inside.layout c.self.inside.task_slots.frames.items c.self.inside.frame_buffers.items c.self.invariant.1 c.place.result c.place.ensures.low (lent_as c.args.event_no (come m.0 c.args.done)) c.advance.new.self.frames.items c.self.invariant.0.many is_set,
-    )
+invariant_of-self c = let m = c.requires.is_running in slots_kept c.self.invariant c.self.view_is c.args.actor c.requires.task_slot c.place-number.ensures.is m.1 c.lend.new.self
 
 pub returns : goal.returns
 returns c = λ f at.
-    let came = c.advance.ensures f (is_running_there c.self.inside.task_slots.frames.items c.self.inside.taken c.self.invariant.0 c.args.self.now.tasks (ap (λ (r : RunningView). r.tasks) c.self.view_is) c.args.actor c.requires.task_slot c.place.result c.place.ensures.is f at) in
-    (with_tasks c.self.inside.layout (by_actor c.advance.new.self.frames.items) c.args.self.now (insert c.args.self.now.tasks c.args.actor (lent_as c.args.event_no (come f c.args.done))) (ap (λ (r : RunningView). r.layout) c.self.view_is) (changed c.self.inside.task_slots.frames.items c.self.inside.taken c.self.invariant.0 c.args.self.now.tasks (ap (λ (r : RunningView). r.tasks) c.self.view_is) c.args.actor c.requires.task_slot c.place.result c.place.ensures.is (lent_as c.args.event_no (come f c.args.done)) c.advance.new.self.frames.items came.0), came.1)
+    let same = same_Some f c.in-Some.frame (read_there c.self.invariant.0 c.self.view_is c.args.actor c.requires.task_slot c.place-number.ensures.is at c.index_mut-place.ensures.value c.in-Some.is) in
+    let lent = c.lend.ensures.kept ∙ ap (lent_as c.args.event_no) (c.complete_job-draft.ensures.taken ∙ ap (λ (g : FrameView). come g c.args.done) (sym same)) in
+    (changed c.self.invariant.0 c.self.view_is c.args.actor c.requires.task_slot c.place-number.ensures.is c.lend.new.self ∙ ap (with_running c.args.self.now c.args.actor) lent, c.lend.ensures.lent ∙ ap job_of lent)

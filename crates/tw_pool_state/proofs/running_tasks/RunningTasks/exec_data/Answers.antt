@@ -1,22 +1,47 @@
-use Rattle.std.proofs.Common.{ap}
-use Rattle.tw_pool_state.proofs.FrameBufferLists.{still_kept}
-use Rattle.tw_pool_state.proofs.PartNames.{RunningView, by_actor, insert}
-use Rattle.tw_pool_state.proofs.Runners.{changed, is_running_there, still_running, with_tasks}
+use Rattle.std.proofs.Common.{◌≡◌, ◌∙◌, None, Some, ap, subst, sym}
+use Rattle.tw_pool_state.specs.Coming.{come}
+use Rattle.tw_pool_state.proofs.FrameBufferLists.{slots_kept}
+use Rattle.tw_pool_state.proofs.PartNames.{FrameView, IsLentAfter, IsRefused, MayDo, job_of, same_Some}
+use Rattle.tw_pool_state.proofs.Runners.{changed, read_there}
 use Rattle.tw_pool_state.proofs.running_tasks.RunningTasks.exec_data.Goals as goal
+use Rattle.tw_pool_state.proofs.running_tasks.RunningTasks.exec_data.Goals.{in-Ok, in-Err}
 
-pub exec_data-requires-clause-is_running : goal.exec_data-requires-clause-is_running
-exec_data-requires-clause-is_running c = let m = c.requires.is_running in (m.0, is_running_there c.self.inside.task_slots.frames.items c.self.inside.taken c.self.invariant.0 c.args.self.now.tasks (ap (λ (r : RunningView). r.tasks) c.self.view_is) c.args.actor c.requires.task_slot c.place.result c.place.ensures.is m.0 m.1, m.2, m.3)
+pub unreachable-requires : goal.unreachable-requires
+unreachable-requires c = let m = c.requires.is_running in let no : Some m.0 ≡ None = read_there c.self.invariant.0 c.self.view_is c.args.actor c.requires.task_slot c.place-number.ensures.is m.1 c.index_mut-place.ensures.value c.in-None.is in cc
+
+pub run_data-requires-clause-own : goal.run_data-requires-clause-own
+run_data-requires-clause-own c = let m = c.requires.is_running in m.2 ∙ ap job_of (same_Some m.0 c.in-Some.frame (read_there c.self.invariant.0 c.self.view_is c.args.actor c.requires.task_slot c.place-number.ensures.is m.1 c.index_mut-place.ensures.value c.in-Some.is))
+
+pub run_data-requires-clause-may : goal.run_data-requires-clause-may
+run_data-requires-clause-may c = let m = c.requires.is_running in subst (λ (f : FrameView). MayDo c.args.instr.now c.args.store.now (come f c.args.done)) (same_Some m.0 c.in-Some.frame (read_there c.self.invariant.0 c.self.view_is c.args.actor c.requires.task_slot c.place-number.ensures.is m.1 c.index_mut-place.ensures.value c.in-Some.is)) m.3
+
+pub lend-requires-clause-fits_place : goal.lend-requires-clause-fits_place
+lend-requires-clause-fits_place c =
+    let m = c.requires.is_running in
+    let may = subst (λ (f : FrameView). MayDo c.args.instr.now c.args.store.now (come f c.args.done)) (same_Some m.0 c.in-Some.frame (read_there c.self.invariant.0 c.self.view_is c.args.actor c.requires.task_slot c.place-number.ensures.is m.1 c.index_mut-place.ensures.value c.in-Some.is)) m.3 in
+    may.fits_place c.run_data.new.store c.run_data.new.frame c.in-Ok.ensures.is_done
 
 pub invariant_of-self : goal.invariant_of-self
 invariant_of-self c =
     let m = c.requires.is_running in
-    let over = c.exec_data.ensures m.0 (is_running_there c.self.inside.task_slots.frames.items c.self.inside.taken c.self.invariant.0 c.args.self.now.tasks (ap (λ (r : RunningView). r.tasks) c.self.view_is) c.args.actor c.requires.task_slot c.place.result c.place.ensures.is m.0 m.1) in
-    let is_set = over.1 in (
-      still_running c.self.inside.task_slots.frames.items c.self.inside.taken c.self.invariant.0 c.args.self.now.tasks (ap (λ (r : RunningView). r.tasks) c.self.view_is) c.args.actor c.requires.task_slot c.place.result c.place.ensures.is m.0 over.0 m.1 c.exec_data.new.self.frames.items is_set,
-      still_kept c.self.inside.layout c.self.inside.task_slots.frames.items c.self.inside.frame_buffers.items c.self.invariant.1 c.place.result c.place.ensures.low over.0 c.exec_data.new.self.frames.items c.self.invariant.0.many is_set,
-    )
+    elim c.match-run_data.branch [
+      | in-Ok w ↦ rw (w.self-inside-is) (slots_kept c.self.invariant c.self.view_is c.args.actor c.requires.task_slot c.place-number.ensures.is m.1 w.lend.new.self)
+      | in-Err w ↦ rw (w.self-inside-is) (slots_kept c.self.invariant c.self.view_is c.args.actor c.requires.task_slot c.place-number.ensures.is m.1 c.run_data.new.frame)
+    ]
 
 pub returns : goal.returns
 returns c = λ f at.
-    let over = c.exec_data.ensures f (is_running_there c.self.inside.task_slots.frames.items c.self.inside.taken c.self.invariant.0 c.args.self.now.tasks (ap (λ (r : RunningView). r.tasks) c.self.view_is) c.args.actor c.requires.task_slot c.place.result c.place.ensures.is f at) in
-    (over.0, with_tasks c.self.inside.layout (by_actor c.exec_data.new.self.frames.items) c.args.self.now (insert c.args.self.now.tasks c.args.actor over.0) (ap (λ (r : RunningView). r.layout) c.self.view_is) (changed c.self.inside.task_slots.frames.items c.self.inside.taken c.self.invariant.0 c.args.self.now.tasks (ap (λ (r : RunningView). r.tasks) c.self.view_is) c.args.actor c.requires.task_slot c.place.result c.place.ensures.is over.0 c.exec_data.new.self.frames.items over.1), over.2)
+    let same = same_Some f c.in-Some.frame (read_there c.self.invariant.0 c.self.view_is c.args.actor c.requires.task_slot c.place-number.ensures.is at c.index_mut-place.ensures.value c.in-Some.is) in
+    elim c.match-run_data.branch [
+      | in-Ok w ↦ rw (w.self-inside-is, w.result-is) (
+        w.lend.new.self,
+        changed c.self.invariant.0 c.self.view_is c.args.actor c.requires.task_slot c.place-number.ensures.is w.lend.new.self,
+        subst (λ (x : FrameView). IsLentAfter c.args.instr.now c.args.store.now c.run_data.new.store x w.lend.new.self c.args.event_no c.args.done w.lend.result) (sym same)
+            (record { at = c.run_data.new.frame; is_done = w.in-Ok.ensures.is_done; is_lent = w.lend.ensures.kept; is_job = w.lend.ensures.lent }),
+      )
+      | in-Err w ↦ rw (w.self-inside-is, w.result-is) (
+        c.run_data.new.frame,
+        changed c.self.invariant.0 c.self.view_is c.args.actor c.requires.task_slot c.place-number.ensures.is c.run_data.new.frame,
+        subst (λ (x : FrameView). IsRefused c.args.instr.now c.args.store.now c.run_data.new.store x c.run_data.new.frame c.args.done w.in-Err.done) (sym same) w.in-Err.ensures,
+      )
+    ]

@@ -39,8 +39,8 @@ take_buffers-requires-clause-inside c = omega (arith, c.place-number.ensures.low
 pub take_buffers-requires-clause-there : goal.take_buffers-requires-clause-there
 take_buffers-requires-clause-there c =
     let e = handed _ c.in-Some.best.now c.in-Some.ensures in
-    room_there c.self.inside.layout c.self.inside.task_slots.frames.items c.self.inside.frame_buffers.items c.self.invariant.1 c.args.actor c.requires.task_slot c.args.tasks.now.tasks e.0 e.1
-    (ap (λ (r : RunningView). is_in r.layout c.args.actor) c.self.view_is ∙ c.requires.in_layout) c.place-number.result c.place-number.ensures.is c.place-number.ensures.low (ap (λ k. get_or c.self.inside.task_slots.frames.items k None) c.place-number.ensures.is ∙ sym (get_by_actor c.self.inside.task_slots.frames.items c.args.actor c.requires.task_slot) ∙ ap (λ (r : RunningView). get r.tasks c.args.actor) c.self.view_is ∙ c.requires.empty)
+    room_there c.self.inside.layout c.self.inside.frames.items c.self.inside.frame_buffers.items c.self.invariant.1 c.args.actor c.requires.task_slot c.args.tasks.now.tasks e.0 e.1
+    (ap (λ (r : RunningView). is_in r.layout c.args.actor) c.self.view_is ∙ c.requires.in_layout) c.place-number.result c.place-number.ensures.is c.place-number.ensures.low (ap (λ k. get_or c.self.inside.frames.items k None) c.place-number.ensures.is ∙ sym (get_by_actor c.self.inside.frames.items c.args.actor c.requires.task_slot) ∙ ap (λ (r : RunningView). get r.tasks c.args.actor) c.self.view_is ∙ c.requires.empty)
 
 pub put_buffers-requires : goal.put_buffers-requires
 put_buffers-requires c = omega (arith, c.place-number.ensures.low, c.self.invariant.1.many, ap length c.take_buffers.ensures, length-set c.self.inside.frame_buffers.items c.place-number.result None)
@@ -48,11 +48,11 @@ put_buffers-requires c = omega (arith, c.place-number.ensures.low, c.self.invari
 pub invariant_of-self : goal.invariant_of-self
 invariant_of-self c = (
   c.self.invariant.0,
-  subst (λ (frame_buffers : List (Option (Unit {0}))). AreKept c.self.inside.layout c.self.inside.task_slots.frames.items frame_buffers) (sym (c.put_buffers.ensures ∙ ap (λ (frame_buffers : List (Option (Unit {0}))). set frame_buffers c.place-number.result (Some tt)) c.take_buffers.ensures)) (kept_laid c.self.inside.layout c.self.inside.task_slots.frames.items c.self.inside.frame_buffers.items c.self.invariant.1 c.place-number.result c.place-number.ensures.low),
+  subst (λ (frame_buffers : List (Option (Unit {0}))). AreKept c.self.inside.layout c.self.inside.frames.items frame_buffers) (sym (c.put_buffers.ensures ∙ ap (λ (frame_buffers : List (Option (Unit {0}))). set frame_buffers c.place-number.result (Some tt)) c.take_buffers.ensures)) (kept_laid c.self.inside.layout c.self.inside.frames.items c.self.inside.frame_buffers.items c.self.invariant.1 c.place-number.result c.place-number.ensures.low),
 )
 
 pub put_task-requires-clause-empty : goal.put_task-requires-clause-empty
-put_task-requires-clause-empty c = ap (λ k. get_or c.self.inside.task_slots.frames.items k None) c.place-number.ensures.is ∙ sym (get_by_actor c.self.inside.task_slots.frames.items c.args.actor c.requires.task_slot) ∙ ap (λ (r : RunningView). get r.tasks c.args.actor) c.self.view_is ∙ c.requires.empty
+put_task-requires-clause-empty c = ap (λ k. get_or c.self.inside.frames.items k None) c.place-number.ensures.is ∙ sym (get_by_actor c.self.inside.frames.items c.args.actor c.requires.task_slot) ∙ ap (λ (r : RunningView). get r.tasks c.args.actor) c.self.view_is ∙ c.requires.empty
 
 pub lend-job-requires-clause-fits_place : goal.lend-job-requires-clause-fits_place
 lend-job-requires-clause-fits_place c =
@@ -64,20 +64,20 @@ lend-job-requires-clause-fits_place c =
 
 pub invariant_of-self-2 : goal.invariant_of-self-2
 invariant_of-self-2 c =
-    let inside : c.place-number.result < length c.self.inside.task_slots.frames.items = omega (arith, c.place-number.ensures.is, low_slot c.args.actor c.requires.task_slot, c.self.invariant.0.many) in
-    let empty : get_or c.self.inside.task_slots.frames.items c.place-number.result None ≡ None = ap (λ k. get_or c.self.inside.task_slots.frames.items k None) c.place-number.ensures.is ∙ sym (get_by_actor c.self.inside.task_slots.frames.items c.args.actor c.requires.task_slot) ∙ ap (λ (r : RunningView). get r.tasks c.args.actor) c.self.view_is ∙ c.requires.empty in
-    let none : ◌≡◌ {A = ℕ} (cond (is_some (get_or c.self.inside.task_slots.frames.items c.place-number.result None)) 1 0) 0 = ap (λ o. cond (is_some o) 1 0) empty in (
+    let inside : c.place-number.result < length c.self.inside.frames.items = omega (arith, c.place-number.ensures.is, low_slot c.args.actor c.requires.task_slot, c.self.invariant.0.many) in
+    let empty : get_or c.self.inside.frames.items c.place-number.result None ≡ None = ap (λ k. get_or c.self.inside.frames.items k None) c.place-number.ensures.is ∙ sym (get_by_actor c.self.inside.frames.items c.args.actor c.requires.task_slot) ∙ ap (λ (r : RunningView). get r.tasks c.args.actor) c.self.view_is ∙ c.requires.empty in
+    let none : ◌≡◌ {A = ℕ} (cond (is_some (get_or c.self.inside.frames.items c.place-number.result None)) 1 0) 0 = ap (λ o. cond (is_some o) 1 0) empty in (
       record {
-        many = ap length c.put_task.ensures ∙ length-set c.self.inside.task_slots.frames.items c.place-number.result (Some c.lend-job.new.self) ∙ c.self.invariant.0.many;
-        counted = let e = count_set c.self.inside.task_slots.frames.items c.place-number.result (Some c.lend-job.new.self) inside in omega (arith, e, none, c.self.invariant.0.counted, ap (count_by is_some) c.put_task.ensures);
+        many = ap length c.put_task.ensures ∙ length-set c.self.inside.frames.items c.place-number.result (Some c.lend-job.new.self) ∙ c.self.invariant.0.many;
+        counted = let e = count_set c.self.inside.frames.items c.place-number.result (Some c.lend-job.new.self) inside in omega (arith, e, none, c.self.invariant.0.counted, ap (count_by is_some) c.put_task.ensures);
       },
       subst (λ (running_tasks : List (Option FrameView)). AreKept c.self.inside.layout running_tasks c.take_buffers.new.frame_buffers.items) (sym c.put_task.ensures)
-          (subst (λ (frame_buffers : List (Option (Unit {0}))). AreKept c.self.inside.layout (set c.self.inside.task_slots.frames.items c.place-number.result (Some c.lend-job.new.self)) frame_buffers) (sym c.take_buffers.ensures) (kept_begun c.self.inside.layout c.self.inside.task_slots.frames.items c.self.inside.frame_buffers.items c.self.invariant.1 c.place-number.result c.place-number.ensures.low c.lend-job.new.self c.self.invariant.0.many)),
+          (subst (λ (frame_buffers : List (Option (Unit {0}))). AreKept c.self.inside.layout (set c.self.inside.frames.items c.place-number.result (Some c.lend-job.new.self)) frame_buffers) (sym c.take_buffers.ensures) (kept_begun c.self.inside.layout c.self.inside.frames.items c.self.inside.frame_buffers.items c.self.invariant.1 c.place-number.result c.place-number.ensures.low c.lend-job.new.self c.self.invariant.0.many)),
     )
 
 pub returns-clause-begun : goal.returns-clause-begun
 returns-clause-begun c =
-    let inside : slot_of c.args.actor < length c.self.inside.task_slots.frames.items = omega (arith, low_slot c.args.actor c.requires.task_slot, c.self.invariant.0.many) in
+    let inside : slot_of c.args.actor < length c.self.inside.frames.items = omega (arith, low_slot c.args.actor c.requires.task_slot, c.self.invariant.0.many) in
     let e = handed _ c.in-Some.best.now c.in-Some.ensures in
     let same : handed_out e.0 ≡ c.in-Some-take.task = same_Some (handed_out e.0) c.in-Some-take.task (sym (ap (option_map handed_out) e.1) ∙ sym c.take.ensures.taken ∙ c.in-Some-take.is) in
     let verified = c.args.verified.now in let own = c.in-Ok.start.values in
@@ -89,7 +89,7 @@ returns-clause-begun c =
       values = own;
       starts = starts_so verified c.args.actor e.0 c.in-Some.best.now e.2 own c.in-Ok.ensures.started;
       machine = machine_so verified c.args.actor e.0 c.in-Some-take.task same own c.start-frame.result.0 c.start-frame.ensures.is c.start-frame.ensures.machine;
-      is_running = ap by_actor (c.put_task.ensures ∙ ap (λ k. set c.self.inside.task_slots.frames.items k (Some frame)) c.place-number.ensures.is) ∙ by_actor_put c.self.inside.task_slots.frames.items c.args.actor frame c.requires.task_slot inside ∙ ap (λ (r : RunningView). insert r.tasks c.args.actor frame) c.self.view_is
+      is_running = ap by_actor (c.put_task.ensures ∙ ap (λ k. set c.self.inside.frames.items k (Some frame)) c.place-number.ensures.is) ∙ by_actor_put c.self.inside.frames.items c.args.actor frame c.requires.task_slot inside ∙ ap (λ (r : RunningView). insert r.tasks c.args.actor frame) c.self.view_is
           ∙ ap (insert c.args.self.now.tasks c.args.actor) lent;
       rest = c.take.ensures.rest ∙ ap (λ o. without o c.args.tasks.now.tasks) e.1;
       lent = c.lend-job.ensures.lent ∙ ap job_of lent;

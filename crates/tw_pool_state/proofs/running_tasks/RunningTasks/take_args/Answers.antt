@@ -1,24 +1,61 @@
-use Rattle.std.proofs.Common.{◌∙◌, IsSome, ap, subst, sym}
+use Rattle.std.proofs.Common.{◌≡◌, ◌<◌, ◌+◌, ◌∙◌, IsSome, None, Some, ap, arith, subst, sym}
+use Rattle.std.specs.Prelude.{◌^◌}
 use Rattle.tw_rights.specs.Bundled.{bundled}
 use Rattle.tw_pool_state.specs.Coming.{come, gone_on, lent_as}
-use Rattle.tw_pool_state.proofs.FrameBufferLists.{still_kept}
-use Rattle.tw_pool_state.proofs.PartNames.{RunningView, by_actor, insert}
-use Rattle.tw_pool_state.proofs.Runners.{changed, is_running_there, still_running, with_tasks}
+use Rattle.tw_pool_state.proofs.FrameBufferLists.{slots_kept}
+use Rattle.tw_pool_state.proofs.PartNames.{FrameView, MayBeAt, at_next_place, job_of, same_Some, with_running}
+use Rattle.tw_pool_state.proofs.Runners.{changed, read_there}
 use Rattle.tw_pool_state.proofs.running_tasks.RunningTasks.take_args.Goals as goal
 
-pub take_args-requires-clause-is_running : goal.take_args-requires-clause-is_running
-take_args-requires-clause-is_running c = let m = c.requires.is_running in (m.0, is_running_there c.self.inside.task_slots.frames.items c.self.inside.taken c.self.invariant.0 c.args.self.now.tasks (ap (λ (r : RunningView). r.tasks) c.self.view_is) c.args.actor c.requires.task_slot c.place.result c.place.ensures.is m.0 m.1, m.2, m.3, m.4, subst (λ ps. IsSome (bundled m.0.held ps c.args.args.now c.args.asked.vals.items)) (sym c.as_slice-params.ensures) m.5, m.6)
+pub unreachable-requires : goal.unreachable-requires
+unreachable-requires c = let m = c.requires.is_running in let no : Some m.0 ≡ None = read_there c.self.invariant.0 c.self.view_is c.args.actor c.requires.task_slot c.place-number.ensures.is m.1 c.index_mut-place.ensures.value c.in-None.is in cc
+
+pub complete_job-draft-requires-clause-own : goal.complete_job-draft-requires-clause-own
+complete_job-draft-requires-clause-own c = let m = c.requires.is_running in m.2 ∙ ap job_of (same_Some m.0 c.in-Some.frame (read_there c.self.invariant.0 c.self.view_is c.args.actor c.requires.task_slot c.place-number.ensures.is m.1 c.index_mut-place.ensures.value c.in-Some.is))
+
+pub complete_job-draft-requires-clause-spent : goal.complete_job-draft-requires-clause-spent
+complete_job-draft-requires-clause-spent c =
+    let m = c.requires.is_running in
+    let low : c.in-Some.frame.spent + c.args.done.steps < 2 ^ 63 = subst (λ (f : FrameView). f.spent + c.args.done.steps < 2 ^ 63) (same_Some m.0 c.in-Some.frame (read_there c.self.invariant.0 c.self.view_is c.args.actor c.requires.task_slot c.place-number.ensures.is m.1 c.index_mut-place.ensures.value c.in-Some.is)) m.3 in
+    omega (arith, low)
+
+pub take_args-bundle-requires-clause-fit : goal.take_args-bundle-requires-clause-fit
+take_args-bundle-requires-clause-fit c =
+    let m = c.requires.is_running in
+    subst (λ (f : FrameView). IsSome (bundled f.held c.as_slice-params.result.now c.args.args.now c.args.asked.vals.items)) (sym c.complete_job-draft.ensures.taken)
+    (subst (λ ps. IsSome (bundled c.in-Some.frame.held ps c.args.args.now c.args.asked.vals.items)) (sym c.as_slice-params.ensures)
+    (subst (λ (f : FrameView). IsSome (bundled f.held c.args.asked.callee.now.params c.args.args.now c.args.asked.vals.items)) (same_Some m.0 c.in-Some.frame (read_there c.self.invariant.0 c.self.view_is c.args.actor c.requires.task_slot c.place-number.ensures.is m.1 c.index_mut-place.ensures.value c.in-Some.is)) m.5))
+
+pub take_args-bundle-requires-clause-place : goal.take_args-bundle-requires-clause-place
+take_args-bundle-requires-clause-place c =
+    let m = c.requires.is_running in
+    subst (λ (f : FrameView). f.position.place < 2 ^ 63) (sym c.complete_job-draft.ensures.taken) m.4
+
+pub take_args-bundle-requires-clause-spent : goal.take_args-bundle-requires-clause-spent
+take_args-bundle-requires-clause-spent c =
+    let m = c.requires.is_running in
+    subst (λ (f : FrameView). f.spent < 2 ^ 63) (sym c.complete_job-draft.ensures.taken)
+    (subst (λ (f : FrameView). f.spent + c.args.done.steps < 2 ^ 63) (same_Some m.0 c.in-Some.frame (read_there c.self.invariant.0 c.self.view_is c.args.actor c.requires.task_slot c.place-number.ensures.is m.1 c.index_mut-place.ensures.value c.in-Some.is)) m.3)
+
+pub lend-requires-clause-fits_place : goal.lend-requires-clause-fits_place
+lend-requires-clause-fits_place c =
+    let m = c.requires.is_running in
+    let same : m.0 ≡ c.in-Some.frame = same_Some m.0 c.in-Some.frame (read_there c.self.invariant.0 c.self.view_is c.args.actor c.requires.task_slot c.place-number.ensures.is m.1 c.index_mut-place.ensures.value c.in-Some.is) in
+    let over = c.take_args-bundle.new.self in
+    subst (λ (f : FrameView). MayBeAt f.program.program f.procedure f.position)
+    (sym (c.take_args-bundle.ensures.rest ∙ ap (λ (f : FrameView). record f { held = over.held; position = at_next_place f.position; spent = f.spent + 1 }) c.complete_job-draft.ensures.taken))
+    (subst (λ (f : FrameView). MayBeAt f.program.program f.procedure (at_next_place c.args.done.after)) same m.6)
 
 pub invariant_of-self : goal.invariant_of-self
-invariant_of-self c =
-    let m = c.requires.is_running in
-    let over = c.take_args.ensures m.0 (is_running_there c.self.inside.task_slots.frames.items c.self.inside.taken c.self.invariant.0 c.args.self.now.tasks (ap (λ (r : RunningView). r.tasks) c.self.view_is) c.args.actor c.requires.task_slot c.place.result c.place.ensures.is m.0 m.1) in
-    let is_set = over.2 in (
-      still_running c.self.inside.task_slots.frames.items c.self.inside.taken c.self.invariant.0 c.args.self.now.tasks (ap (λ (r : RunningView). r.tasks) c.self.view_is) c.args.actor c.requires.task_slot c.place.result c.place.ensures.is m.0 (lent_as c.args.event_no (gone_on (come m.0 c.args.done) over.0)) m.1 c.take_args.new.self.frames.items is_set,
-      still_kept c.self.inside.layout c.self.inside.task_slots.frames.items c.self.inside.frame_buffers.items c.self.invariant.1 c.place.result c.place.ensures.low (lent_as c.args.event_no (gone_on (come m.0 c.args.done) over.0)) c.take_args.new.self.frames.items c.self.invariant.0.many is_set,
-    )
+invariant_of-self c = let m = c.requires.is_running in slots_kept c.self.invariant c.self.view_is c.args.actor c.requires.task_slot c.place-number.ensures.is m.1 c.lend.new.self
 
 pub returns : goal.returns
 returns c = λ f at.
-    let over = c.take_args.ensures f (is_running_there c.self.inside.task_slots.frames.items c.self.inside.taken c.self.invariant.0 c.args.self.now.tasks (ap (λ (r : RunningView). r.tasks) c.self.view_is) c.args.actor c.requires.task_slot c.place.result c.place.ensures.is f at) in
-    (over.0, ap (λ ps. bundled f.held ps c.args.args.now c.args.asked.vals.items) (sym c.as_slice-params.ensures) ∙ over.1, with_tasks c.self.inside.layout (by_actor c.take_args.new.self.frames.items) c.args.self.now (insert c.args.self.now.tasks c.args.actor (lent_as c.args.event_no (gone_on (come f c.args.done) over.0))) (ap (λ (r : RunningView). r.layout) c.self.view_is) (changed c.self.inside.task_slots.frames.items c.self.inside.taken c.self.invariant.0 c.args.self.now.tasks (ap (λ (r : RunningView). r.tasks) c.self.view_is) c.args.actor c.requires.task_slot c.place.result c.place.ensures.is (lent_as c.args.event_no (gone_on (come f c.args.done) over.0)) c.take_args.new.self.frames.items over.2), over.3)
+    let same : f ≡ c.in-Some.frame = same_Some f c.in-Some.frame (read_there c.self.invariant.0 c.self.view_is c.args.actor c.requires.task_slot c.place-number.ensures.is at c.index_mut-place.ensures.value c.in-Some.is) in
+    let file = c.take_args-bundle.new.self.held in
+    let moved : c.take_args-bundle.new.self ≡ gone_on (come f c.args.done) file =
+    c.take_args-bundle.ensures.rest ∙ ap (λ (g : FrameView). gone_on g file) (c.complete_job-draft.ensures.taken ∙ ap (λ (g : FrameView). come g c.args.done) (sym same)) in
+    let lent : c.lend.new.self ≡ lent_as c.args.event_no (gone_on (come f c.args.done) file) = c.lend.ensures.kept ∙ ap (lent_as c.args.event_no) moved in
+    let handed = ap (λ ps. bundled f.held ps c.args.args.now c.args.asked.vals.items) (sym c.as_slice-params.ensures)
+    ∙ ap (λ (g : FrameView). bundled g.held c.as_slice-params.result.now c.args.args.now c.args.asked.vals.items) same ∙ ap (λ (g : FrameView). bundled g.held c.as_slice-params.result.now c.args.args.now c.args.asked.vals.items) (sym c.complete_job-draft.ensures.taken) ∙ c.take_args-bundle.ensures.handed in
+    (file, handed, changed c.self.invariant.0 c.self.view_is c.args.actor c.requires.task_slot c.place-number.ensures.is c.lend.new.self ∙ ap (with_running c.args.self.now c.args.actor) lent, c.lend.ensures.lent ∙ ap job_of lent)

@@ -1,5 +1,5 @@
 use Rattle.std.proofs.Common.{length}
-use Rattle.tw_pool_state.proofs.task_slots.TaskSlots.shut.Given as goal
+use Rattle.tw_pool_state.proofs.task_slots.shut_tasks.Given as goal
 
 abbrev pub invariant-loop-task_slot : goal.invariant-loop-task_slot
 invariant-loop-task_slot l = Unit {0}

@@ -1,5 +1,5 @@
 use Rattle.std.proofs.Common.{length}
-use Rattle.tw_pool_state.proofs.running_tasks.drop_frame_buffers.Given as goal
+use Rattle.tw_pool_state.proofs.task_slots.drop_frame_buffers.Given as goal
 
 abbrev pub invariant-loop-room : goal.invariant-loop-room
 invariant-loop-room l = Unit {0}

@@ -1,6 +1,6 @@
 use Rattle.std.proofs.Common.{◌≡◌, ◌≤◌, replicate, None}
 use Rattle.std.specs.Prelude.{vec_capacity}
-use Rattle.tw_pool_state.proofs.task_slots.TaskSlots.none.Given as goal
+use Rattle.tw_pool_state.proofs.task_slots.empty_slots.Given as goal
 
 abbrev pub invariant-loop-index : goal.invariant-loop-index
 invariant-loop-index l = record {
