@@ -16,7 +16,6 @@ use Rattle.tw_rights.specs.Kinds.{kinds_of}
 use Rattle.tw_store.specs.Served.{IsUnchanged, Served, queued}
 use Rattle.tw_code.specs.declared.flow.Way.{Way}
 use Rattle.tw_code.specs.declared.instr.DataInstr.{DataInstr}
-use Rattle.tw_code.specs.declared.instr.DataInstr.TheVariants as on_data
 use Rattle.tw_code.specs.accepting.Flow.{data_flow, onward}
 use Rattle.tw_code.specs.accepting.Typing.{after_data, asks_data}
 use Rattle.tw_code.specs.format.Program.{IsDataInstr}
@@ -89,22 +88,6 @@ pub record MayDo (d : DataInstr) (s : Served) (f : FrameView) : Type 0 where
   pub store : IsTypedStore s.store
   pub room : HasRoom s f
   pub fits_place : (new : Served) (g : FrameView) → IsDone d s new f g → MayBeAt g.program.program g.procedure g.position
-
--- ---- without an allocation
-
--- holds for the instructions that don't allocate
-abbrev pub TakesNone : DataInstr → Type 0
-TakesNone (on_data.New write read ty) = ⊥
-TakesNone (on_data.Store datum from) = ⊥
-TakesNone (on_data.Get to datum) = ⊥
-TakesNone (on_data.Insert by container subscript member skip) = ⊥
-TakesNone (on_data.Look by member container subscript skip) = Unit {0}
-TakesNone (on_data.Size to container) = Unit {0}
-TakesNone (on_data.SubscriptAt by to container index skip) = ⊥
-TakesNone (on_data.CopyRead to from) = Unit {0}
-TakesNone (on_data.CopyWrite to from) = Unit {0}
-TakesNone (on_data.DropRead right) = Unit {0}
-TakesNone (on_data.DropWrite right) = ⊥
 
 -- ---- after a job
 

@@ -1,9 +1,9 @@
 //! Instructions on data.
 
 ghost use Rattle.std.specs.Prelude.{◌≡◌};
-ghost use Rattle.tw_frame.specs.Jobs.{draft_of, job_of};
+ghost use Rattle.tw_frame.specs.Jobs.{job_of};
 ghost use Rattle.tw_pool_state.specs.Coming.{come};
-ghost use Rattle.tw_pool_state.specs.Data.{IsAnswer, IsDone, MayDo, TakesNone};
+ghost use Rattle.tw_pool_state.specs.Data.{IsAnswer, MayDo};
 
 mod containers;
 pub(crate) mod results;
@@ -20,79 +20,25 @@ use tw_code::DataInstr;
 use tw_frame::{Done, Draft, Frame};
 use tw_store::Store;
 
-/// Executes an instruction that doesn't allocate.
-fn run_at_once<'a>(
-    store: &mut Store,
-    frame: &mut Frame<'a>,
-    draft: &mut Draft<'a>,
-    instr: &DataInstr,
-)
-    requires none { TakesNone instr.now }
-    requires may { MayDo instr.now store.old frame.old }
-    requires like { draft.old ≡ draft_of frame.old }
-    ensures done { IsDone instr.now store.old store.new frame.old frame.new }
-    ensures drafted { draft.new ≡ draft_of frame.new }
-{
-    match instr {
-        DataInstr::Look {
-            by,
-            member,
-            container,
-            subscript,
-            skip,
-        } => exec_look(store, frame, *by, *member, *container, *subscript, *skip),
-        DataInstr::Size { to, container } => exec_size(store, frame, draft, *to, *container),
-        DataInstr::CopyRead { to, from } => exec_copy_read(store, frame, *to, *from),
-        DataInstr::CopyWrite { to, from } => exec_copy_write(store, frame, *to, *from),
-        DataInstr::DropRead { right } => exec_drop_read(store, frame, *right),
-        DataInstr::New { .. } | DataInstr::Store { .. } | DataInstr::Get { .. } => unreachable!(),
-        DataInstr::Insert { .. } | DataInstr::SubscriptAt { .. } => unreachable!(),
-        DataInstr::DropWrite { .. } => unreachable!(),
-    }
-}
-
 /// Completes a task's job, executes an instruction, and returns a draft of the values then. Returns the `Done` if an allocation
-/// fails.
-pub(crate) fn run_data<'a>(
-    store: &mut Store,
-    frame: &mut Frame<'a>,
-    alloc: Global,
-    done: Done<'a>,
-    instr: &DataInstr,
-) -> Result<Draft<'a>, Done<'a>>
+/// fails. Has one row for each instruction.
+#[rattlefmt::skip]
+pub(crate) fn run_data<'a>(store: &mut Store, frame: &mut Frame<'a>, alloc: Global, done: Done<'a>, instr: &DataInstr) -> Result<Draft<'a>, Done<'a>>
     requires own { done.before ≡ job_of frame.old }
     requires may { MayDo instr.now store.old (come frame.old done) }
     ensures { IsAnswer instr.now store.old store.new frame.old frame.new done.entry result }
 {
     match instr {
-        DataInstr::New { write, read, ty } => exec_new(
-            store, frame, alloc, done, *write, *read, *ty,
-        ),
+        DataInstr::New { write, read, ty } => exec_new(store, frame, alloc, done, *write, *read, *ty),
         DataInstr::Store { datum, from } => exec_store(store, frame, alloc, done, *datum, *from),
         DataInstr::Get { to, datum } => exec_get(store, frame, alloc, done, *to, *datum),
-        DataInstr::Insert {
-            by,
-            container,
-            subscript,
-            member,
-            skip,
-        } => exec_insert(
-            store, frame, alloc, done, *by, *container, *subscript, *member, *skip,
-        ),
-        DataInstr::SubscriptAt {
-            by,
-            to,
-            container,
-            index,
-            skip,
-        } => exec_subscript_at(
-            store, frame, alloc, done, *by, *to, *container, *index, *skip,
-        ),
+        DataInstr::Insert { by, container, subscript, member, skip } => exec_insert(store, frame, alloc, done, *by, *container, *subscript, *member, *skip),
+        DataInstr::Look { by, member, container, subscript, skip } => Ok(exec_look(store, frame, done, *by, *member, *container, *subscript, *skip)),
+        DataInstr::Size { to, container } => Ok(exec_size(store, frame, done, *to, *container)),
+        DataInstr::SubscriptAt { by, to, container, index, skip } => exec_subscript_at(store, frame, alloc, done, *by, *to, *container, *index, *skip),
+        DataInstr::CopyRead { to, from } => Ok(exec_copy_read(store, frame, done, *to, *from)),
+        DataInstr::CopyWrite { to, from } => Ok(exec_copy_write(store, frame, done, *to, *from)),
+        DataInstr::DropRead { right } => Ok(exec_drop_read(store, frame, done, *right)),
         DataInstr::DropWrite { right } => exec_drop_write(store, frame, done, *right),
-        other => {
-            let mut draft = frame.complete_job(done);
-            run_at_once(store, frame, &mut draft, other);
-            Ok(draft)
-        }
     }
 }

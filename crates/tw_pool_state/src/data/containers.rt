@@ -2,9 +2,9 @@
 
 ghost use Rattle.std.specs.Prelude.{◌≡◌};
 ghost use Rattle.tw_code.specs.declared.instr.DataInstr.TheVariants as on_data;
-ghost use Rattle.tw_frame.specs.Jobs.{draft_of, job_of};
+ghost use Rattle.tw_frame.specs.Jobs.{job_of};
 ghost use Rattle.tw_pool_state.specs.Coming.{come};
-ghost use Rattle.tw_pool_state.specs.Data.{IsAnswer, IsDone, MayDo};
+ghost use Rattle.tw_pool_state.specs.Data.{IsAnswer, IsDoneAfter, MayDo};
 
 use crate::data::results::{copied_twice, number_at, set_result};
 use std::alloc::Global;
@@ -51,25 +51,32 @@ pub(crate) fn exec_insert<'a>(
 }
 
 /// Executes LOOK: it is refused, and skips, if there is no member at the subscript.
-pub(crate) fn exec_look(
+pub(crate) fn exec_look<'a>(
     store: &mut Store,
-    frame: &mut Frame<'_>,
+    frame: &mut Frame<'a>,
+    done: Done<'a>,
     by: Scalar,
     member: u8,
     container: u8,
     subscript: u8,
     skip: u16,
-)
-    requires { MayDo (on_data.Look by member container subscript skip) store.old frame.old }
-    ensures done { IsDone (on_data.Look by member container subscript skip) store.old store.new frame.old frame.new }
-    ensures values { frame.new.position.values ≡ frame.old.position.values }
+) -> Draft<'a>
+    requires own { done.before ≡ job_of frame.old }
+    requires may { MayDo (on_data.Look by member container subscript skip) store.old (come frame.old done) }
+    ensures { IsDoneAfter (on_data.Look by member container subscript skip) store.old store.new frame.old frame.new done.entry result }
 {
-    let at = frame.look(subscript);
+    let at = done.look(subscript);
     match store.look_under(frame.peek_read(container), at) {
-        None => frame.skip(skip),
+        None => {
+            let draft = frame.complete_job(done);
+            frame.skip(skip);
+            draft
+        }
         Some(right) => {
+            let draft = frame.complete_job(done);
             frame.fill(member, Held::Read(right));
             frame.to_next_place();
+            draft
         }
     }
 }
@@ -78,17 +85,18 @@ pub(crate) fn exec_look(
 pub(crate) fn exec_size<'a>(
     store: &Store,
     frame: &mut Frame<'a>,
-    draft: &mut Draft<'a>,
+    done: Done<'a>,
     to: u8,
     container: u8,
-)
-    requires may { MayDo (on_data.Size to container) store.now frame.old }
-    requires like { draft.old ≡ draft_of frame.old }
-    ensures done { IsDone (on_data.Size to container) store.now store.now frame.old frame.new }
-    ensures drafted { draft.new ≡ draft_of frame.new }
+) -> Draft<'a>
+    requires own { done.before ≡ job_of frame.old }
+    requires may { MayDo (on_data.Size to container) store.now (come frame.old done) }
+    ensures { IsDoneAfter (on_data.Size to container) store.now store.now frame.old frame.new done.entry result }
 {
     let size = store.size(frame.peek_read(container)) as i64;
-    set_result(frame, draft, to, Value::Int(size), Value::Int(size));
+    let mut draft = frame.complete_job(done);
+    set_result(frame, &mut draft, to, Value::Int(size), Value::Int(size));
+    draft
 }
 
 /// Executes SUBAT: it is refused, and skips, if there is no subscript with that many smaller ones.

@@ -4,7 +4,7 @@ ghost use Rattle.std.specs.Prelude.{◌≡◌};
 ghost use Rattle.tw_code.specs.declared.instr.DataInstr.TheVariants as on_data;
 ghost use Rattle.tw_frame.specs.Jobs.{job_of};
 ghost use Rattle.tw_pool_state.specs.Coming.{come};
-ghost use Rattle.tw_pool_state.specs.Data.{IsAnswer, IsDone, MayDo};
+ghost use Rattle.tw_pool_state.specs.Data.{IsAnswer, IsDoneAfter, MayDo};
 
 use std::alloc::Global;
 use tw_frame::{Done, Draft, Frame};
@@ -38,36 +38,59 @@ pub(crate) fn exec_new<'a>(
 }
 
 /// Executes DUPR.
-pub(crate) fn exec_copy_read(store: &mut Store, frame: &mut Frame<'_>, to: u8, from: u8)
-    requires { MayDo (on_data.CopyRead to from) store.old frame.old }
-    ensures done { IsDone (on_data.CopyRead to from) store.old store.new frame.old frame.new }
-    ensures values { frame.new.position.values ≡ frame.old.position.values }
+pub(crate) fn exec_copy_read<'a>(
+    store: &mut Store,
+    frame: &mut Frame<'a>,
+    done: Done<'a>,
+    to: u8,
+    from: u8,
+) -> Draft<'a>
+    requires own { done.before ≡ job_of frame.old }
+    requires may { MayDo (on_data.CopyRead to from) store.old (come frame.old done) }
+    ensures { IsDoneAfter (on_data.CopyRead to from) store.old store.new frame.old frame.new done.entry result }
 {
     let right = store.copy_read(frame.peek_read(from));
+    let draft = frame.complete_job(done);
     frame.fill(to, Held::Read(right));
     frame.to_next_place();
+    draft
 }
 
 /// Executes DUPW.
-pub(crate) fn exec_copy_write(store: &mut Store, frame: &mut Frame<'_>, to: u8, from: u8)
-    requires { MayDo (on_data.CopyWrite to from) store.old frame.old }
-    ensures done { IsDone (on_data.CopyWrite to from) store.old store.new frame.old frame.new }
-    ensures values { frame.new.position.values ≡ frame.old.position.values }
+pub(crate) fn exec_copy_write<'a>(
+    store: &mut Store,
+    frame: &mut Frame<'a>,
+    done: Done<'a>,
+    to: u8,
+    from: u8,
+) -> Draft<'a>
+    requires own { done.before ≡ job_of frame.old }
+    requires may { MayDo (on_data.CopyWrite to from) store.old (come frame.old done) }
+    ensures { IsDoneAfter (on_data.CopyWrite to from) store.old store.new frame.old frame.new done.entry result }
 {
     let right = store.copy_write(frame.peek_write(from));
+    let draft = frame.complete_job(done);
     frame.fill(to, Held::Write(right));
     frame.to_next_place();
+    draft
 }
 
 /// Executes DROPR.
-pub(crate) fn exec_drop_read(store: &mut Store, frame: &mut Frame<'_>, datum: u8)
-    requires { MayDo (on_data.DropRead datum) store.old frame.old }
-    ensures done { IsDone (on_data.DropRead datum) store.old store.new frame.old frame.new }
-    ensures values { frame.new.position.values ≡ frame.old.position.values }
+pub(crate) fn exec_drop_read<'a>(
+    store: &mut Store,
+    frame: &mut Frame<'a>,
+    done: Done<'a>,
+    datum: u8,
+) -> Draft<'a>
+    requires own { done.before ≡ job_of frame.old }
+    requires may { MayDo (on_data.DropRead datum) store.old (come frame.old done) }
+    ensures { IsDoneAfter (on_data.DropRead datum) store.old store.new frame.old frame.new done.entry result }
 {
     let right = frame.take_read(datum);
     store.drop_read(right);
+    let draft = frame.complete_job(done);
     frame.to_next_place();
+    draft
 }
 
 /// Executes DROPW: if the container closes, its subscribers get notices.
