@@ -1,8 +1,12 @@
 -- The register checks of diagnostics are the verifier's.
-use Rattle.std.proofs.Common.{◌≡◌, ℕ, Bool, true, false, cond, List, [], ◌∷◌, ◌++◌, map, None, refl, ap}
-use Rattle.tw_diagnostics.proofs.ReasonNames.{Scalar, Typing, checks_args, checks_data, checks_local, checks_priority, checks_right, checks_value, asks_args, asks_data, asks_local, asks_priority, asks_value, right_fits_param, question_of, right_at, slice_set}
+use Rattle.std.specs.Option.{option_map_or}
+use Rattle.std.proofs.Common.{◌≡◌, ℕ, Bool, true, false, ◌&&◌, ◌||◌, not, cond, List, [], ◌∷◌, ◌++◌, map, Option, Some, None, is_some, refl, ap}
+use Rattle.tw_diagnostics.proofs.ReasonNames.{Scalar, Typing, has_type, is_met_by, member_type, right_scalar, slice_get, checks_alike, checks_args, checks_data, checks_local, checks_priority, checks_right, checks_value, asks_args, asks_data, asks_local, asks_priority, asks_value, right_fits_param, question_of, right_at, slice_set}
 use Rattle.tw_types.specs.declared.param.Param.{Param}
-use Rattle.tw_types.specs.Mode.{is_val}
+use Rattle.tw_types.specs.declared.data_type.Scalar.TheVariants.{Int, Text}
+use Rattle.tw_types.specs.DataType.{element_of, same_scalar, same_type}
+use Rattle.tw_types.specs.Mode.{is_read, is_val}
+use Rattle.tw_types.specs.Nesting.{NestedScalar}
 use Rattle.tw_code.specs.declared.instr.DataInstr.{DataInstr}
 use Rattle.tw_code.specs.declared.instr.DataInstr.TheVariants as on_data
 use Rattle.tw_code.specs.declared.instr.LocalInstr.{LocalInstr}
@@ -10,28 +14,75 @@ use Rattle.tw_code.specs.declared.instr.LocalInstr.TheVariants as local
 use Rattle.tw_code.specs.declared.instr.Priority.{Priority}
 use Rattle.tw_code.specs.declared.instr.Priority.TheVariants.{Constant, Computed}
 use Rattle.tw_code.specs.accepting.Question.{Question, passes}
+use Rattle.tw_code.specs.accepting.Typing.{asks_alike, asks_value_of, reads_closed_scalar, reads_member_of, writes_container_by, writes_scalar}
+use Rattle.tw_code.specs.machine.Rights.{RightType}
+use Rattle.tw_diagnostics.specs.declared.requirement.Requirement.TheVariants.{ReadOf}
 use Rattle.tw_diagnostics.specs.Same.{RegisterChecksAgree}
+
+-- ---- a check's one condition is the verifier's
+
+same_both : (a b : Scalar) → same_scalar a b ≡ same_scalar b a
+same_both Int Int = refl
+same_both Int Text = refl
+same_both Text Int = refl
+same_both Text Text = refl
+
+-- the types of two registers, from the one or from the other
+alike : (a b : Option Scalar) → passes (λ (ty : Scalar). passes (λ declared. same_scalar declared ty) a) b ≡ passes (λ (ty : Scalar). passes (λ declared. same_scalar declared ty) b) a
+alike None None = refl
+alike None (Some b) = refl
+alike (Some a) None = refl
+alike (Some a) (Some b) = same_both a b
+
+of_right : (Is : Scalar → Bool) (right : Option RightType) → passes Is (right_scalar right) ≡ passes (λ (r : RightType). Is r.ty.scalar) right
+of_right Is None = refl
+of_right Is (Some r) = refl
+
+never : (b : Bool) → false ≡ b && false
+never true = refl
+never false = refl
+
+member_met : (container member : Option RightType) → is_met_by (ReadOf (member_type container)) member ≡ passes (λ (right : RightType). passes (reads_member_of right) member) container
+member_met None None = refl
+member_met None (Some m) = refl
+member_met (Some c) None = refl
+member_met (Some c) (Some m) = by (element_of c.ty)
+  where
+    by : (members : Option NestedScalar) → is_met_by (ReadOf members) (Some m) ≡ is_read m.mode && option_map_or (same_type m.ty) members false
+    by None = never (is_read m.mode)
+    by (Some ty) = refl
+
+-- ---- each row is an instruction
+
+same_alike : (registers : List Scalar) (first second : ℕ) → map question_of (checks_alike registers first second) ≡ asks_alike registers first second
+same_alike registers first second = ap (λ (met : Bool). (1, is_some (slice_get registers first)) ∷ (1, is_some (slice_get registers second)) ∷ (2, met) ∷ []) (alike (slice_get registers first) (slice_get registers second))
 
 same_local : (registers : List Scalar) (i : LocalInstr) → map question_of (checks_local registers i) ≡ asks_local registers i
 same_local registers (local.Int to n) = refl
 same_local registers (local.Text to text) = refl
-same_local registers (local.Copy to from) = refl
+same_local registers (local.Copy to from) = same_alike registers to from
 same_local registers (local.Compute operation to left right skip) = refl
 same_local registers (local.Concatenate to left right skip) = refl
 same_local registers (local.Length to from) = refl
 same_local registers (local.Show to from) = refl
 same_local registers (local.ReadInt to from skip) = refl
 same_local registers (local.Jump skip) = refl
-same_local registers (local.JumpEqual left right skip) = refl
+same_local registers (local.JumpEqual left right skip) = same_alike registers left right
 same_local registers (local.JumpLess left right skip) = refl
 same_local registers (local.Repeat iterations) = refl
 same_local registers local.End = refl
 
+same_value_of : (registers : List Scalar) (register : ℕ) (test : RightType → Bool) (right : Option RightType)
+    → (4, passes test right) ∷ (1, is_some (slice_get registers register)) ∷ (2, not (passes test right) || passes (has_type registers register) (right_scalar right)) ∷ [] ≡ asks_value_of registers register test right
+same_value_of registers register test right =
+    ap (λ (met : Bool). (4, passes test right) ∷ (1, is_some (slice_get registers register)) ∷ (2, not (passes test right) || met) ∷ []) (of_right (has_type registers register) right)
+
 same_data : (registers : List Scalar) (i : DataInstr) (typing : Typing) → map question_of (checks_data registers i typing) ≡ asks_data registers i typing
 same_data registers (on_data.New write read ty) typing = refl
-same_data registers (on_data.Store datum from) typing = refl
-same_data registers (on_data.Get to datum) typing = refl
-same_data registers (on_data.Insert by container subscript member skip) typing = refl
+same_data registers (on_data.Store datum from) typing = same_value_of registers from writes_scalar (right_at typing datum)
+same_data registers (on_data.Get to datum) typing = same_value_of registers to reads_closed_scalar (right_at typing datum)
+same_data registers (on_data.Insert by container subscript member skip) typing =
+    ap (λ (met : Bool). (4, passes (writes_container_by by) (right_at typing container)) ∷ (4, met) ∷ asks_value registers subscript by) (member_met (right_at typing container) (right_at typing member))
 same_data registers (on_data.Look by member container subscript skip) typing = refl
 same_data registers (on_data.Size to container) typing = refl
 same_data registers (on_data.SubscriptAt by to container index skip) typing = refl

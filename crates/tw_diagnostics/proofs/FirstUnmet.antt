@@ -1,11 +1,12 @@
 -- The first unmet check, among lists one after the other.
 use Rattle.std.proofs.Common.{◌≡◌, ℕ, zero, suc, ◌+◌, ◌-◌, ◌≢◌, Bool, true, false, cond, List, [], ◌∷◌, ◌++◌, None, Some, refl, sym, ap, subst, ◌∙◌, arith, length, take, drop, get_or, ◌≤◌}
 use Rattle.std.proofs.lemmas.Option.{none-some}
-use Rattle.tw_diagnostics.proofs.ReasonNames.{Scalar, Typing, checks_args, checks_left, checks_right, checks_value, checks_values, is_left, is_unmet, slice_set, take_all, first_unmet, value_types, without_args}
+use Rattle.tw_diagnostics.proofs.ReasonNames.{Scalar, Typing, checks_args, checks_left, checks_right, checks_value, checks_values, holds, is_unmet, slice_set, first_unmet, value_types, without_args}
 use Rattle.tw_lexer.proofs.Texts.{slice_tail}
 use Rattle.tw_types.specs.declared.param.Param.{Param}
 use Rattle.tw_types.specs.Mode.{is_val}
 use Rattle.tw_diagnostics.specs.declared.register_check.RegisterCheck.{RegisterCheck}
+use Rattle.tw_diagnostics.specs.declared.requirement.Requirement.TheVariants.{Empty}
 use Rattle.tw_diagnostics.proofs.GoingOn.{untrue}
 
 module _ (number : ℕ) where
@@ -36,11 +37,11 @@ module _ (waits : Bool) (registers : List Scalar) (typing : Typing) where
       by true = refl
       by false = refl
 
-pub left_more : (count register : ℕ) (typing : Typing) → count ≢ 0 → checks_left count register typing ≡ is_left typing register ∷ checks_left (count - 1) (register + 1) typing
+pub left_more : (count register : ℕ) (typing : Typing) → count ≢ 0 → checks_left count register typing ≡ holds 10 typing register Empty ∷ checks_left (count - 1) (register + 1) typing
 left_more zero register typing some = absurd (some refl)
 left_more (suc count) register typing some =
     let less : suc count - 1 ≡ count = omega arith in
-    ap (λ (n : ℕ). is_left typing register ∷ checks_left n (register + 1) typing) (sym less)
+    ap (λ (n : ℕ). holds 10 typing register Empty ∷ checks_left n (register + 1) typing) (sym less)
 
 -- ---- items after a first one
 

@@ -1,13 +1,12 @@
 -- A line continues word by word exactly if some statement continues so.
-use Rattle.std.proofs.Common.{◌≡◌, ◌+◌, ◌&&◌, ◌||◌, ◌==◌, ℕ, zero, suc, Bool, true, false, not, cond, List, [], ◌∷◌, codes, drop, length, Option, None, Some, Ok, Err, refl, sym, ap, ◌∙◌, add-one}
+use Rattle.std.proofs.Common.{◌≡◌, ◌+◌, ◌&&◌, ℕ, zero, suc, Bool, true, false, not, cond, List, [], ◌∷◌, drop, length, Option, None, Some, Ok, Err, refl, sym, ap, ◌∙◌, add-one}
 use Rattle.std.specs.Cmp.{second_so}
-use Rattle.tw_diagnostics.proofs.ReasonNames.{Bare, Form, Limit, Operand, Quoted, Version, Word, after_operand, bytes_eq, each, ends_at, form_at_place, go_on, goal, goes, has_form, is_any, is_goal, is_quoted, line_in, line_of, literal, nat_lt, natural, number, only_if, operand_in, right, slice_get, target, type_in, value}
+use Rattle.tw_diagnostics.proofs.ReasonNames.{Bare, Form, Limit, Operand, Quoted, Version, Word, after_operand, each, ends_at, form_at_place, go_on, goal, goes, has_form, is_quoted, line_in, line_of, literal, more, nat_lt, natural, number, only_if, operand_in, right, slice_get, target, type_in, value}
 use Rattle.std.specs.Borrow.{Bor}
 use Rattle.tw_types.specs.DataType.{scalar_type}
 use Rattle.tw_code.specs.declared.form.Form.{Form as OperandForm}
 use Rattle.tw_code.specs.declared.form.Form.TheVariants as form
-use Rattle.tw_lexer.specs.Digits.{as_is, digits_in}
-use Rattle.tw_asm.specs.reading.Operands.{at_label, both, container_in, further, goal_in, literal_in, name_in, natural_in, number_in, register_in, scalar_in, target_in}
+use Rattle.tw_asm.specs.reading.Operands.{container_in, goal_in, literal_in, name_in, natural_in, scalar_in}
 use Rattle.tw_lexer.specs.Names.{is_name}
 use Rattle.tw_diagnostics.specs.declared.step.Read.{Read}
 use Rattle.tw_diagnostics.specs.declared.step.Read.TheVariants as read
@@ -53,15 +52,6 @@ name_form text = by (is_name text) (nat_lt 64 (length text))
     by true false = refl
     by false c = refl
 
-goal_form : (w : Word) → has_form (goal_in w) ≡ is_goal w
-goal_form (Bare []) = refl
-goal_form (Bare (b ∷ rest)) = by (b == 43)
-  where
-    by : (t : Bool) → has_form (cond t (as_is further (digits_in 0 65535 rest)) (as_is at_label (name_in (b ∷ rest)))) ≡ cond t (has_form (digits_in 0 65535 rest)) (is_name (b ∷ rest))
-    by true = form_as_is further (digits_in 0 65535 rest)
-    by false = form_as_is at_label (name_in (b ∷ rest)) ∙ name_form (b ∷ rest)
-goal_form (Quoted text) = refl
-
 literal_form : (w : Word) → has_form (literal_in w) ≡ is_quoted w
 literal_form (Bare text) = refl
 literal_form (Quoted text) = by (nat_lt 4096 (length text))
@@ -69,14 +59,6 @@ literal_form (Quoted text) = by (nat_lt 4096 (length text))
     by : (b : Bool) → has_form (cond b (Err Limit) (Ok text)) ≡ true
     by true = refl
     by false = refl
-
-target_form : (w : Word) → has_form (target_in w) ≡ (is_any w || has_form (natural_in 0 15 w))
-target_form (Bare text) = by (bytes_eq text (codes "any"))
-  where
-    by : (b : Bool) → has_form (cond b (Ok None) (as_is (λ (n : ℕ). Some n) (digits_in 0 15 text))) ≡ (b || has_form (digits_in 0 15 text))
-    by true = refl
-    by false = form_as_is (λ (n : ℕ). Some n) (digits_in 0 15 text)
-target_form (Quoted text) = refl
 
 -- ---- operands, one after the other
 
@@ -117,7 +99,7 @@ drop_more (g ∷ fs) zero f gs e = tail_of g f fs gs e
     tail_of x y xs ys h = cc
 drop_more (g ∷ fs) (suc k) f gs e = drop_more fs k f gs e
 
-tail_lasts : (f : OperandForm) (fs : List OperandForm) → lasts (f ∷ fs) ≡ true → lasts fs ≡ true
+pub tail_lasts : (f : OperandForm) (fs : List OperandForm) → lasts (f ∷ fs) ≡ true → lasts fs ≡ true
 tail_lasts f [] l = refl
 tail_lasts f (g ∷ fs) l = second_so (not (is_last_form f)) (lasts (g ∷ fs)) l
 
@@ -150,13 +132,16 @@ module _ (version : Version) (name : Bor (List ℕ)) where
     end_goes k cut (w ∷ ws) = sym (goes_due k [] cut (w ∷ ws))
 
     -- an operand of one word, and what follows it
-    operand_goes : (o : Operand) (b : Bool) (fs : List OperandForm) (k : ℕ) (w : Word) (ws : List Word) → has_form (operand_in o w) ≡ b → has_form (line_in (line_of version fs) ws) ≡ goes version (at (k + 1)) ws
-        → has_form (both (operand_in o w) (line_in (line_of version fs) ws)) ≡ go_on (only_if b (at (k + 1))) (λ next. goes version next ws)
-    operand_goes o b fs k w ws is rest =
+    word_goes : (f : OperandForm) (o : Operand) (fs : List OperandForm) (k : ℕ) → drop k forms ≡ f ∷ fs → ends_at (Some f) ≡ false
+        → ((w : Word) (ws : List Word) → by_form k (Some f) (w ∷ ws) ≡ go_on (only_if (has_form (operand_in o w)) (at (k + 1))) (λ next. goes version next ws))
+        → ((ws : List Word) → has_form (line_in (line_of version fs) ws) ≡ goes version (at (k + 1)) ws) → (ws : List Word) → has_form (line_in (more o (line_of version fs)) ws) ≡ goes version (at k) ws
+    word_goes f o fs k cut on is rest [] = sym on ∙ sym (goes_due k (f ∷ fs) cut [])
+    word_goes f o fs k cut on is rest (w ∷ ws) =
         form_both (operand_in o w) (line_in (line_of version fs) ws)
-        ∙ ap (λ (c : Bool). c && has_form (line_in (line_of version fs) ws)) is
-        ∙ ap (λ (c : Bool). b && c) rest
-        ∙ sym (on_if b (at (k + 1)) (λ next. goes version next ws))
+        ∙ ap (λ (b : Bool). has_form (operand_in o w) && b) (rest ws)
+        ∙ sym (on_if (has_form (operand_in o w)) (at (k + 1)) (λ next. goes version next ws))
+        ∙ sym (is w ws)
+        ∙ sym (goes_due k (f ∷ fs) cut (w ∷ ws))
 
     type_goes : (k : ℕ) → drop k forms ≡ form.TypeOf ∷ [] → (ws : List Word) → has_form (type_in version ws) ≡ goes version (at k) ws
     type_goes k cut [] = sym (goes_due k (form.TypeOf ∷ []) cut [])
@@ -178,42 +163,28 @@ module _ (version : Version) (name : Bor (List ℕ)) where
     skip_goes k cut [] = sym (goes_due k (form.Skip ∷ []) cut [])
     skip_goes k cut (w ∷ ws) =
         by ws
-        ∙ ap (λ (b : Bool). is_goal w && b) (end_goes (k + 1) (next_cut k form.Skip [] cut) ws)
-        ∙ sym (on_if (is_goal w) (at (k + 1)) (λ next. goes version next ws))
+        ∙ ap (λ (b : Bool). has_form (goal_in w) && b) (end_goes (k + 1) (next_cut k form.Skip [] cut) ws)
+        ∙ sym (on_if (has_form (goal_in w)) (at (k + 1)) (λ next. goes version next ws))
         ∙ sym (goes_due k (form.Skip ∷ []) cut (w ∷ ws))
       where
-        by : (vs : List Word) → has_form (line_in goal (w ∷ vs)) ≡ (is_goal w && is_end vs)
-        by [] = goal_form w ∙ sym (and_true (is_goal w))
-        by (x ∷ vs) = sym (and_false (is_goal w))
+        by : (vs : List Word) → has_form (line_in goal (w ∷ vs)) ≡ (has_form (goal_in w) && is_end vs)
+        by [] = sym (and_true (has_form (goal_in w)))
+        by (x ∷ vs) = sym (and_false (has_form (goal_in w)))
 
     -- an instruction's operands from a place on
     pub line_goes : (fs : List OperandForm) (k : ℕ) → drop k forms ≡ fs → lasts fs ≡ true → (ws : List Word) → has_form (line_in (line_of version fs) ws) ≡ goes version (at k) ws
     line_goes [] k cut l [] = sym (goes_due k [] cut [])
     line_goes [] k cut l (w ∷ ws) = sym (goes_due k [] cut (w ∷ ws))
-    line_goes (form.Value ∷ fs) k cut l [] = sym (goes_due k (form.Value ∷ fs) cut [])
-    line_goes (form.Value ∷ fs) k cut l (w ∷ ws) =
-        operand_goes value (has_form (register_in 118 w)) fs k w ws refl (line_goes fs (k + 1) (next_cut k form.Value fs cut) (tail_lasts form.Value fs l) ws) ∙ sym (goes_due k (form.Value ∷ fs) cut (w ∷ ws))
-    line_goes (form.Right ∷ fs) k cut l [] = sym (goes_due k (form.Right ∷ fs) cut [])
-    line_goes (form.Right ∷ fs) k cut l (w ∷ ws) =
-        operand_goes right (has_form (register_in 100 w)) fs k w ws refl (line_goes fs (k + 1) (next_cut k form.Right fs cut) (tail_lasts form.Right fs l) ws) ∙ sym (goes_due k (form.Right ∷ fs) cut (w ∷ ws))
-    line_goes (form.Number ∷ fs) k cut l [] = sym (goes_due k (form.Number ∷ fs) cut [])
-    line_goes (form.Number ∷ fs) k cut l (w ∷ ws) =
-        operand_goes number (has_form (number_in w)) fs k w ws refl (line_goes fs (k + 1) (next_cut k form.Number fs cut) (tail_lasts form.Number fs l) ws) ∙ sym (goes_due k (form.Number ∷ fs) cut (w ∷ ws))
-    line_goes (form.Iterations ∷ fs) k cut l [] = sym (goes_due k (form.Iterations ∷ fs) cut [])
-    line_goes (form.Iterations ∷ fs) k cut l (w ∷ ws) =
-        operand_goes (natural 1 1000) (has_form (natural_in 1 1000 w)) fs k w ws refl (line_goes fs (k + 1) (next_cut k form.Iterations fs cut) (tail_lasts form.Iterations fs l) ws) ∙ sym (goes_due k (form.Iterations ∷ fs) cut (w ∷ ws))
-    line_goes (form.Literal ∷ fs) k cut l [] = sym (goes_due k (form.Literal ∷ fs) cut [])
-    line_goes (form.Literal ∷ fs) k cut l (w ∷ ws) =
-        operand_goes literal (is_quoted w) fs k w ws (literal_form w) (line_goes fs (k + 1) (next_cut k form.Literal fs cut) (tail_lasts form.Literal fs l) ws) ∙ sym (goes_due k (form.Literal ∷ fs) cut (w ∷ ws))
+    line_goes (form.Value ∷ fs) k cut l ws = word_goes form.Value value fs k cut refl (λ v vs. refl) (line_goes fs (k + 1) (next_cut k form.Value fs cut) (tail_lasts form.Value fs l)) ws
+    line_goes (form.Right ∷ fs) k cut l ws = word_goes form.Right right fs k cut refl (λ v vs. refl) (line_goes fs (k + 1) (next_cut k form.Right fs cut) (tail_lasts form.Right fs l)) ws
+    line_goes (form.Number ∷ fs) k cut l ws = word_goes form.Number number fs k cut refl (λ v vs. refl) (line_goes fs (k + 1) (next_cut k form.Number fs cut) (tail_lasts form.Number fs l)) ws
+    line_goes (form.Iterations ∷ fs) k cut l ws = word_goes form.Iterations (natural 1 1000) fs k cut refl (λ v vs. refl) (line_goes fs (k + 1) (next_cut k form.Iterations fs cut) (tail_lasts form.Iterations fs l)) ws
+    line_goes (form.Literal ∷ fs) k cut l ws = word_goes form.Literal literal fs k cut refl (λ v vs. ap (λ (b : Bool). go_on (only_if b (at (k + 1))) (λ next. goes version next vs)) (sym (literal_form v))) (line_goes fs (k + 1) (next_cut k form.Literal fs cut) (tail_lasts form.Literal fs l)) ws
     line_goes (form.TypeOf ∷ []) k cut l ws = type_goes k cut ws
     line_goes (form.TypeOf ∷ g ∷ fs) k cut l ws = absurd (untrue l)
     line_goes (form.Skip ∷ []) k cut l ws = skip_goes k cut ws
     line_goes (form.Skip ∷ g ∷ fs) k cut l ws = absurd (untrue l)
-    line_goes (form.Callee ∷ fs) k cut l [] = sym (goes_due k (form.Callee ∷ fs) cut [])
-    line_goes (form.Callee ∷ fs) k cut l (w ∷ ws) =
-        operand_goes (natural 0 255) (has_form (natural_in 0 255 w)) fs k w ws refl (line_goes fs (k + 1) (next_cut k form.Callee fs cut) (tail_lasts form.Callee fs l) ws) ∙ sym (goes_due k (form.Callee ∷ fs) cut (w ∷ ws))
-    line_goes (form.Target ∷ fs) k cut l [] = sym (goes_due k (form.Target ∷ fs) cut [])
-    line_goes (form.Target ∷ fs) k cut l (w ∷ ws) =
-        operand_goes target (is_any w || has_form (natural_in 0 15 w)) fs k w ws (target_form w) (line_goes fs (k + 1) (next_cut k form.Target fs cut) (tail_lasts form.Target fs l) ws) ∙ sym (goes_due k (form.Target ∷ fs) cut (w ∷ ws))
+    line_goes (form.Callee ∷ fs) k cut l ws = word_goes form.Callee (natural 0 255) fs k cut refl (λ v vs. refl) (line_goes fs (k + 1) (next_cut k form.Callee fs cut) (tail_lasts form.Callee fs l)) ws
+    line_goes (form.Target ∷ fs) k cut l ws = word_goes form.Target target fs k cut refl (λ v vs. refl) (line_goes fs (k + 1) (next_cut k form.Target fs cut) (tail_lasts form.Target fs l)) ws
     line_goes (form.Args ∷ []) k cut l ws = form_few 8 (each (natural_in 0 15) ws) ∙ (form_each (natural_in 0 15) ws ∙ args_go k cut ws)
     line_goes (form.Args ∷ g ∷ fs) k cut l ws = absurd (untrue l)

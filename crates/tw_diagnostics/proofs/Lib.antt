@@ -2,7 +2,6 @@ pub mod Asking
 pub mod Bringing
 pub mod Classes
 pub mod Differing
-mod ErrorWords
 pub mod Fewness
 pub mod Forms
 pub mod Getting

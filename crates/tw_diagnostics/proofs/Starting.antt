@@ -1,7 +1,6 @@
 -- After its first word a line continues word by word exactly if some statement continues so; wherever it is, some words end it.
-use Rattle.std.proofs.Common.{◌≡◌, ◌&&◌, ℕ, zero, suc, Bool, true, false, not, cond, List, [], ◌∷◌, codes, drop, Option, None, Some, Result, refl, sym, ap, ◌∙◌, inl, inr}
-use Rattle.std.specs.Cmp.{second_so}
-use Rattle.tw_diagnostics.proofs.ReasonNames.{AllByRecursion, Bare, TokenError, IsExpected, IsLabelWord, Quoted, Version, Word, after_operand, bytes_eq, ends_at, first_read, form_at_place, go_on, goes, has_form, slice_get}
+use Rattle.std.proofs.Common.{◌≡◌, ◌&&◌, ℕ, zero, suc, Bool, true, false, cond, List, [], ◌∷◌, codes, drop, Option, None, Some, refl, sym, ap, ◌∙◌, inl, inr}
+use Rattle.tw_diagnostics.proofs.ReasonNames.{AllByRecursion, Bare, IsExpected, IsLabelWord, Operand, Quoted, Version, Word, after_operand, bytes_eq, ends_at, first_read, form_at_place, go_on, goes, has_form, literal, more, natural, number, operand_in, right, slice_get, target, value}
 use Rattle.std.specs.Borrow.{Bor}
 use Rattle.std.specs.Option.{is_some, option_and_then}
 use Rattle.std.proofs.lemmas.Str.{IsUtf8-nil}
@@ -17,7 +16,7 @@ use Rattle.tw_asm.specs.declared.statement.First.TheVariants as first
 use Rattle.tw_lexer.specs.Names.{before_colon}
 use Rattle.tw_asm.specs.reading.Lines.{body_in, code_read, draft_in, each, ended, few, goal, head_in, head_read, kind_in, label_in, label_line, label_read, line_in, line_of, named_in, params_from, registers_in, registers_read, row_by, statement_in, version_in, version_read}
 use Rattle.tw_lexer.specs.Digits.{as_is, digits_in, signed_in}
-use Rattle.tw_asm.specs.reading.Operands.{both, literal_in, name_in, natural_in, number_in, register_in, scalar_in, target_in}
+use Rattle.tw_asm.specs.reading.Operands.{both, name_in, natural_in, number_in, register_in, scalar_in}
 use Rattle.tw_lexer.proofs.Colons.{before}
 use Rattle.tw_asm.proofs.Firsts.{named_word}
 use Rattle.tw_asm.proofs.Names.{name_decide}
@@ -27,7 +26,7 @@ use Rattle.tw_asm.proofs.Table.{draft_is}
 use Rattle.tw_diagnostics.specs.declared.step.Read.{Read}
 use Rattle.tw_diagnostics.specs.declared.step.Read.TheVariants as read
 use Rattle.tw_diagnostics.proofs.Forms.{all_form, and_false, and_true, form_as_is, form_both, form_each, form_few}
-use Rattle.tw_diagnostics.proofs.GoingOn.{lasts, line_goes, name_form, on_if, is_last_form, untrue}
+use Rattle.tw_diagnostics.proofs.GoingOn.{lasts, line_goes, name_form, on_if, tail_lasts, untrue}
 use Rattle.tw_diagnostics.proofs.ParamsGo.{params_go}
 
 -- ---- heads, registers and versions
@@ -140,40 +139,25 @@ version_fits : has_form (natural_in 1 2 (Bare (codes "1"))) ≡ true
 unfolding digits_in
 version_fits = refl
 
-both_fit : {A B : Type 0} (a : Result A TokenError) (b : Result B TokenError) → has_form a ≡ true → has_form b ≡ true → has_form (both a b) ≡ true
-both_fit a b e f = form_both a b ∙ ap (λ (x : Bool). x && has_form b) e ∙ f
-
-after_first : (f : OperandForm) (fs : List OperandForm) → lasts (f ∷ fs) ≡ true → lasts fs ≡ true
-after_first f [] l = refl
-after_first f (g ∷ fs) l = second_so (not (is_last_form f)) (lasts (g ∷ fs)) l
+-- a word for an operand, and words for the others
+ends_with : (version : Version) (fs : List OperandForm) (o : Operand) (w : Word) → has_form (operand_in o w) ≡ true → IsFine w → Ends version fs
+    → (ws : List Word) × (has_form (line_in (more o (line_of version fs)) ws) ≡ true) × AllByRecursion IsFine ws
+ends_with version fs o w fits is (ws, e, fine) =
+    (w ∷ ws, form_both (operand_in o w) (line_in (line_of version fs) ws) ∙ ap (λ (b : Bool). b && has_form (line_in (line_of version fs) ws)) fits ∙ e, (is, fine))
 
 line_ends : (version : Version) (fs : List OperandForm) → lasts fs ≡ true → Ends version fs
 line_ends version [] l = ([], refl, tt)
-line_ends version (form.Value ∷ fs) l =
-    let (ws, e, fine) = line_ends version fs (after_first form.Value fs l) in
-    (Bare (codes "v0") ∷ ws, both_fit (register_in 118 (Bare (codes "v0"))) (line_in (line_of version fs) ws) value_fits e, (tt, fine))
-line_ends version (form.Right ∷ fs) l =
-    let (ws, e, fine) = line_ends version fs (after_first form.Right fs l) in
-    (Bare (codes "d0") ∷ ws, both_fit (register_in 100 (Bare (codes "d0"))) (line_in (line_of version fs) ws) right_fits e, (tt, fine))
-line_ends version (form.Number ∷ fs) l =
-    let (ws, e, fine) = line_ends version fs (after_first form.Number fs l) in
-    (Bare (codes "0") ∷ ws, both_fit (number_in (Bare (codes "0"))) (line_in (line_of version fs) ws) number_fits e, (tt, fine))
-line_ends version (form.Iterations ∷ fs) l =
-    let (ws, e, fine) = line_ends version fs (after_first form.Iterations fs l) in
-    (Bare (codes "1") ∷ ws, both_fit (natural_in 1 1000 (Bare (codes "1"))) (line_in (line_of version fs) ws) turns_fit e, (tt, fine))
-line_ends version (form.Literal ∷ fs) l =
-    let (ws, e, fine) = line_ends version fs (after_first form.Literal fs l) in
-    (Quoted [] ∷ ws, both_fit (literal_in (Quoted [])) (line_in (line_of version fs) ws) refl e, (IsUtf8-nil, fine))
+line_ends version (form.Value ∷ fs) l = ends_with version fs value (Bare (codes "v0")) value_fits tt (line_ends version fs (tail_lasts form.Value fs l))
+line_ends version (form.Right ∷ fs) l = ends_with version fs right (Bare (codes "d0")) right_fits tt (line_ends version fs (tail_lasts form.Right fs l))
+line_ends version (form.Number ∷ fs) l = ends_with version fs number (Bare (codes "0")) number_fits tt (line_ends version fs (tail_lasts form.Number fs l))
+line_ends version (form.Iterations ∷ fs) l = ends_with version fs (natural 1 1000) (Bare (codes "1")) turns_fit tt (line_ends version fs (tail_lasts form.Iterations fs l))
+line_ends version (form.Literal ∷ fs) l = ends_with version fs literal (Quoted []) refl IsUtf8-nil (line_ends version fs (tail_lasts form.Literal fs l))
 line_ends version (form.TypeOf ∷ []) l = (Bare (codes "int") ∷ [], refl, (tt, tt))
 line_ends version (form.TypeOf ∷ g ∷ fs) l = absurd (untrue l)
 line_ends version (form.Skip ∷ []) l = (Bare (codes "+0") ∷ [], skip_fits version, (tt, tt))
 line_ends version (form.Skip ∷ g ∷ fs) l = absurd (untrue l)
-line_ends version (form.Callee ∷ fs) l =
-    let (ws, e, fine) = line_ends version fs (after_first form.Callee fs l) in
-    (Bare (codes "0") ∷ ws, both_fit (natural_in 0 255 (Bare (codes "0"))) (line_in (line_of version fs) ws) callee_fits e, (tt, fine))
-line_ends version (form.Target ∷ fs) l =
-    let (ws, e, fine) = line_ends version fs (after_first form.Target fs l) in
-    (Bare (codes "any") ∷ ws, both_fit (target_in (Bare (codes "any"))) (line_in (line_of version fs) ws) refl e, (tt, fine))
+line_ends version (form.Callee ∷ fs) l = ends_with version fs (natural 0 255) (Bare (codes "0")) callee_fits tt (line_ends version fs (tail_lasts form.Callee fs l))
+line_ends version (form.Target ∷ fs) l = ends_with version fs target (Bare (codes "any")) refl tt (line_ends version fs (tail_lasts form.Target fs l))
 line_ends version (form.Args ∷ []) l = ([], refl, tt)
 line_ends version (form.Args ∷ g ∷ fs) l = absurd (untrue l)
 
@@ -181,7 +165,7 @@ drop_lasts : (fs : List OperandForm) (k : ℕ) → lasts fs ≡ true → lasts (
 drop_lasts [] zero l = refl
 drop_lasts [] (suc k) l = refl
 drop_lasts (f ∷ fs) zero l = l
-drop_lasts (f ∷ fs) (suc k) l = drop_lasts fs k (after_first f fs l)
+drop_lasts (f ∷ fs) (suc k) l = drop_lasts fs k (tail_lasts f fs l)
 
 abbrev pub CanEnd : Version → Read → Type 0
 CanEnd version r = (ws : List Word) × (goes version r ws ≡ true) × AllByRecursion IsFine ws

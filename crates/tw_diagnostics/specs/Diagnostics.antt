@@ -1,5 +1,5 @@
 -- Diagnostics of a line of a text, printed after the text's fault.
-use Rattle.std.specs.Prelude.{◌≡◌, ◌≢◌, ◌⊎◌, ◌&&◌, ◌==◌, true, false, ℕ, ◌+◌, ◌-◌, ◌||◌, length, nat_lt, Bool, if◌then◌else◌, List, [], ◌∷◌, ◌++◌, codes, decimal, nat_eq, Option, Some, None, slice_get}
+use Rattle.std.specs.Prelude.{◌≡◌, ◌≢◌, ◌&&◌, ◌==◌, true, false, ℕ, ◌+◌, ◌-◌, ◌||◌, length, nat_lt, Bool, if◌then◌else◌, List, [], ◌∷◌, ◌++◌, codes, decimal, nat_eq, Option, Some, None, slice_get}
 use Rattle.std.specs.List.{starts_with}
 use Rattle.std.specs.Str.Lines.{lines}
 use Rattle.std.specs.Str.{bytes_eq}
@@ -23,6 +23,8 @@ use Rattle.tw_diagnostics.specs.declared.error_position.Token.TheVariants as fou
 use Rattle.tw_diagnostics.specs.declared.error_position.ErrorPosition.{ErrorPosition}
 use Rattle.tw_diagnostics.specs.declared.diagnostic.Diagnostic.{Diagnostic}
 use Rattle.tw_diagnostics.specs.declared.diagnostic.Diagnostic.TheVariants as said
+use Rattle.tw_diagnostics.specs.declared.diagnostic.Reason.{Reason}
+use Rattle.tw_diagnostics.specs.declared.diagnostic.Reason.TheVariants as reason
 
 -- ---- words that were found
 
@@ -98,12 +100,21 @@ said_text (said.Limit limit) found = limit_text limit.now found
 abbrev pub stop_line : ErrorPosition → List ℕ → List ℕ
 stop_line stop printed = where_text stop ++ (printed ++ codes "\n")
 
--- holds if nothing is printed of the line, or a diagnostic of a position in it, or a sentence about the whole
-abbrev pub IsLineReason : List ℕ → List ℕ → Type 0
-IsLineReason line text =
-    (text ≡ [])
-    ⊎ (((stop : ErrorPosition) × (say : Diagnostic) × IsErrorPosition line stop × (text ≡ stop_line stop (said_text say stop.found)))
-    ⊎ ((whole : List ℕ) × (text ≡ whole ++ codes "\n")))
+-- returns what is printed of a reason
+abbrev pub reason_text : Reason → List ℕ
+reason_text (reason.At stop say) = stop_line stop (said_text say stop.found)
+reason_text (reason.Whole whole) = whole.now ++ codes "\n"
+reason_text reason.Nothing = []
+
+-- holds if its position, if it has one, is in the line
+abbrev pub IsIn : List ℕ → Reason → Type 0
+IsIn line (reason.At stop say) = IsErrorPosition line stop
+IsIn line other = Unit {0}
+
+-- holds if it has a position with such a text about it
+abbrev pub IsAt : Reason → (ErrorPosition → List ℕ → Type 0) → Type 0
+IsAt (reason.At stop say) IsSaid = IsSaid stop (said_text say stop.found)
+IsAt other IsSaid = ⊥
 
 -- ---- by the parser's state before the line
 
@@ -113,11 +124,10 @@ IsBefore text number s =
     (before : List (List ℕ)) × (others : List (List ℕ)) × (said : List (Option Statement))
     × (lines text ≡ before ++ others) × (number ≡ length before + 1) × LinesSay 1 at_start before said × (s ≡ situation said)
 
--- holds for A01: the first word, what may begin the line there, and which instruction was meant
-abbrev pub PrintsFirst : ParserState → List ℕ → List ℕ → Type 0
-PrintsFirst s line reason =
-    (stop : ErrorPosition) × IsErrorPosition line stop × (stop.word ≡ 1)
-    × (reason ≡ stop_line stop (expected_text (stage_text (stage_of s.stage)) stop.found ++ first_hint (stage_of s.stage) s.version (found_word stop.found)))
+-- holds for A01: the first word, what may begin the line, and which instruction was meant
+abbrev pub IsFirst : List ℕ → ℕ → Reason → Type 0
+IsFirst text number r = IsAt r (λ stop said. (stop.word ≡ 1) × ((s : ParserState) → IsBefore text number s
+    → said ≡ expected_text (stage_text (stage_of s.stage)) stop.found ++ first_hint (stage_of s.stage) s.version (found_word stop.found)))
 
 -- returns what is printed of the word at which the line stops, by what may come there
 abbrev pub due_said : Option Due → Token → List ℕ
@@ -125,33 +135,30 @@ due_said None found = too_many_text found
 due_said (Some due) found = expected_text (due_text due) found ++ word_hint (Some due) (found_word found)
 
 -- holds for A02: the first word with which the line doesn't continue as a statement, or its end if it has too few words
-abbrev pub PrintsOperand : ParserState → List ℕ → List ℕ → Type 0
-PrintsOperand s line reason = (stop : ErrorPosition) × IsFirstStop s.version line stop × (reason ≡ stop_line stop (due_said stop.due stop.found))
+abbrev pub IsOperand : ParserState → List ℕ → Reason → Type 0
+IsOperand s line r = IsAt r (λ stop said. IsFirstStop s.version line stop × (said ≡ due_said stop.due stop.found))
 
 -- ---- by the line's last word, which is the goal of a skip
 
--- holds if this is printed of the line's last word, provided that the line has words
-abbrev pub PrintsLast : List ℕ → (ErrorPosition → List ℕ → Type 0) → List ℕ → Type 0
-PrintsLast line IsSaid reason =
-    (words : List Word) → IsLine words line → words ≢ []
-    → (stop : ErrorPosition) × (text : List ℕ) × IsErrorPosition line stop × (stop.word ≡ length words) × IsSaid stop text × (reason ≡ stop_line stop text)
+-- holds for the line's last word, provided that the line has words
+abbrev pub IsLast : List ℕ → (ErrorPosition → List ℕ → Type 0) → Reason → Type 0
+IsLast line IsSaid r = (words : List Word) → IsLine words line → words ≢ [] → IsAt r (λ stop said. (stop.word ≡ length words) × IsSaid stop said)
 
 -- holds for A03: there is no such label
-abbrev pub PrintsUnknown : List ℕ → List ℕ → Type 0
-PrintsUnknown line reason = PrintsLast line (λ stop text. text ≡ expected_text (codes "a label of this procedure") stop.found) reason
+abbrev pub IsUnknown : List ℕ → Reason → Type 0
+IsUnknown line r = IsLast line (λ stop said. said ≡ expected_text (codes "a label of this procedure") stop.found) r
 
 -- holds for A05, with the line of the label that is named
-abbrev pub PrintsBackward : List ℕ → ℕ → List ℕ → List ℕ → Type 0
-PrintsBackward text number line reason = PrintsLast line
-    (λ stop said. (at : Option ℕ) × IsLabelBefore text number (found_word stop.found) at × (said ≡ expected_text (codes "a label after this line") stop.found ++ line_text at)) reason
+abbrev pub IsBackward : List ℕ → ℕ → List ℕ → Reason → Type 0
+IsBackward text number line r = IsLast line
+    (λ stop said. (at : Option ℕ) × IsLabelBefore text number (found_word stop.found) at × (said ≡ expected_text (codes "a label after this line") stop.found ++ line_text at)) r
 
 -- ---- by the line's first word
 
 -- holds for A04, with the earlier line that has the same label
-abbrev pub PrintsTwice : List ℕ → ℕ → List ℕ → List ℕ → Type 0
-PrintsTwice text number line reason =
-    (stop : ErrorPosition) × (at : Option ℕ) × IsErrorPosition line stop × (stop.word ≡ 1) × IsTwinBefore text number (before_colon (found_word stop.found)) at
-    × (reason ≡ stop_line stop (expected_text (codes "a new label") stop.found ++ line_text at))
+abbrev pub IsTwice : List ℕ → ℕ → Reason → Type 0
+IsTwice text number r = IsAt r
+    (λ stop said. (at : Option ℕ) × (stop.word ≡ 1) × IsTwinBefore text number (before_colon (found_word stop.found)) at × (said ≡ expected_text (codes "a new label") stop.found ++ line_text at))
 
 -- returns whether a label is too long (A06)
 abbrev pub is_long_label : Option (List ℕ) → Bool
@@ -166,43 +173,50 @@ whole_limit first =
     codes "4096 instructions come before it, or the text has no procedure"
 
 -- holds for a word of the line, with the limit of what may come there, or for the limit of the whole
-abbrev pub IsPast : List ℕ → List ℕ → List ℕ → Type 0
-IsPast line first reason =
-    ((stop : ErrorPosition) × IsErrorPosition line stop × (reason ≡ stop_line stop (limit_text (limit_of stop.due) stop.found)))
-    ⊎ (reason ≡ whole_limit first ++ codes "\n")
-
-abbrev pub AddsPast : List ℕ → List ℕ → List ℕ → List ℕ → Type 0
-AddsPast line first old new = (reason : List ℕ) × IsPast line first reason × (new ≡ old ++ reason)
+abbrev pub IsPast : List ℕ → Reason → Type 0
+IsPast first (reason.At stop say) = said_text say stop.found ≡ limit_text (limit_of stop.due) stop.found
+IsPast first (reason.Whole whole) = whole.now ≡ whole_limit first
+IsPast first reason.Nothing = ⊥
 
 -- holds for a label that is too long; else like `IsPast`
-abbrev pub IsPastFirst : List ℕ → ErrorPosition → Bool → List ℕ → Type 0
-IsPastFirst line first true reason = reason ≡ stop_line first (limit_text (codes "64 bytes") first.found)
-IsPastFirst line first false reason = IsPast line (found_word first.found) reason
+abbrev pub IsPastFirst : ErrorPosition → Bool → Reason → Type 0
+IsPastFirst first true r = IsAt r (λ stop said. (stop ≡ first) × (said ≡ limit_text (codes "64 bytes") first.found))
+IsPastFirst first false r = IsPast (found_word first.found) r
 
-abbrev pub PrintsPast : List ℕ → List ℕ → Type 0
-PrintsPast line reason = (first : ErrorPosition) × IsErrorPosition line first × (first.word ≡ 1) × IsPastFirst line first (is_long_label (before_colon (found_word first.found))) reason
+abbrev pub IsLimit : List ℕ → Reason → Type 0
+IsLimit line r = (first : ErrorPosition) × IsErrorPosition line first × (first.word ≡ 1) × IsPastFirst first (is_long_label (before_colon (found_word first.found))) r
 
 -- ---- each row is a fault
 
 -- holds for the line with this number
-abbrev pub IsReasonOf : FaultNo → List ℕ → ℕ → List ℕ → List ℕ → Type 0
-IsReasonOf fault.Word text number line reason = (s : ParserState) → IsBefore text number s → LineFault number s line fault.Word number → PrintsFirst s line reason
-IsReasonOf fault.Operand text number line reason = (s : ParserState) → IsBefore text number s → LineFault number s line fault.Operand number → PrintsOperand s line reason
-IsReasonOf fault.UnknownLabel text number line reason = PrintsUnknown line reason
-IsReasonOf fault.LabelTwice text number line reason = PrintsTwice text number line reason
-IsReasonOf fault.LabelNotForward text number line reason = PrintsBackward text number line reason
-IsReasonOf fault.Limit text number line reason = PrintsPast line reason
-IsReasonOf fault.NoMemory text number line reason = reason ≡ []
+abbrev pub IsReasonOf : FaultNo → List ℕ → ℕ → List ℕ → Reason → Type 0
+IsReasonOf fault.Word text number line r = IsFirst text number r
+IsReasonOf fault.Operand text number line r = (s : ParserState) → IsBefore text number s → LineFault number s line fault.Operand number → IsOperand s line r
+IsReasonOf fault.UnknownLabel text number line r = IsUnknown line r
+IsReasonOf fault.LabelTwice text number line r = IsTwice text number r
+IsReasonOf fault.LabelNotForward text number line r = IsBackward text number line r
+IsReasonOf fault.Limit text number line r = IsLimit line r
+IsReasonOf fault.NoMemory text number line r = r ≡ reason.Nothing
 
 -- holds if this is why the line with this number is rejected with a fault
-abbrev pub IsWhy : List ℕ → FaultNo → ℕ → List ℕ → List ℕ → Type 0
-IsWhy text which number line reason = IsLineReason line reason × IsReasonOf which text number line reason
+abbrev pub IsWhy : List ℕ → FaultNo → ℕ → List ℕ → Reason → Type 0
+IsWhy text which number line r = IsIn line r × IsReasonOf which text number line r
 
-abbrev pub AddsWhy : List ℕ → FaultNo → ℕ → List ℕ → List ℕ → List ℕ → Type 0
-AddsWhy text which number line old new = (reason : List ℕ) × IsWhy text which number line reason × (new ≡ old ++ reason)
+-- ---- as text
 
--- holds for the line, shortened if it is long, followed by the reason; for the reason alone if the text has no line with this number
+abbrev pub line_at : List ℕ → ℕ → Option (List ℕ)
+line_at text number = slice_get (lines text) (number - 1)
+
+-- returns the line, or an empty one if the text has none
+abbrev pub or_empty : Option (List ℕ) → List ℕ
+or_empty None = []
+or_empty (Some line) = line
+
+-- returns the line, shortened if it is long
+abbrev pub shown_line : Option (List ℕ) → List ℕ
+shown_line None = []
+shown_line (Some line) = shortened line ++ codes "\n"
+
+-- holds for the line, if the text has it, and why it is rejected
 abbrev pub IsTextReason : List ℕ → FaultNo → ℕ → List ℕ → Type 0
-IsTextReason text which number more =
-    ((line : List ℕ) × (reason : List ℕ) × (slice_get (lines text) (number - 1) ≡ Some line) × IsWhy text which number line reason × (more ≡ shortened line ++ (codes "\n" ++ reason)))
-    ⊎ ((slice_get (lines text) (number - 1) ≡ None) × IsWhy text which number [] more)
+IsTextReason text which number more = (r : Reason) × IsWhy text which number (or_empty (line_at text number)) r × (more ≡ shown_line (line_at text number) ++ reason_text r)

@@ -1,5 +1,5 @@
 -- Progress in a line, word by word: whether some statement continues so, limits aside. No public clause reaches this file.
-use Rattle.std.specs.Prelude.{◌+◌, ◌==◌, ◌||◌, ℕ, Bool, true, false, if◌then◌else◌, List, [], ◌∷◌, codes, Option, Some, None, Result, Ok, Err, slice_get}
+use Rattle.std.specs.Prelude.{◌+◌, ℕ, Bool, true, false, if◌then◌else◌, List, [], ◌∷◌, codes, Option, Some, None, Result, Ok, Err, slice_get}
 use Rattle.std.specs.Borrow.{Bor}
 use Rattle.std.specs.Option.{option_and_then}
 use Rattle.std.specs.Str.{bytes_eq}
@@ -13,9 +13,7 @@ use Rattle.tw_lexer.specs.Words.{Word, Bare, Quoted}
 use Rattle.tw_lexer.specs.declared.numbers.TokenError.{TokenError}
 use Rattle.tw_lexer.specs.declared.numbers.TokenError.TheVariants as flaw
 use Rattle.tw_asm.specs.reading.Lines.{kind_in}
-use Rattle.tw_asm.specs.reading.Operands.{container_in, mode_in, natural_in, number_in, register_in, scalar_in}
-use Rattle.tw_lexer.specs.Digits.{digits_in}
-use Rattle.tw_lexer.specs.Names.{is_name}
+use Rattle.tw_asm.specs.reading.Operands.{container_in, goal_in, mode_in, natural_in, number_in, register_in, scalar_in, target_in}
 use Rattle.tw_diagnostics.specs.declared.step.Read.{Read}
 use Rattle.tw_diagnostics.specs.declared.step.Read.TheVariants as read
 
@@ -26,16 +24,6 @@ abbrev pub has_form : {A : Type 0} → Result A TokenError → Bool
 has_form (Ok a) = true
 has_form (Err flaw.Form) = false
 has_form (Err flaw.Limit) = true
-
-abbrev pub is_any : Word → Bool
-is_any (Bare text) = bytes_eq text (codes "any")
-is_any (Quoted text) = false
-
--- returns whether a word is a number of instructions, or a name
-abbrev pub is_goal : Word → Bool
-is_goal (Bare []) = false
-is_goal (Bare (b ∷ rest)) = if b == 43 then has_form (digits_in 0 65535 rest) else is_name (b ∷ rest)
-is_goal (Quoted text) = false
 
 abbrev pub is_quoted : Word → Bool
 is_quoted (Bare text) = false
@@ -49,9 +37,9 @@ is_operand form.Number w = has_form (number_in w)
 is_operand form.Iterations w = has_form (natural_in 1 1000 w)
 is_operand form.Literal w = is_quoted w
 is_operand form.TypeOf w = false
-is_operand form.Skip w = is_goal w
+is_operand form.Skip w = has_form (goal_in w)
 is_operand form.Callee w = has_form (natural_in 0 255 w)
-is_operand form.Target w = is_any w || has_form (natural_in 0 15 w)
+is_operand form.Target w = has_form (target_in w)
 is_operand form.Args w = false
 
 abbrev pub found : {A : Type 0} → Result A TokenError → Option A

@@ -7,7 +7,7 @@ use Rattle.tw_types.specs.Nesting.{NestedScalar}
 use Rattle.tw_types.specs.declared.data_type.Scalar.{Scalar}
 use Rattle.tw_types.specs.declared.data_type.Scalar.TheVariants as scalar
 use Rattle.tw_types.specs.declared.param.Param.{Param}
-use Rattle.tw_types.specs.DataType.{element_of, same_scalar}
+use Rattle.tw_types.specs.DataType.{element_of, same_scalar, same_type}
 use Rattle.tw_types.specs.Mode.{is_val}
 use Rattle.tw_code.specs.declared.instr.Action.{Action}
 use Rattle.tw_code.specs.declared.instr.DataInstr.{DataInstr}
@@ -20,14 +20,14 @@ use Rattle.tw_code.specs.declared.instr.Priority.{Priority}
 use Rattle.tw_code.specs.declared.instr.Priority.TheVariants.{Constant, Computed}
 use Rattle.tw_code.specs.declared.procedure.Procedure.{Procedure}
 use Rattle.tw_code.specs.accepting.Question.{Question, passes}
-use Rattle.tw_code.specs.accepting.Typing.{right_fits_param, reads, reads_closed_container, reads_closed_container_by, reads_closed_scalar, reads_member_of, value_types, writes, writes_container_by, writes_scalar}
+use Rattle.tw_code.specs.accepting.Typing.{right_fits_param, reads, reads_closed_container, reads_closed_container_by, reads_closed_scalar, value_types, writes, writes_container_by, writes_scalar}
 use Rattle.tw_code.specs.machine.Arguments.{params_of}
 use Rattle.tw_code.specs.machine.Rights.{RightType, Typing, right_at}
 use Rattle.tw_diagnostics.specs.declared.register_check.RegisterCheck.{RegisterCheck}
 use Rattle.tw_diagnostics.specs.declared.register_check.RegisterState.{RegisterState}
 use Rattle.tw_diagnostics.specs.declared.register_check.RegisterState.TheVariants as held
-use Rattle.tw_diagnostics.specs.declared.register_check.Requirement.{Requirement}
-use Rattle.tw_diagnostics.specs.declared.register_check.Requirement.TheVariants as wanted
+use Rattle.tw_diagnostics.specs.declared.requirement.Requirement.{Requirement}
+use Rattle.tw_diagnostics.specs.declared.requirement.Requirement.TheVariants as wanted
 
 -- returns the verifier's check, without the register
 abbrev pub question_of : RegisterCheck → Question
@@ -36,6 +36,27 @@ question_of a = (a.number, a.is_met)
 -- returns whether the check is unmet and has this code
 abbrev pub is_unmet : ℕ → RegisterCheck → Bool
 is_unmet number a = (a.number == number) && not a.is_met
+
+-- ---- requirements
+
+-- returns which rights are as required; registers that may be empty are in `is_met_by`
+abbrev pub accepts : Requirement → RightType → Bool
+accepts (wanted.WriteScalar ty) right = writes_scalar right
+accepts (wanted.ClosedScalar ty) right = reads_closed_scalar right
+accepts (wanted.WriteContainer by) right = writes_container_by by right
+accepts (wanted.ClosedContainer by) right = reads_closed_container_by by right
+accepts wanted.AnyClosedContainer right = reads_closed_container right
+accepts wanted.AnyWrite right = writes right
+accepts wanted.AnyRead right = reads right
+accepts (wanted.ReadOf (Some ty)) right = reads right && same_type right.ty ty
+accepts (wanted.Param waits p) right = right_fits_param waits p right
+accepts other right = false
+
+-- returns whether a right register that holds this is as required
+abbrev pub is_met_by : Requirement → Option RightType → Bool
+is_met_by wanted.Empty right = is_none right
+is_met_by wanted.AnyContainerWrite right = not (passes writes_scalar right)
+is_met_by want right = passes (accepts want) right
 
 -- ---- value registers
 
@@ -52,26 +73,26 @@ is_declared registers register ty = record {
   wanted = scalar_requirement ty;
 }
 
-abbrev pub is_of : List Scalar → ℕ → Bool → Option Scalar → RegisterCheck
-is_of registers register met ty = record {
+abbrev pub has_type : List Scalar → ℕ → Scalar → Bool
+has_type registers register ty = passes (λ declared. same_scalar declared ty) (slice_get registers register)
+
+abbrev pub is_of : List Scalar → ℕ → Option Scalar → RegisterCheck
+is_of registers register ty = record {
   number = 2;
-  is_met = met;
+  is_met = passes (has_type registers register) ty;
   register = register;
   held = held.Value (slice_get registers register);
   wanted = scalar_requirement ty;
 }
 
-abbrev pub has_type : List Scalar → ℕ → Scalar → Bool
-has_type registers register ty = passes (λ declared. same_scalar declared ty) (slice_get registers register)
-
 abbrev pub checks_value : List Scalar → ℕ → Scalar → List RegisterCheck
-checks_value registers register ty = is_declared registers register (Some ty) ∷ is_of registers register (has_type registers register ty) (Some ty) ∷ []
+checks_value registers register ty = is_declared registers register (Some ty) ∷ is_of registers register (Some ty) ∷ []
 
 -- checks that two registers have one type; if they differ, the first is reported
 abbrev pub checks_alike : List Scalar → ℕ → ℕ → List RegisterCheck
 checks_alike registers first second =
     is_declared registers first None ∷ is_declared registers second None
-    ∷ is_of registers first (passes (λ ty. has_type registers second ty) (slice_get registers first)) (slice_get registers second) ∷ []
+    ∷ is_of registers first (slice_get registers second) ∷ []
 
 abbrev pub checks_two : List Scalar → ℕ → Scalar → ℕ → Scalar → List RegisterCheck
 checks_two registers first ty second other = checks_value registers first ty ++ checks_value registers second other
@@ -81,11 +102,14 @@ checks_three registers first second third ty = checks_value registers first ty +
 
 -- ---- right registers
 
-abbrev pub holds : ℕ → Typing → ℕ → Bool → Requirement → RegisterCheck
-holds number typing register met want = record { number = number; is_met = met; register = register; held = held.Right (right_at typing register); wanted = want }
-
-abbrev pub is_empty : Typing → ℕ → RegisterCheck
-is_empty typing register = holds 3 typing register (is_none (right_at typing register)) wanted.Empty
+abbrev pub holds : ℕ → Typing → ℕ → Requirement → RegisterCheck
+holds number typing register want = record {
+  number = number;
+  is_met = is_met_by want (right_at typing register);
+  register = register;
+  held = held.Right (right_at typing register);
+  wanted = want;
+}
 
 abbrev pub are_two : ℕ → ℕ → RegisterCheck
 are_two first second = record { number = 3; is_met = not (first == second); register = first; held = held.Twice; wanted = wanted.TwoRegisters }
@@ -94,31 +118,25 @@ abbrev pub right_scalar : Option RightType → Option Scalar
 right_scalar None = None
 right_scalar (Some r) = Some r.ty.scalar
 
--- checks that the one register has a right that passes, and the other its datum's type
-abbrev pub checks_value_of : List Scalar → ℕ → (RightType → Bool) → Typing → ℕ → Requirement → List RegisterCheck
-checks_value_of registers register test typing datum want =
-    holds 4 typing datum (passes test (right_at typing datum)) want
-    ∷ is_declared registers register (right_scalar (right_at typing datum))
-    ∷ is_of registers register (not (passes test (right_at typing datum)) || passes (λ r. has_type registers register r.ty.scalar) (right_at typing datum)) (right_scalar (right_at typing datum)) ∷ []
+-- returns a check that is met unless it is needed
+abbrev pub if_needed : Bool → RegisterCheck → RegisterCheck
+if_needed needed a = record a { is_met = not needed || a.is_met }
 
-abbrev pub checks_read : Typing → ℕ → RegisterCheck
-checks_read typing register = holds 4 typing register (passes reads (right_at typing register)) wanted.AnyRead
-
-abbrev pub checks_closed : Scalar → Typing → ℕ → RegisterCheck
-checks_closed by typing register = holds 4 typing register (passes (reads_closed_container_by by) (right_at typing register)) (wanted.ClosedContainer by)
+-- checks that the one register has such a right, and the other its datum's type
+abbrev pub checks_value_of : List Scalar → ℕ → Typing → ℕ → Requirement → List RegisterCheck
+checks_value_of registers register typing datum want =
+    holds 4 typing datum want ∷ is_declared registers register (right_scalar (right_at typing datum))
+    ∷ if_needed (is_met_by want (right_at typing datum)) (is_of registers register (right_scalar (right_at typing datum))) ∷ []
 
 abbrev pub checks_container_write : Typing → ℕ → List RegisterCheck
-checks_container_write typing register =
-    holds 4 typing register (passes writes (right_at typing register)) wanted.AnyWrite
-    ∷ holds 15 typing register (not (passes writes_scalar (right_at typing register))) wanted.AnyContainerWrite ∷ []
+checks_container_write typing register = holds 4 typing register wanted.AnyWrite ∷ holds 15 typing register wanted.AnyContainerWrite ∷ []
 
 -- returns the type of a container's members
 abbrev pub member_type : Option RightType → Option NestedScalar
 member_type right = option_and_then (λ r. element_of r.ty) right
 
 abbrev pub checks_member : Typing → ℕ → ℕ → RegisterCheck
-checks_member typing container member =
-    holds 4 typing member (passes (λ right. passes (reads_member_of right) (right_at typing member)) (right_at typing container)) (wanted.ReadOf (member_type (right_at typing container)))
+checks_member typing container member = holds 4 typing member (wanted.ReadOf (member_type (right_at typing container)))
 
 -- ---- each row is an instruction
 
@@ -138,18 +156,18 @@ checks_local registers (local.Repeat iterations) = []
 checks_local registers local.End = []
 
 abbrev pub checks_data : List Scalar → DataInstr → Typing → List RegisterCheck
-checks_data registers (on_data.New write read ty) typing = is_empty typing write ∷ is_empty typing read ∷ are_two write read ∷ []
-checks_data registers (on_data.Store datum from) typing = checks_value_of registers from writes_scalar typing datum (wanted.WriteScalar (slice_get registers from))
-checks_data registers (on_data.Get to datum) typing = checks_value_of registers to reads_closed_scalar typing datum (wanted.ClosedScalar (slice_get registers to))
+checks_data registers (on_data.New write read ty) typing = holds 3 typing write wanted.Empty ∷ holds 3 typing read wanted.Empty ∷ are_two write read ∷ []
+checks_data registers (on_data.Store datum from) typing = checks_value_of registers from typing datum (wanted.WriteScalar (slice_get registers from))
+checks_data registers (on_data.Get to datum) typing = checks_value_of registers to typing datum (wanted.ClosedScalar (slice_get registers to))
 checks_data registers (on_data.Insert by container subscript member skip) typing =
-    holds 4 typing container (passes (writes_container_by by) (right_at typing container)) (wanted.WriteContainer by)
-    ∷ checks_member typing container member ∷ checks_value registers subscript by
-checks_data registers (on_data.Look by member container subscript skip) typing = is_empty typing member ∷ checks_closed by typing container ∷ checks_value registers subscript by
-checks_data registers (on_data.Size to container) typing = holds 4 typing container (passes reads_closed_container (right_at typing container)) wanted.AnyClosedContainer ∷ checks_value registers to scalar.Int
-checks_data registers (on_data.SubscriptAt by to container index skip) typing = checks_closed by typing container ∷ checks_two registers to by index scalar.Int
-checks_data registers (on_data.CopyRead to from) typing = is_empty typing to ∷ checks_read typing from ∷ []
-checks_data registers (on_data.CopyWrite to from) typing = is_empty typing to ∷ checks_container_write typing from
-checks_data registers (on_data.DropRead right) typing = checks_read typing right ∷ []
+    holds 4 typing container (wanted.WriteContainer by) ∷ checks_member typing container member ∷ checks_value registers subscript by
+checks_data registers (on_data.Look by member container subscript skip) typing =
+    holds 3 typing member wanted.Empty ∷ holds 4 typing container (wanted.ClosedContainer by) ∷ checks_value registers subscript by
+checks_data registers (on_data.Size to container) typing = holds 4 typing container wanted.AnyClosedContainer ∷ checks_value registers to scalar.Int
+checks_data registers (on_data.SubscriptAt by to container index skip) typing = holds 4 typing container (wanted.ClosedContainer by) ∷ checks_two registers to by index scalar.Int
+checks_data registers (on_data.CopyRead to from) typing = holds 3 typing to wanted.Empty ∷ holds 4 typing from wanted.AnyRead ∷ []
+checks_data registers (on_data.CopyWrite to from) typing = holds 3 typing to wanted.Empty ∷ checks_container_write typing from
+checks_data registers (on_data.DropRead right) typing = holds 4 typing right wanted.AnyRead ∷ []
 checks_data registers (on_data.DropWrite right) typing = checks_container_write typing right
 
 -- ---- RULE and PUT
@@ -161,7 +179,7 @@ argument_held arg typing left = if is_none (right_at left arg) && is_some (right
 abbrev pub checks_right : Bool → Param → ℕ → Typing → Typing → RegisterCheck
 checks_right waits p arg typing left = record {
   number = 4;
-  is_met = passes (right_fits_param waits p) (right_at left arg);
+  is_met = is_met_by (wanted.Param waits p) (right_at left arg);
   register = arg;
   held = argument_held arg typing left;
   wanted = wanted.Param waits p;
@@ -185,13 +203,10 @@ checks_action waits program registers action typing =
 
 -- ---- RET, and the parameters
 
-abbrev pub is_left : Typing → ℕ → RegisterCheck
-is_left typing register = holds 10 typing register (is_none (right_at typing register)) wanted.Empty
-
 -- checks that this many registers from this one on are empty at RET
 abbrev pub checks_left : ℕ → ℕ → Typing → List RegisterCheck
 checks_left zero register typing = []
-checks_left (suc count) register typing = is_left typing register ∷ checks_left count (register + 1) typing
+checks_left (suc count) register typing = holds 10 typing register wanted.Empty ∷ checks_left count (register + 1) typing
 
 -- checks that the registers from this one on have these types
 abbrev pub checks_values : List Scalar → ℕ → List Scalar → List RegisterCheck

@@ -11,8 +11,8 @@ use Rattle.tw_code.specs.machine.Rights.{RightType}
 use Rattle.tw_diagnostics.specs.declared.register_check.RegisterCheck.{RegisterCheck}
 use Rattle.tw_diagnostics.specs.declared.register_check.RegisterState.{RegisterState}
 use Rattle.tw_diagnostics.specs.declared.register_check.RegisterState.TheVariants as held
-use Rattle.tw_diagnostics.specs.declared.register_check.Requirement.{Requirement}
-use Rattle.tw_diagnostics.specs.declared.register_check.Requirement.TheVariants as wanted
+use Rattle.tw_diagnostics.specs.declared.requirement.Requirement.{Requirement}
+use Rattle.tw_diagnostics.specs.declared.requirement.Requirement.TheVariants as wanted
 
 -- ---- types and rights
 

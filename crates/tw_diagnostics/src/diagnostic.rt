@@ -1,7 +1,7 @@
-//! Diagnostics of the position at which a line stops being a statement.
+//! Why a line is rejected, as text: mostly the position at which it stops being a statement.
 
 ghost use Rattle.std.specs.Prelude.{◌≡◌, ◌++◌, OnOk, codes};
-ghost use Rattle.tw_diagnostics.specs.Diagnostics.{break_text, expected_text, found_text, has_part, hidden_text, line_text, said_text, stop_line, where_text, word_text};
+ghost use Rattle.tw_diagnostics.specs.Diagnostics.{break_text, expected_text, found_text, has_part, hidden_text, line_text, reason_text, said_text, stop_line, where_text, word_text};
 
 use crate::breaks::Break;
 use crate::error_position::{ErrorPosition, Token};
@@ -145,8 +145,19 @@ fn put_diagnostic(
     }
 }
 
+/// Why a line is rejected.
+#[derive(Clone, Copy)]
+pub(crate) enum Reason<'a> {
+    /// The position at which it stops.
+    At(ErrorPosition<'a>, Diagnostic<'a>),
+    /// A limit of the whole line or text.
+    Whole(&'a str),
+    /// Nothing is printed.
+    Nothing,
+}
+
 /// Adds the position at which a line stops, and its diagnostic.
-pub(crate) fn put_stop(
+fn put_stop(
     alloc: Global,
     out: &mut Vec<u8>,
     stop: &ErrorPosition<'_>,
@@ -159,10 +170,17 @@ pub(crate) fn put_stop(
     put(out, "\n")
 }
 
-/// Adds a sentence about the whole line or text, and ends the printed line.
-pub(crate) fn put_whole(out: &mut Vec<u8>, whole: &str) -> Result<(), AllocError>
-    ensures { OnOk result (out.new.items ≡ out.old.items ++ (whole.now ++ codes "\n")) }
+/// Adds why a line is rejected.
+pub(crate) fn put_reason(
+    alloc: Global,
+    out: &mut Vec<u8>,
+    reason: &Reason<'_>,
+) -> Result<(), AllocError>
+    ensures { OnOk result (out.new.items ≡ out.old.items ++ reason_text reason.now) }
 {
-    put(out, whole)?;
-    put(out, "\n")
+    match reason {
+        Reason::At(stop, said) => put_stop(alloc, out, stop, said),
+        Reason::Whole(whole) => put_both(out, whole, "\n"),
+        Reason::Nothing => Ok(()),
+    }
 }

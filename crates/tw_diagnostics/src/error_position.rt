@@ -166,8 +166,8 @@ fn found_in<'a>(alloc: Global, here: &'a [u8]) -> Result<Token<'a>, AllocError>
     }
 }
 
-/// Returns the position of the first word in a line's bytes.
-fn first_word<'a>(alloc: Global, line: &'a [u8]) -> Result<ErrorPosition<'a>, AllocError>
+/// Returns the position of a line's first word. Call it if the line stops there.
+pub(crate) fn first_stop<'a>(alloc: Global, line: &'a [u8]) -> Result<ErrorPosition<'a>, AllocError>
     requires { IsUtf8 line.now }
     ensures reached { IfOk result (λ stop. IsErrorPosition line.entry.now stop) }
     ensures word { IfOk result (λ stop. stop.word ≡ 1) }
@@ -175,14 +175,6 @@ fn first_word<'a>(alloc: Global, line: &'a [u8]) -> Result<ErrorPosition<'a>, Al
     let here = without_gap(line);
     let found = found_in(alloc, here)?;
     Ok(stop_with(line, here, 0, found, None))
-}
-
-/// Returns the position of a line's first word. Call it if the line stops there.
-pub(crate) fn first_stop<'a>(alloc: Global, line: &'a str) -> Result<ErrorPosition<'a>, AllocError>
-    ensures reached { IfOk result (λ stop. IsErrorPosition line.entry.now stop) }
-    ensures word { IfOk result (λ stop. stop.word ≡ 1) }
-{
-    first_word(alloc, line.as_bytes())
 }
 
 /// Returns the position of the error after this first word of a line, or `None` if there is none.
@@ -206,8 +198,8 @@ fn word_stop<'a>(
     }
 }
 
-/// Returns the position at which the bytes of a line that begins as a statement stop being one, if they do.
-fn bytes_stop<'a>(
+/// Returns the position of the error in a line that begins as a statement, or `None` if there is none.
+pub(crate) fn line_stop<'a>(
     alloc: Global,
     ask: Ask,
     version: Version,
@@ -225,22 +217,11 @@ fn bytes_stop<'a>(
     }
 }
 
-/// Returns the position of the error in a line that begins as a statement, or `None` if there is none.
-pub(crate) fn line_stop<'a>(
+/// Returns where an error at the last word of a line is reported; `None` if the line has no word.
+pub(crate) fn last_stop<'a>(
     alloc: Global,
-    ask: Ask,
-    version: Version,
-    line: &'a str,
+    line: &'a [u8],
 ) -> Result<Option<ErrorPosition<'a>>, AllocError>
-    ensures reached { IfOk result (λ stop. IfSome stop (IsErrorPosition line.entry.now)) }
-    ensures first { ask ≡ Ask.Form → (expected : First) (word rest : List ℕ) → IsFirstWord (Bare word) line.entry.now rest → IsExpected version expected word
-        → IfOk result (λ stop. MatchOption stop (HasWords version line.entry.now) (IsFirstStop version line.entry.now)) }
-{
-    bytes_stop(alloc, ask, version, line.as_bytes())
-}
-
-/// Returns the position of the last word in a line's bytes, if there is one.
-fn last_word<'a>(alloc: Global, line: &'a [u8]) -> Result<Option<ErrorPosition<'a>>, AllocError>
     requires { IsUtf8 line.now }
     ensures reached { IfOk result (λ stop. IfSome stop (IsErrorPosition line.entry.now)) }
     ensures last { IfOk result (λ stop. (words : List AWord) → IsLine words line.entry.now → MatchOption stop (words ≡ []) (λ s. s.word ≡ length words)) }
@@ -260,17 +241,6 @@ fn last_word<'a>(alloc: Global, line: &'a [u8]) -> Result<Option<ErrorPosition<'
             Next::Broken => return Ok(last),
         }
     }
-}
-
-/// Returns where an error at the last word of a line is reported; `None` if the line has no word.
-pub(crate) fn position_of_last_word<'a>(
-    alloc: Global,
-    line: &'a str,
-) -> Result<Option<ErrorPosition<'a>>, AllocError>
-    ensures reached { IfOk result (λ stop. IfSome stop (IsErrorPosition line.entry.now)) }
-    ensures last { IfOk result (λ stop. (words : List AWord) → IsLine words line.entry.now → MatchOption stop (words ≡ []) (λ s. s.word ≡ length words)) }
-{
-    last_word(alloc, line.as_bytes())
 }
 
 /// Returns the bytes of the word that was found.

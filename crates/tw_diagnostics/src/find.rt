@@ -6,12 +6,12 @@ ghost use Rattle.tw_code.specs.format.Program.{IsAction, IsInstr, IsRegister};
 ghost use Rattle.tw_code.specs.accepting.Typing.{value_types};
 ghost use Rattle.tw_code.specs.machine.Arguments.{params_of};
 ghost use Rattle.tw_diagnostics.specs.declared.register_check.RegisterCheck.{RegisterCheck};
-ghost use Rattle.tw_diagnostics.specs.RegisterCheck.{checks_action, checks_args, checks_at, checks_instr, checks_left, checks_priority, checks_right, checks_values, argument_held, is_left, first_unmet};
+ghost use Rattle.tw_diagnostics.specs.RegisterCheck.{checks_action, checks_args, checks_at, checks_instr, checks_left, checks_priority, checks_right, checks_values, argument_held, first_unmet};
 
 use crate::data_checks::unmet_by_data;
 use crate::local_checks::{first_of, is_unmet, unmet_by_local, value};
 use crate::register_check::*;
-use crate::suits::*;
+use crate::requirement::Requirement;
 use tw_code::{Action, Instr, Priority, Procedure};
 use tw_types::{Param, Scalar};
 use tw_verify::Typing;
@@ -43,12 +43,14 @@ fn right_check(waits: bool, param: &Param, arg: u8, typing: &Typing, left: &Typi
     requires { IsRegister arg }
     ensures { result ≡ checks_right waits param.now arg typing.now left.now }
 {
+    let wanted = Requirement::Param(waits, *param);
+    let is_met = wanted.is_met_by(left.right_at(arg));
     RegisterCheck {
         number: 4,
-        is_met: right_fits_param(waits, *param, left.right_at(arg)),
+        is_met,
         register: arg,
         held: held_by(arg, typing, left),
-        wanted: Requirement::Param(waits, *param),
+        wanted,
     }
 }
 
@@ -137,20 +139,6 @@ fn unmet_by_action(
     )
 }
 
-/// Returns the check of RET that a right register is empty.
-fn is_left(typing: &Typing, register: u8) -> RegisterCheck
-    requires { register < 16 }
-    ensures { result ≡ is_left typing.now register }
-{
-    holds(
-        10,
-        typing,
-        register,
-        typing.right_at(register).is_none(),
-        Requirement::Empty,
-    )
-}
-
 /// Returns the first unmet check of RET that `count` right registers from `register` on are empty.
 #[tactic(auto, using(crate::proofs::FirstUnmet::left_more))]
 fn unmet_at_end(number: u8, count: u8, register: u8, typing: &Typing) -> Option<RegisterCheck>
@@ -160,7 +148,7 @@ fn unmet_at_end(number: u8, count: u8, register: u8, typing: &Typing) -> Option<
     if count == 0 {
         return None;
     }
-    let check = is_left(typing, register);
+    let check = holds(10, typing, register, Requirement::Empty);
     if is_unmet(number, &check) {
         return Some(check);
     }

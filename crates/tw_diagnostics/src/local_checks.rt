@@ -1,8 +1,7 @@
 //! Checks of what instructions require of value registers.
 
-ghost use Rattle.std.specs.Prelude.{◌≡◌, Some, slice_get};
-ghost use Rattle.tw_code.specs.accepting.Question.{passes};
-ghost use Rattle.tw_diagnostics.specs.RegisterCheck.{checks_alike, checks_local, checks_three, checks_two, checks_value, has_type, is_of, is_unmet, first_unmet};
+ghost use Rattle.std.specs.Prelude.{◌≡◌};
+ghost use Rattle.tw_diagnostics.specs.RegisterCheck.{checks_alike, checks_local, checks_three, checks_two, checks_value, is_unmet, first_unmet};
 
 use crate::register_check::*;
 use tw_code::LocalInstr;
@@ -21,27 +20,6 @@ pub(crate) fn first_of(number: u8, check: &[RegisterCheck]) -> Option<RegisterCh
     check.iter().copied().find(|check| is_unmet(number, check))
 }
 
-/// Returns whether two value registers are declared and have one type.
-fn are_alike(registers: &[Scalar], first: u8, second: u8) -> bool
-    ensures { result ≡ passes (λ ty. has_type registers.now second ty) (slice_get registers.now first) }
-{
-    match declared(registers, first) {
-        Some(ty) => has_type(registers, second, ty),
-        None => false,
-    }
-}
-
-pub(crate) fn value_is(registers: &[Scalar], register: u8, ty: Scalar) -> RegisterCheck
-    ensures { result ≡ is_of registers.now register (has_type registers.now register ty) (Some ty) }
-{
-    is_of(
-        registers,
-        register,
-        has_type(registers, register, ty),
-        Some(ty),
-    )
-}
-
 pub(crate) fn value(
     number: u8,
     registers: &[Scalar],
@@ -54,7 +32,7 @@ pub(crate) fn value(
         number,
         &[
             is_declared(registers, register, Some(ty)),
-            value_is(registers, register, ty),
+            is_of(registers, register, Some(ty)),
         ],
     )
 }
@@ -64,8 +42,8 @@ fn two_values(number: u8, registers: &[Scalar], first: u8, ty: Scalar, second: u
     ensures { result ≡ first_unmet number (checks_two registers.now first ty second other) }
 {
     first_of(number, &[
-        is_declared(registers, first, Some(ty)), value_is(registers, first, ty),
-        is_declared(registers, second, Some(other)), value_is(registers, second, other),
+        is_declared(registers, first, Some(ty)), is_of(registers, first, Some(ty)),
+        is_declared(registers, second, Some(other)), is_of(registers, second, Some(other)),
     ])
 }
 
@@ -74,9 +52,9 @@ fn three_values(number: u8, registers: &[Scalar], to: u8, left: u8, right: u8, t
     ensures { result ≡ first_unmet number (checks_three registers.now to left right ty) }
 {
     first_of(number, &[
-        is_declared(registers, to, Some(ty)), value_is(registers, to, ty),
-        is_declared(registers, left, Some(ty)), value_is(registers, left, ty),
-        is_declared(registers, right, Some(ty)), value_is(registers, right, ty),
+        is_declared(registers, to, Some(ty)), is_of(registers, to, Some(ty)),
+        is_declared(registers, left, Some(ty)), is_of(registers, left, Some(ty)),
+        is_declared(registers, right, Some(ty)), is_of(registers, right, Some(ty)),
     ])
 }
 
@@ -84,10 +62,9 @@ fn three_values(number: u8, registers: &[Scalar], to: u8, left: u8, right: u8, t
 fn alike(number: u8, registers: &[Scalar], first: u8, second: u8) -> Option<RegisterCheck>
     ensures { result ≡ first_unmet number (checks_alike registers.now first second) }
 {
-    let met = are_alike(registers, first, second);
     first_of(number, &[
         is_declared(registers, first, None), is_declared(registers, second, None),
-        is_of(registers, first, met, declared(registers, second)),
+        is_of(registers, first, declared(registers, second)),
     ])
 }
 

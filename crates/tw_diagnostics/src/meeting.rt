@@ -25,24 +25,11 @@ pub(crate) struct Difference {
     pub(crate) second: Option<RightType>,
 }
 
-/// Returns whether two rights are the same.
-fn is_same(first: RightType, second: RightType) -> bool
-    ensures { result ≡ same_right first second }
-{
-    first.mode() == second.mode() && first.ty() == second.ty()
-}
-
 /// Returns whether two registers hold the same.
 fn hold_same(first: Option<RightType>, second: Option<RightType>) -> bool
     ensures { result ≡ option_eq same_right first second }
 {
-    match first {
-        None => second.is_none(),
-        Some(first) => match second {
-            None => false,
-            Some(second) => is_same(first, second),
-        },
-    }
+    first == second
 }
 
 /// Returns whether two typings differ on a register.

@@ -1,6 +1,6 @@
 //! Roles of lines by their first words, and the parser's state before a line.
 
-ghost use Rattle.std.specs.Prelude.{◌≡◌, ◌≢◌, ◌+◌, ◌++◌, [], ◌∷◌, ℕ, List, Option, None, Some, IfOk, MatchOption, length, map};
+ghost use Rattle.std.specs.Prelude.{◌≡◌, ◌+◌, ◌++◌, [], ◌∷◌, ℕ, List, Option, None, Some, IfOk, MatchOption, length, map};
 ghost use Rattle.std.specs.Str.Lines.{lines};
 ghost use Rattle.tw_code.specs.format.Program.{IsWithin};
 ghost use Rattle.tw_lexer.specs.Number.{SpellsDigits};
@@ -14,7 +14,7 @@ ghost use Rattle.tw_diagnostics.specs.LineRole.{HasNoHead, IsFirstHead, advanced
 use std::alloc::{AllocError, Global};
 use tw_asm::is_plainly_blank;
 use tw_code::Version;
-use tw_lexer::{Word, digits, words_of};
+use tw_lexer::{Word, before_colon, digits, words_of};
 
 /// A role of a line that can follow the lines before it.
 #[derive(Clone, Copy)]
@@ -93,15 +93,6 @@ fn version_after(others: &[Word<'_>]) -> Version
             Word::Quoted(_) => Version::One,
         },
     }
-}
-
-/// Returns what precedes a `:` at the end of a word.
-fn before_colon(word: &[u8]) -> Option<&[u8]>
-    ensures { MatchOption result
-        ((front : List ℕ) → word.now ≢ front ++ 58 ∷ [])
-        (λ front. word.now ≡ front.now ++ 58 ∷ []) }
-{
-    word.strip_suffix(b":")
 }
 
 /// Returns the role of these words, if they are a statement.

@@ -1,16 +1,15 @@
 //! Diagnostics of a text that isn't assembled.
 
-ghost use Rattle.std.specs.Prelude.{◌≡◌, ◌++◌, ℕ, List, OnOk};
+ghost use Rattle.std.specs.Prelude.{◌≡◌, ◌++◌, ℕ, List, IfOk, IsUtf8, OnOk};
 ghost use Rattle.tw_asm.specs.declared.fault.FaultNo.TheVariants as fault;
-ghost use Rattle.tw_diagnostics.specs.Diagnostics.{AddsPast, AddsWhy, IsTextReason, due_said, found_word, said_text, whole_limit};
+ghost use Rattle.tw_diagnostics.specs.Diagnostics.{IsIn, IsPast, IsTextReason, IsWhy, due_said, found_word, line_at, or_empty, said_text, shown_line, whole_limit};
+ghost use Rattle.tw_diagnostics.specs.ErrorWord.{IsErrorWord, numbers_of};
 ghost use Rattle.tw_diagnostics.specs.Hints.{hint_text, word_hint};
 ghost use Rattle.tw_diagnostics.specs.declared.error_position.Token.{Token as AFound};
 
-use crate::diagnostic::{Diagnostic, put_stop, put_whole};
+use crate::diagnostic::{Diagnostic, Reason, put_reason};
 use crate::due::{Due, limit_of};
-use crate::error_position::{
-    first_stop, found_word, is_long_label, line_stop, position_of_last_word,
-};
+use crate::error_position::{first_stop, found_word, is_long_label, last_stop, line_stop};
 use crate::hints::{Hint, first_hint, word_hint};
 use crate::labels::{label_before, twin_before};
 use crate::parser_state::situation_before;
@@ -19,25 +18,21 @@ use std::alloc::{AllocError, Global};
 use tw_asm::{AsmFault, FaultNo};
 use tw_lexer::{line_numbered, put, put_shortened};
 
-/// Adds what may begin the line (A01).
-fn put_first(
+/// Returns what may begin the line (A01).
+fn first_reason<'a>(
     alloc: Global,
-    out: &mut Vec<u8>,
     text: &str,
     number: usize,
-    line: &str,
-) -> Result<(), AllocError>
-    ensures { OnOk result (AddsWhy text.now fault.Word number line.now out.old.items out.new.items) }
+    line: &'a [u8],
+) -> Result<Reason<'a>, AllocError>
+    requires { IsUtf8 line.now }
+    ensures { IfOk result (IsWhy text.now fault.Word number line.entry.now) }
 {
     let situation = situation_before(alloc, text, number)?;
     let stop = first_stop(alloc, line)?;
     let hint = first_hint(alloc, situation, found_word(&stop.found))?;
-    put_stop(
-        alloc,
-        out,
-        &stop,
-        &Diagnostic::Expected(situation.stage.text(), None, hint),
-    )
+    let said = Diagnostic::Expected(situation.stage.text(), None, hint);
+    Ok(Reason::At(stop, said))
 }
 
 fn said_of(due: Option<Due>, hint: Hint) -> Diagnostic<'static>
@@ -49,82 +44,73 @@ fn said_of(due: Option<Due>, hint: Hint) -> Diagnostic<'static>
     }
 }
 
-/// Adds what may come next (A02).
-fn put_operand(
+/// Returns what may come next (A02).
+fn operand_reason<'a>(
     alloc: Global,
-    out: &mut Vec<u8>,
     text: &str,
     number: usize,
-    line: &str,
-) -> Result<(), AllocError>
-    ensures { OnOk result (AddsWhy text.now fault.Operand number line.now out.old.items out.new.items) }
+    line: &'a [u8],
+) -> Result<Reason<'a>, AllocError>
+    requires { IsUtf8 line.now }
+    ensures { IfOk result (IsWhy text.now fault.Operand number line.entry.now) }
 {
     let situation = situation_before(alloc, text, number)?;
     match line_stop(alloc, Ask::Form, situation.version, line)? {
         Some(stop) => {
             let hint = word_hint(alloc, stop.due, found_word(&stop.found))?;
-            put_stop(alloc, out, &stop, &said_of(stop.due, hint))
+            Ok(Reason::At(stop, said_of(stop.due, hint)))
         }
-        None => Ok(()),
+        None => Ok(Reason::Nothing),
     }
 }
 
-/// Adds that there is no such label (A03).
-fn put_unknown(alloc: Global, out: &mut Vec<u8>, line: &str) -> Result<(), AllocError>
-    ensures { OnOk result ((text : List ℕ) (number : ℕ) → AddsWhy text fault.UnknownLabel number line.now out.old.items out.new.items) }
+/// Returns that there is no such label (A03).
+fn unknown_reason<'a>(alloc: Global, line: &'a [u8]) -> Result<Reason<'a>, AllocError>
+    requires { IsUtf8 line.now }
+    ensures { IfOk result (λ r. (text : List ℕ) (number : ℕ) → IsWhy text fault.UnknownLabel number line.entry.now r) }
 {
-    match position_of_last_word(alloc, line)? {
-        Some(stop) => put_stop(
-            alloc,
-            out,
-            &stop,
-            &Diagnostic::Expected("a label of this procedure", None, Hint::Nothing),
-        ),
-        None => Ok(()),
+    match last_stop(alloc, line)? {
+        Some(stop) => {
+            let said = Diagnostic::Expected("a label of this procedure", None, Hint::Nothing);
+            Ok(Reason::At(stop, said))
+        }
+        None => Ok(Reason::Nothing),
     }
 }
 
-/// Adds the earlier line with this label (A04).
-fn put_twice(
+/// Returns the earlier line with this label (A04).
+fn twice_reason<'a>(
     alloc: Global,
-    out: &mut Vec<u8>,
     text: &str,
     number: usize,
-    line: &str,
-) -> Result<(), AllocError>
-    ensures { OnOk result (AddsWhy text.now fault.LabelTwice number line.now out.old.items out.new.items) }
+    line: &'a [u8],
+) -> Result<Reason<'a>, AllocError>
+    requires { IsUtf8 line.now }
+    ensures { IfOk result (IsWhy text.now fault.LabelTwice number line.entry.now) }
 {
     let stop = first_stop(alloc, line)?;
     let at = twin_before(alloc, text, number, found_word(&stop.found))?;
-    put_stop(
-        alloc,
-        out,
-        &stop,
-        &Diagnostic::Expected("a new label", at, Hint::Nothing),
-    )
+    let said = Diagnostic::Expected("a new label", at, Hint::Nothing);
+    Ok(Reason::At(stop, said))
 }
 
-/// Adds the earlier line with the label that is named (A05).
-fn put_backward(
+/// Returns the earlier line with the label that is named (A05).
+fn backward_reason<'a>(
     alloc: Global,
-    out: &mut Vec<u8>,
     text: &str,
     number: usize,
-    line: &str,
-) -> Result<(), AllocError>
-    ensures { OnOk result (AddsWhy text.now fault.LabelNotForward number line.now out.old.items out.new.items) }
+    line: &'a [u8],
+) -> Result<Reason<'a>, AllocError>
+    requires { IsUtf8 line.now }
+    ensures { IfOk result (IsWhy text.now fault.LabelNotForward number line.entry.now) }
 {
-    match position_of_last_word(alloc, line)? {
+    match last_stop(alloc, line)? {
         Some(stop) => {
             let at = label_before(alloc, text, number, found_word(&stop.found))?;
-            put_stop(
-                alloc,
-                out,
-                &stop,
-                &Diagnostic::Expected("a label after this line", at, Hint::Nothing),
-            )
+            let said = Diagnostic::Expected("a label after this line", at, Hint::Nothing);
+            Ok(Reason::At(stop, said))
         }
-        None => Ok(()),
+        None => Ok(Reason::Nothing),
     }
 }
 
@@ -141,60 +127,83 @@ fn whole_limit(first: &[u8]) -> &'static str
     }
 }
 
-/// Adds the limit of a word of the line, or of the whole text.
-fn put_limit(
+/// Returns the limit of a word of the line, or of the whole text.
+fn past_reason<'a>(
     alloc: Global,
-    out: &mut Vec<u8>,
     text: &str,
     number: usize,
-    line: &str,
+    line: &'a [u8],
     first: &[u8],
-) -> Result<(), AllocError>
-    ensures { OnOk result (AddsPast line.now first.now out.old.items out.new.items) }
+) -> Result<Reason<'a>, AllocError>
+    requires { IsUtf8 line.now }
+    ensures { IfOk result (λ r. IsIn line.entry.now r × IsPast first.now r) }
 {
     let situation = situation_before(alloc, text, number)?;
     match line_stop(alloc, Ask::Limits, situation.version, line)? {
-        Some(stop) => put_stop(alloc, out, &stop, &Diagnostic::Limit(limit_of(stop.due))),
-        None => put_whole(out, whole_limit(first)),
+        Some(stop) => Ok(Reason::At(stop, Diagnostic::Limit(limit_of(stop.due)))),
+        None => Ok(Reason::Whole(whole_limit(first))),
     }
 }
 
-/// Adds the limit that the line exceeds (A06).
-fn put_past(
+/// Returns the limit that the line exceeds (A06).
+fn limit_reason<'a>(
     alloc: Global,
-    out: &mut Vec<u8>,
     text: &str,
     number: usize,
-    line: &str,
-) -> Result<(), AllocError>
-    ensures { OnOk result (AddsWhy text.now fault.Limit number line.now out.old.items out.new.items) }
+    line: &'a [u8],
+) -> Result<Reason<'a>, AllocError>
+    requires { IsUtf8 line.now }
+    ensures { IfOk result (IsWhy text.now fault.Limit number line.entry.now) }
 {
     let first = first_stop(alloc, line)?;
     if is_long_label(found_word(&first.found)) {
-        put_stop(alloc, out, &first, &Diagnostic::Limit("64 bytes"))
+        Ok(Reason::At(first, Diagnostic::Limit("64 bytes")))
     } else {
-        put_limit(alloc, out, text, number, line, found_word(&first.found))
+        past_reason(alloc, text, number, line, found_word(&first.found))
     }
 }
 
-/// Adds why a line is rejected.
-fn put_line_diagnostic(
+/// Returns why a line is rejected.
+fn reason_of<'a>(
     alloc: Global,
-    out: &mut Vec<u8>,
     text: &str,
     fault: AsmFault,
-    line: &str,
-) -> Result<(), AllocError>
-    ensures { OnOk result (AddsWhy text.now fault.no fault.line line.now out.old.items out.new.items) }
+    line: &'a [u8],
+) -> Result<Reason<'a>, AllocError>
+    requires { IsUtf8 line.now }
+    ensures { IfOk result (IsWhy text.now fault.no fault.line line.entry.now) }
 {
     match fault.no {
-        FaultNo::Word => put_first(alloc, out, text, fault.line, line),
-        FaultNo::Operand => put_operand(alloc, out, text, fault.line, line),
-        FaultNo::UnknownLabel => put_unknown(alloc, out, line),
-        FaultNo::LabelTwice => put_twice(alloc, out, text, fault.line, line),
-        FaultNo::LabelNotForward => put_backward(alloc, out, text, fault.line, line),
-        FaultNo::Limit => put_past(alloc, out, text, fault.line, line),
-        FaultNo::NoMemory => Ok(()),
+        FaultNo::Word => first_reason(alloc, text, fault.line, line),
+        FaultNo::Operand => operand_reason(alloc, text, fault.line, line),
+        FaultNo::UnknownLabel => unknown_reason(alloc, line),
+        FaultNo::LabelTwice => twice_reason(alloc, text, fault.line, line),
+        FaultNo::LabelNotForward => backward_reason(alloc, text, fault.line, line),
+        FaultNo::Limit => limit_reason(alloc, text, fault.line, line),
+        FaultNo::NoMemory => Ok(Reason::Nothing),
+    }
+}
+
+fn line_or_empty(text: &str, number: usize) -> &[u8]
+    ensures is { result.now ≡ or_empty (line_at text.now number) }
+    ensures utf8 { IsUtf8 result.now }
+{
+    match line_numbered(text, number) {
+        Some(line) => line.as_bytes(),
+        None => "".as_bytes(),
+    }
+}
+
+/// Adds a line, shortened if it is long.
+fn put_line(out: &mut Vec<u8>, text: &str, number: usize) -> Result<(), AllocError>
+    ensures { OnOk result (out.new.items ≡ out.old.items ++ shown_line (line_at text.now number)) }
+{
+    match line_numbered(text, number) {
+        Some(line) => {
+            put_shortened(out, line.as_bytes())?;
+            put(out, "\n")
+        }
+        None => Ok(()),
     }
 }
 
@@ -207,12 +216,29 @@ pub fn put_text_diagnostic(
 ) -> Result<(), AllocError>
     ensures { OnOk result ((more : List ℕ) × IsTextReason text.now fault.no fault.line more × (out.new.items ≡ out.old.items ++ more)) }
 {
-    match line_numbered(text, fault.line) {
-        Some(line) => {
-            put_shortened(out, line.as_bytes())?;
-            put(out, "\n")?;
-            put_line_diagnostic(alloc, out, text, fault, line)
-        }
-        None => put_line_diagnostic(alloc, out, text, fault, ""),
+    let reason = reason_of(alloc, text, fault, line_or_empty(text, fault.line))?;
+    put_line(out, text, fault.line)?;
+    put_reason(alloc, out, &reason)
+}
+
+fn numbers_of(reason: &Reason<'_>) -> Option<(usize, usize)>
+    ensures { result ≡ numbers_of reason.now }
+{
+    match reason {
+        Reason::At(stop, _) => Some((stop.word, stop.column)),
+        Reason::Whole(_) => None,
+        Reason::Nothing => None,
     }
+}
+
+/// Returns the word of a fault's line at which the fault is, and the column of this word, both from 1, if it is at one.
+pub fn error_word(
+    alloc: Global,
+    text: &str,
+    fault: AsmFault,
+) -> Result<Option<(usize, usize)>, AllocError>
+    ensures { IfOk result (IsErrorWord text.now fault.no fault.line) }
+{
+    let reason = reason_of(alloc, text, fault, line_or_empty(text, fault.line))?;
+    Ok(numbers_of(&reason))
 }

@@ -1,16 +1,17 @@
-//! Tests of one word: whether it may be there.
+//! Tests of one word by the assembler's readers: whether it may be there.
 
-ghost use Rattle.std.specs.Prelude.{◌≡◌, ◌||◌, Bool, true};
-ghost use Rattle.tw_lexer.specs.Words.{Bare};
+ghost use Rattle.std.specs.Prelude.{◌≡◌, true};
 ghost use Rattle.tw_lexer.specs.Seen.{seen};
 ghost use Rattle.tw_asm.specs.reading.Lines.{kind_in};
-ghost use Rattle.tw_asm.specs.reading.Operands.{container_in, mode_in, natural_in, number_in, register_in, scalar_in, text_container};
-ghost use Rattle.tw_lexer.specs.Digits.{digits_in, signed_in};
-ghost use Rattle.tw_lexer.specs.Names.{is_name};
-ghost use Rattle.tw_diagnostics.specs.Going.{found, has_form, is_any, is_goal, is_operand, is_quoted};
+ghost use Rattle.tw_asm.specs.reading.Operands.{container_in, mode_in, natural_in, scalar_in};
+ghost use Rattle.tw_diagnostics.specs.Going.{found, has_form, is_operand, is_quoted};
 
+use tw_asm::{
+    byte_of, container_of, goal_of, iterations_of, kind_of, number_of, right_of, scalar_of,
+    target_of, value_of,
+};
 use tw_code::{Form, Version};
-use tw_lexer::{TokenError, Word, digits, is_name, number};
+use tw_lexer::{TokenError, Word};
 use tw_types::Mode;
 
 /// A choice of what is tested: the form alone, or its limits too.
@@ -53,105 +54,10 @@ impl Ask {
     }
 }
 
-// ---- numbers
-
-fn spells_natural(ask: Ask, low: u64, high: u64, text: &[u8]) -> bool
-    ensures { ask ≡ Ask.Form → result ≡ has_form (digits_in low high text.now) }
-{
-    ask.takes(digits(text, low, high))
-}
-
-fn spells_number(ask: Ask, text: &[u8]) -> bool
-    ensures { ask ≡ Ask.Form → result ≡ has_form (signed_in text.now) }
-{
-    ask.takes(number(text))
-}
-
-pub(crate) fn is_natural(ask: Ask, low: u64, high: u64, word: &Word<'_>) -> bool
+pub(crate) fn is_natural(ask: Ask, low: u8, high: u8, word: &Word<'_>) -> bool
     ensures { ask ≡ Ask.Form → result ≡ has_form (natural_in low high (seen word.now)) }
 {
-    match word {
-        Word::Bare(text) => spells_natural(ask, low, high, text),
-        Word::Quoted(_) => false,
-    }
-}
-
-fn is_number(ask: Ask, word: &Word<'_>) -> bool
-    ensures { ask ≡ Ask.Form → result ≡ has_form (number_in (seen word.now)) }
-{
-    match word {
-        Word::Bare(text) => spells_number(ask, text),
-        Word::Quoted(_) => false,
-    }
-}
-
-/// Returns whether text is this letter and the number of a register.
-fn spells_register(ask: Ask, letter: u8, text: &[u8]) -> bool
-    ensures { ask ≡ Ask.Form → result ≡ has_form (register_in letter (Bare text.now)) }
-{
-    match text {
-        [first, rest @ ..] if *first == letter => spells_natural(ask, 0, 15, rest),
-        _ => false,
-    }
-}
-
-/// Returns whether a word is a register with this letter.
-fn is_register(ask: Ask, letter: u8, word: &Word<'_>) -> bool
-    ensures { ask ≡ Ask.Form → result ≡ has_form (register_in letter (seen word.now)) }
-{
-    match word {
-        Word::Bare(text) => spells_register(ask, letter, text),
-        Word::Quoted(_) => false,
-    }
-}
-
-// ---- names
-
-/// Returns whether text is a name that isn't too long.
-fn is_short_name(ask: Ask, text: &[u8]) -> bool
-    ensures { ask ≡ Ask.Form → result ≡ is_name text.now }
-{
-    if ask.has_room(text.len(), 64) {
-        is_name(text)
-    } else {
-        false
-    }
-}
-
-fn spells_goal(ask: Ask, text: &[u8]) -> bool
-    ensures { ask ≡ Ask.Form → result ≡ is_goal (Bare text.now) }
-{
-    match text {
-        [] => false,
-        [b'+', rest @ ..] => spells_natural(ask, 0, 65535, rest),
-        _ => is_short_name(ask, text),
-    }
-}
-
-fn is_goal(ask: Ask, word: &Word<'_>) -> bool
-    ensures { ask ≡ Ask.Form → result ≡ is_goal (seen word.now) }
-{
-    match word {
-        Word::Bare(text) => spells_goal(ask, text),
-        Word::Quoted(_) => false,
-    }
-}
-
-// ---- other operands
-
-fn is_any(word: &Word<'_>) -> bool
-    ensures { result ≡ is_any (seen word.now) }
-{
-    match word {
-        Word::Bare(text) => *text == b"any".as_slice(),
-        Word::Quoted(_) => false,
-    }
-}
-
-fn is_target(ask: Ask, word: &Word<'_>) -> bool
-    ensures { ask ≡ Ask.Form → result ≡ is_any (seen word.now) || has_form (natural_in 0 15 (seen word.now)) }
-{
-    is_any(word) || is_natural(ask, 0, 15, word)
+    ask.takes(byte_of(low, high, word))
 }
 
 /// Returns whether a word is a text between quotes.
@@ -170,115 +76,44 @@ pub(crate) fn is_operand(ask: Ask, form: Form, word: &Word<'_>) -> bool
     ensures { ask ≡ Ask.Form → result ≡ is_operand form (seen word.now) }
 {
     match form {
-        Form::Value => is_register(ask, b'v', word),
-        Form::Right => is_register(ask, b'd', word),
-        Form::Number => is_number(ask, word),
-        Form::Iterations => is_natural(ask, 1, 1000, word),
+        Form::Value => ask.takes(value_of(word)),
+        Form::Right => ask.takes(right_of(word)),
+        Form::Number => ask.takes(number_of(word)),
+        Form::Iterations => ask.takes(iterations_of(word)),
         Form::Callee => is_natural(ask, 0, 255, word),
         Form::Literal => is_literal(ask, word),
-        Form::Skip => is_goal(ask, word),
-        Form::Target => is_target(ask, word),
+        Form::Skip => ask.takes(goal_of(word)),
+        Form::Target => ask.takes(target_of(word)),
         Form::TypeOf | Form::Args => false,
     }
 }
 
 // ---- words of heads and types
 
-fn spells_kind(text: &[u8]) -> bool
-    ensures { result ≡ has_form (kind_in (Bare text.now)) }
-{
-    if text == b"control".as_slice() {
-        true
-    } else if text == b"leaf".as_slice() {
-        true
-    } else {
-        false
-    }
-}
-
 pub(crate) fn is_kind(word: &Word<'_>) -> bool
     ensures { result ≡ has_form (kind_in (seen word.now)) }
 {
-    match word {
-        Word::Bare(text) => spells_kind(text),
-        Word::Quoted(_) => false,
-    }
-}
-
-fn spells_scalar(text: &[u8]) -> bool
-    ensures { result ≡ has_form (scalar_in (Bare text.now)) }
-{
-    if text == b"int".as_slice() {
-        true
-    } else if text == b"text".as_slice() {
-        true
-    } else {
-        false
-    }
+    Ask::Form.takes(kind_of(word))
 }
 
 pub(crate) fn is_scalar(word: &Word<'_>) -> bool
     ensures { result ≡ has_form (scalar_in (seen word.now)) }
 {
-    match word {
-        Word::Bare(text) => spells_scalar(text),
-        Word::Quoted(_) => false,
-    }
-}
-
-/// Returns whether a version has containers with texts as subscripts; version 1 has none.
-fn has_text_container(version: Version) -> bool
-    ensures { result ≡ has_form (text_container version) }
-{
-    match version {
-        Version::One => false,
-        Version::Two => true,
-    }
-}
-
-fn spells_container(version: Version, text: &[u8]) -> bool
-    ensures { result ≡ has_form (container_in version (Bare text.now)) }
-{
-    if text == b"cont".as_slice() {
-        true
-    } else if text == b"tcont".as_slice() {
-        has_text_container(version)
-    } else {
-        false
-    }
+    Ask::Form.takes(scalar_of(word))
 }
 
 pub(crate) fn is_container(version: Version, word: &Word<'_>) -> bool
     ensures { result ≡ has_form (container_in version (seen word.now)) }
 {
-    match word {
-        Word::Bare(text) => spells_container(version, text),
-        Word::Quoted(_) => false,
-    }
-}
-
-fn spelled_mode(text: &[u8]) -> Option<Mode>
-    ensures { result ≡ found (mode_in (Bare text.now)) }
-{
-    if text == b"val".as_slice() {
-        Some(Mode::Val)
-    } else if text == b"closed".as_slice() {
-        Some(Mode::Closed)
-    } else if text == b"ref".as_slice() {
-        Some(Mode::Ref)
-    } else if text == b"write".as_slice() {
-        Some(Mode::Write)
-    } else {
-        None
-    }
+    Ask::Form.takes(container_of(version, word))
 }
 
 /// Returns the mode of a parameter that a word names, if it names one.
 pub(crate) fn mode_of(word: &Word<'_>) -> Option<Mode>
     ensures { result ≡ found (mode_in (seen word.now)) }
 {
-    match word {
-        Word::Bare(text) => spelled_mode(text),
-        Word::Quoted(_) => None,
+    match tw_asm::mode_of(word) {
+        Ok(mode) => Some(mode),
+        Err(_) => None,
     }
 }

@@ -1,5 +1,7 @@
-use Rattle.std.proofs.Common.{◌≡◌, true, false, map, codes, rules}
-use Rattle.tw_diagnostics.proofs.ReasonNames.{bytes_eq, seen}
+use Rattle.std.proofs.Common.{◌≡◌, true, false, map, codes, None, Some, rules, sym}
+use Rattle.tw_lexer.proofs.Colons.{found_before}
+use Rattle.tw_asm.proofs.Sayings.{no_label}
+use Rattle.tw_diagnostics.proofs.ReasonNames.{before_colon, bytes_eq, seen}
 use Rattle.tw_diagnostics.proofs.Saying.{apart, code_role, head_role, is_word, label_role, registers_role, version_role}
 use Rattle.tw_diagnostics.proofs.parser_state.words_role.Goals as goal
 
@@ -19,11 +21,15 @@ returns-then-eq-3 c = λ version statement say.
     registers_role version c.args.first.now (map seen c.args.others.now) (is_word c.args.first.now (codes "regs") e) statement say
 
 pub returns-in-Some : goal.returns-in-Some
-returns-in-Some c = λ version statement say. label_role version c.args.first.now (map seen c.args.others.now) c.in-Some.field-0.now c.in-Some.ensures statement say
+returns-in-Some c = λ version statement say.
+    let front = c.in-Some.field-0.now in
+    let named : before_colon c.args.first.now ≡ Some front = rw c.in-Some.is at (sym c.before_colon.ensures) in
+    label_role version c.args.first.now (map seen c.args.others.now) front (found_before c.args.first.now front named) statement say
 
 pub returns-in-None : goal.returns-in-None
 returns-in-None c = λ version statement say.
+    let none : before_colon c.args.first.now ≡ None = rw c.in-None.is at (sym c.before_colon.ensures) in
     let v : bytes_eq c.args.first.now (codes "version") ≡ false = search rules in
     let h : bytes_eq c.args.first.now (codes "proc") ≡ false = search rules in
     let r : bytes_eq c.args.first.now (codes "regs") ≡ false = search rules in
-    code_role version c.args.first.now (map seen c.args.others.now) (apart c.args.first.now (codes "version") v) (apart c.args.first.now (codes "proc") h) (apart c.args.first.now (codes "regs") r) c.in-None.ensures statement say
+    code_role version c.args.first.now (map seen c.args.others.now) (apart c.args.first.now (codes "version") v) (apart c.args.first.now (codes "proc") h) (apart c.args.first.now (codes "regs") r) (λ front. no_label c.args.first.now front none) statement say
