@@ -1,5 +1,6 @@
 -- The first line that begins a procedure, and lines up to one.
-use Rattle.std.proofs.Common.{◌≡◌, ◌+◌, ℕ, suc, true, false, List, [], ◌∷◌, ◌++◌, length, Option, Some, None, refl, sym, ap, subst, ◌∙◌, arith}
+use Rattle.std.proofs.Common.{◌≡◌, ◌+◌, ◌-◌, ℕ, suc, true, false, List, [], ◌∷◌, ◌++◌, length, take, Option, Some, None, refl, sym, ap, subst, ◌∙◌, arith}
+use Rattle.std.proofs.lemmas.List.{take_at}
 use Rattle.tw_diagnostics.proofs.ReasonNames.{AllByRecursion, Code, Head, Label, LineSays, LinesSay, OfVersion, Registers, ParserState, Statement, after_line, at_start, lines, situation, situation_from}
 use Rattle.tw_diagnostics.specs.LineRole.{HasNoHead, IsFirstHead, is_head, says_of}
 use Rattle.tw_diagnostics.specs.declared.parser_state.LineRole.{LineRole}
@@ -8,19 +9,9 @@ use Rattle.tw_diagnostics.proofs.Saying.{split_last}
 untrue : true ≡ false → ⊥
 untrue e = cc
 
-tail_is : {A : Type 0} (x y : A) (xs ys : List A) → x ∷ xs ≡ y ∷ ys → xs ≡ ys
-tail_is x y xs ys e = cc
-
-first_is : {A : Type 0} (x y : A) (xs ys : List A) → x ∷ xs ≡ y ∷ ys → x ≡ y
-first_is x y xs ys e = cc
-
--- prefixes of one list that are of one length
-pub front_is : {A : Type 0} (a b c d : List A) → a ++ c ≡ b ++ d → length a ≡ length b → a ≡ b
-front_is [] [] c d e l = refl
-front_is [] (y ∷ b) c d e l = absurd (omega (arith, l))
-front_is (x ∷ a) [] c d e l = absurd (omega (arith, l))
-front_is {A} (x ∷ a) (y ∷ b) c d e l =
-    ap (λ (z : A). z ∷ a) (first_is x y (a ++ c) (b ++ d) e) ∙ ap (λ (zs : List A). y ∷ zs) (front_is a b c d (tail_is x y (a ++ c) (b ++ d) e) (omega (arith, l)))
+-- the lines before the one with this number
+pub lines_before : (ls before others : List (List ℕ)) (number : ℕ) → ls ≡ before ++ others → number ≡ length before + 1 → take (number - 1) ls ≡ before
+lines_before ls before others number parts count = ap (take (number - 1)) parts ∙ take_at before others (number - 1) (omega (arith, count))
 
 -- ---- lines before one
 
@@ -65,29 +56,6 @@ none_on ls line role before prints nohead said say =
     let here : is_head (says_of split.last) ≡ false = ap is_head (sym (prints (situation split.before) split.last split.says)) ∙ nohead in
     subst HasNoHead (sym split.is) (all_more (λ (s : Option Statement). is_head (says_of s) ≡ false) split.before split.last (before split.before split.say) here)
 
-none_begun : (number : ℕ) (s : ParserState) (said : List (Option Statement)) → HasNoHead said → (situation_from number s said).procedures ≡ s.procedures
-none_begun number s [] h = refl
-none_begun number s (x ∷ said) h = none_begun (number + 1) (after_line number x s) said h.1 ∙ by x h.0
-  where
-    by : (y : Option Statement) → is_head (says_of y) ≡ false → (after_line number y s).procedures ≡ s.procedures
-    by None e = refl
-    by (Some (OfVersion version)) e = refl
-    by (Some (Head kind params)) e = absurd (untrue e)
-    by (Some (Registers registers)) e = refl
-    by (Some (Label name)) e = refl
-    by (Some (Code i)) e = refl
-
-pub no_procedure : (said : List (Option Statement)) → HasNoHead said → (situation said).procedures ≡ 0
-no_procedure said h = none_begun 1 at_start said h
-
-front_none : (xs ys : List (Option Statement)) → HasNoHead (xs ++ ys) → HasNoHead xs
-front_none [] ys h = tt
-front_none (x ∷ xs) ys h = (h.0, front_none xs ys h.1)
-
--- no procedure begins before a line if none begins at all
-pub front_no_procedure : (before after : List (Option Statement)) → HasNoHead (before ++ after) → (situation before).procedures ≡ 0
-front_no_procedure before after h = no_procedure before (front_none before after h)
-
 pub first_head : (text : List ℕ) (ls : List (List ℕ)) (line : List ℕ) (others : List (List ℕ)) (role : LineRole) (index : ℕ) (said : List (Option Statement)) → lines text ≡ ls ++ (line ∷ others) → index ≡ length ls → NoHeads ls
     → ((s : ParserState) (x : Option Statement) → LineSays s line x → role ≡ says_of x) → is_head role ≡ true → LinesSay 1 at_start (lines text) said → IsFirstHead text (index + 1)
 first_head text ls line others role index said parts index_is none prints headed say = by split.here (ap is_head (sym (prints (situation split.before) split.here split.says)) ∙ headed) split.is
@@ -110,7 +78,7 @@ first_head text ls line others role index said parts index_is none prints headed
       after = split.after;
       parts = is;
       number_is = ap (λ (n : ℕ). n + 1) (index_is ∙ sym split.count);
-      first = no_procedure split.before (none split.before split.say);
+      first = none split.before split.say;
     }
     by (Some (Registers registers)) e is = absurd (no e)
     by (Some (Label name)) e is = absurd (no e)

@@ -81,4 +81,4 @@ pub record IsFirstHead (text : List ℕ) (number : ℕ) : Type 0 where
   pub after : List (Option Statement)
   pub parts : said ≡ before ++ (Some (Head kind params) ∷ after)
   pub number_is : number ≡ length before + 1
-  pub first : (situation before).procedures ≡ 0
+  pub first : HasNoHead before

@@ -2,7 +2,6 @@
 
 ghost use Rattle.std.specs.Prelude.{◌≡◌, false, IfOk, IsTrue, IsUtf8, if◌then◌else◌, Some};
 ghost use Rattle.tw_lexer.specs.Seen.{seen};
-ghost use Rattle.tw_lexer.specs.Words.{Bare};
 ghost use Rattle.tw_diagnostics.specs.Labels.{IsLabelBefore, IsLabelLine, IsTwinBefore};
 ghost use Rattle.tw_lexer.specs.Names.{before_colon};
 ghost use Rattle.tw_diagnostics.specs.LabelWords.{is_label};
@@ -10,21 +9,15 @@ ghost use Rattle.tw_diagnostics.specs.LabelWords.{is_label};
 use std::alloc::{AllocError, Global};
 use tw_lexer::{Next, Word, before_colon, next_word};
 
-fn is_label(word: &[u8], name: &[u8]) -> bool
-    ensures { result ≡ is_label name.now (Bare word.now) }
-{
-    match before_colon(word) {
-        Some(front) => front == name,
-        None => false,
-    }
-}
-
 /// Returns whether a word is the label with this name.
-fn is_label_word(word: &Word<'_>, name: &[u8]) -> bool
+fn is_label(word: &Word<'_>, name: &[u8]) -> bool
     ensures { result ≡ is_label name.now (seen word.now) }
 {
     match word {
-        Word::Bare(word) => is_label(word, name),
+        Word::Bare(word) => match before_colon(word) {
+            Some(front) => front == name,
+            None => false,
+        },
         Word::Quoted(_) => false,
     }
 }
@@ -35,7 +28,7 @@ fn is_label_line(alloc: Global, line: &str, name: &[u8]) -> Result<bool, AllocEr
     ensures not { IfOk result (λ is. is ≡ false → IsLabelLine name.now line.now → ⊥) }
 {
     match next_word(alloc, line.as_bytes())? {
-        Next::Found(word, _) => Ok(is_label_word(&word, name)),
+        Next::Found(word, _) => Ok(is_label(&word, name)),
         Next::End => Ok(false),
         Next::Broken => Ok(false),
     }
@@ -58,10 +51,7 @@ pub(crate) fn label_before(
     ensures { IfOk result (IsLabelBefore text.now number name.now) }
 {
     let mut last = None;
-    for (index, line) in text.lines().enumerate() {
-        if index + 1 >= number {
-            return Ok(last);
-        }
+    for (index, line) in text.lines().take(number.saturating_sub(1)).enumerate() {
         let begins = is_label_line(alloc, line, name)?;
         last = later(last, begins, index + 1);
     }

@@ -186,10 +186,7 @@ pub(crate) fn situation_before(
         version: Version::One,
         stage: Stage::Start,
     };
-    for (index, line) in text.lines().enumerate() {
-        if index + 1 >= number {
-            return Ok(current);
-        }
+    for line in text.lines().take(number.saturating_sub(1)) {
         let says = line_role(alloc, line)?;
         current = advanced(current, says);
     }

@@ -7,13 +7,13 @@ pub returns-in-Found-clause-is : goal.returns-in-Found-clause-is
 returns-in-Found-clause-is c = λ is.
     let word = seen c.in-Found.word in
     let first = subst (λ (bytes : List ℕ). IsFirstWord word bytes c.in-Found.field-1.now) c.as_bytes.ensures.value (rw c.in-Found.is at c.in_ok-word.ensures) in
-    begins_with c.args.name.now c.args.line.now c.in-Found.field-1.now word first (sym c.is_label_word.ensures ∙ is)
+    begins_with c.args.name.now c.args.line.now c.in-Found.field-1.now word first (sym c.is_label.ensures ∙ is)
 
 pub returns-in-Found-clause-not : goal.returns-in-Found-clause-not
 returns-in-Found-clause-not c = λ isnt.
     let word = seen c.in-Found.word in
     let first = subst (λ (bytes : List ℕ). IsFirstWord word bytes c.in-Found.field-1.now) c.as_bytes.ensures.value (rw c.in-Found.is at c.in_ok-word.ensures) in
-    begins_not c.args.name.now c.args.line.now c.in-Found.field-1.now word first (sym c.is_label_word.ensures ∙ isnt)
+    begins_not c.args.name.now c.args.line.now c.in-Found.field-1.now word first (sym c.is_label.ensures ∙ isnt)
 
 pub returns-in-End-clause-not : goal.returns-in-End-clause-not
 returns-in-End-clause-not c = λ isnt label.
