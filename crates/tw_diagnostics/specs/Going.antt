@@ -42,10 +42,6 @@ is_operand form.Callee w = has_form (natural_in 0 255 w)
 is_operand form.Target w = has_form (target_in w)
 is_operand form.Args w = false
 
-abbrev pub found : {A : Type 0} → Result A TokenError → Option A
-found (Ok a) = Some a
-found (Err flaw) = None
-
 -- ---- one word more
 
 -- returns the form of the operand at a place after a name
@@ -64,19 +60,19 @@ after_operand version name place w (Some form.TypeOf) = after_type version w (re
 after_operand version name place w (Some form.Args) = only_if (has_form (natural_in 0 15 w)) (read.Operands name place)
 after_operand version name place w (Some f) = only_if (is_operand f w) (read.Operands name (place + 1))
 
-abbrev pub after_mode : Option Mode → Option Read
-after_mode None = None
-after_mode (Some Val) = Some read.Val
-after_mode (Some Closed) = Some read.RightMode
-after_mode (Some Ref) = Some read.RightMode
-after_mode (Some Write) = Some read.RightMode
+abbrev pub after_mode : Result Mode TokenError → Option Read
+after_mode (Err wrong) = None
+after_mode (Ok Val) = Some read.Val
+after_mode (Ok Closed) = Some read.RightMode
+after_mode (Ok Ref) = Some read.RightMode
+after_mode (Ok Write) = Some read.RightMode
 
 -- returns what has been read with this word
 abbrev pub after : Version → Read → Word → Option Read
 after version (read.Operands name place) w = after_operand version name place w (form_at_place version name.now place)
 after version read.Version w = only_if (has_form (natural_in 1 2 w)) read.Whole
 after version read.Head w = only_if (has_form (kind_in w)) read.Params
-after version read.Params w = after_mode (found (mode_in w))
+after version read.Params w = after_mode (mode_in w)
 after version read.RightMode w = after_type version w read.RightMode read.Params
 after version read.Val w = only_if (has_form (scalar_in w)) read.Params
 after version read.Registers w = only_if (has_form (scalar_in w)) read.Registers

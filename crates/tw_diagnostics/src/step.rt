@@ -7,9 +7,10 @@ ghost use Rattle.tw_diagnostics.specs.declared.words.Ask.TheVariants as asked;
 ghost use Rattle.tw_diagnostics.specs.declared.step.Read.TheVariants as read;
 
 use crate::due::Due;
-use crate::words::*;
+use crate::words::{Ask, is_natural, is_operand};
+use tw_asm::{container_of, kind_of, mode_of, scalar_of};
 use tw_code::{Form, Version, form_at};
-use tw_lexer::Word;
+use tw_lexer::{TokenError, Word};
 use tw_types::Mode;
 
 /// The words of a statement that have been read.
@@ -169,10 +170,10 @@ impl<'a> LineProgress<'a> {
     ) -> Option<LineProgress<'a>>
         ensures { ask ≡ asked.Form → option_map (λ a. a.read) result ≡ after_type version (seen word.now) self.entry.read whole.entry }
     {
-        if is_scalar(word) {
+        if ask.takes(scalar_of(word)) {
             Some(self.with(whole))
         } else {
-            self.deeper(ask, is_container(version, word))
+            self.deeper(ask, ask.takes(container_of(version, word)))
         }
     }
 
@@ -201,13 +202,13 @@ impl<'a> LineProgress<'a> {
         }
     }
 
-    fn after_mode(self, ask: Ask, mode: Option<Mode>) -> Option<LineProgress<'a>>
+    fn after_mode(self, ask: Ask, mode: Result<Mode, TokenError>) -> Option<LineProgress<'a>>
         ensures { ask ≡ asked.Form → option_map (λ a. a.read) result ≡ after_mode mode }
     {
         match mode {
-            None => None,
-            Some(Mode::Val) => self.one_more(ask, 8, true, Read::Val),
-            Some(Mode::Closed | Mode::Ref | Mode::Write) => {
+            Err(_) => None,
+            Ok(Mode::Val) => self.one_more(ask, 8, true, Read::Val),
+            Ok(Mode::Closed | Mode::Ref | Mode::Write) => {
                 self.one_more(ask, 8, true, Read::RightMode)
             }
         }
@@ -221,11 +222,11 @@ impl<'a> LineProgress<'a> {
         match self.read {
             Read::Operands(name, place) => self.after_operand(ask, version, name, place, form_at(version, name, place), word),
             Read::Version => self.only_if(is_natural(ask, 1, 2, word), Read::Whole),
-            Read::Head => self.only_if(is_kind(word), Read::Params),
+            Read::Head => self.only_if(ask.takes(kind_of(word)), Read::Params),
             Read::Params => self.after_mode(ask, mode_of(word)),
             Read::RightMode => self.after_type(ask, version, word, Read::Params),
-            Read::Val => self.only_if(is_scalar(word), Read::Params),
-            Read::Registers => self.one_more(ask, 16, is_scalar(word), self.read),
+            Read::Val => self.only_if(ask.takes(scalar_of(word)), Read::Params),
+            Read::Registers => self.one_more(ask, 16, ask.takes(scalar_of(word)), self.read),
             Read::Whole => None,
         }
     }

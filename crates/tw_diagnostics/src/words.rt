@@ -2,17 +2,12 @@
 
 ghost use Rattle.std.specs.Prelude.{◌≡◌, true};
 ghost use Rattle.tw_lexer.specs.Seen.{seen};
-ghost use Rattle.tw_asm.specs.reading.Lines.{kind_in};
-ghost use Rattle.tw_asm.specs.reading.Operands.{container_in, mode_in, natural_in, scalar_in};
-ghost use Rattle.tw_diagnostics.specs.Going.{found, has_form, is_operand, is_quoted};
+ghost use Rattle.tw_asm.specs.reading.Operands.{natural_in};
+ghost use Rattle.tw_diagnostics.specs.Going.{has_form, is_operand, is_quoted};
 
-use tw_asm::{
-    byte_of, container_of, goal_of, iterations_of, kind_of, number_of, right_of, scalar_of,
-    target_of, value_of,
-};
-use tw_code::{Form, Version};
+use tw_asm::{byte_of, goal_of, iterations_of, number_of, right_of, target_of, value_of};
+use tw_code::Form;
 use tw_lexer::{TokenError, Word};
-use tw_types::Mode;
 
 /// A choice of what is tested: the form alone, or its limits too.
 #[derive(Clone, Copy)]
@@ -32,8 +27,8 @@ impl Ask {
         }
     }
 
-    /// Returns whether a number passes.
-    fn takes<N: Drop>(self, read: Result<N, TokenError>) -> bool
+    /// Returns whether what was read passes.
+    pub(crate) fn takes<N: Drop>(self, read: Result<N, TokenError>) -> bool
         ensures { self ≡ Ask.Form → result ≡ has_form read }
     {
         match read {
@@ -85,35 +80,5 @@ pub(crate) fn is_operand(ask: Ask, form: Form, word: &Word<'_>) -> bool
         Form::Skip => ask.takes(goal_of(word)),
         Form::Target => ask.takes(target_of(word)),
         Form::TypeOf | Form::Args => false,
-    }
-}
-
-// ---- words of heads and types
-
-pub(crate) fn is_kind(word: &Word<'_>) -> bool
-    ensures { result ≡ has_form (kind_in (seen word.now)) }
-{
-    Ask::Form.takes(kind_of(word))
-}
-
-pub(crate) fn is_scalar(word: &Word<'_>) -> bool
-    ensures { result ≡ has_form (scalar_in (seen word.now)) }
-{
-    Ask::Form.takes(scalar_of(word))
-}
-
-pub(crate) fn is_container(version: Version, word: &Word<'_>) -> bool
-    ensures { result ≡ has_form (container_in version (seen word.now)) }
-{
-    Ask::Form.takes(container_of(version, word))
-}
-
-/// Returns the mode of a parameter that a word names, if it names one.
-pub(crate) fn mode_of(word: &Word<'_>) -> Option<Mode>
-    ensures { result ≡ found (mode_in (seen word.now)) }
-{
-    match tw_asm::mode_of(word) {
-        Ok(mode) => Some(mode),
-        Err(_) => None,
     }
 }
