@@ -1,8 +1,6 @@
 //! Frames: running tasks, as the pool stores them.
 
-ghost use Rattle.std.specs.Prelude.{◌≡◌, ◌<◌, ◌+◌, ◌^◌, IsTrue, ◌↔◌, IfErr, IfOk, OnErr, OnOk, Some, Ok, [], length, slice_get};
-ghost use Rattle.tw_types.specs.Value.{IsProper};
-ghost use Rattle.tw_types.specs.ValueOrder.{named};
+ghost use Rattle.std.specs.Prelude.{◌≡◌, ◌<◌, ◌+◌, ◌^◌, IsTrue, ◌↔◌, IfErr, IfOk, OnErr, OnOk, Some, Ok, []};
 ghost use Rattle.tw_code.specs.machine.Position.{at_goal, at_next_place, with_value};
 ghost use Rattle.tw_rights.specs.Filed.{filed, rights_in};
 ghost use Rattle.tw_frame.specs.Drafts.{MaySet, StartsAsMachine};
@@ -18,7 +16,7 @@ use crate::start::Start;
 use std::alloc::Global;
 use std::marker::Model;
 use tw_rights::{RightFile, Task};
-use tw_types::{Actor, TaskNo, Value, ValueRef};
+use tw_types::{Actor, TaskNo, Value};
 use tw_verify::Verified;
 
 /// A running task: its position, its rights, and how many instructions it has executed. While it runs its job is issued.
@@ -219,16 +217,6 @@ impl<'a> Frame<'a> {
             Ok(_draft) => Ok(()),
             Err(done) => Err(done),
         }
-    }
-
-    /// Returns the value of a register, where it stays.
-    pub fn look(&self, register: u8) -> ValueRef<'_>
-        requires { register < length self.now.position.values }
-        ensures is { slice_get self.now.position.values register ≡ Some (named result) }
-        ensures proper { IsProper (named result) }
-    {
-        let _count = self.own.registers.count();
-        self.own.registers.at(register)
     }
 
     /// Sets a register to a value of its type.

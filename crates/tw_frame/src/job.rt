@@ -102,16 +102,6 @@ impl<'a> JobState<'a> {
         self.at.place
     }
 
-    /// Returns the value of a register, where it stays.
-    pub fn look(&self, register: u8) -> ValueRef<'_>
-        requires { register < length self.now.position.values }
-        ensures is { slice_get self.now.position.values register ≡ Some (named result) }
-        ensures proper { IsProper (named result) }
-    {
-        let _count = self.at.registers.count();
-        self.at.registers.at(register)
-    }
-
     /// Returns the actor to which it was issued.
     pub fn actor(&self) -> Actor
         ensures { result ≡ self.now.actor }
