@@ -50,7 +50,8 @@ def unquoted(text: str) -> str:
 
 def options_of(source: str) -> dict[str, str]:
     """Returns the name of each option, and that of its help's constant."""
-    return {f"--{name}": text for name, text in re.findall(r'\(\s*(?:alloc,\s*)?"([a-z-]+)",\s*(\w+_HELP),?\s*\)', source)}
+    rows = re.findall(r'form: ArgumentForm::(\w+), name: "([a-z-]+)", help: (\w+_HELP)', source)
+    return {f"--{name}": text for form, name, text in rows if not form.startswith("Position")}
 
 
 def commands_of(source: str) -> dict[str, str]:

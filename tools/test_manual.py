@@ -21,12 +21,9 @@ pub(crate) const TRACE_HELP: &str =
     "Write a line `events` of \\"e\\"";
 """
 COMMAND = """
-    let limit = actors.arg(option_arg(alloc, "limit", LIMIT_HELP))?;
-    let trace = limit.arg(flag_arg(
-        alloc,
-        "trace",
-        TRACE_HELP,
-    ))?;
+        ArgumentRow { form: ArgumentForm::Value, name: "limit", help: LIMIT_HELP },
+        ArgumentRow { form: ArgumentForm::Flag, name: "trace", help: TRACE_HELP },
+        ArgumentRow { form: ArgumentForm::Positions, name: "input", help: INPUT_HELP },
 """
 COMPLETIONS = """
         build:*) COMPREPLY=($(compgen -W "--library" -- "$word")) ;;
@@ -87,7 +84,8 @@ class Otherwise(unittest.TestCase):
         self.assertEqual(found(PAGE.replace(".B run\nRuns", ".B go\nRuns")), ["run has no entry"])
 
     def test_a_help_text_of_a_new_option(self) -> None:
-        source = HELP + COMMAND + 'pub(crate) const NEW_HELP: &str = "New";\nflag_arg(alloc, "new", NEW_HELP)'
+        row = 'ArgumentRow { form: ArgumentForm::Flag, name: "new", help: NEW_HELP },'
+        source = HELP + COMMAND + row + '\npub(crate) const NEW_HELP: &str = "New";'
         self.assertEqual(found(PAGE, source), ["--new has no entry"])
 
     def test_a_constant_that_is_missing(self) -> None:

@@ -1,5 +1,5 @@
 -- The command line: how clap is set up, and what the arguments request.
-use Rattle.std.specs.Prelude.{◌≡◌, ◌||◌, ◌&&◌, ℕ, Bool, true, false, not, List, [], ◌∷◌, Option, Some, None, codes, bytes_eq, fold, if◌then◌else◌, is_some, map, nat_lt, unwrap_or}
+use Rattle.std.specs.Prelude.{◌≡◌, ◌||◌, ◌&&◌, ℕ, Bool, true, not, List, [], ◌∷◌, Option, Some, None, codes, bytes_eq, fold, if◌then◌else◌, is_some, map, nat_lt, unwrap_or}
 use Rattle.clap.specs.Kinds.{or_else}
 use Rattle.clap.specs.Lexer.{usize_max}
 use Rattle.clap.specs.Walk.{is_empty}
@@ -8,7 +8,7 @@ use Rattle.clap.specs.declared.error.ErrorKind.TheVariants.{ArgumentConflict}
 use Rattle.tw_types.specs.declared.input.Input.{Input}
 use Rattle.tw_types.specs.Layout.{ActorCounts}
 use Rattle.tw_cli.specs.InputWords.{AreSpelled, IsRefusedWord, RefusedWord}
-use Rattle.tw_cli.specs.Options.{NumberOption, actor_options, ExplainOrder, explaining, given_actors, given_assembly, given_disassembly, given_form, each, first_shown, flag_rule, in_turn, inputs, inputs_json, bounds_rule, bounds_faults, cap_options, check_options, given_caps, given_check, checking, is_given, jobs, json, last_shown, limit, names, number_options, option_faults, option_rule, picture, picture_options, places, plain, quiet, given_source, stats, stretch_options, given_range, text, requested, trace}
+use Rattle.tw_cli.specs.Options.{NumberOption, actor_options, ExplainOrder, explaining, given_actors, given_assembly, given_disassembly, given_form, each, first_shown, flag_rule, in_turn, inputs, inputs_json, bounds, bounds_faults, cap_options, check_options, given_caps, given_check, checking, is_given, jobs, json, last_shown, limit, main_rule, names, number_options, option_faults, option_rule, picture, picture_options, places, plain, quiet, given_source, stats, stretch_options, given_range, text, requested, trace}
 use Rattle.tw_cli.specs.Explanations.{IsMeaningOf, number_faults, number_rule, number_word}
 use Rattle.tw_cli.specs.declared.command.Answer.{Answer}
 use Rattle.tw_cli.specs.declared.command.Answer.TheVariants.{Json, Numbers, Picture, Report}
@@ -34,10 +34,6 @@ use Rattle.tw_cli.specs.declared.form.DisassembleOrder.{DisassembleOrder}
 use Rattle.tw_cli.specs.declared.form.Explained.{Explained}
 use Rattle.tw_cli.specs.declared.command.Source.TheVariants.{Hex}
 
--- returns a command without options
-abbrev pub plain_line : Text → App
-plain_line name = new_app name
-
 -- a command with options for caps
 abbrev pub capped_line : App → App
 capped_line line = fold with_rule line (map (λ o. option_rule o.name) cap_options)
@@ -56,14 +52,14 @@ program_line name = flags_line (new_app name) (text ∷ places ∷ json ∷ [])
 
 -- the command that verifies
 abbrev pub check_line : App
-check_line = capped_line (with_rule (with_rule (program_line (codes "check")) bounds_rule) (option_rule limit.name))
+check_line = capped_line (with_rule (with_rule (program_line (codes "check")) (main_rule bounds)) (option_rule limit.name))
 
 abbrev pub explain_line : App
 explain_line = with_rule (with_rule (new_app (codes "explain")) number_rule) (flag_rule json)
 
--- the input arguments after `run`, `replay` or `picture`, any number of them
-abbrev pub input_rule : Rule
-input_rule = record (new_rule (codes "input")) { range = Some (record { start_inclusive = 0; end_inclusive = usize_max }) }
+-- returns how clap is set up for arguments of this name, any number of them
+abbrev pub several_rule : Text → Rule
+several_rule name = record (new_rule name) { range = Some (record { start_inclusive = 0; end_inclusive = usize_max }) }
 
 -- returns a command with these options, which take numbers
 abbrev pub numbers_line : Text → List NumberOption → App
@@ -71,7 +67,7 @@ numbers_line name options = fold with_rule (new_app name) (map (λ o. option_rul
 
 -- adds the options for how the program and its inputs are read, and the input arguments
 abbrev pub reading_line : App → App
-reading_line line = with_rule (flags_line line (text ∷ inputs ∷ [])) input_rule
+reading_line line = with_rule (flags_line line (text ∷ inputs ∷ [])) (several_rule (codes "input"))
 
 -- `run` with its options that take numbers, and the flags for its output
 abbrev pub numbered_line : App

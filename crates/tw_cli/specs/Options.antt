@@ -157,9 +157,9 @@ option_rule name = record (new_rule name) { long = Some name }
 abbrev pub flag_rule : Text → Rule
 flag_rule name = record (option_rule name) { action = Some SetTrue }
 
--- returns how clap is set up for `--bounds`, which has the value `main` if none is given
-abbrev pub bounds_rule : Rule
-bounds_rule = record (option_rule bounds) { range = Some (record { start_inclusive = 0; end_inclusive = 1 }); missing = codes "main" ∷ [] }
+-- returns how clap is set up for an option of this name, which has the value `main` if none is given
+abbrev pub main_rule : Text → Rule
+main_rule name = record (option_rule name) { range = Some (record { start_inclusive = 0; end_inclusive = 1 }); missing = codes "main" ∷ [] }
 
 -- returns the number from 1 to `most` that decimal digits encode; they may begin with zeros
 abbrev pub number_in : ℕ → Text → Option ℕ

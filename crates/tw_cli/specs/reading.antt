@@ -2,3 +2,4 @@
 pub mod Members
 pub mod Inputs
 pub mod Runs
+pub mod Rows

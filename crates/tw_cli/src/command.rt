@@ -1,17 +1,19 @@
 //! The orders that a command line gives, and the commands.
 
 ghost use Rattle.std.specs.Prelude.{◌≡◌, false, IfOk};
+ghost use Rattle.std.specs.List.{fold};
 ghost use Rattle.clap.specs.Words.{App, app_of, with_subcommand};
 ghost use Rattle.clap.specs.declared.Command.TheViews.{out-Command};
 ghost use Rattle.tw_cli.specs.CommandLine.{bare_line, command_line, replay_with, run_with};
+ghost use Rattle.tw_cli.specs.reading.Rows.{with_row};
 ghost use Rattle.tw_cli.specs.declared.command.NoOrder.TheVariants.{NoMemory};
 
-use crate::arguments::{asm_command, check_command, explain_command, program_command};
+use crate::arguments::command_of;
 use crate::caps::Caps;
 use crate::checks::CheckOrder;
+use crate::command_rows::{COMMANDS, CommandRow};
 use crate::form::{AssembleOrder, DisassembleOrder, Explained};
-use crate::help::{ABOUT, DISASM, VERSION};
-use crate::input_commands::{picture_command, replay_command, run_command};
+use crate::help::{ABOUT, VERSION};
 use crate::limit::EventLimit;
 use crate::shown::EventRange;
 use clap::Command;
@@ -269,16 +271,20 @@ fn joined<'a>(
     }
 }
 
+/// Makes the program with the commands of these rows.
+fn line_of<'a>(alloc: Global, rows: &[CommandRow<'a>]) -> Result<Command<'a>, AllocError>
+    ensures { IfOk result (λ c. app_of c ≡ fold with_row bare_line rows.now) }
+{
+    let bare = bare_command(alloc)?;
+    let mut line = bare;
+    for row in rows {
+        line = joined(line, command_of(alloc, row))?;
+    }
+    Ok(line)
+}
+
 pub(crate) fn command<'a>(alloc: Global) -> Result<Command<'a>, AllocError>
     ensures { IfOk result (λ c. app_of c ≡ command_line) }
 {
-    let bare = bare_command(alloc)?;
-    let one = joined(bare, asm_command(alloc))?;
-    let two = joined(one, program_command(alloc, "disasm", &DISASM))?;
-    let three = joined(two, check_command(alloc))?;
-    let four = joined(three, run_command(alloc))?;
-    let five = joined(four, replay_command(alloc))?;
-    let six = joined(five, picture_command(alloc))?;
-    let whole = joined(six, explain_command(alloc))?;
-    Ok(whole)
+    line_of(alloc, &COMMANDS)
 }
