@@ -21,7 +21,7 @@ import sys
 import threading
 import time
 from pathlib import Path
-from typing import NamedTuple
+from typing import Callable, NamedTuple
 
 ROOT = Path(__file__).resolve().parent.parent
 PROGRAM = os.environ.get("TW_PROGRAM") or str(ROOT / "crates" / "tw_main" / "out" / "tw_main")
@@ -111,13 +111,33 @@ def tasks(count: int) -> str:
     return LONG % (min(count, 1000), (count + 999) // 1000)
 
 
-def long_text() -> str:
-    """Returns a program whose tasks take some five seconds here. On a busy machine one that took long once may be short the next time."""
-    count, took = 16, 0.0
-    while took < 4 and count < MOST_TASKS:
-        count = min(MOST_TASKS, int(count * min(4, 5.5 / max(took, 0.1))))
-        took = min(run(["--quiet"], tasks(count))[1] for _ in range(2 if took > 1 else 1))
-    return tasks(count)
+def each_text(lines: int) -> str:
+    """Returns a program and so many lines of inputs."""
+    return EACH + "inputs\n" + "[]\n" * lines
+
+
+class Work(NamedTuple):
+    """A text for each count, up to the most, and the arguments of the command that runs it."""
+
+    text: Callable[[int], str]
+    most: int
+    words: list[str]
+
+
+TASKS = Work(tasks, MOST_TASKS, [])
+LINES = Work(each_text, MOST_LINES, ["--each"])
+
+
+def run_long(work: Work, words: list[str], on_terminal: bool, count: int) -> tuple[int, Answer, float]:
+    """Runs work of a count, and of greater ones until a run takes four seconds. Returns the last run's count, what came of it and how long it took.
+
+    A run isn't timed beforehand: on a busy machine the next one may be much shorter.
+    """
+    while True:
+        got, took = run([*work.words, *words], work.text(count), on_terminal=on_terminal)
+        if took >= 4 or count >= work.most:
+            return count, got, took
+        count = min(work.most, int(count * min(8, 5.5 / max(took, 0.1))))
 
 
 def printed_lines(printed: str) -> list[str]:
@@ -167,20 +187,6 @@ def is_line_progress(printed: str, took: float, lines: int) -> bool:
     )
 
 
-def each_text(lines: int) -> str:
-    """Returns a program and so many lines of inputs."""
-    return EACH + "inputs\n" + "[]\n" * lines
-
-
-def most_lines(words: list[str]) -> int:
-    """Returns how many lines take some five seconds here."""
-    count, took = 1000, 0.0
-    while took < 4 and count < MOST_LINES:
-        count = min(MOST_LINES, int(count * min(8, 5.5 / max(took, 0.1))))
-        took = min(run(["--each", "--quiet", *words], each_text(count))[1] for _ in range(2 if took > 1 else 1))
-    return count
-
-
 def are_answers(written: str, lines: int) -> bool:
     """Returns whether each line has its answer, in order: ten thousand iterations are counted."""
     answers = written.splitlines()
@@ -197,9 +203,9 @@ def each_faults() -> list[str]:
         ("--each on a terminal", [], True, True), ("--each --jobs 2", ["--jobs=2"], True, True),
         ("--each --quiet", ["--quiet"], True, False), ("--each into a pipe", [], False, False),
     ]
+    lines = 1000
     for name, words, on_terminal, is_printed in rows:
-        lines = most_lines([word for word in words if word != "--quiet"])
-        got, took = run(["--each", *words], each_text(lines), on_terminal=on_terminal)
+        lines, got, took = run_long(LINES, words, on_terminal, lines)
         is_right = is_line_progress(got.printed, took, lines) if is_printed else not got.printed
         is_well = is_right and are_answers(got.written, lines) and got.status == 0
         faults.append("" if is_well else f"{name}, {lines} lines, {took:.1f} seconds: {got.printed!r}, status {got.status}, {got.written[-200:]}")
@@ -208,13 +214,13 @@ def each_faults() -> list[str]:
 
 def long_faults() -> list[str]:
     """Returns what is wrong with runs of some seconds, or nothing for each that is well."""
-    text = long_text()
     faults: list[str] = []
     rows: list[tuple[str, list[str], bool]] = [
         ("a run on a terminal", [], True), ("--quiet", ["--quiet"], True), ("--in-turn", ["--in-turn"], True), ("into a pipe", [], False),
     ]
+    count = 16
     for name, words, on_terminal in rows:
-        got, took = run(words, text, on_terminal=on_terminal)
+        count, got, took = run_long(TASKS, words, on_terminal, count)
         is_right = is_progress(got.printed, took) if on_terminal and not words else not got.printed
         is_well = is_right and (got.written, got.status) == ("quiet\n", 0)
         faults.append("" if is_well else f"{name}, {took:.1f} seconds: {got}")

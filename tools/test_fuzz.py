@@ -29,7 +29,7 @@ from fuzz_assembler import Error, assembled
 from fuzz_bounds import COUNTED, bound, bound_lines, budgets, check_lines, has_circle, is_circle
 from fuzz_code import Fault, Instr, Param, Procedure, Program, decode, disassembled, encode, program_text, quoted, smaller, without
 from fuzz_library import ROOT, Answer, Library, Verdict
-from fuzz_machine import Machine, NotEnabled, Trap, computed, read_int, run_in_turn
+from fuzz_machine import Machine, NotEnabled, Scalar, Trap, computed, read_int, run_in_turn
 from fuzz_names import is_name, symbolic
 from fuzz_report import circle_fault, event_of, report_lines, split_circle, stats_lines, trace_text
 from fuzz_texts import renamed, styled
@@ -194,7 +194,9 @@ class RulesTest(unittest.TestCase):
         program = main_of(Instr("REPEAT", (3,)), Instr("NEW", (0, 1, (2,))), Instr("END"), Instr("TINS", (2, 0, 1, 0)), Instr("INS", (2, 0, 1, 0)))
         self.assertEqual([bound(program, COUNTED[name]) for name in ("members", "bytes")], [2, 4 * 4096])
         machine = Machine(main_of(params=(Param(2, (4, 2)), Param(4, (2,)), Param(2, (3, 1)))), (1, 1, 1))
-        machine.open([{"a": "b", "c": "d"}, {1: 7}])
+        by_text: dict[str, Scalar] = {"a": "b", "c": "d"}
+        by_int: dict[int, Scalar] = {1: 7}
+        machine.open([by_text, by_int])
         self.assertEqual(machine.held(), {"members": 3, "bytes": 5 * 4096})
 
     def test_circles_of_calls(self) -> None:

@@ -48,14 +48,18 @@ class Schemas(unittest.TestCase):
 
     def test_run(self) -> None:
         self.assertTrue(self.fits("run", QUIET))
-        for wrong in ({"status": "running"}, {"pending": 1}, {"events": -1}, {"outputs": [1.5]}, {"outputs": [2**63]}, {"outputs": [[]]}, {"kinds": ["none"]}):
+        wrongs: list[dict[str, Any]] = [
+            {"status": "running"}, {"pending": 1}, {"events": -1}, {"outputs": [1.5]}, {"outputs": [2**63]}, {"outputs": [[]]}, {"kinds": ["none"]},
+        ]
+        for wrong in wrongs:
             self.assertFalse(self.fits("run", QUIET | wrong), wrong)
         for member in QUIET:
             self.assertFalse(self.fits("run", {key: value for key, value in QUIET.items() if key != member}), member)
 
     def test_no_object(self) -> None:
+        wrongs: list[dict[str, Any]] = [{}, {"status": "quiet"}, {"status": "refused", "error": []}, {"status": "refused", "error": "H01"}]
         for command in json_cases.COMMANDS:
-            for wrong in ({}, {"status": "quiet"}, {"status": "refused", "error": []}, {"status": "refused", "error": "H01"}):
+            for wrong in wrongs:
                 self.assertFalse(self.fits(command, wrong), (command, wrong))
 
 
@@ -64,7 +68,8 @@ class Unseen(unittest.TestCase):
 
     def test_each_status(self) -> None:
         schema = {"oneOf": [{"properties": {"status": {"enum": ["a", "b"]}, "more": {}}}, {"properties": {"status": {"const": "c"}}}]}
-        seen = [json_cases.Expected("one", "run", {"status": status, **more}) for status, more in (("a", {"more": 1}), ("b", {}))]
+        objects: list[dict[str, Any]] = [{"status": "a", "more": 1}, {"status": "b"}]
+        seen = [json_cases.Expected("one", "run", found) for found in objects]
         found = [line.removeprefix("run: no case has ") for line in json_cases.unseen("run", schema, seen)]
         self.assertEqual(found, ["`more` with the status b", "`status` with the status c"])
 
