@@ -1,5 +1,8 @@
 # SPDX-License-Identifier: Apache-2.0
 """Times commands in turn. Prints the least processor time of each, and its ratio to lua's loop, then that of a round."""
+
+from __future__ import annotations
+
 import os
 import resource
 import subprocess
@@ -9,19 +12,19 @@ program, here = sys.argv[1:]
 ROUNDS = 2_000_000
 
 
-def hex_of(name):
-    with open(os.path.join(here, name)) as file:
+def hex_of(name: str) -> str:
+    with open(os.path.join(here, name), encoding="utf-8") as file:
         return file.read().strip()
 
 
-def seconds(command):
+def seconds(command: list[str]) -> float:
     before = resource.getrusage(resource.RUSAGE_CHILDREN)
     subprocess.run(command, stdout=subprocess.DEVNULL, check=True)
     after = resource.getrusage(resource.RUSAGE_CHILDREN)
     return after.ru_utime + after.ru_stime - before.ru_utime - before.ru_stime
 
 
-def round_of(name):
+def round_of(name: str) -> list[str]:
     return [program, "steps", hex_of(name), str(ROUNDS)]
 
 
@@ -36,12 +39,12 @@ rounds = [
     ("the same with two ints and two INT", round_of("two_ints.hex")),
     ("the same with a text and TEXT", round_of("one_text.hex")),
 ]
-least = {name: float("inf") for name, _ in loops + rounds}
+least = {name: float("inf") for name, command in loops + rounds}
 for _ in range(9):
     for name, command in loops + rounds:
         least[name] = min(least[name], seconds(command))
 lua = least[loops[0][0]]
-for name, _ in loops:
+for name, command in loops:
     print(f"{least[name]:7.3f} s  {least[name] / lua:5.2f}  {name}")
-for name, _ in rounds:
+for name, command in rounds:
     print(f"{least[name] / ROUNDS * 1e9:7.0f} ns        {name}")

@@ -1,5 +1,8 @@
 # SPDX-License-Identifier: Apache-2.0
 """Times runs of `tw` and of peers in turn, prints the least of each with its ratio to what it is measured by, and a table of all at the end."""
+
+from __future__ import annotations
+
 import os
 import re
 import resource
@@ -7,6 +10,8 @@ import subprocess
 import sys
 import tempfile
 import time
+from collections.abc import Callable, Iterable, Mapping
+from typing import TypeVar
 
 program, here, peers = sys.argv[1:]
 LIMIT = "--limit=1000000"
@@ -14,65 +19,69 @@ LEAF = "proc leaf\nregs\nRET\n"
 WORKERS = (1, 2, 4, 16)
 ENGINE_RUNS = ("put", "rules", "cont")
 # The table of a sitting: rows of a name, the measurement, and the aim.
-table = []
+table: list[tuple[str, str, str]] = []
+
+# Seconds on the clock, and of processors, and what was written.
+Times = tuple[float, float, str]
+Run = Callable[[], Times]
+Name = TypeVar("Name", bound=object)
 
 
-def hex_of(text):
+def hex_of(text: str) -> bytes:
     words = ["--names"] if text.startswith("names\n") else []
     made = subprocess.run([program, "asm", *words], input=text.encode(), stdout=subprocess.PIPE, check=True)
     return made.stdout
 
 
-def read(name):
-    with open(os.path.join(here, name)) as file:
+def read(name: str) -> str:
+    with open(os.path.join(here, name), encoding="utf-8") as file:
         return file.read()
 
 
-def timed(command, given=None):
-    """Seconds on the clock, and of processors, and what was written."""
+def timed(command: list[str], given: bytes | None = None) -> Times:
     before, begun = resource.getrusage(resource.RUSAGE_CHILDREN), time.perf_counter()
-    run = subprocess.run(command, input=given, stdout=subprocess.PIPE)
+    run = subprocess.run(command, input=given, stdout=subprocess.PIPE, check=False)
     clock, after = time.perf_counter() - begun, resource.getrusage(resource.RUSAGE_CHILDREN)
     return clock, after.ru_utime + after.ru_stime - before.ru_utime - before.ru_stime, run.stdout.decode()
 
 
-def tw_run(text, *words):
+def tw_run(text: str, *words: str) -> Run:
     given = hex_of(text)
     return lambda: timed([program, "run", *words], given)
 
 
-def least_of(times, runs):
+def least_of(times: int, runs: Mapping[Name, Run]) -> dict[Name, tuple[float, float]]:
     """The least clock time and the least processor time of each run, all made in turn."""
     least = {name: (float("inf"), float("inf")) for name in runs}
     for _ in range(times):
         for name, run in runs.items():
             clock, processors, _ = run()
-            least[name] = tuple(map(min, least[name], (clock, processors)))
+            least[name] = (min(least[name][0], clock), min(least[name][1], processors))
     return least
 
 
-def several(numbers, form="{:.2f}"):
+def several(numbers: Iterable[float], form: str = "{:.2f}") -> str:
     return ", ".join(form.format(number) for number in numbers)
 
 
-def waiting_then_chain(waiting):
+def waiting_then_chain(waiting: int) -> str:
     """Main puts so many tasks, and one of a higher priority that puts the next such as it ends."""
     rounds, rest = divmod(waiting, 1000)
     many = f"REPEAT {rounds}\n" + "PUT 1 0 any\n" * 1000 + "END\n" if rounds else ""
     return "proc control\nregs\n" + many + "PUT 1 0 any\n" * rest + "PUT 2 1 any\nRET\nproc control\nregs\nRET\nproc control\nregs\nPUT 2 1 any\nRET\n"
 
 
-def empty_tasks(thousands):
+def empty_tasks(thousands: int) -> str:
     return f"proc control\nregs\nREPEAT {thousands}\n" + "PUT 1 0 any\n" * 1000 + "END\nRET\n" + LEAF
 
 
-def long_tasks(count, thousands):
+def long_tasks(count: int, thousands: int) -> str:
     """Returns a program with this many tasks, each of this many thousand adds with the END of their iteration."""
     return (f"proc control\nregs\nREPEAT {count}\nPUT 1 0 any\nEND\nRET\n"
             f"proc leaf\nregs int int\nINT v1 1\nREPEAT 1000\nREPEAT {thousands}\nADD v0 v0 v1 +0\nEND\nEND\nRET\n")
 
 
-def of_one_engine():
+def of_one_engine() -> None:
     print("Events of one engine, a million at most, beside lua5.4 with 20 million turns: seconds on the clock, of processors, ratios")
     runs = {"lua5.4": lambda: timed(["lua5.4", os.path.join(here, "loop.lua"), "20000"])}
     for name in ENGINE_RUNS:
@@ -84,7 +93,7 @@ def of_one_engine():
     table.append(("`put.tw`, `rules.tw`, `cont.tw` of lua5.4's loop by the clock", several(least[name][0] / lua[0] for name in ENGINE_RUNS), "0.45, 0.35, 0.8"))
 
 
-def beside_waiting():
+def beside_waiting() -> None:
     print("An event of a chain of tasks beside waiting tasks: nanoseconds on the clock")
     runs, events = {}, 400_000
     for waiting in (100, 10_000, 500_000):
@@ -97,7 +106,7 @@ def beside_waiting():
         print(f"{cost:8.0f}   {cost / costs[100]:6.2f}  {waiting} waiting")
 
 
-def of_statistics():
+def of_statistics() -> None:
     print("The same runs with statistics or a timeline, for which the events are executed again: seconds of processors, and how many times as long")
     runs, asked = {}, ("", "--stats", "--picture")
     for name in (*ENGINE_RUNS, "load"):
@@ -109,11 +118,11 @@ def of_statistics():
         print(f"{several(used)}   {several(time / used[0] for time in used[1:])}  {name}")
 
 
-def rate_of(written):
-    return float(re.search(r"(\d+) tasks/s", written).group(1))
+def rate_of(written: str) -> float:
+    return float(re.findall(r"(\d+) tasks/s", written)[0])
 
 
-def empty_leaf_tasks():
+def empty_leaf_tasks() -> None:
     tasks = 330_000
     print("Empty leaf tasks put by one engine: millions a second, on", *WORKERS, "workers or threads")
     peer = {}
@@ -129,7 +138,7 @@ def empty_leaf_tasks():
     table.append(("the same on 2, 4 and 16 workers against our own on 1", several(rate / own[0] for rate in own[1:]), "0.95, 0.95, 0.95"))
 
 
-def waiting_for_one_another():
+def waiting_for_one_another() -> None:
     """Tasks and rules that wait for one another: what threads take beside one thread."""
     print("The squares of 1 to 100, added one after the other: milliseconds on the clock, median of 25, and of a run in turn")
     text = read("squares.twn")
@@ -137,7 +146,7 @@ def waiting_for_one_another():
     for layout in ((1, 1, 1), (1, 1, 4), (4, 4, 16)):
         words = (f"--{kind}={count}" for kind, count in zip(("engines", "servers", "workers"), layout))
         runs["/".join(map(str, layout))] = tw_run(text, LIMIT, *words)
-    times = {name: [] for name in runs}
+    times: dict[str, list[float]] = {name: [] for name in runs}
     for _ in range(25):
         for name, run in runs.items():
             times[name].append(run()[0] * 1000)
@@ -148,11 +157,11 @@ def waiting_for_one_another():
     table.append(("`squares.twn` in threads 1/1/1, 1/1/4, 4/4/16 of the time in turn", ratios, "2.5, 2.5, 2.5"))
 
 
-def seconds_of_jobs(thousands, threads):
+def seconds_of_jobs(thousands: int, threads: int) -> Run:
     return lambda: (float(timed([os.path.join(peers, "jobs"), "500", str(thousands * 1000), str(threads)])[2]), 0.0, "")
 
 
-def long_jobs(thousands, aim):
+def long_jobs(thousands: int, aim: str) -> None:
     print(f"500 tasks of {thousands},000 adds: seconds on the clock, and how many times as fast as on one worker; oneTBB beside it")
     text = long_tasks(500, thousands)
     runs = {("tw", workers): tw_run(text, LIMIT, f"--workers={workers}") for workers in WORKERS}
@@ -164,7 +173,7 @@ def long_jobs(thousands, aim):
     table.append((f"500 jobs of {2 * thousands},000 instructions on 4 workers, times as fast as on 1; oneTBB's with as many adds", several((faster["tw"], faster["tbb"])), aim))
 
 
-def peak_memory(text, *words):
+def peak_memory(text: str, *words: str) -> float:
     """The most memory that a run had at once, in MiB."""
     with tempfile.TemporaryFile() as given:
         given.write(hex_of(text))
@@ -172,17 +181,17 @@ def peak_memory(text, *words):
         run = subprocess.Popen([program, "run", *words], stdin=given, stdout=subprocess.DEVNULL)
         _, _, used = os.wait4(run.pid, 0)
         run.returncode = 0
-    return used.ru_maxrss / 1024
+    return float(used.ru_maxrss) / 1024
 
 
-def memory():
+def memory() -> None:
     print("The most memory at once, of a million events and of none: MiB")
     most, least = peak_memory(read("put.tw"), LIMIT), peak_memory(LEAF.replace("leaf", "control"), "--limit=1")
     print(f"{most:8.1f} {least:8.1f}")
     table.append(("memory of a million events of `put.tw` (most of the process), beside a run of none", f"{most:.1f} MiB, {least:.1f} MiB", "half"))
 
 
-def start_to_end():
+def start_to_end() -> None:
     print("A run of store_seven from start to end: milliseconds on the clock")
     with open(os.path.join(here, "..", "examples", "store_seven.hex"), "rb") as file:
         given = file.read()
@@ -191,7 +200,7 @@ def start_to_end():
     table.append(("start to end of `store_seven`", f"{least:.2f} ms", "not slower"))
 
 
-def print_table():
+def print_table() -> None:
     print("| | measured | aim |\n|---|---|---|")
     for name, measured, aim in table:
         print(f"| {name} | {measured} | {aim} |")

@@ -3,6 +3,7 @@
 
 from __future__ import annotations
 
+import importlib
 import unittest
 from pathlib import Path
 from typing import Any
@@ -11,9 +12,9 @@ import yuglemit
 from common import DOUBLE, example, same, sized
 
 try:
-    import numpy
+    numpy: Any = importlib.import_module("numpy")
 except ImportError:
-    numpy = None  # type: ignore[assignment]
+    numpy = None
 
 
 class Values(unittest.TestCase):

@@ -17,6 +17,7 @@ import time
 import unittest
 from concurrent.futures import ThreadPoolExecutor
 from pathlib import Path
+from typing import Any
 from unittest import mock
 
 import yuglemit
@@ -162,7 +163,7 @@ class Programs(unittest.TestCase):
     def test_caps(self) -> None:
         """Each bound of pipeline is admitted at its number, and rejected below it, as `tw run` does."""
         program = yuglemit.load(EXAMPLES / "pipeline.twn")
-        exact = {"most_tasks": 4, "most_instructions": 24, "most_data": 2, "most_budget": 6, "most_rules": 3}
+        exact: dict[str, Any] = {"most_tasks": 4, "most_instructions": 24, "most_data": 2, "most_budget": 6, "most_rules": 3}
         self.assertEqual(program.run(39, **exact).outputs, [42])
         self.assertEqual(program.run(39, most_tasks=None).outputs, [42])
         for name, most in exact.items():
@@ -179,8 +180,9 @@ class Programs(unittest.TestCase):
         self.assertEqual(len(report.timeline()) > 1000, True)
         for wrong in (-1, 0, 1 << 64):
             for name in exact:
+                cap: dict[str, Any] = {name: wrong}
                 with self.assertRaises(ValueError):
-                    program.run(39, **{name: wrong})
+                    program.run(39, **cap)
 
     def test_caps_on_texts(self) -> None:
         program = yuglemit.load(LONG)
@@ -206,7 +208,7 @@ class Programs(unittest.TestCase):
 
     def test_bounds_hold(self) -> None:
         chance = {number: number for number in range(8)}
-        inputs = {"mapreduce": [chance], "chain": [chance], "pipeline": [39], "fan_out": [], "barrier": [], "matrix": [chance], "words": [dict.fromkeys(range(8), "the")], "texts": [dict.fromkeys(range(8), "4")]}
+        inputs: dict[str, list[Any]] = {"mapreduce": [chance], "chain": [chance], "pipeline": [39], "fan_out": [], "barrier": [], "matrix": [chance], "words": [dict.fromkeys(range(8), "the")], "texts": [dict.fromkeys(range(8), "4")]}
         for name, values in inputs.items():
             program = yuglemit.load(EXAMPLES / f"{name}.twn")
             report = program.run(*values)
