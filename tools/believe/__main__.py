@@ -2,93 +2,117 @@
 """Prints what must be believed of a public promise: the definitions that its clauses reach, lowest first. `tools/believe.sh` runs
 it, and says what it takes.
 """
+
+from __future__ import annotations
+
 import sys
+from collections.abc import Iterable
 
-from definitions import CRATES, Item, fail, read, uses_of_definition
-from promises import promise, renamed
-from sources import fields_named, shown_type, uses_of_type
+from definitions import CRATES, Definition, Item, Use, fail, read, uses_of_definition
+from promises import Promise, promise, renamed
+from sources import TypeItem, fields_named, shown_type, uses_of_type
 
 
-def counted(lines):
+def counted(lines: list[str]) -> int:
     return sum(1 for line in lines if line.strip() and not line.strip().startswith(("--", "//")))
 
 
-def fixity(line, file, items):
+def fixity(line: str, file: str, items: set[Item]) -> str:
     """How operators of a file group, without those that aren't reached."""
     names = {item.name for item in items if item.file == file}
     return " ".join(word for word in line.split() if "◌" not in word or word in names)
 
 
-def text_of(item):
-    return "\n".join(item.texts if hasattr(item, "module") else item.model["terms"] if item.model else item.lines)
+def text_of(item: Item) -> str:
+    if isinstance(item, Definition):
+        return "\n".join(item.texts)
+    return "\n".join(item.model.terms if isinstance(item, TypeItem) and item.model else item.lines)
 
 
-def reached(root):
+def uses_of(item: Item, named: set[str]) -> list[Use]:
+    """Returns what an item names. A definition is read once; what a struct names depends on the fields that are named."""
+    if isinstance(item, TypeItem):
+        return uses_of_type(item, named)
+    if item.uses is None and isinstance(item, Definition):
+        return uses_of_definition(item)
+    return item.uses or []
+
+
+def reached_with(root: Promise, named: set[str]) -> tuple[set[Item], set[str]]:
+    """Returns all that is reached from a promise if these fields are named, and what of it is the library's."""
+    items: set[Item] = set()
+    library: set[str] = set()
+    left = list(root.uses)
+    while left:
+        item = left.pop()
+        if isinstance(item, str):
+            library.add(item)
+        elif item not in items:
+            items.add(item)
+            item.uses = uses_of(item, named)
+            left += item.uses
+    return items, library
+
+
+def reached(root: Promise) -> tuple[set[Item], set[str]]:
     """All that is reached from a promise, and what of it is the library's. A struct's field counts where something reached names it."""
-    named, items = fields_named("\n".join(root.lines)), set()
+    named = fields_named("\n".join(root.lines))
     while True:
-        library, left, items = set(), list(root.uses), set()
-        while left:
-            item = left.pop()
-            if isinstance(item, str):
-                library.add(item)
-            elif item not in items:
-                items.add(item)
-                if not hasattr(item, "module"):
-                    item.uses = uses_of_type(item, named)
-                elif item.uses is None:
-                    item.uses = uses_of_definition(item)
-                left += item.uses
+        items, library = reached_with(root, named)
         more = named.union(*(fields_named(text_of(item)) for item in items))
         if more == named:
-            for item in items:
-                if hasattr(item, "module"):
-                    item.lines = [fixity(line, item.file, items) if line.startswith("infix") else line for line in item.lines]
-                else:
-                    item.lines = shown_type(item, named)
-            return items, library
+            break
         named = more
-
-
-def place(file):
-    """The order of files: by crate, types before definitions."""
-    crate, room = file.split("/")[1:3]
-    return CRATES.index(crate), room != "src", file
-
-
-def in_order(items):
-    """Groups of items of one file, each after what it names."""
-    left, done, groups = set(items), set(), []
-    files = {}
     for item in items:
-        files.setdefault(item.file, []).append(item)
-    order = sorted(files, key=place)
+        if isinstance(item, TypeItem):
+            item.lines = shown_type(item, named)
+        else:
+            item.lines = [fixity(line, item.file, items) if line.startswith("infix") else line for line in item.lines]
+    return items, library
 
-    def ready(file):
-        here = {item for item in files[file] if item in left}
-        while True:
-            blocked = {item for item in here
-                       if any(isinstance(use, Item) and use not in done | here and use is not item for use in item.uses)}
-            if not blocked:
-                return here
-            here -= blocked
 
+def place(file: str) -> tuple[int, bool, str]:
+    """The order of files: by crate, types before definitions."""
+    crate, folder = file.split("/")[1:3]
+    return CRATES.index(crate), folder != "src", file
+
+
+def ready(here: set[Item], done: set[Item]) -> set[Item]:
+    """Returns those of a file's items that name nothing but one another and what is done."""
+    while True:
+        blocked = {item for item in here if any(isinstance(use, Item) and use not in done | here and use is not item for use in item.uses or [])}
+        if not blocked:
+            return here
+        here = here - blocked
+
+
+def next_group(left: dict[str, set[Item]], done: set[Item]) -> tuple[str, set[Item]]:
+    """Returns the first file whose items are all ready, else those that are ready of the first that has some, else the first file."""
+    some = [(file, ready(items, done)) for file, items in left.items()]
+    whole = [(file, group) for file, group in some if len(group) == len(left[file])]
+    partly = [(file, group) for file, group in some if group]
+    return (whole or partly or list(left.items()))[0]
+
+
+def in_order(items: set[Item]) -> list[tuple[str, list[Item]]]:
+    """Groups of items of one file, each after what it names."""
+    files = sorted({item.file for item in items}, key=place)
+    left = {file: {item for item in items if item.file == file} for file in files}
+    done: set[Item] = set()
+    groups: list[tuple[str, list[Item]]] = []
     while left:
-        some = [(file, ready(file)) for file in order if any(item in left for item in files[file])]
-        whole = [pair for pair in some if len(pair[1]) == sum(item in left for item in files[pair[0]])]
-        file, group = (whole or [pair for pair in some if pair[1]] or [(None, None)])[0]
-        if not group:
-            file = some[0][0]
-            group = {item for item in files[file] if item in left}
+        file, group = next_group(left, done)
         groups.append((file, sorted(group, key=lambda item: item.start)))
         done |= group
-        left -= group
+        left[file] = left[file] - group
+        if not left[file]:
+            del left[file]
     return groups
 
 
-def head_of(file):
+def head_of(file: str) -> str:
     """Returns the comment at the head of a file."""
-    lines = []
+    lines: list[str] = []
     for line in read(file).splitlines():
         if not line.startswith(("--", "//!")):
             break
@@ -96,20 +120,19 @@ def head_of(file):
     return "\n".join(lines) + "\n" if lines else ""
 
 
-def renamed_in(group):
+def renamed_in(group: list[Item]) -> list[str]:
     """Returns the imports by which the items of one file use names under others."""
-    lines = []
+    lines: list[str] = []
     for item in group:
-        if hasattr(item, "module"):
-            lines += renamed(item.module.names, item.module.modules, text_of(item))
-        elif item.model:
-            lines += renamed(item.model["names"], item.model["modules"], text_of(item))
+        scope = item.module if isinstance(item, Definition) else item.model if isinstance(item, TypeItem) else None
+        if scope:
+            lines += renamed(scope.names, scope.modules, text_of(item))
     return list(dict.fromkeys(lines))
 
 
-def shown_library(names):
+def shown_library(names: set[str]) -> list[str]:
     """The library's names, a line a module."""
-    by_module = {}
+    by_module: dict[str, set[str]] = {}
     for name in names:
         if name.startswith("Rust's "):
             module, last = "Rust", name.split(" ", 1)[1]
@@ -121,8 +144,8 @@ def shown_library(names):
     return [f"{module}: {' '.join(sorted(by_module[module]))}" for module in sorted(by_module)]
 
 
-def shown(root, items, library):
-    begun = set()
+def shown(root: Promise, items: set[Item], library: set[str]) -> None:
+    begun: set[str] = set()
     print(f"What must be believed of {root.title}, lowest first.\n")
     for file, group in in_order(items):
         print(f"==== {file}\n")
@@ -141,37 +164,42 @@ def shown(root, items, library):
     print("\n".join(shown_library(library)) + "\n")
 
 
-def sizes(items):
+def sizes(items: set[Item]) -> tuple[int, int, int]:
     """The lines of definitions, those of types in the code, and the files."""
-    types = [item for item in items if item.file.split("/")[2] == "src"]
-    total, of_types = (sum(counted(item.lines) for item in some) for some in (items, types))
-    return total - of_types, of_types, len({item.file for item in items})
+    of_types = sum(counted(item.lines) for item in items if item.file.split("/")[2] == "src")
+    return sum(counted(item.lines) for item in items) - of_types, of_types, len({item.file for item in items})
 
 
-def size(items):
+def size(items: set[Item]) -> str:
     definitions, types, files = sizes(items)
     return (f"{definitions + types} lines in {files} file{'' if files == 1 else 's'}: "
             f"{definitions} of definitions, {types} of types in the code")
 
 
-def table(names):
+def promise_named(name: str) -> Promise:
+    """Returns the promise of a name, and of one of its clauses if a word follows it."""
+    call, *clause = name.split()
+    return promise(call, clause[0] if clause else None)
+
+
+def table(names: Iterable[str]) -> list[str]:
     """The rows of the table in docs/PROOFS.md, the smallest first."""
-    rows = []
+    rows: list[tuple[tuple[int, int, int], str]] = []
     for name in names:
         title = "`" + name.replace(" ", "`, clause `") + "`"
-        rows.append((sizes(reached(promise(*[*name.split(), None][:2]))[0]), title))
+        rows.append((sizes(reached(promise_named(name))[0]), title))
     return [f"| {title} | {definitions:,} | {types:,} | {files:,} |" for (definitions, types, files), title in sorted(rows)]
 
 
-def main(words):
+def main(words: list[str]) -> None:
     if words[:1] == ["--count"] and words[1:]:
         for name in words[1:]:
-            root = promise(*[*name.split(), None][:2])
+            root = promise_named(name)
             print(f"{root.title}: {size(reached(root)[0])}")
     elif words[:1] == ["--table"] and words[1:]:
         print("\n".join(table(words[1:])))
     elif 1 <= len(words) <= 2 and not words[0].startswith("-"):
-        root = promise(*[*words, None][:2])
+        root = promise(words[0], words[1] if words[1:] else None)
         items, library = reached(root)
         shown(root, items, library)
         print(size(items))

@@ -4,9 +4,15 @@
 A name is found as the prover finds it: what is bound beside it, what the file defines, what its `use` lines bring in. What a clause
 binds somewhere counts as bound in all of it. A name that is found nowhere is an error, so nothing is left out in silence.
 """
+
+from __future__ import annotations
+
 import os
 import re
 import sys
+from collections.abc import Callable, Iterable, Iterator
+from dataclasses import dataclass, field
+from typing import NoReturn, Optional, Protocol, Union
 
 ROOT = os.path.dirname(os.path.dirname(os.path.dirname(os.path.realpath(__file__))))
 # Names of the language that need no import.
@@ -15,23 +21,25 @@ WORD = re.compile(r'"(?:[^"\\]|\\.)*"|[(){}\[\],;]|\.?[^\s(){}\[\],;."]+(?:\.[^\
 NUMERAL = re.compile(r"\d|0x")
 
 
-def fail(why):
+def fail(why: str) -> NoReturn:
     sys.exit(f"believe: {why}")
 
 
-def read(path):
+def read(path: str) -> str:
     with open(os.path.join(ROOT, path), encoding="utf-8") as file:
         return file.read()
 
 
-def crates():
+def crates() -> tuple[list[str], set[str]]:
     """The crates of the repository, lowest first, and which of them are checks."""
-    names, checks, is_check = [], set(), False
+    names: list[str] = []
+    checks: set[str] = set()
+    is_check = False
     for line in read("crates.txt").splitlines():
         if line.startswith("#"):
             is_check = line.startswith("# Checks")
         elif ":" in line:
-            names.append(re.match(r"\w+", line).group())
+            names.append(re.split(r"\W", line)[0])
             if is_check:
                 checks.add(names[-1])
     return names, checks
@@ -40,18 +48,38 @@ def crates():
 CRATES, CHECKS = crates()
 
 
+@dataclass(eq=False)
 class Item:
     """A piece of text that is printed whole: a definition, a type, a constant."""
 
-    def __init__(self, file, name, start, lines):
-        self.file, self.name, self.start, self.lines = file, name, start, lines
-        self.uses = None
+    file: str
+    name: str
+    start: int
+    lines: list[str]
+    uses: Optional[list[Use]] = field(default=None, init=False)
 
-    def __repr__(self):
+    def __repr__(self) -> str:
         return f"{self.file}:{self.start} {self.name}"
 
 
-def without_comment(line):
+# What a name means: an item, or the words of the library.
+Use = Union[Item, str]
+Meaning = Union[Item, str, list[Use], None]
+# The names that `use` lines bring in, each with its module and its name there; and other names of modules.
+Names = dict[str, tuple[str, str]]
+Modules = dict[str, str]
+
+
+@dataclass(eq=False, repr=False)
+class Definition(Item):
+    """A definition of a file of specs/ or proofs/, with its kind (abbrev, record or data), the texts of its clauses and the file."""
+
+    kind: str
+    texts: list[str]
+    module: Definitions
+
+
+def without_comment(line: str) -> str:
     in_text = False
     for at, c in enumerate(line):
         if c == '"' and (at == 0 or line[at - 1] != "\\"):
@@ -61,9 +89,10 @@ def without_comment(line):
     return line
 
 
-def imports(text):
-    """The names that `use` lines bring in, each with its module and its name there; and other names of modules."""
-    names, modules = {}, {}
+def imports(text: str) -> tuple[Names, Modules]:
+    """Returns what the `use` lines of a text bring in."""
+    names: Names = {}
+    modules: Modules = {}
     for path, listed, other in re.findall(r"^\s*(?:ghost )?(?:pub )?use ([^\s{;]+?)(?:\.\{([^}]*)\})?(?: as ([^\s;]+))?;?\s*$", text, re.M):
         if listed:
             for each in listed.split(","):
@@ -74,50 +103,77 @@ def imports(text):
     return names, modules
 
 
+@dataclass
+class Piece:
+    """The lines of a definition: those of each clause, and of the line before it that says how its operators group."""
+
+    name: str
+    kind: str
+    chunks: list[tuple[int, int]]
+    before: int
+
+
+def chunks_of(bare: list[str]) -> Iterator[tuple[int, int]]:
+    """Yields the lines from each line at the left edge to the next, without blank lines at the end."""
+    heads = [at for at, line in enumerate(bare) if line and not line[0].isspace() and line[0] not in ")]}"]
+    for start, end in zip(heads, [*heads[1:], len(bare)]):
+        while end > start and not bare[end - 1]:
+            end -= 1
+        yield start, end
+
+
+def pieces_in(bare: list[str]) -> tuple[list[Piece], list[str]]:
+    """Returns the definitions of a file without comments, and its `use` lines."""
+    pieces: list[Piece] = []
+    uses: list[str] = []
+    before: Optional[int] = None
+    for start, end in chunks_of(bare):
+        words = bare[start].split()
+        if words[0] == "use" or words[:2] == ["pub", "use"]:
+            uses.append(" ".join(" ".join(bare[start:end]).split()))
+        elif words[0] in ("infixl", "infixr", "infix"):
+            before = start
+        elif words[:2] == ["pub", "mod"] or words[0] in ("mod", "unfolding"):
+            pass
+        elif pieces and words[0] == pieces[-1].name:
+            pieces[-1].chunks.append((start, end))
+        else:
+            name = next(word for word in words if word not in ("abbrev", "pub", "unfoldable", "record", "data"))
+            kind = next((word for word in words if word in ("record", "data")), "abbrev")
+            pieces.append(Piece(name, kind, [(start, end)], start if before is None else before))
+            before = None
+    return pieces, uses
+
+
 class Definitions:
     """A file of definitions: what it defines, and what its names mean."""
 
-    def __init__(self, path, file):
+    def __init__(self, path: str, file: str) -> None:
         self.path, self.file = path, file
+        self.items: dict[str, Definition] = {}
+        self.constructors: dict[str, Definition] = {}
         lines = read(file).splitlines()
         bare = [without_comment(line).rstrip() for line in lines]
-        self.items, self.constructors = {}, {}
-        heads = [at for at, line in enumerate(bare) if line and not line[0].isspace() and line[0] not in ")]}"]
-        ends = heads[1:] + [len(lines)]
-        uses, opened, before = [], None, []
-        for start, end in zip(heads, ends):
-            while end > start and not bare[end - 1]:
-                end -= 1
-            words = bare[start].split()
-            if words[0] == "use" or words[:2] == ["pub", "use"]:
-                uses.append(" ".join(" ".join(bare[start:end]).split()))
-            elif words[0] in ("infixl", "infixr", "infix"):
-                before = list(range(start, end))
-            elif words[:2] == ["pub", "mod"] or words[0] in ("mod", "unfolding"):
-                pass
-            elif opened and words[0] == opened.name:
-                opened.chunks.append((start, end))
-            else:
-                name = next(word for word in words if word not in ("abbrev", "pub", "unfoldable", "record", "data"))
-                opened = Item(file, name, start, None)
-                opened.kind = next((word for word in words if word in ("record", "data")), "abbrev")
-                opened.chunks, opened.before = [(start, end)], before
-                self.items[name] = opened
-                before = []
+        pieces, uses = pieces_in(bare)
         self.names, self.modules = imports("\n".join(uses))
-        for item in self.items.values():
-            first = item.before[0] if item.before else item.start
-            while first > 0 and lines[first - 1].startswith("--"):
-                first -= 1
-            item.lines, item.module = lines[first:item.chunks[-1][1]], self
-            item.texts = ["\n".join(bare[start:end]) for start, end in item.chunks]
-            if item.kind == "data":
-                for constructor in re.findall(r"^  (\S+(?: \S+)*?) : ", item.texts[0], re.M):
-                    for name in constructor.split():
-                        self.constructors[name] = item
+        for piece in pieces:
+            self.add(piece, lines, bare)
         self.operators = operators([*self.items, *self.names])
 
-    def meaning(self, name):
+    def add(self, piece: Piece, lines: list[str], bare: list[str]) -> None:
+        """Adds a definition, with the comment above it, and its constructors."""
+        first = piece.before
+        while first > 0 and lines[first - 1].startswith("--"):
+            first -= 1
+        texts = ["\n".join(bare[start:end]) for start, end in piece.chunks]
+        item = Definition(self.file, piece.name, piece.chunks[0][0], lines[first:piece.chunks[-1][1]], piece.kind, texts, self)
+        self.items[piece.name] = item
+        if piece.kind == "data":
+            for constructor in re.findall(r"^  (\S+(?: \S+)*?) : ", texts[0], re.M):
+                for name in constructor.split():
+                    self.constructors[name] = item
+
+    def meaning(self, name: str) -> Meaning:
         """Returns the item, or the words of the library, that a name means here; None if it means none."""
         if name in self.items:
             return self.items[name]
@@ -128,14 +184,14 @@ class Definitions:
         return None
 
 
-def operators(names):
+def operators(names: Iterable[str]) -> dict[str, str]:
     """The pieces of the operators among these names, each with its operator."""
     return {piece: name for name in names if "◌" in name for piece in name.split("◌") if piece}
 
 
-def specs():
+def specs() -> dict[str, str]:
     """All files of definitions and of lemmas, by their paths as `use` lines have them."""
-    known = {}
+    known: dict[str, str] = {}
     for crate in CRATES:
         for room in ("specs", "proofs"):
             top = os.path.join(ROOT, "crates", crate, room)
@@ -149,21 +205,21 @@ def specs():
 
 
 FILES = specs()
-loaded = {}
+loaded: dict[str, Definitions] = {}
 
 
-def definitions(path):
+def definitions(path: str) -> Optional[Definitions]:
     if path in FILES and path not in loaded:
         loaded[path] = Definitions(path, FILES[path])
     return loaded.get(path)
 
 
-def crate_of(path):
+def crate_of(path: str) -> Optional[str]:
     parts = path.split(".")
     return parts[1] if parts[0] == "Rattle" and len(parts) > 1 and parts[1] in CRATES else None
 
 
-def found(path, name):
+def found(path: str, name: str) -> Meaning:
     """The meaning of a name of a module: an item, or its words if it is the library's."""
     crate = crate_of(path)
     if not crate:
@@ -182,22 +238,35 @@ def found(path, name):
     fail(f"{path} has no {name}")
 
 
-class Scope:
+class Scope(Protocol):
     """Where the names of a term are looked up, after those that are bound in it."""
 
-    def __init__(self, names, modules, own=lambda name: None):
+    names: Names
+    modules: Modules
+    operators: dict[str, str]
+    constructors: dict[str, Definition]
+
+    def meaning(self, name: str) -> Meaning:
+        """Returns what a name means there; None if it means none."""
+
+
+class CodeScope:
+    """A scope of a term in code: its own names come after those that `ghost use` brings in."""
+
+    def __init__(self, names: Names, modules: Modules, own: Callable[[str], Meaning]) -> None:
         self.names, self.modules, self.own = names, modules, own
         self.operators = operators(names)
+        self.constructors: dict[str, Definition] = {}
 
-    def meaning(self, name):
+    def meaning(self, name: str) -> Meaning:
         if name in self.names:
             return found(*self.names[name])
         return self.own(name)
 
 
-def is_constructor(scope, name):
+def is_constructor(scope: Scope, name: str) -> bool:
     """Whether a name in a pattern is a constructor, which binds nothing."""
-    if name in getattr(scope, "constructors", {}):
+    if name in scope.constructors:
         return True
     if name not in scope.names:
         return False
@@ -205,13 +274,14 @@ def is_constructor(scope, name):
     if crate_of(path):
         if ".declared." in path:
             return path.endswith(".TheVariants")
-        return there in definitions(path).constructors
+        module = definitions(path)
+        return module is not None and there in module.constructors
     return there[0].isupper() or there in ("true", "false", "zero", "suc", "[]", "◌∷◌", "pos", "negsuc", "tt", "refl")
 
 
-def bound_in_pattern(scope, words):
+def bound_in_pattern(scope: Scope, words: list[str]) -> set[str]:
     """The names that a pattern binds."""
-    names = set()
+    names: set[str] = set()
     for word in words:
         if word[0] in '"(){}[],;.' or NUMERAL.match(word) or word in BUILT_IN or word in scope.operators:
             continue
@@ -220,7 +290,7 @@ def bound_in_pattern(scope, words):
     return names
 
 
-def patterns(words):
+def patterns(words: list[str]) -> list[str]:
     """The words of a clause between its name and its `=`; none where it has no `=`."""
     depth = 0
     for at, word in enumerate(words):
@@ -230,9 +300,9 @@ def patterns(words):
     return []
 
 
-def bound(scope, words):
+def bound(scope: Scope, words: list[str]) -> set[str]:
     """The names that a term binds somewhere in it."""
-    names = set()
+    names: set[str] = set()
     for at, word in enumerate(words):
         if word == "λ":
             end = at + 1
@@ -260,9 +330,9 @@ def bound(scope, words):
     return names
 
 
-def used(scope, words, local, unknown):
+def used(scope: Scope, words: list[str], local: set[str], unknown: list[str]) -> list[Use]:
     """Returns the meanings of a term's words, except those that are bound."""
-    meanings = []
+    meanings: list[Use] = []
     for at, word in enumerate(words):
         if word[0] in '"(){}[],;.' or NUMERAL.match(word) or word in BUILT_IN:
             continue
@@ -288,9 +358,10 @@ def used(scope, words, local, unknown):
     return meanings
 
 
-def sequencing(scope, text):
+def sequencing(scope: Scope, text: str) -> list[Use]:
     """Returns the operators that join the lines of each `do`."""
-    lines, names = text.split("\n"), set()
+    lines = text.split("\n")
+    names: set[str] = set()
     for at, line in enumerate(lines):
         if re.search(r"(^|[\s(])do$", line) and at + 1 < len(lines):
             depth = len(lines[at + 1]) - len(lines[at + 1].lstrip())
@@ -302,53 +373,66 @@ def sequencing(scope, text):
                 if each.strip() and inner == depth:
                     steps.append(each)
             names.update("◌>>=◌" if "←" in step.split() else "◌>>◌" for step in steps[:-1])
-    return [scope.meaning(name) for name in sorted(names)]
+    meanings = [scope.meaning(name) for name in sorted(names)]
+    return [meaning for meaning in meanings if isinstance(meaning, (Item, str))]
 
 
-def dots_apart(text):
+def dots_apart(text: str) -> str:
     """A blank separates the dot of a binder from the name before it."""
     return re.sub(r"\.(?=\s|$)", " . ", text)
 
 
-def words_of(text):
+def words_of(text: str) -> list[str]:
     return WORD.findall(dots_apart(text))
 
 
-def pieces_of(item):
-    """The parts of a definition, each with the names that it binds in addition to those within it: the signature, each clause, each field."""
-    module = item.module
+def fields_of(item: Definition) -> Iterator[tuple[str, set[str]]]:
+    """Yields the head and the fields of a record, each with the names that the ones before it bind."""
+    at = 0
+    fields: set[str] = set()
+    starts = [match.start() for match in re.finditer(r"^  (?:pub )?\S+(?: \S+)*? :(?:\s|$)", item.texts[0], re.M)]
+    for end in [*starts, len(item.texts[0])]:
+        text = item.texts[0][at:end]
+        name = re.match(r"  (?:pub )?(\S+(?: \S+)*?) :\s", text)
+        here = set(name.group(1).split()) if name else set()
+        yield text[name.end(1):] if name else text, fields
+        fields = fields | here | (bound(item.module, words_of(text)) if at == 0 else set())
+        at = end
+
+
+def bound_in_clause(module: Definitions, text: str) -> set[str]:
+    """Returns the names that a clause binds by its patterns, by its `where` and by the steps of its `do`."""
+    words = words_of(text)
+    local = bound_in_pattern(module, patterns(words))
+    below = [line for line in text.split("\n") if line[:1].isspace()]
+    if "where" in words:
+        # Definitions below `where` are the clause's own.
+        local |= {match.group(1) for match in (re.match(r"\s+(\S+) :(\s|$)", line) for line in below) if match}
+    for line in below:
+        step = re.match(r"\s+(.*?) ←(\s|$)", line)
+        clause = words_of(line)
+        if step:
+            local |= bound_in_pattern(module, words_of(step.group(1)))
+        elif "where" in words and clause[0] in local:
+            local |= bound_in_pattern(module, patterns(clause))
+    return local
+
+
+def pieces_of(item: Definition) -> Iterator[tuple[str, set[str]]]:
+    """Yields the parts of a definition, each with the names that it binds in addition to those within it: the signature, each clause, each field."""
     if item.kind == "record":
-        at, fields = 0, set()
-        starts = [match.start() for match in re.finditer(r"^  (?:pub )?\S+(?: \S+)*? :(?:\s|$)", item.texts[0], re.M)]
-        for end in [*starts, len(item.texts[0])]:
-            text = item.texts[0][at:end]
-            field = re.match(r"  (?:pub )?(\S+(?: \S+)*?) :\s", text)
-            here = set(field.group(1).split()) if field else set()
-            yield text[field.end(1):] if field else text, fields
-            fields = fields | here | (bound(module, words_of(text)) if at == 0 else set())
-            at = end
+        yield from fields_of(item)
         return
     for text in item.texts:
-        words, local = words_of(text), set()
-        if item.kind == "abbrev" and text is not item.texts[0]:
-            local |= bound_in_pattern(module, patterns(words))
-            below = [line for line in text.split("\n") if line[:1].isspace()]
-            if "where" in words:
-                # Definitions below `where` are the clause's own.
-                local |= {match.group(1) for match in (re.match(r"\s+(\S+) :(\s|$)", line) for line in below) if match}
-            for line in below:
-                step = re.match(r"\s+(.*?) ←(\s|$)", line)
-                clause = words_of(line)
-                if step:
-                    local |= bound_in_pattern(module, words_of(step.group(1)))
-                elif "where" in words and clause[0] in local:
-                    local |= bound_in_pattern(module, patterns(clause))
-        yield text, local
+        is_clause = item.kind == "abbrev" and text is not item.texts[0]
+        yield text, bound_in_clause(item.module, text) if is_clause else set()
 
 
-def uses_of_definition(item):
+def uses_of_definition(item: Definition) -> list[Use]:
     """Returns what a definition names. What a clause binds counts as bound in all of it, and in no other clause."""
-    module, meanings, unknown, own = item.module, [], [], {item.name}
+    module, own = item.module, {item.name}
+    meanings: list[Use] = []
+    unknown: list[str] = []
     if item.kind == "data":
         own |= {name for name, of in module.constructors.items() if of is item}
         own |= bound(module, words_of(item.texts[0].split("\n")[0]))

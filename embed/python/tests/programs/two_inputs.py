@@ -1,4 +1,4 @@
-from yuglemit.build import Array, Int, Out, Table, Text, byte_length, check, control, each, insert, leaf, nth, out
+from yuglemit.build import Array, Int, Out, check, control, insert, out
 
 
 @control
