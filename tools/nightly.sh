@@ -165,6 +165,7 @@ run_counted() {
 
 # The harnesses, those first that take the least time.
 run_harnesses() {
+    harness_with "shellcheck mypy pyflakes3" lint 600 tools/lint.sh
     harness shown 600 tools/shown.sh
     harness json 600 tools/json_runs.py "$program"
     harness progress 300 tools/progress.py

@@ -41,6 +41,8 @@ done
 
 todo=$("$here/todo.sh" "$tw" "$program" "$inputs" "$results" "$@") || exit
 printf '%s\n' "$todo" | sed 1d >"$results/list"
+# It is in the command that eval reads.
+# shellcheck disable=SC2034
 key=$(printf '%s\n' "$todo" | sed -n 1p)
 runs=$(wc -l <"$results/list")
 [ "$runs" -gt 0 ] || exit 0

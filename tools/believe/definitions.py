@@ -62,7 +62,7 @@ class Item:
         return f"{self.file}:{self.start} {self.name}"
 
 
-# What a name means: an item, or the words of the library.
+# A meaning of a name: an item, or the words of the library.
 Use = Union[Item, str]
 Meaning = Union[Item, str, list[Use], None]
 # The names that `use` lines bring in, each with its module and its name there; and other names of modules.
