@@ -1,13 +1,19 @@
 /* SPDX-License-Identifier: Apache-2.0 */
 /* Makes hostile calls over handles: `loaded PROGRAM`, where PROGRAM holds the bytes of examples/read_number.twn, which takes a text and writes
- * the text of the next number. All are made in threads with a stack of 64 KiB. Prints each check that fails, and their number; ends with status
- * 1 if one did. */
+ * the text of the next number. All are made in threads with a stack of 64 KiB, or of 96 with a sanitizer. Prints each check that fails, and their
+ * number; ends with status 1 if one did. */
 #include "../embed/yuglemit.h"
 #include <pthread.h>
 #include <stdio.h>
 #include <string.h>
 
-enum { THREADS = 8, RUNS = 200, LIMIT = 10000, STACK = 64 * 1024 };
+/* A sanitizer's own frames, such as those of its memcpy, and its data of a thread are in the same stack. */
+#if defined(__SANITIZE_ADDRESS__) || defined(__SANITIZE_THREAD__)
+enum { STACK = 96 * 1024 };
+#else
+enum { STACK = 64 * 1024 };
+#endif
+enum { THREADS = 8, RUNS = 200, LIMIT = 10000 };
 
 static uint8_t bytes[1 << 16];
 static size_t length;
