@@ -25,8 +25,11 @@ INPUTS = ["int:7", "int:-4", "int:", "int:x", "int:9223372036854775808", "ints:"
           'texts:1="a",2="b,c"', "texts:1=a", 'tints:"a"=1', "tints:a=1", 'ttexts:"a"="x"', "Int:7", "7", "-7", "V04", "v4", "C5", "A99", "V", "run", "\r", "\t", "a" * 300, "\u00a0", "text:a\nb", "\n"]
 # A part of the text of each status; of JSON the last member.
 TEXTS = {
-    0: re.compile(r""), 2: re.compile(r"command line refused\n|input (word )?\d+ refused\n|inputs refused\n"), 3: re.compile(r'(?m)^stuck \d+$|<svg|"status":"stuck"}$'),
-    1: re.compile(r'(?m)^refused ([A-Z]\d\d|memory)|^not enabled at event \d+$|"status":"refused"}$'), 4: re.compile(r'(?m)^limit$|<svg|"status":"limit"}$'),
+    0: re.compile(r""),
+    1: re.compile(r'(?m)^refused ([A-Z]\d\d|memory)|^not enabled at event \d+$|"status":"refused"}$'),
+    2: re.compile(r'^command line refused\n|^(input (word )?\d+|inputs) refused\n|^{"error":\["input[^"]* refused",.*"status":"refused"}$'),
+    3: re.compile(r'(?m)^stuck \d+$|<svg|"status":"stuck"}$'),
+    4: re.compile(r'(?m)^limit$|<svg|"status":"limit"}$'),
     6: re.compile(r'(?m)^trap C\d+ at event \d+$|"status":"trap"}$'),
 }
 # The status if a file can't be read.
