@@ -4,7 +4,7 @@ packages for Python, C++ and Rust, and what tw says on standard error. The tests
 a mutant survives that isn't said to be harmless, if one is killed that is, or if the tests fail without an edit.
 
     tools/mutants.py                  all of them, in some ten minutes
-    tools/mutants.py NAME..           these, or those of a part: main, script, release, cases, python, cpp, rust, page
+    tools/mutants.py NAME..           these, or those of a part: main, script, release, cases, python, build, cpp, rust, page
     tools/mutants.py --list           their names; like each call, it fails if an edit's text isn't in its file once
     tools/mutants.py --table NAME..   prints a table of Markdown at the end
 
@@ -41,6 +41,7 @@ TESTS = {
     "cases": "python3 -B tools/test_cases.py -f",
     "python": "export PYTHONPATH=$PWD/embed/python YUGLEMIT_LIBRARY=@LIBRARY@ && cd embed/python/tests && "
     "python3 -B -m unittest -f test_inputs test_errors test_map test_program && python3 -B -m unittest discover -f -p 'test_*.py'",
+    "build": "export PYTHONPATH=$PWD/embed/python YUGLEMIT_LIBRARY=@LIBRARY@ && cd embed/python/tests && python3 -B -m unittest -f test_build",
     "cpp": "c++ -std=c++17 -pthread -I embed -o out/cpp_test embed/cpp/test.cpp @ARCHIVE@ && out/cpp_test examples",
     "rust": "cd embed/rust && YUGLEMIT_FOLDER=$(dirname @ARCHIVE@) CARGO_TARGET_DIR=../../out/rust cargo test --offline --quiet",
     "page": "node page/machine_test.js @MODULE@ page examples",
@@ -63,6 +64,7 @@ class Mutant:
 SOURCES = "tools/tw-sources.sh"
 FILES, RUNS, CASES = "tools/case_files.py", "tools/case_runs.py", "tools/cases.py"
 PYTHON = "embed/python/yuglemit/"
+BUILD = PYTHON + "build/"
 MAIN = "crates/tw_main/src/"
 CPP, RUST = "embed/cpp/yuglemit.hpp", "embed/rust/src/"
 
@@ -132,6 +134,22 @@ MUTANTS = (
     Mutant("brief_runs_release_the_gil", "python", PYTHON + "_native.py", "calls = short() if seconds < _BRIEF_SECONDS else library()", "calls = library()"),
     Mutant("open_containers_are_finished", "python", PYTHON + "_native.py", 'item.kind == ord("c") and item.closed', 'item.kind == ord("c")'),
     Mutant("stops_come_too_late", "python", PYTHON + "_stop.py", "        if self._event.is_set():\n", "        if False:\n"),
+    # Programs written in Python: comparisons, divisions, loops, rights, calls, constants and the places of errors.
+    Mutant("at_most_is_below", "build", BUILD + "conditions.py", "yes if strict else no)", "yes)"),
+    Mutant("remainders_keep_their_sign", "build", BUILD + "values.py", '    body.code.put("ADD", result, result, right, body.refused())\n', ""),
+    Mutant("breaks_return", "build", BUILD + "loops.py", 'body.code.put("INT", turns.flag, flag)', 'body.code.put("INT", turns.flag, RETURN)'),
+    Mutant("failures_are_lost_beside_returns", "build", BUILD + "loops.py", "    if turns.has_failed:\n", "    if turns.has_failed and not turns.return_sets:\n"),
+    Mutant("unset_names_are_read", "build", BUILD + "values.py", "if node.id not in body.now.assigned:", "if False:"),
+    Mutant("write_rights_are_dropped", "build", BUILD + "body.py", 'return self.mode != "write" or not self.type.is_scalar', "return True"),
+    Mutant("priorities_are_lost", "build", BUILD + "tasks.py", "                priority = str(constant)\n", '                priority = "0"\n'),
+    Mutant("targets_are_lost", "build", BUILD + "tasks.py", "            target = str(constant)\n", '            target = "any"\n'),
+    Mutant("copies_are_the_rights", "build", BUILD + "tasks.py", "if len(uses) > 1 or body.loops", "if body.loops"),
+    Mutant("constants_divide_towards_zero", "build", BUILD + "source.py", "return left // right", "return int(left / right)"),
+    Mutant("columns_count_bytes", "build", BUILD + "source.py", 'len(text.encode()[: getattr(node, "col_offset", 0)].decode(errors="ignore"))', 'getattr(node, "col_offset", 0)'),
+    Mutant("constants_count_characters", "build", BUILD + "values.py", "if len(constant.encode()) > _MOST_TEXT:", "if len(constant) > _MOST_TEXT:"),
+    Mutant("controls_are_not_escaped", "build", BUILD + "values.py", 'if c < " " or c ==', "if c =="),
+    Mutant("helpers_take_names", "build", BUILD + "body.py", "taken = {*self.names.values(), *HELPERS}", "taken = {*self.names.values()}"),
+    Mutant("what_nothing_reaches_stays", "build", BUILD + "code.py", "if open_way or line.is_comment:", "if True:"),
     # C++ and Rust: values, caps, bounds, errors and handles.
     Mutant("caps_are_swapped", "cpp", CPP, "cap(data), cap(bytes)", "cap(bytes), cap(data)"),
     Mutant("bounds_without_limit", "cpp", CPP, "yuglemit_program_bounds(handle_.get(), limit, at)", "yuglemit_program_bounds(handle_.get(), 0, at)"),

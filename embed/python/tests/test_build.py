@@ -231,6 +231,8 @@ ERRORS: List[Tuple[str, int, int, str]] = [
     (MAIN + "    out.y = 1 +\n", 4, 16, "invalid syntax"),
     (MAIN + "    out.y = z\n", 4, 13, "z isn't known"),
     (MAIN + "    out.y = f(x)\n", 4, 13, "f is no function|f isn't known"),
+    (MAIN + "    z = 'é' + q\n", 4, 15, "q isn't known"),
+    (MAIN + f"    z = '{'é' * 2049}'\n", 4, 9, "more than 4096 bytes"),
     (MAIN + "    out.z = 1\n", 4, 5, "no output"),
     (MAIN + "    y = 1\n", 4, 5, "y is a parameter: out.y"),
     (MAIN + "    xs = 1\n", 4, 5, "has one type|is a parameter"),
@@ -333,6 +335,32 @@ class Refused(unittest.TestCase):
         for x in (-7, 7, -(2**63), 2**63 - 1, 6, 0):
             for d in (-3, 3, 2, -2, 7, 1, 2**63 - 1, -(2**63)):
                 self.assertEqual(self.run_text(text, x, d).outputs, [x // d, x % d], (x, d))
+
+
+class Texts(unittest.TestCase):
+    """What an answer doesn't show, or what other tests don't use."""
+
+    def test_priority_and_target(self) -> None:
+        leaf = "@leaf\ndef f(n: Int) -> Int:\n    return n\n"
+        text = build_text(HEAD + leaf + "@control\ndef main(x: Int, y: Out[Int]):\n    a = f(x, priority=-7)\n    b = f(a, worker=3)\n    out.y = f(b, priority=x)\n").text
+        calls = [line.split()[:4] for line in text.split("\n") if line.startswith(("PUT", "RULE"))]
+        self.assertEqual(calls, [["PUT", "f", "-7", "any"], ["RULE", "f_2", "0", "3"], ["RULEV", "f_2", calls[2][2], "any"]])
+        self.assertRegex(calls[2][2], "^[a-z]")
+
+    def test_constants(self) -> None:
+        numbers = ("-7 // 2", "-7 % 3", "7 // -2", "2**62 - 1 + 2**62", "-(2**63)", "3 * (4 - 6)")
+        for number in numbers:
+            report = build_text(HEAD + f"N = {number}\n@control\ndef main(y: Out[Int]):\n    out.y = N\n").program.run()
+            self.assertEqual(report.outputs, [eval(number)], number)
+
+    def test_characters_of_texts(self) -> None:
+        word = "\x01\x1f \"\\\n\t\x7f\x80é\u2028\U0001f600"
+        report = build_text(HEAD + f"@control\ndef main(y: Out[Text]):\n    out.y = {word!a}\n").program.run()
+        self.assertEqual(report.outputs, [word])
+
+    def test_functions_with_names_of_helpers(self) -> None:
+        text = "@leaf\ndef copy_int(n: Int) -> Int:\n    return n\n@control\ndef main(x: Int, y: Out[Int]):\n    a = copy_int(x)\n    out.y = a\n"
+        self.assertEqual(build_text(HEAD + text).program.run(8).outputs, [8])
 
 
 class Manual(unittest.TestCase):
