@@ -1,6 +1,7 @@
 -- The objects of procedures, one more; and that an object has no float.
 use Rattle.std.proofs.Common.{◌≡◌, ◌<◌, ◌+◌, ℕ, suc, false, List, [], ◌∷◌, ◌++◌, length, take, get_or, refl, sym, ap, subst, ◌∙◌, arith, length-take, Option, Some, None, IfSome, IsSomeAnd, codes, map}
 use Rattle.std.proofs.lemmas.List.{map-append}
+use Rattle.std.specs.List.{fold}
 use Rattle.std.specs.Str.Lines.{lines}
 use Rattle.std.specs.Str.Lossy.{utf8_lossy}
 use Rattle.serde_json.specs.Data as json
@@ -19,7 +20,8 @@ use Rattle.tw_code.specs.accepting.Walk.{IsBudget}
 use Rattle.tw_json_output.proofs.Floats.{both, one_more, strings, with_one}
 use Rattle.tw_json_output.specs.Error.{lines_json}
 use Rattle.tw_json_output.specs.Texts.{whole_json, with_status}
-use Rattle.tw_program_output.specs.CheckJson.{AreProcedureObjects, IsCircleOf, bound_json, bounds_json, check_members, circle_json, count_json, kind_word, limited_json, needs_json, procedure_json, seven_json, with_circle, with_found, with_limited, with_listing, with_name, with_own_bounds}
+use Rattle.tw_program_output.specs.Bounds.{limit_rows, run_rows}
+use Rattle.tw_program_output.specs.CheckJson.{AreProcedureObjects, IsCircleOf, bound_json, check_members, circle_json, count_json, kind_word, needs_json, procedure_json, rows_json, with_circle, with_found, with_limited, with_listing, with_name, with_own_bounds, with_row}
 use Rattle.tw_program_output.specs.declared.bounds_json.FoundBounds.{FoundBounds}
 use Rattle.tw_program_output.proofs.ReplyNames.{Procedure, slice_get, slice_get-get_or, take_more}
 use Rattle.tw_symbols.specs.Symbols.{name_at}
@@ -69,11 +71,6 @@ pub circle_of : (program : List Procedure) (found : Option Circle) → IfSome fo
 circle_of program None is none = none refl
 circle_of program (Some circle) is none = is
 
--- ---- bounds
-
-pub seven_same : (a b c d e f g h i j k l m n : Option Bound) → a ≡ h → b ≡ i → c ≡ j → d ≡ k → e ≡ l → f ≡ m → g ≡ n → seven_json a b c d e f g ≡ seven_json h i j k l m n
-seven_same a b c d e f g h i j k l m n o p q r s t u = rw (o, p, q, r, s, t, u) refl
-
 -- ---- floats
 
 bound_fine : (b : Option Bound) → has_float (bound_json b) ≡ false
@@ -82,26 +79,9 @@ bound_fine (Some (AtMost n)) = refl
 bound_fine (Some Over) = refl
 bound_fine (Some Endless) = refl
 
-seven_fine : (a b c d e f g : Option Bound) → has_float (seven_json a b c d e f g) ≡ false
-seven_fine a b c d e f g =
-    let tasks = json.put (codes "tasks") (bound_json a) json.no_members in
-    let instructions = json.put (codes "instructions") (bound_json b) tasks in
-    let new_data = json.put (codes "data") (bound_json c) instructions in
-    let members = json.put (codes "members") (bound_json d) new_data in
-    let rules = json.put (codes "rules") (bound_json e) members in
-    let bytes = json.put (codes "bytes") (bound_json f) rules in
-    let one = one_more (codes "tasks") (bound_json a) json.no_members (bound_fine a) refl in
-    let two = one_more (codes "instructions") (bound_json b) tasks (bound_fine b) one in
-    let three = one_more (codes "data") (bound_json c) instructions (bound_fine c) two in
-    let four = one_more (codes "members") (bound_json d) new_data (bound_fine d) three in
-    let five = one_more (codes "rules") (bound_json e) members (bound_fine e) four in
-    let six = one_more (codes "bytes") (bound_json f) rules (bound_fine f) five in
-    one_more (codes "events") (bound_json g) bytes (bound_fine g) six
-
-bounds_fine : (bounds : RunBounds) (k : ℕ) → has_float (bounds_json bounds k) ≡ false
-bounds_fine bounds k =
-    seven_fine (slice_get bounds.tasks.items k) (slice_get bounds.instructions.items k) (slice_get bounds.data.items k) (slice_get bounds.members.items k)
-    (slice_get bounds.rules.items k) (slice_get bounds.bytes.items k) (slice_get bounds.events.items k)
+rows_fine : (rows : List (List ℕ × Option Bound)) (ms : json.Members) → members_have_float ms ≡ false → members_have_float (fold with_row ms rows) ≡ false
+rows_fine [] ms before = before
+rows_fine (row ∷ rows) ms before = rows_fine rows (with_row ms row) (one_more row.0 (bound_json row.1) ms (bound_fine row.1) before)
 
 circle_fine : (found : Option Circle) (ms : json.Members) → members_have_float ms ≡ false → members_have_float (with_circle found ms) ≡ false
 circle_fine None ms before = before
@@ -112,13 +92,13 @@ circle_fine (Some circle) ms before =
 
 limited_fine : (found : Option LimitedBounds) (ms : json.Members) → members_have_float ms ≡ false → members_have_float (with_limited found ms) ≡ false
 limited_fine None ms before = before
-limited_fine (Some b) ms before = one_more (codes "limited") (limited_json b) ms (seven_fine (Some b.tasks) (Some b.instructions) (Some b.«data») (Some b.members) (Some b.rules) (Some b.bytes) (Some b.events)) before
+limited_fine (Some b) ms before = one_more (codes "limited") (rows_json (limit_rows b)) ms (rows_fine (limit_rows b) json.no_members refl) before
 
 found_fine : (found : Option FoundBounds) (ms : json.Members) → members_have_float ms ≡ false → members_have_float (with_found found ms) ≡ false
 found_fine None ms before = before
 found_fine (Some f) ms before =
-    let main = json.put (codes "bounds") (bounds_json f.bounds 0) ms in
-    limited_fine f.limited (with_circle f.circle main) (circle_fine f.circle main (one_more (codes "bounds") (bounds_json f.bounds 0) ms (bounds_fine f.bounds 0) before))
+    let main = json.put (codes "bounds") (rows_json (run_rows f.bounds 0)) ms in
+    limited_fine f.limited (with_circle f.circle main) (circle_fine f.circle main (one_more (codes "bounds") (rows_json (run_rows f.bounds 0)) ms (rows_fine (run_rows f.bounds 0) json.no_members refl) before))
 
 name_fine : (name : List ℕ) (ms : json.Members) → members_have_float ms ≡ false → members_have_float (with_name name ms) ≡ false
 name_fine [] ms before = before
@@ -126,7 +106,7 @@ name_fine (c ∷ name) ms before = one_more (codes "name") (whole_json (c ∷ na
 
 own_fine : (each : Option RunBounds) (number : ℕ) (ms : json.Members) → members_have_float ms ≡ false → members_have_float (with_own_bounds each number ms) ≡ false
 own_fine None number ms before = before
-own_fine (Some bounds) number ms before = one_more (codes "bounds") (bounds_json bounds number) ms (bounds_fine bounds number) before
+own_fine (Some bounds) number ms before = one_more (codes "bounds") (rows_json (run_rows bounds number)) ms (rows_fine (run_rows bounds number) json.no_members refl) before
 
 procedure_fine : (name : List ℕ) (each : Option RunBounds) (number : ℕ) (kind : Kind) (budget : ℕ) → has_float (procedure_json name each number kind budget) ≡ false
 procedure_fine name each number kind budget =

@@ -1,5 +1,6 @@
 -- Output of `check --bounds` about a program's runs.
-use Rattle.std.specs.Prelude.{◌≡◌, ◌⊎◌, ℕ, zero, suc, List, [], ◌++◌, codes, decimal, length, Option, Some, None, slice_get}
+use Rattle.std.specs.Prelude.{◌≡◌, ◌⊎◌, ℕ, zero, suc, List, [], ◌∷◌, ◌++◌, codes, decimal, length, Option, Some, None, slice_get}
+use Rattle.std.specs.List.{flat_map}
 use Rattle.tw_code.specs.declared.procedure.Procedure.{Procedure}
 use Rattle.tw_bounds.specs.Bounds.{CallsEnd}
 use Rattle.tw_bounds.specs.Circles.{IsCircle}
@@ -15,6 +16,7 @@ use Rattle.tw_cli.specs.declared.checks.BoundsOf.TheVariants.{NoBounds, OfMain, 
 use Rattle.tw_cli.specs.declared.checks.CheckOrder.{CheckOrder}
 use Rattle.tw_symbols.specs.Symbols.{AreSymbols, bracketed, name_at}
 use Rattle.tw_program_output.specs.Text.{IsPlaceText}
+use Rattle.tw_program_output.specs.declared.bound_rows.BoundRow.{BoundRow}
 
 abbrev pub bound_text : Option Bound → List ℕ
 bound_text None = codes "none"
@@ -22,19 +24,43 @@ bound_text (Some (AtMost n)) = decimal n
 bound_text (Some Over) = codes "over"
 bound_text (Some Endless) = codes "none"
 
--- returns the line of this kind for the bound of main's tasks
-abbrev pub bound_line : List ℕ → List Bound → List ℕ
-bound_line kind bounds = codes "bound " ++ (kind ++ (codes " " ++ (bound_text (slice_get bounds 0) ++ codes "\n")))
+-- ---- rows: the name of a kind, and its bound
+
+-- return the bounds of a procedure's tasks, and those by a limit
+abbrev pub run_rows : RunBounds → ℕ → List (List ℕ × Option Bound)
+run_rows bounds number =
+    (codes "tasks", slice_get bounds.tasks.items number)
+    ∷ (codes "instructions", slice_get bounds.instructions.items number)
+    ∷ (codes "data", slice_get bounds.data.items number)
+    ∷ (codes "members", slice_get bounds.members.items number)
+    ∷ (codes "rules", slice_get bounds.rules.items number)
+    ∷ (codes "bytes", slice_get bounds.bytes.items number)
+    ∷ (codes "events", slice_get bounds.events.items number)
+    ∷ []
+
+abbrev pub limit_rows : LimitedBounds → List (List ℕ × Option Bound)
+limit_rows bounds =
+    (codes "tasks", Some bounds.tasks)
+    ∷ (codes "instructions", Some bounds.instructions)
+    ∷ (codes "data", Some bounds.«data»)
+    ∷ (codes "members", Some bounds.members)
+    ∷ (codes "rules", Some bounds.rules)
+    ∷ (codes "bytes", Some bounds.bytes)
+    ∷ (codes "events", Some bounds.events)
+    ∷ []
+
+-- returns a bound after its kind, between these texts
+abbrev pub row_text : List ℕ → List ℕ → List ℕ × Option Bound → List ℕ
+row_text head tail row = head ++ (row.0 ++ (codes " " ++ (bound_text row.1 ++ tail)))
+
+-- returns what the code keeps of a row
+abbrev pub named : BoundRow → List ℕ × Option Bound
+named row = (row.name.now, row.bound)
+
+-- ---- main's bounds
 
 abbrev pub bound_lines : RunBounds → List ℕ
-bound_lines bounds =
-    bound_line (codes "tasks") bounds.tasks.items
-    ++ (bound_line (codes "instructions") bounds.instructions.items
-    ++ (bound_line (codes "data") bounds.data.items
-    ++ (bound_line (codes "members") bounds.members.items
-    ++ (bound_line (codes "rules") bounds.rules.items
-    ++ (bound_line (codes "bytes") bounds.bytes.items
-    ++ bound_line (codes "events") bounds.events.items)))))
+bound_lines bounds = flat_map (row_text (codes "bound ") (codes "\n")) (run_rows bounds 0)
 
 -- returns why there are no bounds
 abbrev pub circle_line : Circle → List ℕ
@@ -52,23 +78,9 @@ IsBoundsText source program text =
 
 -- ---- the bounds of each procedure
 
--- returns a bound of a procedure after its kind
-abbrev pub bound_part : List ℕ → List Bound → ℕ → List ℕ
-bound_part kind bounds number = kind ++ bound_text (slice_get bounds number)
-
-abbrev pub bound_parts : RunBounds → ℕ → List ℕ
-bound_parts bounds number =
-    bound_part (codes " tasks ") bounds.tasks.items number
-    ++ (bound_part (codes " instructions ") bounds.instructions.items number
-    ++ (bound_part (codes " data ") bounds.data.items number
-    ++ (bound_part (codes " members ") bounds.members.items number
-    ++ (bound_part (codes " rules ") bounds.rules.items number
-    ++ (bound_part (codes " bytes ") bounds.bytes.items number
-    ++ bound_part (codes " events ") bounds.events.items number)))))
-
 -- returns the bounds of a procedure's tasks in one line, and its name in brackets if it has one
 abbrev pub bound_row : List ℕ → RunBounds → ℕ → List ℕ
-bound_row name bounds number = codes "bounds " ++ (decimal number ++ (bound_parts bounds number ++ (bracketed name ++ codes "\n")))
+bound_row name bounds number = codes "bounds " ++ (decimal number ++ (flat_map (row_text (codes " ") []) (run_rows bounds number) ++ (bracketed name ++ codes "\n")))
 
 -- returns the lines of the first procedures
 abbrev pub bound_rows : List (List ℕ) → RunBounds → ℕ → List ℕ
@@ -86,18 +98,8 @@ IsEachBoundsText source program text =
 
 -- ---- the bounds by a limit
 
-abbrev pub limited_line : List ℕ → Bound → List ℕ
-limited_line kind bound = codes "limited " ++ (kind ++ (codes " " ++ (bound_text (Some bound) ++ codes "\n")))
-
 abbrev pub limited_lines : LimitedBounds → List ℕ
-limited_lines bounds =
-    limited_line (codes "tasks") bounds.tasks
-    ++ (limited_line (codes "instructions") bounds.instructions
-    ++ (limited_line (codes "data") bounds.data
-    ++ (limited_line (codes "members") bounds.members
-    ++ (limited_line (codes "rules") bounds.rules
-    ++ (limited_line (codes "bytes") bounds.bytes
-    ++ limited_line (codes "events") bounds.events)))))
+limited_lines bounds = flat_map (row_text (codes "limited ") (codes "\n")) (limit_rows bounds)
 
 -- holds for the bounds of runs with at most so many events, if there is a limit
 abbrev pub IsLimitedText : Option ℕ → List Procedure → List ℕ → Type 0

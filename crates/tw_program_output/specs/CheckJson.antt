@@ -1,5 +1,6 @@
 -- Output of `check --json` about an accepted program.
-use Rattle.std.specs.Prelude.{◌≡◌, ℕ, suc, List, [], ◌∷◌, codes, Option, Some, None, slice_get}
+use Rattle.std.specs.Prelude.{◌≡◌, ℕ, suc, List, [], ◌∷◌, codes, Option, Some, None}
+use Rattle.std.specs.List.{fold}
 use Rattle.serde_json.specs.Data as json
 use Rattle.serde_json.specs.View.{items_of}
 use Rattle.tw_types.specs.declared.actor.Kind.{Kind}
@@ -25,6 +26,7 @@ use Rattle.tw_cli.specs.declared.command.Places.TheVariants.{Hidden, Shown}
 use Rattle.tw_json_output.specs.Error.{lines_json}
 use Rattle.tw_json_output.specs.Run.{json_line}
 use Rattle.tw_json_output.specs.Texts.{whole_json, with_status}
+use Rattle.tw_program_output.specs.Bounds.{limit_rows, run_rows}
 use Rattle.tw_program_output.specs.Listing.{IsListing}
 use Rattle.tw_program_output.specs.declared.bounds_json.FoundBounds.{FoundBounds}
 use Rattle.tw_symbols.specs.Symbols.{AreSymbols, name_at}
@@ -41,28 +43,12 @@ bound_json (Some (AtMost n)) = count_json n
 bound_json (Some Over) = json.string (codes "over")
 bound_json (Some Endless) = json.string (codes "none")
 
--- return the members and the object of the bounds of tasks, instructions, data, members, rules, bytes and events
-abbrev pub seven_members : Option Bound → Option Bound → Option Bound → Option Bound → Option Bound → Option Bound → Option Bound → json.Members
-seven_members tasks instructions new_data held rules bytes events =
-    json.put (codes "events") (bound_json events)
-    (json.put (codes "bytes") (bound_json bytes)
-    (json.put (codes "rules") (bound_json rules)
-    (json.put (codes "members") (bound_json held)
-    (json.put (codes "data") (bound_json new_data)
-    (json.put (codes "instructions") (bound_json instructions)
-    (json.put (codes "tasks") (bound_json tasks) json.no_members))))))
+-- adds a bound under the name of its kind
+abbrev pub with_row : json.Members → List ℕ × Option Bound → json.Members
+with_row members row = json.put row.0 (bound_json row.1) members
 
-abbrev pub seven_json : Option Bound → Option Bound → Option Bound → Option Bound → Option Bound → Option Bound → Option Bound → json.Data
-seven_json tasks instructions new_data held rules bytes events = json.object (seven_members tasks instructions new_data held rules bytes events)
-
--- returns the bounds of a procedure
-abbrev pub bounds_json : RunBounds → ℕ → json.Data
-bounds_json bounds k =
-    seven_json (slice_get bounds.tasks.items k) (slice_get bounds.instructions.items k) (slice_get bounds.data.items k) (slice_get bounds.members.items k)
-    (slice_get bounds.rules.items k) (slice_get bounds.bytes.items k) (slice_get bounds.events.items k)
-
-abbrev pub limited_json : LimitedBounds → json.Data
-limited_json bounds = seven_json (Some bounds.tasks) (Some bounds.instructions) (Some bounds.«data») (Some bounds.members) (Some bounds.rules) (Some bounds.bytes) (Some bounds.events)
+abbrev pub rows_json : List (List ℕ × Option Bound) → json.Data
+rows_json rows = json.object (fold with_row json.no_members rows)
 
 -- returns the place of a call that leads back to its procedure
 abbrev pub circle_members : Circle → json.Members
@@ -77,12 +63,12 @@ with_circle (Some circle) members = json.put (codes "circle") (circle_json circl
 
 abbrev pub with_limited : Option LimitedBounds → json.Members → json.Members
 with_limited None members = members
-with_limited (Some bounds) members = json.put (codes "limited") (limited_json bounds) members
+with_limited (Some bounds) members = json.put (codes "limited") (rows_json (limit_rows bounds)) members
 
 -- adds main's bounds, a call that leads back to its procedure if main's calls don't end, and the bounds by the limit
 abbrev pub with_found : Option FoundBounds → json.Members → json.Members
 with_found None members = members
-with_found (Some found) members = with_limited found.limited (with_circle found.circle (json.put (codes "bounds") (bounds_json found.bounds 0) members))
+with_found (Some found) members = with_limited found.limited (with_circle found.circle (json.put (codes "bounds") (rows_json (run_rows found.bounds 0)) members))
 
 abbrev pub IsCircleOf : List Procedure → Option Circle → Type 0
 IsCircleOf program None = CallsEnd program 0
@@ -125,7 +111,7 @@ with_name (c ∷ name) members = json.put (codes "name") (whole_json (c ∷ name
 
 abbrev pub with_own_bounds : Option RunBounds → ℕ → json.Members → json.Members
 with_own_bounds None number members = members
-with_own_bounds (Some bounds) number members = json.put (codes "bounds") (bounds_json bounds number) members
+with_own_bounds (Some bounds) number members = json.put (codes "bounds") (rows_json (run_rows bounds number)) members
 
 -- returns the object of a procedure: its number, kind and budget, its name if it has one, and its bounds if they are requested
 abbrev pub procedure_members : List ℕ → Option RunBounds → ℕ → Kind → ℕ → json.Members

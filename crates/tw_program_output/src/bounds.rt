@@ -1,20 +1,20 @@
 //! Output of `check --bounds` about a program's runs.
 
-ghost use Rattle.std.specs.Prelude.{◌≡◌, ◌++◌, OnOk, List, ℕ};
+ghost use Rattle.std.specs.Prelude.{◌≡◌, ◌++◌, OnOk, List, ℕ, map};
+ghost use Rattle.std.specs.List.{flat_map};
 ghost use Rattle.tw_code.specs.declared.procedure.Procedure.{Procedure};
 ghost use Rattle.tw_bounds.specs.Circles.{IsCircle};
 ghost use Rattle.tw_bounds.specs.Reports.{AreRunBounds};
-ghost use Rattle.tw_program_output.specs.Bounds.{IsBoundsText, IsCircleText, IsEachBoundsText, IsLimitedText, IsTextOf, IsWhyEndless, MayPrintBounds, bound_line, bound_lines, bound_part, bound_parts, bound_row, bound_rows, bound_text, circle_line, limited_line, limited_lines, requested_limit};
+ghost use Rattle.tw_program_output.specs.Bounds.{IsBoundsText, IsCircleText, IsEachBoundsText, IsLimitedText, IsTextOf, IsWhyEndless, MayPrintBounds, bound_row, bound_rows, bound_text, circle_line, named, requested_limit, row_text};
 ghost use Rattle.tw_program_output.specs.Source.{MayBeSource, text_of};
 ghost use Rattle.tw_symbols.specs.Symbols.{name_at};
 
+use crate::bound_rows::{BoundRow, limit_rows, run_rows};
 use crate::source::{SourceText, put_place_line, symbols_of};
 use std::alloc::{AllocError, Global};
-use tw_bounds::{
-    Bound, Circle, LimitedBounds, RunBounds, circle_of_calls, limited_bounds, run_bounds,
-};
+use tw_bounds::{Bound, Circle, RunBounds, circle_of_calls, limited_bounds, run_bounds};
 use tw_cli::{BoundsOf, CheckOrder, EventLimit};
-use tw_lexer::{put, put_decimal, put_numbered};
+use tw_lexer::{put, put_both, put_decimal, put_numbered};
 use tw_symbols::Symbols;
 use tw_verify::Verified;
 
@@ -29,33 +29,36 @@ fn put_bound(alloc: Global, out: &mut Vec<u8>, bound: Option<Bound>) -> Result<(
     }
 }
 
-/// Adds the line for main's bound of this kind.
-fn put_bound_line(
+/// Adds a bound after its kind, between these texts.
+fn put_row(
     alloc: Global,
     out: &mut Vec<u8>,
-    kind: &str,
-    bounds: &[Bound],
+    head: &str,
+    row: &BoundRow,
+    tail: &str,
 ) -> Result<(), AllocError>
-    ensures { OnOk result (out.new.items ≡ out.old.items ++ bound_line kind.now bounds.now) }
+    ensures { OnOk result (out.new.items ≡ out.old.items ++ row_text head.now tail.now (named row.now)) }
 {
-    put(out, "bound ")?;
-    put(out, kind)?;
+    put_both(out, head, row.name)?;
     put(out, " ")?;
-    put_bound(alloc, out, bounds.first().copied())?;
-    put(out, "\n")
+    put_bound(alloc, out, row.bound)?;
+    put(out, tail)
 }
 
-/// Adds the lines for main's bounds.
-fn put_bound_lines(alloc: Global, out: &mut Vec<u8>, bounds: &RunBounds) -> Result<(), AllocError>
-    ensures { OnOk result (out.new.items ≡ out.old.items ++ bound_lines bounds.now) }
+/// Adds bounds after their kinds, each between these texts.
+fn put_rows(
+    alloc: Global,
+    out: &mut Vec<u8>,
+    head: &str,
+    rows: &[BoundRow],
+    tail: &str,
+) -> Result<(), AllocError>
+    ensures { OnOk result (out.new.items ≡ out.old.items ++ flat_map (row_text head.now tail.now) (map named rows.now)) }
 {
-    put_bound_line(alloc, out, "tasks", &bounds.tasks)?;
-    put_bound_line(alloc, out, "instructions", &bounds.instructions)?;
-    put_bound_line(alloc, out, "data", &bounds.data)?;
-    put_bound_line(alloc, out, "members", &bounds.members)?;
-    put_bound_line(alloc, out, "rules", &bounds.rules)?;
-    put_bound_line(alloc, out, "bytes", &bounds.bytes)?;
-    put_bound_line(alloc, out, "events", &bounds.events)
+    for row in rows {
+        put_row(alloc, out, head, row, tail)?;
+    }
+    Ok(())
 }
 
 /// Adds the line with the reason why there are no bounds.
@@ -94,40 +97,8 @@ fn put_bounds(
     let bounds = run_bounds(alloc, verified)?;
     match circle_of_calls(alloc, verified, &bounds)? {
         Some(circle) => put_circle(alloc, out, source, circle),
-        None => put_bound_lines(alloc, out, &bounds),
+        None => put_rows(alloc, out, "bound ", &run_rows(&bounds, 0), "\n"),
     }
-}
-
-/// Adds a bound of a procedure after its kind.
-fn put_bound_part(
-    alloc: Global,
-    out: &mut Vec<u8>,
-    kind: &str,
-    bounds: &[Bound],
-    number: usize,
-) -> Result<(), AllocError>
-    ensures { OnOk result (out.new.items ≡ out.old.items ++ bound_part kind.now bounds.now number) }
-{
-    put(out, kind)?;
-    put_bound(alloc, out, bounds.get(number).copied())
-}
-
-/// Adds the bounds of a procedure.
-fn put_bound_parts(
-    alloc: Global,
-    out: &mut Vec<u8>,
-    bounds: &RunBounds,
-    number: usize,
-) -> Result<(), AllocError>
-    ensures { OnOk result (out.new.items ≡ out.old.items ++ bound_parts bounds.now number) }
-{
-    put_bound_part(alloc, out, " tasks ", &bounds.tasks, number)?;
-    put_bound_part(alloc, out, " instructions ", &bounds.instructions, number)?;
-    put_bound_part(alloc, out, " data ", &bounds.data, number)?;
-    put_bound_part(alloc, out, " members ", &bounds.members, number)?;
-    put_bound_part(alloc, out, " rules ", &bounds.rules, number)?;
-    put_bound_part(alloc, out, " bytes ", &bounds.bytes, number)?;
-    put_bound_part(alloc, out, " events ", &bounds.events, number)
 }
 
 /// Adds the line of a procedure's bounds.
@@ -141,7 +112,7 @@ fn put_bound_row(
     ensures { OnOk result (out.new.items ≡ out.old.items ++ bound_row (name_at names.now number) bounds.now number) }
 {
     put_numbered(alloc, out, "bounds ", number)?;
-    put_bound_parts(alloc, out, bounds, number)?;
+    put_rows(alloc, out, " ", &run_rows(bounds, number), "")?;
     names.put(out, number)?;
     put(out, "\n")
 }
@@ -215,39 +186,6 @@ fn put_bounds_of(
     }
 }
 
-/// Adds the line of a bound by the limit.
-fn put_limited_line(
-    alloc: Global,
-    out: &mut Vec<u8>,
-    kind: &str,
-    bound: Bound,
-) -> Result<(), AllocError>
-    ensures { OnOk result (out.new.items ≡ out.old.items ++ limited_line kind.now bound) }
-{
-    put(out, "limited ")?;
-    put(out, kind)?;
-    put(out, " ")?;
-    put_bound(alloc, out, Some(bound))?;
-    put(out, "\n")
-}
-
-/// Adds the lines of the bounds by the limit.
-fn put_limited_lines(
-    alloc: Global,
-    out: &mut Vec<u8>,
-    bounds: LimitedBounds,
-) -> Result<(), AllocError>
-    ensures { OnOk result (out.new.items ≡ out.old.items ++ limited_lines bounds) }
-{
-    put_limited_line(alloc, out, "tasks", bounds.tasks)?;
-    put_limited_line(alloc, out, "instructions", bounds.instructions)?;
-    put_limited_line(alloc, out, "data", bounds.data)?;
-    put_limited_line(alloc, out, "members", bounds.members)?;
-    put_limited_line(alloc, out, "rules", bounds.rules)?;
-    put_limited_line(alloc, out, "bytes", bounds.bytes)?;
-    put_limited_line(alloc, out, "events", bounds.events)
-}
-
 /// Adds the bounds by the limit, if there is one.
 fn put_limited(
     alloc: Global,
@@ -258,11 +196,10 @@ fn put_limited(
     ensures { OnOk result ((lines : List ℕ) × IsLimitedText limit verified.now.program lines × (out.new.items ≡ out.old.items ++ lines)) }
 {
     match limit {
-        Some(limit) => put_limited_lines(
-            alloc,
-            out,
-            limited_bounds(verified, limit.events() as u32),
-        ),
+        Some(limit) => {
+            let bounds = limited_bounds(verified, limit.events() as u32);
+            put_rows(alloc, out, "limited ", &limit_rows(bounds), "\n")
+        }
         None => Ok(()),
     }
 }

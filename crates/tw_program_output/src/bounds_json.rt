@@ -1,10 +1,12 @@
 //! Bounds of runs as JSON values.
 
-ghost use Rattle.std.specs.Prelude.{◌≡◌, IfOk, OnOk, slice_get};
-ghost use Rattle.serde_json.specs.Data.{put as with_member};
+ghost use Rattle.std.specs.Prelude.{◌≡◌, IfOk, OnOk, map};
+ghost use Rattle.std.specs.List.{fold};
 ghost use Rattle.serde_json.specs.View.{members_view, view};
-ghost use Rattle.tw_program_output.specs.CheckJson.{AreLimitedBy, IsFound, MayBeFound, bound_json, bounds_json, circle_json, circle_members, seven_json, seven_members, limited_json, with_circle, with_found, with_limited};
+ghost use Rattle.tw_program_output.specs.Bounds.{limit_rows, named, run_rows};
+ghost use Rattle.tw_program_output.specs.CheckJson.{AreLimitedBy, IsFound, MayBeFound, bound_json, circle_json, circle_members, rows_json, with_circle, with_found, with_limited, with_row};
 
+use crate::bound_rows::{BoundRow, limit_rows, run_rows};
 use serde_json::{Map, Value as Json};
 use std::alloc::{AllocError, Global};
 use tw_bounds::{
@@ -36,72 +38,34 @@ fn bound_value(alloc: Global, bound: Option<Bound>) -> Result<Json, AllocError>
 }
 
 /// Adds a bound under the name of its kind.
-fn put_bound(
+fn put_row(alloc: Global, members: &mut Map<String, Json>, row: &BoundRow) -> Result<(), AllocError>
+    ensures { OnOk result (members_view members.new.entries ≡ with_row (members_view members.old.entries) (named row.now)) }
+{
+    let value = bound_value(alloc, row.bound)?;
+    serde_json::put(members, alloc, row.name, value)
+}
+
+/// Adds each bound under the name of its kind.
+fn put_rows(
     alloc: Global,
     members: &mut Map<String, Json>,
-    name: &str,
-    bound: Option<Bound>,
+    rows: &[BoundRow],
 ) -> Result<(), AllocError>
-    ensures { OnOk result (members_view members.new.entries ≡ with_member name.now (bound_json bound) (members_view members.old.entries)) }
+    ensures { OnOk result (members_view members.new.entries ≡ fold with_row (members_view members.old.entries) (map named rows.now)) }
 {
-    let value = bound_value(alloc, bound)?;
-    serde_json::put(members, alloc, name, value)
+    for row in rows {
+        put_row(alloc, members, row)?;
+    }
+    Ok(())
 }
 
-/// Returns the members of the object of seven bounds.
-fn seven_members(
-    alloc: Global,
-    tasks: Option<Bound>,
-    instructions: Option<Bound>,
-    new_data: Option<Bound>,
-    held: Option<Bound>,
-    rules: Option<Bound>,
-    bytes: Option<Bound>,
-    events: Option<Bound>,
-) -> Result<Map<String, Json>, AllocError>
-    ensures { IfOk result (λ members. members_view members.entries ≡ seven_members tasks instructions new_data held rules bytes events) }
+/// Returns the object of the bounds of these kinds.
+fn rows_value(alloc: Global, rows: &[BoundRow]) -> Result<Json, AllocError>
+    ensures { IfOk result (λ value. view value ≡ rows_json (map named rows.now)) }
 {
     let mut members = Map::new(alloc);
-    put_bound(alloc, &mut members, "tasks", tasks)?;
-    put_bound(alloc, &mut members, "instructions", instructions)?;
-    put_bound(alloc, &mut members, "data", new_data)?;
-    put_bound(alloc, &mut members, "members", held)?;
-    put_bound(alloc, &mut members, "rules", rules)?;
-    put_bound(alloc, &mut members, "bytes", bytes)?;
-    put_bound(alloc, &mut members, "events", events)?;
-    Ok(members)
-}
-
-/// Returns the object of seven bounds.
-fn seven_value(
-    alloc: Global,
-    tasks: Option<Bound>,
-    instructions: Option<Bound>,
-    new_data: Option<Bound>,
-    held: Option<Bound>,
-    rules: Option<Bound>,
-    bytes: Option<Bound>,
-    events: Option<Bound>,
-) -> Result<Json, AllocError>
-    ensures { IfOk result (λ value. view value ≡ seven_json tasks instructions new_data held rules bytes events) }
-{
-    let members = seven_members(
-        alloc,
-        tasks,
-        instructions,
-        new_data,
-        held,
-        rules,
-        bytes,
-        events,
-    )?;
+    put_rows(alloc, &mut members, rows)?;
     Ok(Json::Object(members))
-}
-
-fn bound_at(bounds: &[Bound], number: usize) -> Option<Bound>
-    ensures { result ≡ slice_get bounds.now number }
-{
-    bounds.get(number).copied()
 }
 
 /// Returns the object of a procedure's bounds.
@@ -110,33 +74,15 @@ pub(crate) fn bounds_value(
     bounds: &RunBounds,
     number: usize,
 ) -> Result<Json, AllocError>
-    ensures { IfOk result (λ value. view value ≡ bounds_json bounds.now number) }
+    ensures { IfOk result (λ value. view value ≡ rows_json (run_rows bounds.now number)) }
 {
-    seven_value(
-        alloc,
-        bound_at(&bounds.tasks, number),
-        bound_at(&bounds.instructions, number),
-        bound_at(&bounds.data, number),
-        bound_at(&bounds.members, number),
-        bound_at(&bounds.rules, number),
-        bound_at(&bounds.bytes, number),
-        bound_at(&bounds.events, number),
-    )
+    rows_value(alloc, &run_rows(bounds, number))
 }
 
 fn limited_value(alloc: Global, bounds: LimitedBounds) -> Result<Json, AllocError>
-    ensures { IfOk result (λ value. view value ≡ limited_json bounds) }
+    ensures { IfOk result (λ value. view value ≡ rows_json (limit_rows bounds)) }
 {
-    seven_value(
-        alloc,
-        Some(bounds.tasks),
-        Some(bounds.instructions),
-        Some(bounds.data),
-        Some(bounds.members),
-        Some(bounds.rules),
-        Some(bounds.bytes),
-        Some(bounds.events),
-    )
+    rows_value(alloc, &limit_rows(bounds))
 }
 
 fn circle_members(alloc: Global, circle: Circle) -> Result<Map<String, Json>, AllocError>

@@ -3,6 +3,7 @@
 
 mod admission;
 mod assembled;
+mod bound_rows;
 mod bounds;
 mod bounds_json;
 mod check;
