@@ -1,10 +1,10 @@
 -- The line of a text that is printed.
-use Rattle.std.proofs.Common.{◌≡◌, ℕ, zero, suc, ◌+◌, ◌-◌, ◌<◌, List, [], ◌∷◌, length, Option, Some, None, MatchOption, refl, subst, ap, ◌∙◌, arith}
+use Rattle.std.proofs.Common.{◌≡◌, ℕ, zero, suc, ◌+◌, ◌-◌, ◌<◌, true, false, List, [], ◌∷◌, ◌++◌, length, Option, Some, None, MatchOption, refl, subst, ap, ◌∙◌, arith}
 use Rattle.tw_program_output.proofs.ReplyNames.{AreOrigins, ComesFrom, ArePlaceDetails, AreTextDetails, LinesSay, Procedure, ParserState, ExpandsTo, after_line, at_place, at_start, instr_at, length-append, lines}
 use Rattle.std.specs.List.{slice_get}
-use Rattle.tw_asm.specs.Statement.{Statement, Code, Head}
-use Rattle.tw_diagnostics.proofs.Heads.{front_no_procedure}
-use Rattle.tw_diagnostics.specs.LineRole.{HasNoHead, IsFirstHead}
+use Rattle.tw_asm.specs.Fault.{situation, situation_from}
+use Rattle.tw_asm.specs.Statement.{Statement, Code, Head, Label, OfVersion, Registers}
+use Rattle.tw_diagnostics.specs.LineRole.{HasNoHead, IsFirstHead, is_head, says_of}
 use Rattle.tw_symbols.proofs.LineByLine.{as_many}
 use Rattle.tw_verify.specs.declared.rejection.VerifyError.{VerifyError}
 use Rattle.tw_verify.specs.declared.rejection.VerifyError.TheVariants as rejection
@@ -54,6 +54,29 @@ head_there text plain number expands h none =
     let all = said_length 1 at_start (lines plain) h.said h.say ∙ as_many text plain expands in
     let long = ap length h.parts ∙ length-append h.before (Some (Head h.kind h.params) ∷ h.after) in
     absurd (omega (arith, past, all, long, h.number_is))
+
+untrue : true ≡ false → ⊥
+untrue e = cc
+
+none_begun : (number : ℕ) (s : ParserState) (said : List (Option Statement)) → HasNoHead said → (situation_from number s said).procedures ≡ s.procedures
+none_begun number s [] h = refl
+none_begun number s (x ∷ said) h = none_begun (number + 1) (after_line number x s) said h.1 ∙ by x h.0
+  where
+    by : (y : Option Statement) → is_head (says_of y) ≡ false → (after_line number y s).procedures ≡ s.procedures
+    by None e = refl
+    by (Some (OfVersion version)) e = refl
+    by (Some (Head kind params)) e = absurd (untrue e)
+    by (Some (Registers registers)) e = refl
+    by (Some (Label name)) e = refl
+    by (Some (Code i)) e = refl
+
+front_none : (xs ys : List (Option Statement)) → HasNoHead (xs ++ ys) → HasNoHead xs
+front_none [] ys h = tt
+front_none (x ∷ xs) ys h = (h.0, front_none xs ys h.1)
+
+-- no procedure begins before a line if none begins at all
+front_no_procedure : (before after : List (Option Statement)) → HasNoHead (before ++ after) → (situation before).procedures ≡ 0
+front_no_procedure before after h = none_begun 1 at_start before (front_none before after h)
 
 -- a line before an instruction begins a procedure
 pub some_head : (text : List ℕ) (procedure place number : ℕ) (c : ComesFrom text procedure place number) → HasNoHead c.said → ⊥
