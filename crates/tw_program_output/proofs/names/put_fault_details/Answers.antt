@@ -1,9 +1,17 @@
-use Rattle.std.proofs.Common.{◌≡◌, ◌++◌, ◌-◌, List, ℕ, inr, refl, slice_get, string_bytes, subst, sym}
+use Rattle.std.proofs.Common.{◌≡◌, ◌++◌, ◌-◌, List, [], ℕ, inl, inr, refl, slice_get, string_bytes, subst, sym}
 use Rattle.tw_program_output.proofs.ReplyNames.{HasNames, IsFirstRejection, ExpandsTo, lines, on_ok_weaker, written_text}
 use Rattle.tw_symbols.specs.Answers.{seen_rejection}
 use Rattle.tw_symbols.proofs.Once.{never_both}
 use Rattle.tw_program_output.proofs.NamedTexts.{is_refused}
 use Rattle.tw_program_output.proofs.names.put_fault_details.Goals as goal
+
+pub returns-in-Ok-None : goal.returns-in-Ok-None
+returns-in-Ok-None c =
+    let text = c.args.text.now in
+    let same : ExpandsTo text text = rw c.in-Ok-None.field-0-is at c.in-Ok-None.ensures.expands in
+    let unnamed : HasNames (lines text) → ⊥ = rw c.in-Ok-None.field-0-is at c.in-Ok-None.ensures.named in
+    on_ok_weaker c.put_text_diagnostic.result
+    (λ t other expands. (t.0, (text, [], t.0, same, inl (unnamed, refl), t.1, refl), t.2)) c.put_text_diagnostic.ensures
 
 pub returns-in-Ok-Some : goal.returns-in-Ok-Some
 returns-in-Ok-Some c =
