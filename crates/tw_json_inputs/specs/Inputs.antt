@@ -5,7 +5,8 @@ use Rattle.std.specs.List.Sorted.{IsPermutation}
 use Rattle.std.specs.Option.{option_and_then, option_map_or}
 use Rattle.std.specs.Result.{result_ok}
 use Rattle.json.specs.Find.{as_number, as_str}
-use Rattle.json.specs.Json.{Json, null, boolean, number, string, array, object, Items, Members, no_members, member, document}
+use Rattle.json.specs.Json.{Json, null, boolean, number, string, array, object, Items, Members, no_members, member, if_last, value}
+use Rattle.json.specs.Lex.{tokens}
 use Rattle.json.specs.Value.{items_of, value_view}
 use Rattle.json.specs.declared.value.Value.{Value}
 use Rattle.std.specs.Borrow.{Bor}
@@ -78,6 +79,10 @@ IsInput ty (object ms) given = IsContainer (is_container_by scalar.Text ty) ty.s
 
 -- ---- all inputs
 
+-- returns the JSON value that a text is, if its arrays and objects nest at most 16 deep
+abbrev pub json_in : List ℕ → Option Json
+json_in text = option_and_then (λ p. if_last p.0 p.1) (value 16 (tokens text))
+
 -- returns the type of the parameter of the input after so many, or `int` beyond the parameters
 abbrev pub type_at : List Param → ℕ → NestedScalar
 type_at params index = option_map_or (λ p. p.ty) (slice_get (input_params params) index) (scalar_type scalar.Int)
@@ -91,7 +96,7 @@ AreInputsFrom params index (j ∷ js) (given ∷ inputs) = IsInput (type_at para
 
 -- holds if the text is an array of the inputs for these parameters
 abbrev pub AreInputsIn : List Param → List ℕ → List Input → Type 0
-AreInputsIn params text inputs = (js : List Json) × (document text ≡ Some (array (items_of js))) × AreInputsFrom params 0 js inputs
+AreInputsIn params text inputs = (js : List Json) × (json_in text ≡ Some (array (items_of js))) × AreInputsFrom params 0 js inputs
 
 -- ---- faults
 
@@ -118,9 +123,9 @@ IsNoArray j = (js : Items) → j ≡ array js → ⊥
 
 -- items count from 1
 abbrev pub HasFaultAt : List Param → List ℕ → Place → Type 0
-HasFaultAt params text place.Text = document text ≡ None
-HasFaultAt params text place.Array = (j : Json) × (document text ≡ Some j) × IsNoArray j
-HasFaultAt params text (place.Item n) = (js : List Json) × (document text ≡ Some (array (items_of js))) × IsBadItem params js (At (place.Item n))
+HasFaultAt params text place.Text = json_in text ≡ None
+HasFaultAt params text place.Array = (j : Json) × (json_in text ≡ Some j) × IsNoArray j
+HasFaultAt params text (place.Item n) = (js : List Json) × (json_in text ≡ Some (array (items_of js))) × IsBadItem params js (At (place.Item n))
 
 -- holds for the reason why the text has no inputs for these parameters
 abbrev pub HasFault : List Param → List ℕ → NoInputs → Type 0

@@ -10,7 +10,7 @@ use tw_lexer::{put, put_numbered};
 use tw_types::{DataType, Param, Scalar};
 
 /// The deepest nesting of arrays and objects. Inputs nest two deep, and each level takes 300 bytes of stack.
-const MOST_DEPTH: usize = 64;
+pub(crate) const MOST_DEPTH: usize = 16;
 
 /// Returns the offset of the item after so many. If one of them is no JSON, it is the offset of what is at fault.
 fn item_offset(reader: &mut Reader<'_>, index: usize) -> usize {

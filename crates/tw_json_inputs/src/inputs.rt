@@ -1,13 +1,15 @@
 //! Reads the inputs of a program from a JSON array.
 
-ghost use Rattle.std.specs.Prelude.{◌≡◌, ℕ, Some, suc, IfOk, IfErr, slice_get, map};
+ghost use Rattle.std.specs.Prelude.{◌≡◌, ℕ, Err, None, Some, suc, IfOk, IfErr, slice_get, map};
 ghost use Rattle.tw_code.specs.machine.Inputs.{input_params};
 ghost use Rattle.json.specs.Value.{value_view};
-ghost use Rattle.tw_json_inputs.specs.Inputs.{AreInputsFrom, AreInputsIn, HasFault, IsBadItem, type_at};
+ghost use Rattle.tw_json_inputs.specs.Inputs.{AreInputsFrom, AreInputsIn, HasFault, IsBadItem, json_in, type_at};
+ghost use Rattle.json.specs.declared.error.Error.TheVariants.{Invalid as invalid};
 ghost use Rattle.tw_json_inputs.specs.declared.inputs.NoInputs.TheVariants.{NoMemory as no_memory};
 
+use crate::fault_lines::MOST_DEPTH;
 use crate::input::input_of;
-use json::{Error, Scratch, Value as Json};
+use json::{Error, Reader, Scratch, Value as Json};
 use std::alloc::{AllocError, AllocFailed, Global};
 use tw_types::{DataType, Input, Param};
 
@@ -87,6 +89,19 @@ fn inputs_of(alloc: Global, params: &[Param], items: &[Json<'_>]) -> Result<Vec<
     Ok(inputs)
 }
 
+/// Reads a text's JSON value. Unlike `Json::parse` it takes `MOST_DEPTH`, since each level takes stack.
+fn json_in<'a>(alloc: Global, text: &'a str, scratch: &'a mut Scratch) -> Result<Json<'a>, Error>
+    ensures read { IfOk result (λ j. json_in text.entry.now ≡ Some (value_view j)) }
+    ensures invalid { result ≡ Err invalid → json_in text.entry.now ≡ None }
+{
+    let mut reader = Reader::new(text, scratch)?;
+    let value = Json::read(alloc, &mut reader, MOST_DEPTH)?;
+    if reader.next().is_some() {
+        return Err(Error::Invalid);
+    }
+    Ok(value)
+}
+
 /// Reads a program's inputs from a text: a JSON array with an item for each input.
 pub fn read_inputs(
     alloc: Global,
@@ -97,7 +112,7 @@ pub fn read_inputs(
     ensures read { IfOk result (λ inputs. AreInputsIn params.now text.now inputs.items) }
     ensures fault { IfErr result (HasFault params.now text.now) }
 {
-    match Json::parse(alloc, text, scratch) {
+    match json_in(alloc, text, scratch) {
         Ok(Json::Array(items)) => inputs_of(alloc, params, &items),
         Ok(_) => Err(NoInputs::At(Place::Array)),
         Err(Error::Invalid) => Err(NoInputs::At(Place::Text)),
