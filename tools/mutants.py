@@ -161,6 +161,10 @@ MUTANTS = (
     Mutant("caps_are_not_passed", "rust", RUST + "program.rs", "caps.raw()", "Caps::default().raw()"),
     Mutant("bounds_of_all_runs", "rust", RUST + "program.rs", "yuglemit_program_bounds(self.owner.at(), limit, &mut found)", "yuglemit_program_bounds(self.owner.at(), 0, &mut found)"),
     Mutant("limits_are_stops", "rust", RUST + "report.rs", "            4 => End::Limit,\n", ""),
+    Mutant("over_is_a_number", "rust", RUST + "program.rs", "            raw::OVER => Bound::Over,\n", ""),
+    Mutant("reads_are_writes", "rust", RUST + "program.rs", "            b'r' => Mode::Read,\n", ""),
+    Mutant("runs_are_longer", "rust", RUST + "program.rs", "limit: 10_000", "limit: 20_000"),
+    Mutant("subscripts_are_the_members", "rust", RUST + "report.rs", "raw::yuglemit_report_subscript_text(", "raw::yuglemit_report_member_text("),
     Mutant("memory_is_no_error", "rust", RUST + "report.rs", "if ending.status == 5 { Err(Error::NoMemory) } else { Ok(Report { owner, ending }) }", "Ok(Report { owner, ending })", "only a run out of memory ends so"),
     # The page: its machine, its bounds, and what it reads of texts and answers.
     Mutant("sums_have_no_end", "page", "page/machine.js", "ADD: (a, b) => checked(a + b)", "ADD: (a, b) => a + b"),

@@ -78,6 +78,15 @@ fn outputs_are_inputs() -> Result<(), Error> {
 }
 
 #[test]
+fn members_by_text() -> Result<(), Error> {
+    let Some(program) = example("words.twn") else { return Ok(()) };
+    let report = program.run(&[[(1, "the"), (2, "cat"), (3, "the")].into()])?;
+    assert_eq!(report.outputs()?, [Value::from([("cat", 1), ("the", 2)])]);
+    assert_eq!((report.member(0, "the")?, report.member(0, "dog")?, report.member(0, 1)?), (Some(Value::Int(2)), None, None));
+    Ok(())
+}
+
+#[test]
 fn open_outputs() -> Result<(), Error> {
     let leaf = "proc leaf closed int write int write int write cont int\nregs int\nDROPR d0\nSTORE d1 v0\nSTORE d2 v0\nDROPW d3\nRET\n";
     let program = Program::load(format!("proc control write int write cont int\nregs\nNEW d2 d3 int\nRULE 1 0 any 3 2 0 1\nRET\n\n{leaf}"))?;
@@ -121,6 +130,11 @@ fn bounds_are_numbers() -> Result<(), Error> {
     assert_eq!((program.bounds_within(0), program.bounds_within(1_000_001)), (Err(Error::Run(4)), Err(Error::Run(4))));
     let endless = Program::load(ENDLESS)?;
     assert_eq!((endless.bounds()?.tasks, endless.bounds_within(5)?.tasks), (Bound::Endless, Bound::AtMost(5)));
+    // 2,000 leaves of 800,000,000 instructions and more each.
+    let turns = "REPEAT 400\nREPEAT 1000\nREPEAT 1000\nADD v0 v0 v0 no\nno:\nEND\nEND\nEND\nRET\n";
+    let puts = "proc control\nregs\nREPEAT 2\nREPEAT 1000\nPUT 1 0 any\nEND\nEND\nRET\n";
+    let long = Program::load(format!("{puts}proc leaf\nregs int\n{turns}"))?;
+    assert_eq!((long.bounds()?.tasks, long.bounds()?.instructions), (Bound::AtMost(2001), Bound::Over));
     let member = Program::load(MEMBER)?;
     let held = |bounds: Bounds| (bounds.members, bounds.bytes);
     assert_eq!(held(member.bounds()?), (Bound::AtMost(1), Bound::AtMost(8192)));
@@ -208,6 +222,13 @@ fn another_thread_stops_a_run() -> Result<(), Error> {
 }
 
 #[test]
+fn a_run_has_ten_thousand_events() -> Result<(), Error> {
+    let report = Program::load("proc control\nregs\nPUT 0 0 any\nRET\n")?.run(&[])?;
+    assert_eq!((report.end(), report.events()), (End::Limit, 10_000));
+    Ok(())
+}
+
+#[test]
 fn budgets_and_needs() -> Result<(), Error> {
     let program = same("int");
     assert_eq!((program.budgets()?, program.needs()), (vec![4], (0, 0)));
@@ -235,5 +256,11 @@ fn procedures_have_parameters() -> Result<(), Error> {
     let input = Parameter { mode: Mode::Closed, by: vec![Type::Text], scalar: Type::Text };
     let output = Parameter { mode: Mode::Write, by: vec![], scalar: Type::Int };
     assert_eq!((main.is_control, main.parameters), (true, vec![input, output]));
+    let second = "proc control val int ref int\nregs int\nDROPR d0\nRET\n";
+    let two = Program::load(format!("proc control\nregs int\nNEW d0 d1 int\nSTORE d0 v0\nPUT 1 0 any 0 1\nRET\n{second}"))?;
+    let of_int = |mode| Parameter { mode, by: vec![], scalar: Type::Int };
+    assert_eq!(two.procedures()?[1].parameters, [of_int(Mode::Value), of_int(Mode::Read)]);
+    let leaf = Program::load("proc control\nregs\nPUT 1 0 any\nRET\nproc leaf\nregs\nRET\n")?;
+    assert_eq!(leaf.procedures()?.iter().map(|it| it.is_control).collect::<Vec<_>>(), [true, false]);
     Ok(())
 }
