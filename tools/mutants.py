@@ -158,6 +158,7 @@ MUTANTS = (
     Mutant("unset_members_are_set", "cpp", CPP, "member.value.kind != YUGLEMIT_KIND_UNSET && member.value.kind != YUGLEMIT_KIND_NONE", "true", "no container of a finished run has a member that is unset"),
     Mutant("moved_handles_stay", "cpp", CPP, "std::exchange(other.raw_, Raw{nullptr})", "other.raw_"),
     Mutant("texts_are_a_byte_longer", "cpp", CPP, "    text.resize(length);\n", ""),
+    Mutant("default_runs_are_longer", "cpp", CPP, "std::size_t limit = 10000;", "std::size_t limit = 20000;"),
     Mutant("caps_are_not_passed", "rust", RUST + "program.rs", "caps.raw()", "Caps::default().raw()"),
     Mutant("bounds_of_all_runs", "rust", RUST + "program.rs", "yuglemit_program_bounds(self.owner.at(), limit, &mut found)", "yuglemit_program_bounds(self.owner.at(), 0, &mut found)"),
     Mutant("limits_are_stops", "rust", RUST + "report.rs", "            4 => End::Limit,\n", ""),

@@ -284,6 +284,7 @@ void test_stops() {
     Options options;
     options.limit = 20;
     CHECK(endless.run({}, options).end() == End::limit && endless.run({}, options).events() == 20);
+    CHECK(Program::load("proc control\nregs\nPUT 0 0 any\nRET\n").run({}).events() == 10000);
     Stop stop;
     auto other = stop.share();
     options.limit = 1000000;
