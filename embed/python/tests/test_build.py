@@ -353,6 +353,11 @@ class Texts(unittest.TestCase):
             report = build_text(HEAD + f"N = {number}\n@control\ndef main(y: Out[Int]):\n    out.y = N\n").program.run()
             self.assertEqual(report.outputs, [eval(number)], number)
 
+    def test_break_beside_return(self) -> None:
+        leaf = "@leaf\ndef f(n: Int) -> Int:\n    for i in range(5):\n        if i == n:\n            break\n        if i == 3:\n            return 100\n    return 7\n"
+        program = build_text(HEAD + leaf + "@control\ndef main(x: Int, y: Out[Int]):\n    out.y = f(x)\n").program
+        self.assertEqual([program.run(number).outputs for number in (0, 2, 3, 4, 9)], [[7], [7], [7], [100], [100]])
+
     def test_characters_of_texts(self) -> None:
         word = "\x01\x1f \"\\\n\t\x7f\x80é\u2028\U0001f600"
         report = build_text(HEAD + f"@control\ndef main(y: Out[Text]):\n    out.y = {word!a}\n").program.run()
