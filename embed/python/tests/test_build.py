@@ -360,8 +360,9 @@ class Texts(unittest.TestCase):
 
     def test_characters_of_texts(self) -> None:
         word = "\x01\x1f \"\\\n\t\x7f\x80é\u2028\U0001f600"
-        report = build_text(HEAD + f"@control\ndef main(y: Out[Text]):\n    out.y = {word!a}\n").program.run()
-        self.assertEqual(report.outputs, [word])
+        built = build_text(HEAD + f"@control\ndef main(y: Out[Text]):\n    out.y = {word!a}\n")
+        self.assertEqual(built.program.run().outputs, [word])
+        self.assertNotRegex(built.text, "[\x00-\x09\x0b-\x1f\x7f]")
 
     def test_functions_with_names_of_helpers(self) -> None:
         text = "@leaf\ndef copy_int(n: Int) -> Int:\n    return n\n@control\ndef main(x: Int, y: Out[Int]):\n    a = copy_int(x)\n    out.y = a\n"
