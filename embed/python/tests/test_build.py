@@ -338,7 +338,7 @@ class Refused(unittest.TestCase):
 
 
 class Texts(unittest.TestCase):
-    """Tests what an answer doesn't show, or what other tests don't use."""
+    """Checks what an answer doesn't show, or what other tests don't use."""
 
     def test_priority_and_target(self) -> None:
         leaf = "@leaf\ndef f(n: Int) -> Int:\n    return n\n"
