@@ -143,7 +143,7 @@ MUTANTS = (
     Mutant("write_rights_are_dropped", "build", BUILD + "body.py", 'return self.mode != "write" or not self.type.is_scalar', "return True"),
     Mutant("priorities_are_lost", "build", BUILD + "tasks.py", "                priority = str(constant)\n", '                priority = "0"\n'),
     Mutant("targets_are_lost", "build", BUILD + "tasks.py", "            target = str(constant)\n", '            target = "any"\n'),
-    Mutant("copies_are_the_rights", "build", BUILD + "tasks.py", "if len(uses) > 1 or body.loops", "if body.loops"),
+    Mutant("copies_are_the_rights", "build", BUILD + "tasks.py", "if len(uses) > 1 or body.loops", "if body.loops", "arguments are compiled in the order of the text, so the last of two uses is the last of all"),
     Mutant("constants_divide_towards_zero", "build", BUILD + "source.py", "return left // right", "return int(left / right)"),
     Mutant("columns_count_bytes", "build", BUILD + "source.py", 'len(text.encode()[: getattr(node, "col_offset", 0)].decode(errors="ignore"))', 'getattr(node, "col_offset", 0)'),
     Mutant("constants_count_characters", "build", BUILD + "values.py", "if len(constant.encode()) > _MOST_TEXT:", "if len(constant) > _MOST_TEXT:"),
