@@ -45,7 +45,12 @@ class Reader {
     async size(width, height = 900) { await this.page.ask("Emulation.setDeviceMetricsOverride", {width, height, deviceScaleFactor: 1, mobile: width < 600}); return this.pause(); }
     async scheme(value) { await this.page.ask("Emulation.setEmulatedMedia", {features: [{name: "prefers-color-scheme", value}]}); return this.pause(); }
     async go(to) { await this.page.ask("Page.navigate", {url: "about:blank"}); await this.page.ask("Page.navigate", {url: to}); await this.page.until('document.body?.dataset.state === "ready"', 60000); }
-    async forget() { await this.js("localStorage.clear()"); await this.go(address); }
+    // Opens the page without saved contents. They are cleared in the new document, since the old one may save them until it is gone.
+    async forget() {
+        const {identifier} = await this.page.ask("Page.addScriptToEvaluateOnNewDocument", {source: "try { localStorage.clear(); } catch {}"});
+        await this.go(address);
+        await this.page.ask("Page.removeScriptToEvaluateOnNewDocument", {identifier});
+    }
     // Moves to an event by the slider.
     async event(number) { await this.js(`(() => { const it = document.getElementById("step"); it.value = ${number}; it.dispatchEvent(new Event("input")); })()`); return this.pause(); }
     async shot(name, whole = false) { if (pictures) fs.writeFileSync(`${pictures}/${name}.png`, Buffer.from((await this.page.ask("Page.captureScreenshot", {format: "png", captureBeyondViewport: whole})).data, "base64")); }
@@ -60,14 +65,15 @@ async function fieldWords(reader) {
 
 // At first a program with names is shown, which plays from its start until it is touched.
 async function firstSight(reader, page) {
-    // The least of three starts counts, since other work on the machine only makes them longer.
+    // The least of three starts counts, since other work on the machine only makes them longer; PATIENCE allows for more of it.
+    const most = 3000 * +(process.env.PATIENCE ?? 1);
     let after = await reader.js("+document.body.dataset.readyAfter");
-    for (let again = 0; after >= 3000 && again < 2; again++) {
+    for (let again = 0; after >= most && again < 2; again++) {
         await reader.forget();
         after = Math.min(after, await reader.js("+document.body.dataset.readyAfter"));
     }
     console.log(`ready after ${after} ms, ${zlib.gzipSync(fs.readFileSync(index), {level: 9}).length} bytes compressed`);
-    say(after < 3000, "ready late", after);
+    say(after < most, "ready late", after);
     say(zlib.gzipSync(fs.readFileSync(index), {level: 9}).length < 700000, "the page is too large");
     say((await reader.value("text")).startsWith("names\n"), "no names at first");
     say(/^event [01] of \d+/.test(await reader.seen("#at")), "not at the first event", await reader.seen("#at"));
