@@ -38,6 +38,9 @@ class Values(unittest.TestCase):
             self.assertEqual(report.text, f'out 0 text "{shown}"\nquiet\n')
             self.assertTrue(report.timeline().startswith("<svg"))
             self.assertEqual(program.replay(report.trace, text).outputs, [text])
+        puts = "proc control closed text\nregs\nDROPR d0\nREPEAT 1000\nPUT 1 0 any\nEND\nRET\nproc leaf\nregs\nRET\n"
+        long = yuglemit.load(puts).run("a\0b").timeline()
+        self.assertTrue(len(long) > 1 << 16 and long.startswith("<svg") and long.endswith("</svg>\n"), len(long))
         report = program.run("a\n\0b")
         self.assertEqual((report.outputs, report.trace[:7]), (["a\n\0b"], "events\n"))
         with self.assertRaisesRegex(ValueError, "NUL and a line feed"):

@@ -302,6 +302,8 @@ class Reports(unittest.TestCase):
         again = pickle.loads(pickle.dumps(report))
         self.assertEqual((again.outputs, again.events, again.line), ([8], report.events, None))
         self.assertEqual((again.text, again.trace, again.instructions), (report.text, report.trace, report.instructions))
+        of_four_tasks = pickle.loads(pickle.dumps(yuglemit.load(EXAMPLES / "pipeline.twn").run(39)))
+        self.assertEqual(of_four_tasks.instructions, 24)
 
     def test_long_answers(self) -> None:
         """Answers that are longer than the first buffer come whole."""
