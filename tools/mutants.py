@@ -1,7 +1,8 @@
 #!/usr/bin/env python3
 """Makes edits of what no contract holds, one after another, in a copy of the repository: the script tw, its tools, the page's JavaScript, the
-packages for Python, C++ and Rust, and what tw says on standard error. The tests of the edited part have to fail. Prints a line for each mutant and ends with `N killed, M survive`. It fails if
-a mutant survives that isn't said to be harmless, if one is killed that is, or if the tests fail without an edit.
+packages for Python, C++ and Rust, and what tw says on standard error. The tests of the edited part have to fail. Prints a line for each mutant and
+ends with `N killed, M survive`. It fails if a mutant survives that isn't said to be harmless, if one is killed that is, or if the tests of a part
+fail without an edit, whose mutants aren't tried.
 
     tools/mutants.py                  all of them, in some ten minutes
     tools/mutants.py NAME..           these, or those of a part: main, script, release, cases, python, build, cpp, rust, page
@@ -327,25 +328,33 @@ def table(results: list[tuple[Mutant, bool]]) -> None:
             print(f"| {part} | {len(mine)} | {sum(is_killed for _, is_killed in mine)} | {alive} |")
 
 
+def times_of(parts: list[str], folder: Path) -> dict[str, float]:
+    """Runs the tests of each part without an edit. Returns how many seconds they may take with one, for each part whose tests pass."""
+    most: dict[str, float] = {}
+    for part in parts:
+        if part == "main":
+            put_main(folder, "")
+        begun = time.monotonic()
+        passes, last = test(part, folder)
+        if passes:
+            most[part] = TIMES * (time.monotonic() - begun) + 60
+        else:
+            print(f"FAILED   the tests of {part} without an edit, so its mutants aren't tried: {last}", flush=True)
+    return most
+
+
 def main(words: list[str]) -> int:
     check_texts()
     if words == ["--list"]:
         print("\n".join(f"{mutant.part:<8} {mutant.name}" for mutant in MUTANTS))
         return 0
     mutants = chosen([word for word in words if word != "--table"])
+    parts = list(dict.fromkeys(mutant.part for mutant in mutants))
     with tempfile.TemporaryDirectory() as name:
         folder = Path(name)
         copy_repository(folder)
-        most: dict[str, float] = {}
-        for part in dict.fromkeys(mutant.part for mutant in mutants):
-            if part == "main":
-                put_main(folder, "")
-            begun = time.monotonic()
-            passes, last = test(part, folder)
-            if not passes:
-                sys.exit(f"mutants: the tests of {part} fail without an edit: {last}")
-            most[part] = TIMES * (time.monotonic() - begun) + 60
-        results = [(mutant, attempt(mutant, folder, most[mutant.part])) for mutant in mutants]
+        most = times_of(parts, folder)
+        results = [(mutant, attempt(mutant, folder, most[mutant.part])) for mutant in mutants if mutant.part in most]
     if "--table" in words:
         table(results)
     killed = sum(is_killed for _, is_killed in results)
@@ -353,7 +362,8 @@ def main(words: list[str]) -> int:
     wrong = [mutant.name for mutant, is_killed in results if is_killed and mutant.harmless]
     if wrong:
         print(f"not harmless, since tests notice it: {', '.join(wrong)}")
-    return 1 if wrong or any(not is_killed and not mutant.harmless for mutant, is_killed in results) else 0
+    is_alive = any(not is_killed and not mutant.harmless for mutant, is_killed in results)
+    return 1 if wrong or is_alive or len(most) < len(parts) else 0
 
 
 if __name__ == "__main__":
