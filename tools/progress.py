@@ -117,22 +117,24 @@ def each_text(lines: int) -> str:
 
 
 class Work(NamedTuple):
-    """A text for each count, up to the most, and the arguments of the command that runs it."""
+    """A text for each count, from the least to the most, and the arguments of the command that runs it."""
 
     text: Callable[[int], str]
+    least: int
     most: int
     words: list[str]
 
 
-TASKS = Work(tasks, MOST_TASKS, [])
-LINES = Work(each_text, MOST_LINES, ["--each"])
+TASKS = Work(tasks, 16, MOST_TASKS, [])
+LINES = Work(each_text, 1000, MOST_LINES, ["--each"])
 
 
-def run_long(work: Work, words: list[str], on_terminal: bool, count: int) -> tuple[int, Answer, float]:
-    """Runs work of a count, and of greater ones until a run takes four seconds. Returns the last run's count, what came of it and how long it took.
+def run_long(work: Work, words: list[str], on_terminal: bool) -> tuple[int, Answer, float]:
+    """Runs work of growing counts until a run takes four seconds. Returns the last run's count, what came of it and how long it took.
 
-    A run isn't timed beforehand: on a busy machine the next one may be much shorter.
+    A run isn't timed beforehand: on a busy machine the next one may be much shorter, or longer.
     """
+    count = work.least
     while True:
         got, took = run([*work.words, *words], work.text(count), on_terminal=on_terminal)
         if took >= 4 or count >= work.most:
@@ -203,9 +205,8 @@ def each_faults() -> list[str]:
         ("--each on a terminal", [], True, True), ("--each --jobs 2", ["--jobs=2"], True, True),
         ("--each --quiet", ["--quiet"], True, False), ("--each into a pipe", [], False, False),
     ]
-    lines = 1000
     for name, words, on_terminal, is_printed in rows:
-        lines, got, took = run_long(LINES, words, on_terminal, lines)
+        lines, got, took = run_long(LINES, words, on_terminal)
         is_right = is_line_progress(got.printed, took, lines) if is_printed else not got.printed
         is_well = is_right and are_answers(got.written, lines) and got.status == 0
         faults.append("" if is_well else f"{name}, {lines} lines, {took:.1f} seconds: {got.printed!r}, status {got.status}, {got.written[-200:]}")
@@ -218,9 +219,8 @@ def long_faults() -> list[str]:
     rows: list[tuple[str, list[str], bool]] = [
         ("a run on a terminal", [], True), ("--quiet", ["--quiet"], True), ("--in-turn", ["--in-turn"], True), ("into a pipe", [], False),
     ]
-    count = 16
     for name, words, on_terminal in rows:
-        count, got, took = run_long(TASKS, words, on_terminal, count)
+        _, got, took = run_long(TASKS, words, on_terminal)
         is_right = is_progress(got.printed, took) if on_terminal and not words else not got.printed
         is_well = is_right and (got.written, got.status) == ("quiet\n", 0)
         faults.append("" if is_well else f"{name}, {took:.1f} seconds: {got}")
