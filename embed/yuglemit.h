@@ -11,9 +11,9 @@
  * Only the calls that run a loaded program can be stopped from outside, between two events. So run a stranger's program by
  * yuglemit_run_within, whose caps reject it before it runs, or with --most-instructions and --most-budget in a session.
  *
- * What the caller sees to, since no proof can:
+ * The caller's duties, which no proof can check:
  *   - each pointer is no null pointer, and points to as many bytes as its length says, also if that is 0;
- *   - what is written (room, status, verdict) overlaps nothing else that is passed;
+ *   - what is written (status, verdict, or `room`, a buffer) overlaps nothing else that is passed;
  *   - nothing of it is changed by another thread during a call;
  *   - there are 64 KiB of stack left (tools/embedded.sh measures the calls over hostile inputs).
  */
@@ -67,7 +67,7 @@ enum {
  * was. *status is the exit status, a YUGLEMIT_STATUS_.
  * Returns the length of the text: if it is more than `room_length`, nothing is written to `room`; call again with as much.
  * A program is run in the caller's thread, its actors in turn, as by `tw run --in-turn`: `--workers 4` are four workers of that one thread,
- * and the second call answers the same. Nothing is said on the way, nor on standard error.
+ * and the second call answers the same. Nothing is printed before the end, nor on standard error.
  * yuglemit_session_text, below, takes arguments with line feeds, and needs no second call. */
 size_t yuglemit_session(const uint8_t *words, size_t words_length, const uint8_t *input, size_t input_length,
                         uint8_t *room, size_t room_length, uint8_t *status);
@@ -284,7 +284,7 @@ typedef struct yuglemit_member { yuglemit_item subscript, value; } yuglemit_memb
 uint8_t yuglemit_report_ending(yuglemit_report *report, yuglemit_ending *ending);
 uint8_t yuglemit_report_output(yuglemit_report *report, size_t output, yuglemit_item *item);
 
-/* Writes a member of an output, by how many subscripts are smaller. */
+/* Writes the member of an output at a place: the number of subscripts that are smaller than the member's. */
 uint8_t yuglemit_report_member(yuglemit_report *report, size_t output, size_t place, yuglemit_member *member);
 
 /* Write the place of the member of an output with this subscript, for yuglemit_report_member and the calls below: how many subscripts are smaller.
