@@ -61,6 +61,13 @@ put_library() {
 
 put_documents() {
     put 644 "$root/LICENSE" share/doc/yuglemit/LICENSE
+    # README and the manual lie as in the repository, so their links lead to one another.
+    for file in README SECURITY docs/FORMAT docs/MACHINE docs/BYTES docs/NAMES docs/IDIOMS docs/HOSTING docs/MANY; do
+        put 644 "$root/$file.md" "share/doc/yuglemit/$file.md"
+    done
+    for file in "$root"/docs/*.schema.json; do
+        put 644 "$file" "share/doc/yuglemit/docs/${file##*/}"
+    done
     for file in $(cd "$root/examples" && find . -type f | LC_ALL=C sort); do
         mode=644
         [ -x "$root/examples/$file" ] && mode=755
