@@ -7,7 +7,7 @@
 #   tools/editor.sh            writes them, by the program with which ./tw answers
 #   tools/editor.sh --check    compares them with those that are there, and fails if one is stale
 #
-# ./tw install puts them where they are looked for. By hand:
+# ./tw install puts them below its prefix. bash finds its file there; vim looks below /usr, and zsh below /usr and /usr/local. By hand:
 # For vim:   mkdir -p ~/.vim/syntax ~/.vim/ftdetect; cp tools/tw.vim ~/.vim/syntax/; echo 'au BufNewFile,BufRead *.tw,*.twn setf tw' >~/.vim/ftdetect/tw.vim
 # For bash:  . tools/tw.bash
 # For zsh:   mkdir -p ~/.zfunc; cp tools/tw.zsh ~/.zfunc/_tw; and before compinit in ~/.zshrc: fpath+=~/.zfunc
