@@ -13,7 +13,7 @@ fn main() {
             println!("cargo:rustc-link-search=native={}", folder.display());
             println!("cargo:rerun-if-changed={}", folder.join("libyuglemit.a").display());
         }
-        None => println!("cargo:warning=there is no libyuglemit.a: ./tw build --library makes it, and YUGLEMIT_FOLDER may name its folder"),
+        None => println!("cargo:warning=there is no libyuglemit.a: the crate of ./tw package has it, ./tw install installs it, and YUGLEMIT_FOLDER may name its folder"),
     }
     println!("cargo:rerun-if-env-changed=YUGLEMIT_FOLDER");
 }

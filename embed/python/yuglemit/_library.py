@@ -151,7 +151,7 @@ def _opened(kind: Callable[[str], ctypes.CDLL]) -> ctypes.CDLL:
     try:
         return kind(_places()[0])
     except OSError as why:
-        raise ImportError(f"{why}; ./tw build --library makes it, and YUGLEMIT_LIBRARY may say where it is") from None
+        raise ImportError(f"{why}; the wheel of ./tw package has it, ./tw install installs it, and YUGLEMIT_LIBRARY may say where it is") from None
 
 
 @lru_cache(maxsize=1)
