@@ -28,9 +28,9 @@ PROGRAM = os.environ.get("TW_PROGRAM") or str(ROOT / "crates" / "tw_main" / "out
 SECONDS = 60
 SHORT = "proc control write int\nregs int\nINT v0 7\nSTORE d0 v0\nRET\n"
 REFUSED = "error: --workers takes a number from 1 to 16\ntw: tw run --help lists its arguments\n"
-# The most tasks that an event limit of 1,000,000 allows, with four events each.
-MOST_TASKS = 240_000
-# Tasks of ten thousand iterations each, one after the other on one worker.
+# The most tasks that an event limit of 1,000,000 allows, with five events each.
+MOST_TASKS = 199_000
+# Tasks of a hundred thousand iterations each, one after the other on one worker.
 LONG = """proc control
 regs
 REPEAT %d
@@ -43,7 +43,7 @@ RET
 proc leaf
 regs int int
 INT v1 1
-REPEAT 100
+REPEAT 1000
 REPEAT 100
 ADD v0 v0 v1 +0
 END
