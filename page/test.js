@@ -24,15 +24,20 @@ class Reader {
     value(id) { return this.js(`document.getElementById("${id}").value`); }
     async click(what) {
         const at = await this.js(`(() => { const it = document.querySelector(${JSON.stringify(what)}); it.scrollIntoView({block: "center"}); const {x, y, width, height} = it.getBoundingClientRect(); return [x + width / 2, y + height / 2]; })()`);
-        for (const type of ["mousePressed", "mouseReleased"]) await this.page.ask("Input.dispatchMouseEvent", {type, x: at[0], y: at[1], button: "left", clickCount: 1});
-        return this.pause();
+        return this.handled("click", async () => { for (const type of ["mousePressed", "mouseReleased"]) await this.page.ask("Input.dispatchMouseEvent", {type, x: at[0], y: at[1], button: "left", clickCount: 1}); });
     }
     async key(key, modifiers = 0, code = key) {
         const number = {Tab: 9, Enter: 13, Escape: 27, ArrowLeft: 37, ArrowRight: 39, ArrowUp: 38, ArrowDown: 40, Home: 36, End: 35, z: 90, a: 65}[key] ?? 0, text = key === "Enter" && !modifiers ? "\r" : undefined;
-        for (const type of ["keyDown", "keyUp"]) await this.page.ask("Input.dispatchKeyEvent", {type, key, code, windowsVirtualKeyCode: number, modifiers, text: type === "keyDown" ? text : undefined, commands: type === "keyDown" && modifiers === 2 && key === "z" ? ["undo"] : undefined});
-        return this.pause();
+        return this.handled("keyup", async () => { for (const type of ["keyDown", "keyUp"]) await this.page.ask("Input.dispatchKeyEvent", {type, key, code, windowsVirtualKeyCode: number, modifiers, text: type === "keyDown" ? text : undefined, commands: type === "keyDown" && modifiers === 2 && key === "z" ? ["undo"] : undefined}); });
     }
     async type(text) { await this.page.ask("Input.insertText", {text}); return this.pause(); }
+    // Acts, and waits until the page has this event: on a busy machine the browser answers earlier.
+    async handled(kind, act) {
+        await this.js(`document.body.dataset.handled = ""; addEventListener("${kind}", () => { document.body.dataset.handled = "yes"; }, {capture: true, once: true})`);
+        await act();
+        await this.page.until('document.body.dataset.handled === "yes"', 3000);
+        return this.pause();
+    }
     async pause() { await new Promise(go => setTimeout(go, 40)); return this.ready(); }
     async choose(id, value) {
         await this.js(`(() => { const it = document.getElementById("${id}"); it.value = ${JSON.stringify(value)}; document.body.dataset.state = "busy"; it.dispatchEvent(new Event("change")); if (${id !== "pick" && id !== "spelling"}) document.body.dataset.state = "ready"; })()`);
@@ -50,6 +55,14 @@ class Reader {
         const {identifier} = await this.page.ask("Page.addScriptToEvaluateOnNewDocument", {source: "try { localStorage.clear(); } catch {}"});
         await this.go(address);
         await this.page.ask("Page.removeScriptToEvaluateOnNewDocument", {identifier});
+    }
+    // Waits until the address has contents that meet a test, and returns it.
+    async saved(meets) {
+        for (let again = 0; again < 500; again++, await new Promise(go => setTimeout(go, 20))) {
+            const link = await this.js("location.href"), letters = /#p=([\w-]+)$/.exec(link)?.[1];
+            if (letters && meets(JSON.parse(zlib.inflateRawSync(Buffer.from(letters, "base64url")).toString()))) return link;
+        }
+        return "";
     }
     // Moves to an event by the slider.
     async event(number) { await this.js(`(() => { const it = document.getElementById("step"); it.value = ${number}; it.dispatchEvent(new Event("input")); })()`); return this.pause(); }
@@ -195,8 +208,7 @@ async function kept(reader) {
     await reader.click("#run");
     await reader.key("Shift");
     await reader.event(3);
-    await new Promise(go => setTimeout(go, 600));
-    const link = await reader.js("location.href");
+    const link = await reader.saved(it => it.event === 3);
     say(link.includes("#p="), "nothing in the address", link);
     const same = async what => {
         say((await reader.value("text")) === own && (await reader.value("input-0")) === "41" && (await reader.value("workers")) === "3", what, "lost", await reader.value("text"));
