@@ -45,11 +45,11 @@ DROPW texts
 RET
 """
 
-# Each event takes some thousand instructions, and there are as many events as the limit allows.
+# Each task takes 300,000 instructions, and the limit allows 200,000 tasks: a run that nothing stops takes longer than any test waits.
 ENDLESS = """proc control
 regs int int
 INT v1 1
-REPEAT 3
+REPEAT 100
 REPEAT 1000
 ADD v0 v0 v1 no
 no:
