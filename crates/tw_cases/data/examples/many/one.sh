@@ -4,7 +4,7 @@
 #
 #   one.sh TW PROGRAM INPUTS RESULT [-- OPTION OF TW RUN..]
 #
-# TW is the built program (crates/tw_main/out/tw_main), which needs only the C library. PROGRAM is assembly text if its name ends in .tw or
+# TW is the program, such as an installed tw, which needs only the C library. PROGRAM is assembly text if its name ends in .tw or
 # .twn, else hex text. RESULT.status is written last and in one step: the status, then a hash of version, program and options, then a hash of
 # the inputs. If it is there with the same hashes, nothing runs. The variable TW_KEY may give the first hash.
 #
