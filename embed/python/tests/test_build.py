@@ -8,6 +8,7 @@ import os
 import random
 import re
 import shlex
+import shutil
 import subprocess
 import sys
 import tempfile
@@ -400,6 +401,18 @@ class Command(unittest.TestCase):
             self.assertIn(f"{path}:4:13: z isn't known", done.stderr)
             done = subprocess.run([sys.executable, "-m", "yuglemit", "build", f"{folder}/none.py"], capture_output=True, text=True)
             self.assertEqual(done.returncode, 66)
+
+    def test_build_says_what_it_lacks(self) -> None:
+        program = str(TESTS / "programs" / "pipeline.py")
+        with tempfile.TemporaryDirectory() as folder:
+            done = subprocess.run([sys.executable, "-m", "yuglemit", "build", program, "-o", f"{folder}/none/out.twn"], capture_output=True, text=True)
+            self.assertEqual((done.returncode, done.stdout), (73, ""))
+            self.assertRegex(done.stderr, "^[^\n]*/none/out.twn: .*No such file[^\n]*\n$")
+            shutil.copytree(Path(yuglemit.__file__).parent, f"{folder}/yuglemit", ignore=shutil.ignore_patterns("*.so", "__pycache__"))
+            alone = {name: it for name, it in os.environ.items() if name != "YUGLEMIT_LIBRARY"}
+            done = subprocess.run([sys.executable, "-B", "-m", "yuglemit", "build", program], capture_output=True, text=True, env={**alone, "PYTHONPATH": folder}, cwd=folder)
+            self.assertEqual((done.returncode, done.stdout), (70, ""))
+            self.assertRegex(done.stderr, "^[^\n]*pipeline.py isn't verified: [^\n]*YUGLEMIT_LIBRARY[^\n]*\n$")
 
     def test_load_takes_a_python_file(self) -> None:
         self.assertEqual(yuglemit.load(TESTS / "programs" / "pipeline.py").run(39).outputs, [42])
