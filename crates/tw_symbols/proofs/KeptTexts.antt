@@ -1,6 +1,6 @@
 -- Two properties that an expansion keeps if the line's words have them: it has no line feed, and is in UTF-8.
 use Rattle.std.proofs.Common.{[], ◌≡◌, ◌==◌, ◌<◌, ◌≤◌, ◌+◌, ◌/◌, ◌%◌, ℕ, zero, suc, Bool, true, false, cond, List, ◌∷◌, ◌++◌, refl, sym, subst, append_assoc, arith}
-use Rattle.tw_symbols.proofs.TextNames.{AllByRecursion, IsTail, IsUtf8, StartsWith, append-nil, begins_quoted, decimal, is_sign, nat_lt, pieces, pieces_after, some_piece}
+use Rattle.tw_symbols.proofs.TextNames.{AllByRecursion, IsTail, IsUtf8, StartsWith, append-nil, decimal, has_quote, is_sign, nat_lt, pieces, pieces_after, some_piece}
 use Rattle.std.specs.Fmt.{digit_glyph, digits, digits_onto}
 use Rattle.std.proofs.lemmas.Bool.Decides.{nat_tests}
 use Rattle.std.proofs.lemmas.Str.{IsUtf8-append, IsUtf8-nil}
@@ -81,7 +81,7 @@ first_feeds word bytes rest (w, f, e) h =
     (subst HasNoLineFeed e (feeds_front f.text rest here), feeds_rest f.text rest here)
 
 cut_feeds : (word : List ℕ) → HasNoLineFeed word → AllKept HasNoLineFeed (pieces word)
-cut_feeds word h = either (AllKept HasNoLineFeed) (begins_quoted word) (some_piece word) (pieces_after [] word) (some_feeds word h) (pieces_feeds [] word tt h)
+cut_feeds word h = either (AllKept HasNoLineFeed) (has_quote word) (some_piece word) (pieces_after [] word) (some_feeds word h) (pieces_feeds [] word tt h)
 
 tail_feeds : (tail bytes : List ℕ) → IsTail tail bytes → HasNoLineFeed bytes → HasNoLineFeed tail
 tail_feeds tail bytes is h = feeds_rest is.gap tail (subst HasNoLineFeed is.parts h)
@@ -121,7 +121,7 @@ first_utf8 word bytes rest (w, f, e) u =
     (subst IsUtf8 e (before_edge f.text rest f.edge (after_gap f.gap (f.text ++ rest) f.is_gap (subst IsUtf8 f.parts u))), rest_utf8 w bytes rest f u)
 
 cut_utf8 : (word : List ℕ) → IsUtf8 word → AllKept IsUtf8 (pieces word)
-cut_utf8 word u = either (AllKept IsUtf8) (begins_quoted word) (some_piece word) (pieces_after [] word) (some_utf8 word u) (pieces_utf8 [] word u)
+cut_utf8 word u = either (AllKept IsUtf8) (has_quote word) (some_piece word) (pieces_after [] word) (some_utf8 word u) (pieces_utf8 [] word u)
 
 tail_utf8 : (tail bytes : List ℕ) → IsTail tail bytes → IsUtf8 bytes → IsUtf8 tail
 tail_utf8 tail bytes is u = after_gap is.gap tail is.is_gap (subst IsUtf8 is.parts u)

@@ -1,5 +1,6 @@
 -- The words of a line, unchanged.
 use Rattle.std.specs.Prelude.{◌≡◌, ◌==◌, ◌||◌, ℕ, Bool, false, List, [], ◌∷◌, ◌++◌, if◌then◌else◌}
+use Rattle.std.specs.List.{list_any}
 use Rattle.tw_lexer.specs.Words.{IsAtWord, IsBlank, IsBroken, IsFirstWord, IsGap, Word}
 
 pub data Line : Type 0 where
@@ -70,6 +71,10 @@ abbrev pub begins_quoted : List ℕ → Bool
 begins_quoted [] = false
 begins_quoted (b ∷ word) = b == 34
 
--- returns the pieces of a word; a quoted text isn't split
+-- returns whether a word has a quote: a quoted text begins in it, or ends
+abbrev pub has_quote : List ℕ → Bool
+has_quote word = list_any (λ b. b == 34) word
+
+-- returns the pieces of a word; with a quote it isn't split, since the signs may be in a text
 abbrev pub pieces : List ℕ → List (List ℕ)
-pieces word = if begins_quoted word then some_piece word else pieces_after [] word
+pieces word = if has_quote word then some_piece word else pieces_after [] word

@@ -1,9 +1,9 @@
-//! The pieces of words in lines that list registers: signs separate words there too.
+//! The pieces of words in lines that list registers: signs separate words there too, except in a word with a quote.
 
 ghost use Rattle.std.specs.Prelude.{◌≡◌, [], ◌++◌, ◌+◌, ◌<◌, ◌≤◌, IfOk, OnOk, length};
 ghost use Rattle.tw_symbols.specs.Answers.{pieces_left};
 ghost use Rattle.std.specs.List.{flat_map};
-ghost use Rattle.tw_symbols.specs.Lines.{begins_quoted, is_sign, pieces, pieces_after, some_piece};
+ghost use Rattle.tw_symbols.specs.Lines.{begins_quoted, has_quote, is_sign, pieces, pieces_after, some_piece};
 ghost use Rattle.tw_symbols.specs.Seen.{texts};
 
 use std::alloc::{AllocError, Global};
@@ -45,7 +45,7 @@ fn push_ended<'a>(
     }
 }
 
-/// Adds the pieces of a word that isn't quoted.
+/// Adds the pieces of a word without a quote.
 #[tactic(auto, using(crate::proofs::Cutting::left_first))]
 fn push_parted<'a>(out: &mut Vec<&'a [u8]>, word: &'a [u8]) -> Result<(), AllocError>
     ensures { OnOk result (texts out.new.items ≡ texts out.old.items ++ pieces_after [] word.entry.now) }
@@ -68,11 +68,18 @@ pub fn begins_quoted(word: &[u8]) -> bool
     }
 }
 
+/// Returns whether a word has a quote. A quoted text begins in it, or ends.
+fn has_quote(word: &[u8]) -> bool
+    ensures { result ≡ has_quote word.now }
+{
+    word.contains(&b'"')
+}
+
 /// Adds the pieces of a word.
 fn push_pieces<'a>(out: &mut Vec<&'a [u8]>, word: &'a [u8]) -> Result<(), AllocError>
     ensures { OnOk result (texts out.new.items ≡ texts out.old.items ++ pieces word.entry.now) }
 {
-    if begins_quoted(word) {
+    if has_quote(word) {
         push_some(out, word)
     } else {
         push_parted(out, word)
