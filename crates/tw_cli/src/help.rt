@@ -9,7 +9,7 @@ pub(crate) struct CommandHelp<'a> {
 }
 
 /// The program's version, which the newest section of CHANGELOG.md names.
-pub(crate) const VERSION: &str = "0.18";
+pub(crate) const VERSION: &str = "0.19";
 
 pub(crate) const ABOUT: &str = "Assembles, checks and runs dataflow programs of the task host.";
 
@@ -156,7 +156,8 @@ pub(crate) const MOST_INSTRUCTIONS_HELP: &str =
 
 pub(crate) const MOST_DATA_HELP: &str = "Reject a program whose run may make more data by NEW";
 
-pub(crate) const MOST_BYTES_HELP: &str = "Reject a program whose run may hold texts of more bytes";
+pub(crate) const MOST_BYTES_HELP: &str =
+    "Reject a program whose run may hold texts of more bytes, beyond inputs and outputs";
 
 pub(crate) const MOST_BUDGET_HELP: &str = "Reject a program with a larger budget of one task";
 
