@@ -4,7 +4,7 @@ ghost use Rattle.std.specs.Prelude.{◌≡◌, ◌++◌, ◌∷◌, [], Some, If
 ghost use Rattle.std.specs.Str.{bytes_eq};
 ghost use Rattle.std.specs.List.{list_any};
 ghost use Rattle.std.specs.Option.{option_map};
-ghost use Rattle.tw_files.specs.Input.{AreWords, command_words as command_words_is, draws_run as draws_run_is, has_word as has_word_is, is_untraced as is_untraced_is, option_of as option_of_is, option_words, reads_trace as reads_trace_is, says_format as says_format_is};
+ghost use Rattle.tw_files.specs.Input.{AreWords, asks_help as asks_help_is, command_words as command_words_is, draws_run as draws_run_is, has_word as has_word_is, is_untraced as is_untraced_is, option_of as option_of_is, option_words, reads_trace as reads_trace_is, says_format as says_format_is};
 
 use crate::format::is_text;
 use std::alloc::{AllocError, Global};
@@ -59,10 +59,17 @@ fn option_of(command: &str, is_text: bool) -> Option<&'static str>
     }
 }
 
-fn draws_run(command: &str, others: &[String], is_untraced: bool) -> bool
-    ensures { result ≡ draws_run_is command.now (map string_bytes others.now) is_untraced }
+/// Returns whether help is requested.
+pub fn asks_help(words: &[String]) -> bool
+    ensures { result ≡ asks_help_is (map string_bytes words.now) }
 {
-    command == "picture" && is_untraced && !has_word("--help", others)
+    has_word("--help", words) || has_word("-h", words)
+}
+
+fn draws_run(command: &str, is_untraced: bool) -> bool
+    ensures { result ≡ draws_run_is command.now is_untraced }
+{
+    command == "picture" && is_untraced
 }
 
 fn put_word(words: &mut Vec<String>, alloc: Global, word: &str) -> Result<(), AllocError>
@@ -113,7 +120,7 @@ fn file_words(
     ensures { IfOk result (λ words. AreWords command.now (Some path.now) program.now (map string_bytes others.items) (map string_bytes words.items)) }
 {
     let (before, _events) = cut_history(program);
-    let draws = draws_run(command, &others, is_untraced(command, program, before));
+    let draws = draws_run(command, is_untraced(command, program, before));
     let is_text = is_text(alloc, path, program)? && !says_format(&others);
     let first = command_words(alloc, command, draws)?;
     with_others(alloc, first, option_of(command, is_text), others)

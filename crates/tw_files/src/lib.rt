@@ -7,5 +7,6 @@ mod format;
 mod naming;
 mod opening;
 
+pub use arguments::asks_help;
 pub use naming::reads_program;
 pub use opening::{InputFiles, NoInput, SessionInput, session_input};

@@ -1,14 +1,14 @@
 //! Opens the files of a command.
 
-ghost use Rattle.std.specs.Prelude.{◌≡◌, ◌++◌, ℕ, List, Some, ⊤, true, IfOk, IfErr, OnErr, codes, map, string_bytes, unwrap_or};
+ghost use Rattle.std.specs.Prelude.{◌≡◌, ◌++◌, ℕ, List, Some, ⊤, true, IfOk, IfErr, OnErr, codes, is_some, map, string_bytes, unwrap_or};
 ghost use Rattle.std.specs.Option.{option_map};
-ghost use Rattle.tw_files.specs.Input.{IsInput, IsJoined, IsSessionInput, has_files as has_files_is, separate_inputs as separate_inputs_is, standard_input, with_inputs as with_inputs_is};
+ghost use Rattle.tw_files.specs.Input.{HasInputsTwice, IsInput, IsJoined, IsSessionInput, begins_inputs as begins_inputs_is, has_inputs as has_inputs_is, opens_files as opens_files_is, separate_inputs as separate_inputs_is, standard_input, with_inputs as with_inputs_is};
 ghost use Rattle.tw_files.specs.Naming.{naming_of as naming_of_is};
 ghost use Rattle.tw_files.specs.Opening.{IsReason};
 ghost use Rattle.tw_files.specs.Seen.{seen};
 ghost use Rattle.tw_files.specs.declared.opening.NoInput.TheVariants.{NoMemory};
 
-use crate::arguments::{bare_words, is_untraced, session_words};
+use crate::arguments::{asks_help, bare_words, is_untraced, session_words};
 use crate::naming::{Naming, naming_of};
 use std::alloc::{AllocError, Global};
 use std::io;
@@ -46,6 +46,8 @@ pub struct SessionInput {
 pub enum NoInput<'a> {
     /// The file of this name can't be read.
     Unread(&'a str, io::Error),
+    /// The file of this name would give inputs, but the program's file has some, too.
+    InputsTwice(&'a str),
     /// An allocation failed.
     NoMemory,
 }
@@ -77,10 +79,10 @@ impl<'a> Naming<'a> {
         }
     }
 
-    fn has_files(&self) -> bool
-        ensures { result ≡ has_files_is (seen self.now) }
+    fn opens_files(&self) -> bool
+        ensures { result ≡ opens_files_is (seen self.now) }
     {
-        self.program.is_some() || self.separate_inputs().is_some()
+        (self.program.is_some() || self.separate_inputs().is_some()) && !asks_help(&self.others)
     }
 }
 
@@ -112,9 +114,22 @@ fn joined(
     Ok(whole)
 }
 
+fn begins_inputs(line: &[u8]) -> bool
+    ensures { result ≡ begins_inputs_is line.now }
+{
+    line == b"inputs".as_slice() || line == b"inputs\r".as_slice()
+}
+
+/// Returns whether a program's file has inputs, too.
+fn has_inputs(program: &[u8]) -> bool
+    ensures { result ≡ has_inputs_is program.now }
+{
+    program.split(|byte| *byte == b'\n').any(begins_inputs)
+}
+
 fn read<'a, F: InputFiles>(files: &F, alloc: Global, path: &'a str) -> Result<Vec<u8>, NoInput<'a>>
     ensures bytes { IfOk result (λ bytes. F.Holds files.now path.entry.now bytes.items) }
-    ensures failed { IfErr result (IsReason (F.Fails files.now)) }
+    ensures failed { IfErr result (IsReason (F.Fails files.now) ⊥) }
 {
     match files.read_file(alloc, path) {
         Ok(bytes) => Ok(bytes),
@@ -123,7 +138,7 @@ fn read<'a, F: InputFiles>(files: &F, alloc: Global, path: &'a str) -> Result<Ve
     }
 }
 
-/// Reads inputs, and joins them to a program.
+/// Reads inputs, and joins them to a program, which must have none.
 fn joined_input<'a, F: InputFiles>(
     files: &F,
     alloc: Global,
@@ -132,8 +147,11 @@ fn joined_input<'a, F: InputFiles>(
     program: &[u8],
 ) -> Result<Vec<u8>, NoInput<'a>>
     ensures bytes { IfOk result (λ input. IsInput (F.Holds files.now) command.now (Some path.entry.now) program.now input.items) }
-    ensures failed { IfErr result (IsReason (F.Fails files.now)) }
+    ensures failed { IfErr result (IsReason (F.Fails files.now) (has_inputs_is program.now ≡ true)) }
 {
+    if has_inputs(program) {
+        return Err(NoInput::InputsTwice(path));
+    }
     let given = read(files, alloc, path)?;
     let whole = joined(alloc, command, program, &given)?;
     Ok(whole)
@@ -148,7 +166,7 @@ fn whole_input<'a, F: InputFiles>(
     program: Vec<u8>,
 ) -> Result<Vec<u8>, NoInput<'a>>
     ensures bytes { IfOk result (λ input. IsInput (F.Holds files.now) command.now (option_map (λ path. path.now) inputs.entry) program.items input.items) }
-    ensures failed { IfErr result (IsReason (F.Fails files.now)) }
+    ensures failed { IfErr result (IsReason (F.Fails files.now) ((is_some inputs.entry ≡ true) × (has_inputs_is program.items ≡ true))) }
 {
     match inputs {
         Some(path) => joined_input(files, alloc, command, path, &program),
@@ -163,9 +181,9 @@ fn opened<'a, F: InputFiles>(
     command: &str,
     named: Naming<'a>,
 ) -> Result<SessionInput, NoInput<'a>>
-    requires { has_files_is (seen named) ≡ true }
+    requires { opens_files_is (seen named) ≡ true }
     ensures made { IfOk result (λ made. IsSessionInput (F.Holds files.now) command.now (seen named.entry) (map string_bytes made.words.items) (option_map (λ bytes. bytes.items) made.bytes)) }
-    ensures failed { IfErr result (IsReason (F.Fails files.now)) }
+    ensures failed { IfErr result (IsReason (F.Fails files.now) (HasInputsTwice (F.Holds files.now) (seen named.entry))) }
 {
     let inputs = named.separate_inputs();
     let program = read(files, alloc, named.program_path())?;
@@ -177,7 +195,7 @@ fn opened<'a, F: InputFiles>(
     })
 }
 
-/// Opens the files that the arguments of a command name, and returns what a session gets. Nothing is read if they name none.
+/// Opens the files that the arguments of a command name, and returns what a session gets. Nothing is read if they name none, or request help.
 pub fn session_input<'a, F: InputFiles>(
     files: &F,
     alloc: Global,
@@ -185,11 +203,11 @@ pub fn session_input<'a, F: InputFiles>(
     words: &'a [String],
 ) -> Result<SessionInput, NoInput<'a>>
     ensures made { IfOk result (λ made. IsSessionInput (F.Holds files.now) command.now (naming_of_is (map string_bytes words.entry.now)) (map string_bytes made.words.items) (option_map (λ bytes. bytes.items) made.bytes)) }
-    // It fails only if an allocation fails, or a file can't be read.
-    ensures failed { IfErr result (IsReason (F.Fails files.now)) }
+    // It fails only if an allocation fails, a file can't be read, or there are inputs twice.
+    ensures failed { IfErr result (IsReason (F.Fails files.now) (HasInputsTwice (F.Holds files.now) (naming_of_is (map string_bytes words.entry.now)))) }
 {
     let named = naming_of(alloc, words)?;
-    if named.has_files() {
+    if named.opens_files() {
         return opened(files, alloc, command, named);
     }
     let words = bare_words(alloc, command, named.others)?;

@@ -3,6 +3,7 @@
 use std::io;
 use std::io::ErrorKind;
 use std::rt::Stderr;
+use tw_files::asks_help;
 use tw_session::{Close, Status};
 
 /// An answer to a command, as far as hints are about it.
@@ -36,10 +37,11 @@ pub fn complain_unread(stderr: &Stderr, path: &str, error: &io::Error) -> io::Re
     }
 }
 
-fn asks_help(words: &[String]) -> bool {
-    words
-        .iter()
-        .any(|word| word.as_str() == "--help" || word.as_str() == "-h")
+/// Prints that a file of inputs isn't read, since the program's file has some, too.
+pub fn complain_twice(stderr: &Stderr, path: &str) -> io::Result<()> {
+    eprintln!(stderr;
+        "tw: {path} isn't read: the program's file has a line `inputs`, too; remove it, or don't name {path}"
+    )
 }
 
 /// Prints that a terminal is read, unless help is requested.

@@ -1,7 +1,7 @@
 //! Answers the arguments of the command.
 
 use crate::exit::Exit;
-use crate::hints::{Answered, complain_unread, print_hints, print_notice};
+use crate::hints::{Answered, complain_twice, complain_unread, print_hints, print_notice};
 use crate::noted_writer::NotedWriter;
 use crate::progress_printer::ProgressPrinter;
 use crate::symbolic::unnamed_path;
@@ -89,6 +89,10 @@ impl<'a, H: AllocGlobal + Files + Threads + Wait + Clock + Sync> Tool<'a, H> {
             Err(NoInput::Unread(path, error)) => {
                 let _printed = complain_unread(&self.streams.stderr, path, &error);
                 Exit::Unread
+            }
+            Err(NoInput::InputsTwice(path)) => {
+                let _printed = complain_twice(&self.streams.stderr, path);
+                Exit::Session(without_words(ErrorKind::InvalidInput, &mut stdout))
             }
             Err(NoInput::NoMemory) => {
                 Exit::Session(without_words(ErrorKind::OutOfMemory, &mut stdout))
