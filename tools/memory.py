@@ -24,7 +24,7 @@ ENDED = (0, 3, 4)  # quiet, stuck, at the limit
 
 # The table of docs/HOSTING.md, "Memory": bytes for each of one kind.
 RUN = 12_000_000
-READ = 40  # a byte of the program and of its inputs
+READ = 48  # a byte of the program and of its inputs
 LIMIT = 10  # an event that the limit allows
 THREAD = 9_000_000  # a thread with MALLOC_ARENA_MAX=1
 RESERVED = 145_000_000  # a thread otherwise: of this the C library reserves up to 128 MiB
@@ -41,7 +41,7 @@ CONTROL = "\\x01"  # the letter that takes most in a report
 
 
 class Run(NamedTuple):
-    """A program as text, the arguments of its run, and lines of inputs."""
+    """A program as assembly text or hex text, the arguments of its run, and lines of inputs."""
 
     name: str
     text: str
@@ -50,19 +50,25 @@ class Run(NamedTuple):
     inputs: str = ""
     environment: dict[str, str] = {}
     times: int = 1
+    is_hex: bool = False
 
 
 # --- The formula
 
 
-def answer_of(program: str, run: Run, *words: str) -> str:
+def format_of(run: Run) -> tuple[str, ...]:
+    """Returns the option that a command needs to read a run's program."""
+    return () if run.is_hex else ("--text",)
+
+
+def answer_of(program: str, run: Run, command: str, *words: str) -> str:
     """Returns what a command prints of a run's program."""
-    return subprocess.run([program, *words], input=run.text, capture_output=True, text=True, check=False).stdout
+    return subprocess.run([program, command, *format_of(run), *words], input=run.text, capture_output=True, text=True, check=False).stdout
 
 
 def bounds_of(program: str, run: Run) -> dict[str, int]:
     """Returns the bounds of a run, the smaller ones of main's and the limit's; none if the program is rejected."""
-    printed = answer_of(program, run, "check", "--text", "--bounds", "--limit", str(run.limit))
+    printed = answer_of(program, run, "check", "--bounds", "--limit", str(run.limit))
     found: dict[str, int] = {}
     for kind, number in re.findall(r"^(?:bound|limited) ([a-z]+) ([0-9]+)$", printed, re.M):
         found[kind] = min(int(number), found.get(kind, int(number)))
@@ -71,7 +77,7 @@ def bounds_of(program: str, run: Run) -> dict[str, int]:
 
 def heads_of(program: str, run: Run) -> list[str]:
     """Returns the parameters of each procedure, main's first."""
-    return re.findall(r"^proc (?:control|leaf)(.*)$", answer_of(program, run, "disasm", "--text"), re.M)
+    return re.findall(r"^proc (?:control|leaf)(.*)$", answer_of(program, run, "disasm"), re.M)
 
 
 def threads_of(words: tuple[str, ...]) -> int:
@@ -195,6 +201,21 @@ def with_inputs(name: str, kind: str, member: str) -> Run:
     return Run(name, text, ("--in-turn", "--quiet", "--inputs"), inputs="inputs\n" + f"{line}\n" * 7)
 
 
+PROCEDURES, LOOPS = 64, 2_047  # the most, and as many loops without a body as a procedure has place for
+
+
+def loops_as_text() -> str:
+    """Makes the longest program of the shortest instructions, END and RET, as far as they can be reached."""
+    loop = "REPEAT 1\nEND\n"
+    return f"proc control\nregs\n{loop * LOOPS}RET\n" * PROCEDURES
+
+
+def loops_as_hex() -> str:
+    """Makes the bytes of `loops_as_text`, four digits an instruction."""
+    procedure = f"00 00 00 {2 * LOOPS + 1:04x} {'23000124' * LOOPS} 42"
+    return f"545742 01 {PROCEDURES:02x} {procedure * PROCEDURES}\n".replace(" ", "")
+
+
 ENDLESS = "proc control\nregs\nPUT 0 0 any\nRET\n"
 TURN = ("--in-turn", "--quiet")
 MANY, FEW = 1_000_000, 50_000
@@ -245,9 +266,16 @@ def hostile_inputs() -> Iterator[Run]:
     yield with_inputs("inputs of texts", "tcont text", '"{0:03}"="' + "a" * 2_000 + '"')
 
 
+def hostile_programs() -> Iterator[Run]:
+    """Yields the programs that take most for each of their bytes."""
+    yield Run("loops in all procedures", loops_as_text(), TURN)
+    yield Run("loops in all procedures, with names", "names\n" + loops_as_text(), TURN)
+    yield Run("loops in all procedures, as hex text", loops_as_hex(), TURN, is_hex=True)
+
+
 def hostile() -> Iterator[Run]:
     """Yields programs that keep as much as they can of one thing."""
-    for kind in (hostile_events, hostile_members, hostile_tasks, hostile_inputs):
+    for kind in (hostile_programs, hostile_events, hostile_members, hostile_tasks, hostile_inputs):
         yield from kind()
 
 
@@ -260,7 +288,7 @@ def limited(most: int) -> None:
 
 def status_of(program: str, run: Run, most: int) -> int:
     """Runs a program with so many bytes of memory, and returns its status, or the negative number of a signal."""
-    words = [program, "run", "--text", "--limit", str(run.limit), *run.words]
+    words = [program, "run", *format_of(run), "--limit", str(run.limit), *run.words]
     done = subprocess.run(
         words, input=(run.text + run.inputs).encode(), stdout=subprocess.DEVNULL, stderr=subprocess.DEVNULL,
         env={**os.environ, **run.environment}, preexec_fn=lambda: limited(most), check=False,
