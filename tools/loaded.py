@@ -116,6 +116,45 @@ def compare_positions() -> tuple[int, int]:
     return counts[True], counts[False]
 
 
+BEGINS = ("ints:", "texts:", "tints:", "ttexts:")
+MEMBERS = ('1=2', '1="b"', '"a"=2', '"a"="b"')
+CONTAINERS = ("{0}", "{0},", ",{0}", "{0},,{0}", "{0} ", " {0}", "{0}x", "x", "1", '"a"', "1=", "=2", '"a"=', '="b"', '1="b', '"a=2', '"a"="b', "1:2", "1=x", "x=2", "a=2", "{0};{0}")
+NUMBERS = ("7", "-7", "007", "-0", "9223372036854775807", "-9223372036854775808")
+NO_NUMBERS = ("", "x", "-", "--7", "+7", " 7", "7 ", "7x", "0x7", "7.5", "9223372036854775808", "-9223372036854775809", "9" * 40)
+
+
+def input_words() -> list[str]:
+    """Returns words that are inputs, and such that are none."""
+    containers = [begin + form.format(member) for begin in BEGINS for member in MEMBERS for form in CONTAINERS]
+    numbers = [*NUMBERS, *NO_NUMBERS]
+    members = [f"ints:{number}=2" for number in numbers] + [f"ints:1={number}" for number in numbers] + [f'tints:"a"={number}' for number in numbers]
+    return ["7", "x", "int", "Int:7", "text:", "text:a=1", *BEGINS, *dict.fromkeys(containers), *(f"int:{number}" for number in numbers), *members]
+
+
+def is_word_refused(words: list[str], data: bytes) -> bool:
+    """Returns whether a program says that its second input is none, with status 2; a program that takes ten seconds hasn't said so."""
+    try:
+        done = subprocess.run(words, input=data, stdout=subprocess.PIPE, stderr=subprocess.DEVNULL, timeout=10, check=False)
+    except subprocess.TimeoutExpired:
+        return False
+    return done.returncode == 2 and done.stdout.startswith(b"input word 2 refused\n")
+
+
+def has_same_word(word: str) -> bool:
+    """Compares whether the library's example and tw take a word as an input; main has one input only, so nothing runs."""
+    data = b"proc control closed int\nregs\nDROPR d0\nRET\n"
+    is_alike = is_word_refused([f"{room}/loaded", "int:1", word], data) == is_word_refused([tw, "run", "-", "--text", "int:1", word], data)
+    if not is_alike:
+        print("DIFFERS", word)
+    return is_alike
+
+
+def compare_words() -> tuple[int, int]:
+    """Returns how many words both take or reject, and of how many one does."""
+    alike = [has_same_word(word) for word in input_words()]
+    return sum(alike), len(alike) - sum(alike)
+
+
 def said(words: list[str], data: bytes) -> float:
     """Returns the number that an example prints of many calls."""
     done = subprocess.run(words, input=data, capture_output=True, check=False, env={**os.environ, "TIMES": "50000"})
@@ -150,10 +189,12 @@ def main() -> int:
     same, differ = compare_examples()
     alike, apart = compare_positions()
     print(f"{alike} errors of texts at the same position, {apart} not")
+    taken, strange = compare_words()
+    print(f"{taken} input words taken alike, {strange} not")
     if not is_quick:
         print_rates()
     print(f"{same} same, {differ} differ")
-    return int(not has_version() or hostile + cpp != 0 or differ + apart != 0 or same == 0 or alike == 0)
+    return int(not has_version() or hostile + cpp != 0 or differ + apart + strange != 0 or same == 0 or alike == 0)
 
 
 if __name__ == "__main__":

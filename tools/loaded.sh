@@ -2,8 +2,8 @@
 # SPDX-License-Identifier: Apache-2.0
 # Runs programs that are loaded once, by the library's handles: hostile calls (tools/loaded.c) and the tests of C++ (embed/cpp/test.cpp, if
 # there is a compiler c++), under valgrind if it is there. Then runs every example by embed/c/loaded.c, whose outputs and status are compared
-# with those of the program tw. Ends with `N same, 0 differ`, and fails if a check fails or one differs. Before that it prints how many runs a
-# second are made of examples/fan_out.twn, loaded once and by sessions.
+# with those of the program tw, as are the input words that both reject. Ends with `N same, 0 differ`, and fails if a check fails or one
+# differs. Before that it prints how many runs a second are made of examples/fan_out.twn, loaded once and by sessions.
 #
 #   tools/loaded.sh              the library and the program that are built here, which it builds first
 #   tools/loaded.sh --release    those of the release, without valgrind and the rates

@@ -1,16 +1,20 @@
 /* SPDX-License-Identifier: Apache-2.0 */
 /* Loads a program once and runs it: `loaded INPUT.. < PROGRAM`, where PROGRAM is a program as bytes, hex text or assembly text, and an INPUT is
  * int:7, text:abc, ints:1=7,5=-3, texts:1="a",2="b", tints:"a"=1 or ttexts:"a"="b", without escapes in the quotes. Prints the report's outputs as `tw run` does, and ends with
- * its status. TIMES=n in the environment makes n runs, and prints how many a second. */
+ * its status: 2 if an INPUT has another form. TIMES=n in the environment makes n runs, and prints how many a second. */
 #define _POSIX_C_SOURCE 199309L /* clock_gettime */
 #include "../yuglemit.h"
+#include <errno.h>
 #include <inttypes.h>
 #include <stdio.h>
 #include <stdlib.h>
 #include <string.h>
 #include <time.h>
 
-enum { LONGEST_TEXT = 4096 };
+enum {
+    LONGEST_TEXT = 4096,
+    MALFORMED = -1 /* a word of the command line is no input; no code of the library is this */
+};
 
 /* Prints why a program isn't loaded: the error's code, and where it is. */
 static int fail_load(const yuglemit_source_verdict *v) {
@@ -31,36 +35,39 @@ static size_t read_all(uint8_t *at, size_t room) {
 /* A text between quotes in a word of the command line. */
 typedef struct quoted { const uint8_t *at; size_t length; } quoted;
 
-/* Reads a text in quotes, and moves the word to what follows it. */
-static quoted read_quoted(const char **word) {
-    const char *begin = *word + (**word == '"'), *end = strchr(begin, '"');
-    if (!end) end = begin + strlen(begin);
-    *word = *end ? end + 1 : end;
-    quoted found = {(const uint8_t *)begin, (size_t)(end - begin)};
-    return found;
+/* The three that follow read what a word begins with, and move it to the rest. They return whether the word begins so. */
+static int read_quoted(const char **word, quoted *text) {
+    const char *begin = *word + 1, *end = **word == '"' ? strchr(begin, '"') : NULL;
+    if (!end) return 0;
+    text->at = (const uint8_t *)begin;
+    text->length = (size_t)(end - begin);
+    *word = end + 1;
+    return 1;
 }
 
-static int64_t read_number(const char **word) {
+/* Reads an integer of 64 bits: an optional `-` and digits. */
+static int read_number(const char **word, int64_t *number) {
+    const char *digits = *word + (**word == '-');
     char *end;
-    int64_t number = strtoll(*word, &end, 10);
+    if (*digits < '0' || *digits > '9') return 0;
+    errno = 0;
+    *number = strtoll(*word, &end, 10);
     *word = end;
-    return number;
+    return errno != ERANGE;
 }
 
-static void skip(const char **word, char what) {
-    if (**word == what) ++*word;
+static int read_sign(const char **word, char sign) {
+    if (**word != sign) return 0;
+    ++*word;
+    return 1;
 }
 
 /* Adds a member to a container of these types: subscript, `=`, value. */
 static int add_member(yuglemit_container *container, char by, char scalar, const char **word) {
     quoted name = {NULL, 0}, text = {NULL, 0};
     int64_t subscript = 0, number = 0;
-    if (by == 't') name = read_quoted(word);
-    else subscript = read_number(word);
-    skip(word, '=');
-    if (scalar == 't') text = read_quoted(word);
-    else number = read_number(word);
-    skip(word, ',');
+    if (!(by == 't' ? read_quoted(word, &name) : read_number(word, &subscript)) || !read_sign(word, '=')) return MALFORMED;
+    if (!(scalar == 't' ? read_quoted(word, &text) : read_number(word, &number))) return MALFORMED;
     if (by == 't' && scalar == 't') return yuglemit_member_text_by_text(container, name.at, name.length, text.at, text.length);
     if (by == 't') return yuglemit_member_int_by_text(container, name.at, name.length, number);
     if (scalar == 't') return yuglemit_member_text(container, subscript, text.at, text.length);
@@ -70,10 +77,20 @@ static int add_member(yuglemit_container *container, char by, char scalar, const
 static int add_container(yuglemit_inputs *inputs, char by, char scalar, const char *members) {
     yuglemit_container container = {NULL};
     int code = yuglemit_container_new(&container, (uint8_t)by, (uint8_t)scalar);
-    while (*members && code == 0) code = add_member(&container, by, scalar, &members);
+    if (*members && code == 0) {
+        do code = add_member(&container, by, scalar, &members);
+        while (code == 0 && read_sign(&members, ','));
+    }
+    if (*members && code == 0) code = MALFORMED;
     if (code == 0) code = yuglemit_input_container(inputs, &container);
     yuglemit_container_free(container);
     return code;
+}
+
+static int add_int(yuglemit_inputs *inputs, const char *word) {
+    int64_t number;
+    if (!read_number(&word, &number) || *word) return MALFORMED;
+    return yuglemit_input_int(inputs, number);
 }
 
 /* Returns the rest of a word that begins so, or NULL. */
@@ -84,13 +101,13 @@ static const char *after(const char *word, const char *front) {
 
 static int add_input(yuglemit_inputs *inputs, const char *word) {
     const char *rest;
-    if ((rest = after(word, "int:")) != NULL) return yuglemit_input_int(inputs, strtoll(rest, NULL, 10));
+    if ((rest = after(word, "int:")) != NULL) return add_int(inputs, rest);
     if ((rest = after(word, "text:")) != NULL) return yuglemit_input_text(inputs, (const uint8_t *)rest, strlen(rest));
     if ((rest = after(word, "ints:")) != NULL) return add_container(inputs, 'i', 'i', rest);
     if ((rest = after(word, "texts:")) != NULL) return add_container(inputs, 'i', 't', rest);
     if ((rest = after(word, "tints:")) != NULL) return add_container(inputs, 't', 'i', rest);
     if ((rest = after(word, "ttexts:")) != NULL) return add_container(inputs, 't', 't', rest);
-    return YUGLEMIT_NO_INPUTS;
+    return MALFORMED;
 }
 
 static void print_byte(uint8_t byte) {
@@ -176,9 +193,12 @@ static int run(yuglemit_program *program, yuglemit_inputs *inputs, yuglemit_repo
 static int answer(yuglemit_program *program, int count, char **words) {
     yuglemit_inputs inputs = {NULL};
     yuglemit_report report = {NULL};
-    int code = 0, status;
-    for (int k = 0; k < count && code == 0; k++) code = add_input(&inputs, words[k]);
-    if (code) status = fail("input", code);
+    int code = 0, status, k = 0;
+    while (k < count && (code = add_input(&inputs, words[k])) == 0) k++;
+    if (code == MALFORMED) {
+        printf("input word %d refused\n", k + 1);
+        status = YUGLEMIT_STATUS_ARGUMENTS;
+    } else if (code) status = fail("input", code);
     else if ((code = run(program, &inputs, &report)) != 0) status = fail("run", code);
     else status = print_report(&report);
     yuglemit_inputs_free(inputs);
