@@ -196,6 +196,18 @@ no_inputs() {
     [ $? = 66 ]
 }
 
+# Each script says which program it lacks: one in no folder, a folder, a file that can't be executed, a word that isn't on the PATH.
+missing_programs() {
+    for script in parallel.sh array.sh todo.sh; do
+        for it in "$room/nowhere/deep/tw" "$room" "$program" no-such-tw ''; do
+            "$many/$script" "$it" "$program" "$room/few" "$room/none" 2>"$room/message"
+            [ $? = 66 ] && [ "$(cat "$room/message")" = "$script: there is no program $it" ] || return
+        done
+        "$many/$script" "$tw" "$room/nowhere/deep/it.tw" "$room/few" "$room/none" 2>"$room/message"
+        [ $? = 66 ] && grep -q "^$script: $room/nowhere/deep/it.tw.* can't be read$" "$room/message" || return
+    done
+}
+
 refused_input_is_an_answer() {
     mkdir "$room/wrong" && echo 39 >"$room/wrong/w.in" && echo 'text:--help' >"$room/wrong/x.in"
     "$many/parallel.sh" "$tw" "$program" "$room/wrong" "$room/wrong.out"
@@ -239,6 +251,7 @@ scripts() {
     check "parallel.sh: options after --" options_reach_the_run
     check "parallel.sh: a rejected program starts nothing" refused_before_any_run
     check "parallel.sh: no inputs" no_inputs
+    check "parallel.sh, array.sh, todo.sh: no program" missing_programs
     check "parallel.sh: rejected inputs are answers" refused_input_is_an_answer
     check "parallel.sh: names with blanks, quotes and dollars" hard_names
     for signal in TERM HUP INT KILL; do check "parallel.sh: $signal loses no answer" killed $signal; done

@@ -10,7 +10,8 @@
 # prints for its runs, and a minute. The number of jobs keeps to the cluster's MaxArraySize, and a job's time to the partition's limit.
 [ $# -ge 4 ] || { echo "usage: array.sh TW PROGRAM INPUTS RESULTS [FILES A JOB] [OPTION OF SBATCH..] [-- OPTION OF TW RUN..]" >&2; exit 2; }
 here=$(dirname "$(readlink -f "$0")")
-tw=$(command -v "$1") || { echo "array.sh: there is no program $1" >&2; exit 66; }
+tw=$(command -v "$1") && [ -f "$tw" ] && [ -x "$tw" ] || { echo "array.sh: there is no program $1" >&2; exit 66; }
+[ -r "$2" ] && [ -r "$3" ] || { echo "array.sh: $2 or $3 can't be read" >&2; exit 66; }
 tw=$(readlink -f "$tw") program=$(readlink -f "$2") inputs=$(readlink -f "$3") results=$4
 shift 4
 each=100

@@ -10,7 +10,8 @@
 # Programs are copied to other machines once, each file of inputs for its run; nothing stays there.
 [ $# -ge 4 ] || { echo "usage: parallel.sh TW PROGRAM INPUTS RESULTS [OPTION OF PARALLEL..] [-- OPTION OF TW RUN..]" >&2; exit 2; }
 here=$(dirname "$(readlink -f "$0")")
-tw=$(command -v "$1") || { echo "parallel.sh: there is no program $1" >&2; exit 66; }
+tw=$(command -v "$1") && [ -f "$tw" ] && [ -x "$tw" ] || { echo "parallel.sh: there is no program $1" >&2; exit 66; }
+[ -r "$2" ] && [ -r "$3" ] || { echo "parallel.sh: $2 or $3 can't be read" >&2; exit 66; }
 tw=$(readlink -f "$tw") program=$(readlink -f "$2") inputs=$(readlink -f "$3") results=$4
 shift 4
 mkdir -p "$results" && results=$(readlink -f "$results") || exit

@@ -4,8 +4,11 @@
 #
 #   todo.sh TW PROGRAM INPUTS RESULTS [OPTION OF TW RUN..]
 #
-# Ends with 1 if the program is refused, which standard error then says, and with 66 if there are no inputs.
-tw=$1 program=$2 inputs=$3 results=$4
+# Ends with 1 if the program is refused, which standard error then says, and with 66 if TW, PROGRAM or a file of inputs is missing.
+[ $# -ge 4 ] || { echo "usage: todo.sh TW PROGRAM INPUTS RESULTS [OPTION OF TW RUN..]" >&2; exit 2; }
+tw=$(command -v "$1") && [ -f "$tw" ] && [ -x "$tw" ] || { echo "todo.sh: there is no program $1" >&2; exit 66; }
+program=$2 inputs=$3 results=$4
+[ -r "$program" ] || { echo "todo.sh: $program can't be read" >&2; exit 66; }
 shift 4
 text=''
 case $program in
