@@ -235,8 +235,16 @@ killed() {
 }
 
 hard_names() {
-    mkdir "$room/hard names" && cp "$room/inputs/n1.in" "$room/hard names/-a b'c;\$(d).in"
-    "$many/parallel.sh" "$tw" "$program" "$room/hard names" "$room/hard results" && [ "$(answers "$room/hard results")" = 1 ]
+    mkdir "$room/hard names" && for it in "-a b'c;\$(d)" '\' 'a\nb' '\\e "f"'; do cp "$room/inputs/n1.in" "$room/hard names/$it.in"; done
+    "$many/parallel.sh" "$tw" "$program" "$room/hard names" "$room/hard\tresults" && [ "$(answers "$room/hard\tresults")" = 4 ] &&
+        [ -z "$("$many/todo.sh" "$tw" "$program" "$room/hard names" "$room/hard\tresults" | sed 1d)" ]
+}
+
+name_of_two_lines() {
+    mkdir "$room/two lines" && cp "$room/inputs/n1.in" "$room/two lines/a
+b.in"
+    "$many/parallel.sh" "$tw" "$program" "$room/two lines" "$room/none" 2>"$room/message"
+    [ $? = 66 ] && grep -q 'has a line end$' "$room/message"
 }
 
 scripts() {
@@ -253,7 +261,8 @@ scripts() {
     check "parallel.sh: no inputs" no_inputs
     check "parallel.sh, array.sh, todo.sh: no program" missing_programs
     check "parallel.sh: rejected inputs are answers" refused_input_is_an_answer
-    check "parallel.sh: names with blanks, quotes and dollars" hard_names
+    check "parallel.sh: names with blanks, quotes, dollars and backslashes" hard_names
+    check "parallel.sh: no name has two lines" name_of_two_lines
     for signal in TERM HUP INT KILL; do check "parallel.sh: $signal loses no answer" killed $signal; done
 }
 
