@@ -116,11 +116,37 @@ one_line_refused() {
     refuses "$many/lines.sh" "$tw" "$program" "$room/two.jsonl" 1 2 >"$room/lines.out" && grep -q '^{"line":2,.*"refused O02' "$room/lines.out"
 }
 
+# Makes programs with inputs of their own, as assembly text and as hex text: $room/own1.tw, $room/own1.hex and so on.
+own_inputs() {
+    "$tw" asm --names <"$program" >"$room/own.hex" || return
+    for it in "$program" "$room/own.hex"; do
+        case $it in *.hex) end=hex ;; *) end=tw ;; esac
+        { cat "$it" && printf 'inputs\nints:1=5\nend\n'; } >"$room/own1.$end"
+        { cat "$it" && printf 'inputs\r\n[{"1": 5}]\r\nend\r\n'; } >"$room/own2.$end"
+        { cat "$it" && printf 'events\ntake e0\ninputs\nints:1=5\nend\n'; } >"$room/own3.$end"
+        { cat "$it" && printf 'inputs\n'; } >"$room/own4.$end"
+    done
+}
+
+# own_wanted FILE PROGRAM: whether a file has the error that `tw check` prints of such a program, and no output.
+own_wanted() {
+    case $2 in *.tw) wanted='refused A01' ;; *) wanted='refused H01' ;; esac
+    grep -q "$wanted" "$1" && ! grep -q -e 'out' -e 'quiet' "$1"
+}
+
+own_inputs_of_lines() {
+    own_inputs || return
+    for it in "$room"/own?.tw "$room"/own?.hex; do
+        refuses "$many/lines.sh" "$tw" "$it" "$room/inputs.jsonl" 1 2 >"$room/lines.out" && own_wanted "$room/lines.out" "$it" || return
+    done
+}
+
 lines() {
     awk -v count="$count" 'BEGIN { for (i = 1; i <= count; i++) print "[{\"1\": " i ", \"2\": 7}]" }' >"$room/inputs.jsonl"
     check "lines: $count lines in one process" whole_file
     check "lines: four slices side by side have the file's numbers" slices
     check "lines: a rejected line is reported, and by the status" one_line_refused
+    check "lines: a program with inputs of its own is rejected" own_inputs_of_lines
 }
 
 # --- the scripts
@@ -214,6 +240,18 @@ refused_input_is_an_answer() {
     [ "$(status_of "$room/wrong.out/w.status")" = 2 ] && [ "$(status_of "$room/wrong.out/x.status")" = 1 ]
 }
 
+own_inputs_of_one() {
+    own_inputs || return
+    for it in "$room"/own?.tw "$room"/own?.hex; do
+        for options in '' --json; do
+            # shellcheck disable=SC2086
+            "$many/one.sh" "$tw" "$it" "$room/inputs/n1.in" "$room/own" -- $options && [ "$(status_of "$room/own.status")" = 1 ] &&
+                own_wanted "$room/own.out" "$it" || return
+        done
+    done
+    "$many/one.sh" "$tw" "$room/own.hex" "$room/inputs/n1.in" "$room/own" && [ "$(status_of "$room/own.status")" = 0 ] && grep -qx 'out 1 int 50' "$room/own.out"
+}
+
 # Ends the script by a signal while it runs: results stay, and the same command continues.
 killed() {
     rm -rf "$room/killed"
@@ -261,6 +299,7 @@ scripts() {
     check "parallel.sh: no inputs" no_inputs
     check "parallel.sh, array.sh, todo.sh: no program" missing_programs
     check "parallel.sh: rejected inputs are answers" refused_input_is_an_answer
+    check "one.sh: a program with inputs of its own is rejected" own_inputs_of_one
     check "parallel.sh: names with blanks, quotes, dollars and backslashes" hard_names
     check "parallel.sh: no name has two lines" name_of_two_lines
     for signal in TERM HUP INT KILL; do check "parallel.sh: $signal loses no answer" killed $signal; done

@@ -6,7 +6,8 @@
 #
 # TW is the program, such as an installed tw, which needs only the C library. PROGRAM is assembly text if its name ends in .tw or
 # .twn, else hex text. RESULT.status is written last and in one step: the status, then a hash of version, program and options, then a hash of
-# the inputs. If it is there with the same hashes, nothing runs. The variable TW_KEY may give the first hash.
+# the inputs. If it is there with the same hashes, nothing runs. The variable TW_KEY may give the first hash. A program with a line `inputs` of its
+# own is refused, as by `tw check`.
 #
 # Ends with 0 if the run gave an answer (0 quiet, 1 refused, 2 an input refused, 3 stuck, 4 limit). Otherwise it ends with the status of the run,
 # which may be tried again (5 out of memory, 7 a read or write failed, above 128 killed). It ends with 66 if a file can't be read.
@@ -24,7 +25,8 @@ if [ -e "$result.status" ] && read -r known <"$result.status" && [ "${known#* }"
     exit 0
 fi
 rm -f "$result.status"
-{ cat "$program" && printf '\ninputs\n' && cat "$inputs"; } | "$tw" run --inputs "$@" >"$result.part"
+# With a blank after it a program's own line `inputs` begins no inputs.
+{ LC_ALL=C sed 's/^inputs[[:space:]]*$/& /' "$program" && printf '\ninputs\n' && cat "$inputs"; } | "$tw" run --inputs "$@" >"$result.part"
 status=$?
 case $status in
     [01234]) ;;
