@@ -157,7 +157,7 @@ typedef struct yuglemit_bounds {
     uint64_t data;         /* data made by NEW */
     uint64_t members;      /* members that the store holds at any time, beyond those of the inputs */
     uint64_t rules;        /* rules made by RULE */
-    uint64_t bytes;        /* bytes of the texts that the store holds at any time, beyond those of the inputs */
+    uint64_t bytes;        /* bytes of the texts that the store holds at any time, beyond those of the inputs and of outputs that are texts */
     uint64_t events;
 } yuglemit_bounds;
 
@@ -243,7 +243,7 @@ typedef struct yuglemit_caps {
     uint64_t tasks;        /* tasks that are taken */
     uint64_t instructions; /* instructions that are executed */
     uint64_t data;         /* data made by NEW */
-    uint64_t bytes;        /* bytes of the texts that the store holds at any time, beyond those of the inputs */
+    uint64_t bytes;        /* bytes of the texts that the store holds at any time, beyond those of the inputs and of outputs that are texts */
     uint64_t budget;       /* instructions of one task */
     uint64_t members;      /* members that the store holds at any time, beyond those of the inputs */
     uint64_t rules;        /* rules made by RULE */

@@ -51,7 +51,7 @@ class Procedure:
 class Bounds:
     """Bounds of a run, whatever its inputs are, as they are proved; `greatest` is the greatest budget. Another is None past 1,000,000,000,000,
     or if a procedure starts itself, directly or through others (`is_endless`): then only the limit of events bounds a run. `members` and `bytes`
-    are what the store holds at any time beyond those of the inputs; a text has at most 4,096 bytes."""
+    are what the store holds at any time beyond those of the inputs, and of outputs that are texts; a text counts 4,096 bytes."""
 
     greatest: int
     tasks: Optional[int]
