@@ -302,7 +302,7 @@ uint8_t yuglemit_report_subscript_text(yuglemit_report *report, size_t output, s
 uint8_t yuglemit_report_instructions(yuglemit_report *report, uint64_t *count);
 
 /* Print a report as `tw run` prints that of a program's bytes, the events as `tw run --trace` does, and the line of `tw run --json`. The handle
- * of the text holds what is printed. The run isn't made again. */
+ * of the text holds what is printed. The run isn't made again. The report of a run that was stopped ends with `running`. */
 uint8_t yuglemit_print_report(yuglemit_report *report, yuglemit_text *text);
 uint8_t yuglemit_print_trace(yuglemit_report *report, yuglemit_text *text);
 uint8_t yuglemit_print_json(yuglemit_report *report, yuglemit_text *text);

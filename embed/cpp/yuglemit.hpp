@@ -279,7 +279,7 @@ public:
     }
 
     // The report as `tw run` prints that of a program's bytes, the events as `tw run --trace` does, and the line of `tw run --json`, which a run
-    // that was stopped hasn't (Kind::use). The run isn't made again.
+    // that was stopped hasn't (Kind::use). The run isn't made again. The report of a run that was stopped ends with `running`.
     Result<std::string> try_text() {
         return detail::made_text([&](auto text) { return yuglemit_print_report(handle_.get(), text); });
     }

@@ -130,7 +130,7 @@ class Report:
 
     @cached_property
     def text(self) -> str:
-        """The report as `tw run` writes it. The end of a run that was stopped is `limit`."""
+        """The report as `tw run` writes it. That of a run that was stopped ends with `limit`; if it had no event, it is a ValueError."""
         if self.kept_text is not None:
             return self.kept_text
         made = self._cause()

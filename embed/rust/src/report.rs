@@ -52,7 +52,7 @@ impl Report {
         Ok(count)
     }
 
-    /// Returns the report as `tw run` prints that of a program's bytes. The run isn't made again.
+    /// Returns the report as `tw run` prints that of a program's bytes. The run isn't made again. If it was stopped, it ends with `running`.
     pub fn text(&self) -> Result<String, Error> {
         self.printed(|text| unsafe { raw::yuglemit_print_report(self.owner.at(), text) })
     }
