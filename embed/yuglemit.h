@@ -196,7 +196,8 @@ uint8_t yuglemit_source_name(const uint8_t *source, size_t length, size_t proced
 uint8_t yuglemit_input_int(yuglemit_inputs *inputs, int64_t number);
 uint8_t yuglemit_input_text(yuglemit_inputs *inputs, const uint8_t *text, size_t length);
 
-/* Begins a container without members, whose subscripts are integers ('i') or texts ('t') by `by`, and its values by `scalar`. */
+/* Begins a container without members, whose subscripts are integers ('i') or texts ('t') by `by`, and its values by `scalar`. Any letter but 't'
+ * means integers. */
 uint8_t yuglemit_container_new(yuglemit_container *container, uint8_t by, uint8_t scalar);
 
 /* Add a member at the end of a container of these types. Subscripts have to rise, texts by their bytes; otherwise the run is refused. */
