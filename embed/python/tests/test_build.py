@@ -12,6 +12,7 @@ import shutil
 import subprocess
 import sys
 import tempfile
+import types
 import unittest
 from pathlib import Path
 from typing import Any, Dict, List, Tuple
@@ -210,6 +211,70 @@ def random_control(chance: random.Random) -> str:
     lines.append(f"    out.kept[s] = {chance.choice(['m', 'add(m, p)', 's', 'q'])}")
     lines.append(f"out.total = {chance.choice([*futures, 'add(p, q)', 'a'])}")
     return "".join(f"    {line}\n" for line in lines)
+
+
+ORDINARY = """@leaf(otherwise=0)
+def add(x: Int, y: Int) -> Int:
+    return x + y
+
+@control
+def fib(n: Int) -> Int:
+    if n < 2:
+        return n
+    return add(fib(n - 1), fib(n - 2))
+
+@control
+def from_member(a: Array[Int], i: Int) -> Int:
+    if check(s := nth(a, i)):
+        return add(a[s], from_member(a, i + 1))
+    return 0
+
+@control
+def main(x: Int, y: Int, a: Array[Int], q: Out[Int], r: Out[Array[Int]]):
+"""
+BODIES = (
+    ("out.q = add(add(x, 1), x * 2)",),
+    ("out.q = add(a[1], a[2])",),
+    ("out.r[0] = x", "out.r[1] = y", "out.q = x"),
+    ("out.r[0] = add(add(a[1], x * y), a[2])", "out.r[1] = add(a[1], y - x)", "out.q = add(add(x, a[2]), add(a[1], x - 1))"),
+    ("out.q = fib(x)",),
+    ("out.q = from_member(a, 0)",),
+    # The names of two members are taken again while the check may still be refused.
+    ("if check(p := add(add(a[1], a[2]), a[x]), member := a[1], member_2 := a[2]):", "    out.q = add(add(member_2, p), add(member, x * y))", "else:", "    out.q = y"),
+)
+
+
+def plain(text: str, x: int, y: int, a: Dict[int, int]) -> List[Any]:
+    """Returns the outputs q and r of a text that Python runs as it is."""
+    out = types.SimpleNamespace(q=None, r={})
+    names: Dict[str, Any] = {"out": out, "control": lambda it: it, "leaf": lambda **_: lambda it: it}
+    names["check"] = lambda *found: all(it is not None for it in found)
+    names["nth"] = lambda members, index: sorted(members)[index] if index < len(members) else None
+    exec("from __future__ import annotations\n" + text, names)
+    names["main"](x, y, a, None, None)
+    return [out.q, out.r]
+
+
+class Control(unittest.TestCase):
+    """Ordinary control functions, whose rights are held while an instruction may be refused, answer as Python does."""
+
+    def test_ordinary(self) -> None:
+        for body in BODIES:
+            text = ORDINARY + "".join(f"    {line}\n" for line in body)
+            with self.subTest(body):
+                program = build_text(HEAD + text).program
+                for x, y in ((1, 2), (2, -7), (1, 0)):
+                    report = program.run(x, y, {1: 10, 2: 5})
+                    self.assertEqual((report.end, report.outputs), ("quiet", plain(text, x, y, {1: 10, 2: 5})))
+
+    def test_refused(self) -> None:
+        """Past 64 bits, and without a member, the outputs stay unset."""
+        for body in (BODIES[0], BODIES[3]):
+            program = build_text(HEAD + ORDINARY + "".join(f"    {line}\n" for line in body)).program
+            for x, a in ((2**62, {1: 10, 2: 5}), (2, {1: 10})):
+                report = program.run(x, 2, a)
+                expected = ("quiet", [7, {}]) if body == BODIES[0] and x == 2 else ("stuck", [None, {}])
+                self.assertEqual((report.end, report.outputs), expected)
 
 
 MAIN = "@control\ndef main(x: Int, xs: Array[Int], y: Out[Int]):\n"

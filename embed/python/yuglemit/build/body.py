@@ -146,7 +146,8 @@ class Body:
 
     def hold(self, key: str, wanted: str, mode: str, kind: DataType) -> Right:
         """Takes a register for a right that the next instruction fills; a variable has the same register on each way."""
-        register = self.places.get(key) or self.rights.take(wanted, self.fail)
+        held = [*(it.register for it in self.now.rights.values()), *self.places.values()]
+        register = self.places.get(key) or self.rights.take(wanted, held, self.fail)
         if not key.startswith("#"):
             self.places[key] = register
         right = Right(register, mode, kind)
@@ -156,7 +157,7 @@ class Body:
     def forget(self, keys: Iterable[str]) -> None:
         """Gives the registers of variables back that a loop made."""
         for key in keys:
-            self.rights.release(self.places.pop(key))
+            del self.places[key]
 
     def new_key(self) -> str:
         """Returns a key for a right without a variable."""
@@ -165,10 +166,7 @@ class Body:
 
     def spend(self, key: str) -> Right:
         """Notes that the right with this key is gone: an instruction takes it."""
-        right = self.now.rights.pop(key)
-        if key.startswith("#"):
-            self.rights.release(right.register)
-        return right
+        return self.now.rights.pop(key)
 
     def drop(self, key: str) -> None:
         """Drops a right."""

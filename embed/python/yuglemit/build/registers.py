@@ -72,31 +72,33 @@ class Values:
 
 @dataclass
 class Rights:
-    """The right registers; `names` lists every name that one of them got, with its number."""
+    """The right registers: `numbers` has that of every name, those of the parameters first. Which of them are held, each way through the code says."""
 
     taken: Names
-    names: List[Tuple[str, int]] = field(default_factory=list)
-    held: Dict[int, str] = field(default_factory=dict)
+    numbers: Dict[str, int] = field(default_factory=dict)
+    parameters: int = 0
+
+    @property
+    def names(self) -> List[Tuple[str, int]]:
+        """The names that aren't parameters', with their numbers."""
+        return list(self.numbers.items())[self.parameters :]
 
     def parameter(self, name: str) -> str:
         """Gives the next register to a parameter, which the head of the procedure names."""
         named = self.taken.new(name)
-        self.held[len(self.held)] = named
+        self.numbers[named] = self.parameters
+        self.parameters += 1
         return named
 
-    def take(self, wanted: str, fail: Fail) -> str:
-        """Returns a register that is free, under a name."""
-        for number in range(MOST):
-            if number not in self.held:
-                known = next((name for name, it in self.names if it == number and re.fullmatch(rf"{re.escape(wanted)}(_\d+)?", name)), None)
-                name = known or self.taken.new(wanted)
-                if known is None:
-                    self.names.append((name, number))
-                self.held[number] = name
+    def take(self, wanted: str, held: Iterable[str], fail: Fail) -> str:
+        """Returns the first register that isn't held, under a name."""
+        used = {self.numbers[it]: it for it in held}
+        number = next((it for it in range(MOST) if it not in used), MOST)
+        if number == MOST:
+            fail(f"more than {MOST} data at once; held here are {', '.join(used.values())}: make two tasks of it, or fewer variables")
+        for name, it in self.names:
+            if it == number and re.fullmatch(rf"{re.escape(wanted)}(_\d+)?", name):
                 return name
-        fail(f"more than {MOST} data at once; held here are {', '.join(self.held.values())}: make two tasks of it, or fewer variables")
-        raise AssertionError
-
-    def release(self, name: str) -> None:
-        """Gives a register back."""
-        self.held = {number: it for number, it in self.held.items() if it != name}
+        name = self.taken.new(wanted)
+        self.numbers[name] = number
+        return name

@@ -376,8 +376,11 @@ def ends(body: Body, given: Optional[Dict[str, str]] = None) -> None:
 def fails(body: Body) -> None:
     """Writes the end of a task in which an instruction is refused outside of check(..)."""
     scalars = [f"out.{it.name}" for it in body.function.outputs if it.type.is_scalar]
+    body.places.clear()
     if body.function.kind == "control":
-        for key in [it for it in scalars if it in body.now.rights]:
+        for key in [it for it in body.now.rights if it not in scalars]:
+            body.drop(key)
+        for key in list(body.now.rights):
             left_unset(body, key)
     elif scalars:
         otherwise = body.function.otherwise
