@@ -241,7 +241,13 @@ BODIES = (
     ("out.q = from_member(a, 0)",),
     # The names of two members are taken again while the check may still be refused.
     ("if check(p := add(add(a[1], a[2]), a[x]), member := a[1], member_2 := a[2]):", "    out.q = add(add(member_2, p), add(member, x * y))", "else:", "    out.q = y"),
+    # A variable's result is given to a call inside of that whose result is its next one.
+    ("k = add(x, y)", "for i in range(3):", "    k = add(add(k, 1), x * i)", "out.q = k"),
+    ("k = add(x, y)", "for i in range(3):", "    for j in range(2):", "        k = add(a[2], add(k, i * j - x))", "out.q = k"),
+    ("k = add(x, y)", "if check(n := add(add(k, 1), x * y)):", "    out.q = n", "else:", "    out.q = y"),
 )
+
+LOOP = ("k = add(x, y)", "for i in range(3):", "    k = add(add(k, 1), y * (x + i))", "    out.r[i] = i", "out.q = k")
 
 
 def plain(text: str, x: int, y: int, a: Dict[int, int]) -> List[Any]:
@@ -275,6 +281,13 @@ class Control(unittest.TestCase):
                 report = program.run(x, 2, a)
                 expected = ("quiet", [7, {}]) if body == BODIES[0] and x == 2 else ("stuck", [None, {}])
                 self.assertEqual((report.end, report.outputs), expected)
+
+    def test_refused_after_a_result_is_given_away(self) -> None:
+        """In a check(..) the else follows; a loop ends in the turn in which 1 * (2**63 - 2 + i) doesn't fit."""
+        loop = build_text(HEAD + ORDINARY + "".join(f"    {line}\n" for line in LOOP)).program.run(2**63 - 2, 1, {})
+        self.assertEqual((loop.end, loop.outputs), ("stuck", [None, {0: 0, 1: 1}]))
+        check = build_text(HEAD + ORDINARY + "".join(f"    {line}\n" for line in BODIES[-1])).program
+        self.assertEqual([check.run(x, 4, {}).outputs[0] for x in (2**62, 2**61, 4)], [4, 4, 25])
 
 
 MAIN = "@control\ndef main(x: Int, xs: Array[Int], y: Out[Int]):\n"

@@ -200,6 +200,12 @@ class Body:
         self.failing.append(Failing(self.now.copy()))
         return self.failing[-1]
 
+    def shrink_home(self, failing: Failing) -> State:
+        """Takes what a way has given away from the rights held at home, which is returned: nothing uses these rights any more."""
+        for _, state in failing.pads.values():
+            failing.home.rights = {key: it for key, it in failing.home.rights.items() if key in state.rights}
+        return failing.home
+
     def put_pads(self, failing: Failing, goal: str) -> None:
         """Writes the ways on which refused instructions come home, each to the label `goal`."""
         kept = self.state

@@ -301,15 +301,15 @@ def _check(body: Body, node: ast.expr, yes: str, no: str) -> State:
     if not node.args or node.keywords:
         body.fail("check takes expressions: what may be refused", node)
     failing = body.begin_failing()
-    before = body.now.copy()
     for it in node.args:
         _attempt(body, it)
     body.failing.pop()
     if not failing.pads:
         body.fail(f"nothing in {ast.unparse(node)} can be refused", node)
     body.code.put("JMP", yes)
+    otherwise = body.shrink_home(failing)
     body.put_pads(failing, no)
-    return before
+    return otherwise
 
 
 def _attempt(body: Body, node: ast.expr) -> None:

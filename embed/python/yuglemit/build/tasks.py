@@ -152,9 +152,10 @@ def is_last_use(body: Body, node: ast.Name) -> bool:
     """Whether nothing needs a variable's right after this use: then the right itself is given, and else a copy."""
     statement, name = body.node, node.id
     uses = [it for it in ast.walk(statement) if isinstance(it, ast.Name) and it.id == name and isinstance(it.ctx, ast.Load)]
+    is_kept = bool(body.loops) and name in body.loops[-1].home.rights
     if isinstance(statement, ast.Assign) and any(name_of(it) == name for it in statement.targets):
-        return len(uses) == 1
-    if len(uses) > 1 or body.loops and name in body.loops[-1].home.rights:
+        return len(uses) == 1 and (not is_kept or node is statement.value or node in getattr(statement.value, "args", ()))
+    if len(uses) > 1 or is_kept:
         return False
     here = (node.lineno, node.col_offset)
     names = (it for it in ast.walk(body.function.node) if isinstance(it, ast.Name) and it.id == name and isinstance(it.ctx, ast.Load))
