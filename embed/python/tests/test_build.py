@@ -4,6 +4,7 @@
 from __future__ import annotations
 
 import ast
+import math
 import os
 import random
 import re
@@ -273,6 +274,39 @@ class Control(unittest.TestCase):
                     report = program.run(x, y, {1: 10, 2: 5})
                     self.assertEqual((report.end, report.outputs), ("quiet", plain(text, x, y, {1: 10, 2: 5})))
 
+    def test_registers_of_expressions_become_variables(self) -> None:
+        """The sum needs 12 registers for a moment, and later there are 13 variables."""
+        nested = " + (".join(f"x * {number}" for number in range(1, 13)) + ")" * 11
+        body = [f"v0 = {nested}", *(f"v{number} = y + {number}" for number in range(1, 11)), "out.q = v0 + " + " * ".join(f"v{number}" for number in range(1, 11))]
+        program = build_text(HEAD + ORDINARY + "".join(f"    {line}\n" for line in body)).program
+        for x, y in ((0, -1), (3, -4), (-7, 2)):
+            self.assertEqual(program.run(x, y, {}).outputs[0], 78 * x + math.prod(y + number for number in range(1, 11)))
+
+    def test_data_at_once(self) -> None:
+        """The inputs are ints, read and dropped; a call makes one datum, of which it has both rights for a moment. So 14 fit beside the output."""
+        names = [f"i{number}" for number in range(7)]
+        head = f"@leaf\ndef f(n: Int) -> Int:\n    return n\n@control\ndef main({', '.join(f'{it}: Int' for it in names)}, q: Out[Int]):\n"
+        for count in (14, 15):
+            text = head + "".join(f"    r{number} = f({names[number % 7]})\n" for number in range(count)) + f"    out.q = r{count - 1}\n"
+            if count == 14:
+                self.assertEqual(build_text(HEAD + text).program.run(*range(10, 17)).outputs, [16])
+            else:
+                held = ", ".join(f"r{number}" for number in range(14))
+                with self.assertRaisesRegex(BuildError, f"more than 16 data at once; held here are out.q, {held}, and 1 of this line: make two"):
+                    build_text(HEAD + text)
+
+    def test_registers_are_taken_again(self) -> None:
+        """Of 20 results each is given away before the next, and the variable x has another register later; either may be refused."""
+        lines = [f"r{number} = add(x, {number})\n    out.r[{number}] = r{number}" for number in range(20)]
+        lines += ["k = add(x, y)", "out.r[20] = add(k, x * y)", "n = add(x, y)", "k = add(y, y)", "out.r[21] = add(n, x * y)", "out.q = add(k, y * y)"]
+        program = build_text(HEAD + ORDINARY + "".join(f"    {line}\n" for line in lines)).program
+        kept = {number: 3 + number for number in range(20)}
+        self.assertEqual(program.run(3, 4, {}).outputs, [8 + 16, {**kept, 20: 7 + 12, 21: 7 + 12}])
+        report = program.run(3, 2**62, {})
+        self.assertEqual((report.end, report.outputs), ("stuck", [None, kept]))
+        report = program.run(0, 2**62, {})
+        self.assertEqual((report.end, report.outputs), ("stuck", [None, {number: number for number in range(20)} | {20: 2**62, 21: 2**62}]))
+
     def test_refused(self) -> None:
         """Past 64 bits, and without a member, the outputs stay unset."""
         for body in (BODIES[0], BODIES[3]):
@@ -363,7 +397,7 @@ ERRORS: List[Tuple[str, int, int, str]] = [
     ("@leaf\ndef f(n: Int) -> Int:\n    return n\n" + MAIN + "    a, b = f(x)\n", 7, 12, "1 results, 2 are asked"),
     (MAIN + "    main(x, xs, out.y)\n", 4, 5, "called by the run alone"),
     (MAIN + "".join(f"    v{i} = x\n" for i in range(16)) + "    out.y = 1\n", 19, 5, "more than 16 values"),
-    ("@leaf\ndef f(n: Int) -> Int:\n    return n\n" + MAIN + "".join(f"    v{i} = f(x)\n" for i in range(16)) + "    out.y = 1\n", 19, 5, "more than 16 data"),
+    ("@leaf\ndef f(n: Int) -> Int:\n    return n\n" + MAIN + "".join(f"    v{i} = f(x)\n" for i in range(16)) + "    out.y = 1\n", 20, 5, "more than 16 data at once; held here are xs, out.y, v0, v1, v2, v3, v4, v5, v6, v7, v8, v9, v10, v11, v12, and 1 of this line: make"),
     (MAIN + "    for a in range(1000):\n        for b in range(1000):\n            for c in range(1000):\n                for d in range(1000):\n                    pass\n    out.y = 1\n", 3, 1, "V17"),
 ]
 

@@ -45,7 +45,7 @@ class Failing:
     """Where refused instructions continue: a way for each set of rights that was held, all of which lead to `home`."""
 
     home: State
-    pads: Dict[FrozenSet[str], Tuple[str, State]] = field(default_factory=dict)
+    pads: Dict[FrozenSet[Tuple[str, Right]], Tuple[str, State]] = field(default_factory=dict)
     first: Place = (1, 0)
 
 
@@ -146,7 +146,7 @@ class Body:
 
     def hold(self, key: str, wanted: str, mode: str, kind: DataType) -> Right:
         """Takes a register for a right that the next instruction fills; a variable has the same register on each way."""
-        held = [*(it.register for it in self.now.rights.values()), *self.places.values()]
+        held = {**self.places, **{its: it.register for its, it in self.now.rights.items()}}
         register = self.places.get(key) or self.rights.take(wanted, held, self.fail)
         if not key.startswith("#"):
             self.places[key] = register
@@ -155,7 +155,7 @@ class Body:
         return right
 
     def forget(self, keys: Iterable[str]) -> None:
-        """Gives the registers of variables back that a loop made."""
+        """Gives the registers of variables back that nothing uses any more."""
         for key in keys:
             del self.places[key]
 
@@ -188,7 +188,7 @@ class Body:
     def refused(self) -> str:
         """Returns the label to which an instruction skips if it is refused here."""
         failing = self.failing[-1]
-        rights = frozenset(self.now.rights)
+        rights = frozenset(self.now.rights.items())
         if not failing.pads:
             failing.first = self.code.place
         if rights not in failing.pads:

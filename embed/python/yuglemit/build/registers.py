@@ -45,7 +45,7 @@ class Values:
     def variable(self, key: str, kind: DataType, fail: Fail) -> str:
         """Returns the register of a variable; at first it gets one."""
         if key not in self.variables:
-            self.variables[key] = self._add(key, kind, fail)
+            self.variables[key] = self.temporary(kind, fail) if len(self.listed) == MOST else self._add(key, kind, fail)
         return self.variables[key]
 
     def temporary(self, kind: DataType, fail: Fail) -> str:
@@ -90,12 +90,14 @@ class Rights:
         self.parameters += 1
         return named
 
-    def take(self, wanted: str, held: Iterable[str], fail: Fail) -> str:
-        """Returns the first register that isn't held, under a name."""
-        used = {self.numbers[it]: it for it in held}
+    def take(self, wanted: str, held: Dict[str, str], fail: Fail) -> str:
+        """Returns the first register that isn't held, under a name; those that are held are given by the keys of their rights."""
+        used = {self.numbers[it] for it in held.values()}
         number = next((it for it in range(MOST) if it not in used), MOST)
         if number == MOST:
-            fail(f"more than {MOST} data at once; held here are {', '.join(used.values())}: make two tasks of it, or fewer variables")
+            named = dict.fromkeys(it.rstrip(">") for it in held if not it.startswith("#"))
+            others = sum(it.startswith("#") for it in held)
+            fail(f"more than {MOST} data at once; held here are {', '.join(named)}, and {others} of this line: make two tasks of it, or fewer variables")
         for name, it in self.names:
             if it == number and re.fullmatch(rf"{re.escape(wanted)}(_\d+)?", name):
                 return name

@@ -22,6 +22,8 @@ def block(body: Body, statements: Sequence[ast.stmt]) -> None:
         if body.state is None:
             body.node = statement
             body.fail("this line is never reached")
+        if statements is body.function.node.body:
+            body.forget([it for it in body.places if it not in body.now.rights])
         body.node = statement
         body.code.at(statement)
         line = body.source.lines[statement.lineno - 1].strip()
