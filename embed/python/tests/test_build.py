@@ -114,20 +114,31 @@ class RandomFunctions(unittest.TestCase):
             return list(REFUSED)
 
     def test_control_functions(self) -> None:
+        taken = 0
         for seed in range(FUNCTIONS * 3 // 10):
             chance = random.Random(seed)
             body = random_control(chance)
             text = HEAD + LEAVES + "@control\ndef main(a: Int, b: Int, xs: Array[Int], total: Out[Int], kept: Out[Array[Int]]):\n" + body
-            program = build_text(text).program
+            try:
+                program = build_text(text).program
+            except BuildError as why:
+                self.assertRegex(why.message, "^more than 16 values at once", f"{seed}\n{text}")
+                continue
+            taken += 1
             names: Dict[str, Any] = {"Number": random_programs.Number, "Overflow": random_programs.Overflow}
-            exec(PYTHON_LEAVES + "def main(a, b, xs, out, each, insert):\n" + body, names)
+            exec(PYTHON_LEAVES + "def main(a, b, xs, out):\n" + body, names)
             for _ in range(3):
                 a, b = chance.randrange(-5, 6), chance.randrange(-5, 6)
                 xs = {chance.randrange(-9, 9): chance.randrange(-9, 9) for _ in range(chance.randrange(5))}
                 out = type("Outputs", (), {"kept": {}})()
-                names["main"](a, b, xs, out, lambda it, most: sorted(it.items())[:most], None)
+                try:
+                    names["main"](a, b, xs, out)
+                except ZeroDivisionError:
+                    out.total = None
                 report = program.run(a, b, xs)
-                self.assertEqual((report.end, report.outputs), ("quiet", [out.total, out.kept]), f"{seed} {a} {b} {xs}\n{text}")
+                end = "stuck" if out.total is None else "quiet"
+                self.assertEqual((report.end, report.outputs), (end, [out.total, out.kept]), f"{seed} {a} {b} {xs}\n{text}")
+        self.assertGreaterEqual(taken, FUNCTIONS * 29 // 100)
 
 
 LEAVES = """@leaf(otherwise=0)
@@ -170,22 +181,40 @@ def both(x, y):
 def pair(x):
     return x, x
 
+def each(members, most):
+    return sorted(members.items())[:most]
+
+def nth(members, index):
+    return sorted(members)[index] if 0 <= index < len(members) else None
+
+def check(found):
+    return found is not None
+
 """
 
 
 def random_control(chance: random.Random) -> str:
     """The body of a random control function, which Python runs as it is."""
-    futures = ["p", "q", "r"]
+    futures, members = ["p", "q", "r"], list[str]()
     lines = ["p = 0", "q = add(a, b)", "r = b", "r = mix(a, r)"]
 
     def future(deep: int = 0) -> str:
         if deep < 2 and chance.random() < 0.5:
             return f"{chance.choice(['add', 'mix', 'both'])}({future(deep + 1)}, {future(deep + 1)})"
+        if chance.random() < 0.3:
+            return chance.choice(["a * 2", "b - a", "a * b + 1", *members, *members] + ["a // b"] * (chance.random() < 0.1))
         return chance.choice([*futures, "a", "b", str(chance.randrange(9))])
+
+    def of_member(indent: str, depth: int) -> None:
+        lines.append(f"{indent}if check(k{depth} := nth(xs, {chance.choice(['a', 'b', '0', '1'])})):")
+        members.append(f"xs[k{depth}]")
+        lines.append(f"{indent}    {chance.choice(futures)} = add({future()}, {future()})")
+        statements(indent + "    ", depth + 1, 1)
+        members.pop()
 
     def statements(indent: str, depth: int, count: int) -> None:
         for _ in range(count):
-            kind = chance.randrange(8)
+            kind = chance.randrange(9)
             if kind < 4 or depth == 2:
                 lines.append(f"{indent}{chance.choice(futures)} = {chance.choice(['add', 'mix', 'both'])}({future()}, {future()})")
             elif kind == 4:
@@ -202,15 +231,19 @@ def random_control(chance: random.Random) -> str:
                     lines.append(f"{indent}    if i{depth} == b:")
                     lines.append(f"{indent}        {chance.choice(['break', 'continue'])}")
                 statements(indent + "    ", depth + 1, 2)
-            else:
+            elif kind == 7:
                 lines.append(f"{indent}for s{depth}, m{depth} in each(xs, 5):")
                 lines.append(f"{indent}    q = add(q, m{depth})")
+                members.append(f"xs[s{depth}]")
                 statements(indent + "    ", depth + 1, 1)
+                members.pop()
+            else:
+                of_member(indent, depth)
 
     statements("", 0, chance.randrange(2, 6))
     lines.append("for s, m in each(xs, 5):")
-    lines.append(f"    out.kept[s] = {chance.choice(['m', 'add(m, p)', 's', 'q'])}")
-    lines.append(f"out.total = {chance.choice([*futures, 'add(p, q)', 'a'])}")
+    lines.append(f"    out.kept[s] = {chance.choice(['m', 'add(m, p)', 's', 'q', 'add(xs[s], xs[s])', 'add(add(m, q), s * 2)'])}")
+    lines.append(f"out.total = {chance.choice([*futures, 'add(p, q)', 'a', 'add(add(p, 1), a * 2)'])}")
     return "".join(f"    {line}\n" for line in lines)
 
 
