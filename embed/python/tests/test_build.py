@@ -4,6 +4,7 @@
 from __future__ import annotations
 
 import ast
+import itertools
 import math
 import os
 import random
@@ -509,6 +510,21 @@ class Texts(unittest.TestCase):
         built = build_text(HEAD + f"@control\ndef main(y: Out[Text]):\n    out.y = {word!a}\n")
         self.assertEqual(built.program.run().outputs, [word])
         self.assertNotRegex(built.text, "[\x00-\x09\x0b-\x1f\x7f]")
+
+    def test_names_that_the_text_has_no_place_for(self) -> None:
+        """Words of the assembly, names of registers, other first letters and more than 64 bytes; f(f(4)) is 6, and f has two forms."""
+        words = ["any", "v0", "d15", "val", "closed", "ref", "write", "_f", "__", "_", "f" * 64, "f" * 65, "f" * 300, "the_v0"]
+        for f, its in itertools.product(words, ("n", "f", *words)):
+            text = f"@leaf(otherwise=0)\ndef {f}(n: Int) -> Int:\n    return n + 1\n@control\ndef main(x: Int, y: Out[Int]):\n    {its} = x * 2\n    out.y = {f}({f}({its}))\n"
+            if f != its:
+                self.assertEqual(build_text(HEAD + text).program.run(2).outputs, [6], (f, its))
+
+    def test_functions_whose_names_are_changed(self) -> None:
+        """These differ from the 51st letter on, or only by how the first is changed."""
+        names = ["f" * 50 + it for it in ("", "a", "b")] + ["v0", "the_v0", "the_v0_2"]
+        text = "".join(f"@leaf(otherwise=0)\ndef {name}(n: Int) -> Int:\n    return n * 10 + {number}\n" for number, name in enumerate(names))
+        text += "@control\ndef main(y: Out[Int]):\n    out.y = " + "(".join(names) + "(0" + ")" * len(names) + "\n"
+        self.assertEqual(build_text(HEAD + text).program.run().outputs, [543210])
 
     def test_functions_with_names_of_helpers(self) -> None:
         text = "@leaf\ndef copy_int(n: Int) -> Int:\n    return n\n@control\ndef main(x: Int, y: Out[Int]):\n    a = copy_int(x)\n    out.y = a\n"

@@ -9,7 +9,7 @@ from typing import Dict, FrozenSet, Iterable, List, NoReturn, Optional, Set, Tup
 
 from .code import Code, Place
 from .kinds import Kinds
-from .registers import Names, Rights, Values
+from .registers import Names, Rights, Values, name_in_text
 from .source import Function, Source
 from .types import DataType
 
@@ -88,10 +88,11 @@ class Unit:
         """Returns the procedure's name of a variant, which is compiled once."""
         if variant not in self.names:
             taken = {*self.names.values(), *HELPERS}
-            name, number = variant.function.name, 1
+            base, number = name_in_text(variant.function.name), 1
+            name = base
             while name in taken or name in self.source.functions and name != variant.function.name:
                 number += 1
-                name = f"{variant.function.name}_{number}"
+                name = f"{base}_{number}"
             self.names[variant] = name
             self.queue.append(variant)
         return self.names[variant]
@@ -105,7 +106,7 @@ class Body:
         self.variant = variant
         self.kinds = Kinds(unit.source, variant.function)
         self.code = Code()
-        names = Names([*unit.source.functions, *HELPERS])
+        names = Names([*map(name_in_text, unit.source.functions), *HELPERS])
         self.values, self.rights = Values(names), Rights(names)
         self.state: Optional[State] = State()
         self.failing: List[Failing] = []

@@ -13,6 +13,14 @@ MOST = 16
 Fail = Callable[[str], None]
 
 
+def name_in_text(wanted: str) -> str:
+    """Returns a name that the text may have for another: letters, digits and _, at most 54, and no word of a register or a mode."""
+    base = re.sub(r"\W", "_", wanted, flags=re.A)[:50] or "it"
+    if re.fullmatch(r"any|val|closed|ref|write|[vd]\d+|_.*|\d.*", base):
+        return f"the_{base}".replace("__", "_")
+    return base
+
+
 class Names:
     """Names of a procedure's registers, each used once, none of them a procedure's: these are called as functions, or so and a number."""
 
@@ -22,9 +30,9 @@ class Names:
 
     def new(self, wanted: str) -> str:
         """Returns this name, or one like it that isn't taken."""
-        base = re.sub(r"\W", "_", wanted, flags=re.A)[:50] or "it"
-        if re.fullmatch(r"any|[vd]\d+|_.*|\d.*", base) or self._procedures.fullmatch(base):
-            base = f"the_{base}".replace("__", "_")
+        base = name_in_text(wanted)
+        if self._procedures.fullmatch(base):
+            base = f"the_{base}"
         name, number = base, 1
         while name in self._taken:
             number += 1
