@@ -370,6 +370,8 @@ ERRORS: List[Tuple[str, int, int, str]] = [
     ("@control\ndef main(*x: Int):\n    pass\n", 3, 1, "no defaults"),
     ("@control\ndef main(x: Int = 3):\n    pass\n", 3, 1, "no defaults"),
     ("@control\ndef main(a: Int, b: Int, c: Int, d: Int, e: Int, f: Int, g: Int, h: Int, i: Int):\n    pass\n", 3, 1, "at most 8"),
+    ("@control\ndef main(x: Int, x: Out[Int]):\n    out.x = x\n", 3, 10, "x is another parameter"),
+    ("@leaf\ndef f(n: Int, result: Out[Int]) -> Int:\n    return n\n" + MAIN + "    out.y = 1\n", 3, 15, "result is another parameter or what is returned"),
     ("@leaf(often=1)\ndef f():\n    pass\n" + MAIN + "    out.y = 1\n", 2, 2, "otherwise"),
     ("@leaf(otherwise=x)\ndef f() -> Int:\n    return 1\n" + MAIN + "    out.y = 1\n", 2, 17, "expected a constant"),
     ("@leaf(otherwise='x')\ndef f() -> Int:\n    return 1\n" + MAIN + "    out.y = 1\n", 3, 1, "otherwise: expected Int"),
@@ -429,6 +431,11 @@ ERRORS: List[Tuple[str, int, int, str]] = [
     ("@leaf\ndef f(n: Int) -> Int:\n    return n\n" + MAIN + "    for i in range(2):\n        out.y = f(x)\n", 8, 9, "not in a loop"),
     ("@leaf\ndef f(n: Int) -> tuple[Int, Int]:\n    return n, n\n" + MAIN + "    out.y = f(x)\n", 7, 13, "2 results: one is needed|has 2 results"),
     ("@leaf\ndef f(n: Int) -> Int:\n    return n\n" + MAIN + "    a, b = f(x)\n", 7, 12, "1 results, 2 are asked"),
+    ("@leaf\ndef f(n: Int) -> Int:\n    return n\n@control\ndef g(n: Int) -> Int:\n    for i in range(3):\n        if i == n:\n            return f(n)\n    return n\n" + MAIN + "    out.y = g(x)\n", 9, 13, "a result that is known later.* can't be returned in a loop: .* return that after the loop"),
+    ("@leaf\ndef f(n: Int) -> tuple[Int, Int]:\n    return n, n\n@control\ndef g(ns: Array[Int]) -> tuple[Int, Int]:\n    for s, n in ns:\n        return f(n)\n    return 1, 2\n" + MAIN + "    y, z = g(xs)\n    out.y = y\n", 8, 9, "a result that is known later"),
+    ("@control\ndef g(ns: Array[Int]) -> tuple[Int, Int]:\n    for s, n in ns:\n        return 1, n\n    return 1, 2\n" + MAIN + "    y, z = g(xs)\n    out.y = y\n", 5, 9, "a result that is known later"),
+    ("@leaf\ndef f(n: Int) -> Int:\n    return 'a'\n" + MAIN + "    out.y = f(x)\n", 4, 12, "the result of f is Int, and can't be set to Text"),
+    ("@leaf\ndef f(n: Int) -> tuple[Int, Text]:\n    return n, n\n" + MAIN + "    out.y, z = f(x)\n", 4, 15, "result 2 of f is Text, and can't be set to Int"),
     (MAIN + "    main(x, xs, out.y)\n", 4, 5, "called by the run alone"),
     (MAIN + "".join(f"    v{i} = x\n" for i in range(16)) + "    out.y = 1\n", 19, 5, "more than 16 values"),
     ("@leaf\ndef f(n: Int) -> Int:\n    return n\n" + MAIN + "".join(f"    v{i} = f(x)\n" for i in range(16)) + "    out.y = 1\n", 20, 5, "more than 16 data at once; held here are xs, out.y, v0, v1, v2, v3, v4, v5, v6, v7, v8, v9, v10, v11, v12, and 1 of this line: make"),
@@ -493,6 +500,13 @@ class Texts(unittest.TestCase):
         calls = [line.split()[:4] for line in text.split("\n") if line.startswith(("PUT", "RULE"))]
         self.assertEqual(calls, [["PUT", "f", "-7", "any"], ["RULE", "f_2", "0", "3"], ["RULEV", "f_2", calls[2][2], "any"]])
         self.assertRegex(calls[2][2], "^[a-z]")
+
+    def test_return_in_a_loop_of_a_control_function(self) -> None:
+        """A value can be returned there; the advice of the error for another is followed in g."""
+        text = LEAVES + "@control\ndef f(n: Int) -> Int:\n    for i in range(4):\n        if i == n:\n            return i * 10\n    return 7\n"
+        text += "@control\ndef g(n: Int) -> Int:\n    found = add(n, 0)\n    for i in range(4):\n        if i == n:\n            found = add(found, i * 10)\n            break\n    return found\n"
+        text += "@control\ndef main(n: Int, x: Out[Int], y: Out[Int]):\n    out.x, out.y = f(n), g(n)\n"
+        self.assertEqual([build_text(HEAD + text).program.run(n).outputs for n in (0, 3, 4)], [[0, 0], [30, 33], [7, 4]])
 
     def test_constants(self) -> None:
         numbers = ("-7 // 2", "-7 % 3", "7 // -2", "2**62 - 1 + 2**62", "-(2**63)", "3 * (4 - 6)")

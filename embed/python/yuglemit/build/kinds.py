@@ -50,11 +50,18 @@ class Kinds:
                 self.found[key] = kind
             return
         if known.type != kind.type or "container" in (known.form, kind.form) and known.form != kind.form and not key.startswith("out."):
-            self.source.fail(node, f"{key} is {known}, and can't be set to {kind}: a name has one type")
+            self.source.fail(node, f"{self._named(key)} is {known}, and can't be set to {kind}: a name has one type")
         if known.form == "value" and kind.form == "future":
             if any(it.name == key for it in self.function.parameters):
                 self.source.fail(node, f"{key} is a parameter: take another name for the result of a task")
             self.found[key] = kind
+
+    def _named(self, key: str) -> str:
+        """Returns the name of a variable, an output or a result in errors."""
+        names = [f"out.{it}" for it in self.function.result_names]
+        if key not in names:
+            return key
+        return f"the result of {self.function.name}" if len(names) == 1 else f"result {names.index(key) + 1} of {self.function.name}"
 
     def _assignments(self, body: List[ast.stmt]) -> Iterator[Tuple[str, Kind, ast.AST]]:
         for statement in body:

@@ -177,6 +177,10 @@ def _function(source: Source, node: ast.FunctionDef, kind: str, otherwise: Optio
     made = Function(node.name, kind, parameters, _results(source, node), otherwise, node)
     if len(parameters) + len(made.results) > MOST_ARGUMENTS:
         source.fail(node, f"{len(parameters)} parameters and {len(made.results)} results: together at most {MOST_ARGUMENTS}")
+    names = [*(it.name for it in parameters), *made.result_names]
+    for number, it in enumerate(arguments.args):
+        if it.arg in names[number + 1 :]:
+            source.fail(it, f"{it.arg} is another parameter or what is returned: take another name")
     if kind == "control" and otherwise is not None:
         source.fail(node, "otherwise is for leaf functions; what a control function doesn't set stays unset")
     scalars = [it for it in made.outputs if it.type.is_scalar]

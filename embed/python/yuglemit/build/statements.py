@@ -345,6 +345,9 @@ def _set_results(body: Body, node: ast.Return) -> Dict[str, str]:
         if node.value is not None or names:
             body.fail(f"{body.function.name} has {len(names) or 'no'} results", node)
         return given
+    is_alias = isinstance(node.value, ast.Name) and node.value.id in body.aliases
+    if body.loops and not is_alias and any(body.kinds.found[f"out.{it}"].form != "value" for it in names):
+        body.fail("a result that is known later, of a task or a member, can't be returned in a loop: set a variable there, and return that after the loop")
     if len(names) > 1 and isinstance(node.value, ast.Call) and called(node.value) in body.source.functions:
         call_task(body, node.value, [f"out.{it}" for it in names])
         return given
