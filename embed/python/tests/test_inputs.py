@@ -6,7 +6,7 @@ from __future__ import annotations
 import importlib
 import unittest
 from pathlib import Path
-from typing import Any
+from typing import Any, List, Tuple
 
 import yuglemit
 from common import DOUBLE, example, same, sized
@@ -130,6 +130,59 @@ class Values(unittest.TestCase):
             self.assertEqual(yuglemit.read_input(word), value)
         for word in ("39", "int:x", "ints:1=7,", "ints:1=7 5=3", "--stats", "tints:a=1"):
             with self.assertRaises(ValueError):
+                yuglemit.read_input(word)
+
+
+# Words, with their values as docs/FORMAT.md has them, or None: no input. The values of containers are pairs in the order of the word.
+LEAST, MOST = -(2**63), 2**63 - 1
+WORDS: List[Tuple[str, Any]] = [
+    ("int:7", 7), ("int:-7", -7), ("int:007", 7), ("int:-0", 0), (f"int:{LEAST}", LEAST), (f"int:{MOST}", MOST), ("int:" + "0" * 5000 + "9", 9),
+    (f"int:{LEAST - 1}", None), (f"int:{MOST + 1}", None), ("int:" + "9" * 5000, None), ("int:", None), ("int:-", None), ("int:+7", None),
+    ("int: 7", None), ("int:7 ", None), ("int:0x7", None), ("int:7_0", None), ("int:\u0663", None), ("int:--7", None), ("int:7\r", None), ("int:\"7\"", None),
+    ("text:", ""), ("text: a b ", " a b "), ("text:a\\n\"", "a\\n\""), ("text:int:7", "int:7"), ("text:\r\u0663", "\r\u0663"),
+    ("ints:", []), ("ints:1=7", [(1, 7)]), ("ints:-5=0,-1=-2,0=3,10=04", [(-5, 0), (-1, -2), (0, 3), (10, 4)]), (f"ints:{LEAST}={MOST},{MOST}={LEAST}", [(LEAST, MOST), (MOST, LEAST)]),
+    ("ints:1=2,", None), ("ints:,", None), ("ints:,1=2", None), ("ints:1=2,,3=4", None), ("ints:1=2, 3=4", None), ("ints: 1=2", None), ("ints:1 =2", None), ("ints:1", None),
+    ("ints:1=", None), ("ints:=1", None), ("ints:1=2;3=4", None), ("ints:1=7,1=3", None), ("ints:2=7,1=3", None), ("ints:01=7,1=7", None), ("ints:-1=1,-2=1", None),
+    ("ints:1=\"a\"", None), ("ints:\"a\"=1", None), (f"ints:1={MOST + 1}", None), (f"ints:{LEAST - 1}=1", None), ("ints:\u0661=1", None), ("ints:1=2=3", None),
+    ("texts:", []), ('texts:1="a,b",2=""', [(1, "a,b"), (2, "")]), ('texts:1="\\"\\\\\\n\\x41\\x7f\\x7F\\x00"', [(1, '"\\\nA\x7f\x7f\0')]), ('texts:1="=\t\r\u0663",2="="', [(1, "=\t\r\u0663"), (2, "=")]),
+    ('texts:1="\\q"', None), ('texts:1="\\x80"', None), ('texts:1="\\x4"', None), ('texts:1="\\X41"', None), ('texts:1="\\xg0"', None), ('texts:1="\\N"', None), ('texts:1="\\"', None), ("texts:1=5", None),
+    ("texts:1=a", None), ('texts:1="a', None), ('texts:1="a"b', None), ('texts:1="a""b"', None), ('texts:"1"="a"', None), ('texts:1="a",', None), ('texts:1="a",1="b"', None), ('texts:2="a",1="b"', None),
+    ("tints:", []), ('tints:"a"=1,"b"=-2', [("a", 1), ("b", -2)]), ('tints:""=1,"a"=2,"a,b"=3,"\u00e9"=4,"\uffff"=5,"\U0001f600"=6', [("", 1), ("a", 2), ("a,b", 3), ("\u00e9", 4), ("\uffff", 5), ("\U0001f600", 6)]),
+    ('tints:"b"=1,"a"=2', None), ('tints:"a"=1,"a"=2', None), ('tints:"A"=1,"\\x41"=2', None), ('tints:"\U0001f600"=1,"\uffff"=2', None), ("tints:a=1", None), ("tints:1=2", None), ('tints:"a"="b"', None), ('tints:"\\q"=1', None),
+    ("ttexts:", []), ('ttexts:"a"="b","c"="a"', [("a", "b"), ("c", "a")]), ('ttexts:"c"="b","a"="a"', None), ('ttexts:"a"=1', None), ('ttexts:1="a"', None),
+    ("7", None), ("int=7", None), ("Int:7", None), (":7", None), ("in:7", None), ("cont int:", None), (" int:7", None), ("INTS:", None), ("bool:1", None), ("tint:1", None),
+]
+TYPE_OF = {"int": "int", "text": "text", "ints": "cont int", "texts": "cont text", "tints": "tcont int", "ttexts": "tcont text"}
+
+
+class Words(unittest.TestCase):
+    """The words of docs/FORMAT.md: `read_input` takes those that `tw run` takes, with subscripts that rise."""
+
+    def test_as_the_manual_says(self) -> None:
+        for word, value in WORDS:
+            with self.subTest(word[:60]):
+                if value is None:
+                    with self.assertRaisesRegex(ValueError, "is no input|64 bits|rise"):
+                        yuglemit.read_input(word)
+                else:
+                    found = yuglemit.read_input(word)
+                    self.assertEqual(list(found.items()) if isinstance(found, dict) else found, value)
+
+    def test_as_the_command_takes_them(self) -> None:
+        for word, value in WORDS:
+            with self.subTest(word[:60]):
+                kind = TYPE_OF.get(word.partition(":")[0], "int")
+                source = sized(kind) if "cont" in kind else same("closed", kind)
+                status, answer = yuglemit.session(["run", "--text", "--inputs"], f"{source}inputs\n{word}".encode())
+                if value is None:
+                    self.assertRegex(answer.decode(), "^(input word 1 refused\n|refused O02\n)")
+                else:
+                    shown = len(value) if isinstance(value, list) else value
+                    self.assertEqual((status, yuglemit.load(source).run(shown if "cont" not in kind else dict(value)).text), (0, answer.decode()))
+
+    def test_no_utf_8(self) -> None:
+        for word in ("text:\ud800", 'texts:1="\udfff"'):
+            with self.assertRaisesRegex(ValueError, "no UTF-8"):
                 yuglemit.read_input(word)
 
 

@@ -156,7 +156,10 @@ def word_of(checked: Given) -> str:
     return f"{kind}:{value}"
 
 
-_PAIR = re.compile(r'(-?\d+|"(?:\\.|[^"\\])*")=(-?\d+|"(?:\\.|[^"\\])*")(,|$)', re.S)
+_NUMBER = "-?[0-9]+"
+_QUOTED = r'"(?:[^"\\]|\\["\\n]|\\x[0-7][0-9a-fA-F])*"'
+_LISTS = {"ints": (_NUMBER, _NUMBER), "texts": (_NUMBER, _QUOTED), "tints": (_QUOTED, _NUMBER), "ttexts": (_QUOTED, _QUOTED)}
+_SIDES = {_NUMBER: "NUMBER", _QUOTED: '"TEXT"'}
 
 
 def read_scalar(text: str) -> Scalar:
@@ -165,28 +168,56 @@ def read_scalar(text: str) -> Scalar:
 
 
 def read_input(word: str) -> Value:
-    """Returns the value that an input's word has, as `tw run` takes it.
+    """Returns the value that an input's word has, as `tw run` takes it. ValueError says what is wrong, also of subscripts that don't rise.
 
     >>> read_input("ints:1=7,5=-3"), read_input("text:a b"), read_input("int:-4")
     ({1: 7, 5: -3}, 'a b', -4)
     """
     kind, colon, rest = word.partition(":")
-    if kind == "int" and re.fullmatch(r"-?\d+", rest):
-        return int(rest)
+    try:
+        word.encode()
+    except UnicodeEncodeError as why:
+        raise ValueError(f"{word!r:.60} is no UTF-8: {why.reason} at {why.start}") from None
+    if colon and kind in _LISTS:
+        return _read_members(word, rest, *_LISTS[kind])  # type: ignore[return-value]
     if kind == "text" and colon:
         return rest
-    if colon and f"{kind}:" in _PREFIXES.values():
-        return _read_members(word, rest)
-    raise ValueError(f"{word!r:.60} is no input: int:, text:, ints:, texts:, tints: or ttexts: begins one")
+    if kind == "int" and re.fullmatch(_NUMBER, rest):
+        return _number(word, rest)
+    raise ValueError(f"{word!r:.60} is no input: int: and a number, text:, ints:, texts:, tints: or ttexts: begins one")
 
 
-def _read_members(word: str, rest: str) -> Value:
-    members: Dict[Scalar, Scalar] = {}
-    place = 0
-    while place < len(rest):
-        found = _PAIR.match(rest, place)
-        if not found or (found.end() == len(rest)) == (found.group(3) == ","):
-            raise ValueError(f"{word!r:.60} is no input: pairs SUBSCRIPT=MEMBER are expected, parted by commas")
-        members[read_scalar(found.group(1))] = read_scalar(found.group(2))
-        place = found.end()
-    return members  # type: ignore[return-value]
+def _side(word: str, text: str) -> Scalar:
+    return unquoted(text) if text[0] == '"' else _number(word, text)
+
+
+def _number(word: str, digits: str) -> int:
+    """Reads a number, which may have any number of leading zeros."""
+    number = int(digits.lstrip("-0")[:40] or "0")
+    return _int(-number if digits[0] == "-" else number, f"{word!r:.60} is no input")
+
+
+def _read_members(word: str, rest: str, subscripts: str, members: str) -> Dict[Scalar, Scalar]:
+    """Reads a list of pairs, whose sides have these forms."""
+    pair = re.compile(rf"({subscripts})=({members})(,|\Z)")
+    found: Dict[Scalar, Scalar] = {}
+    last: Optional[Scalar] = None
+    place, more = 0, ","
+    while more and rest:
+        at = pair.match(rest, place)
+        if not at:
+            form = f"{_SIDES[subscripts]}={_SIDES[members]}"
+            raise ValueError(f"{word!r:.60} is no input: expected {form},{form} at {rest[place:]!r:.60}")
+        subscript, member = _side(word, at[1]), _side(word, at[2])
+        if last is not None and not _before(last, subscript):
+            raise ValueError(f"{word!r:.60} is no input: its subscripts have to rise")
+        found[subscript] = member
+        last, place, more = subscript, at.end(), at[3]
+    return found
+
+
+def _before(first: Scalar, second: Scalar) -> bool:
+    """Whether a subscript comes before another: texts by their bytes."""
+    if isinstance(first, str):
+        return isinstance(second, str) and first.encode() < second.encode()
+    return isinstance(second, int) and first < second
