@@ -312,10 +312,18 @@ threads() {
 import pathlib, sys
 sys.path.insert(0, "$many")
 import folder, yuglemit
-names, inputs = folder.read(sys.argv[2])
-folder.table(names, yuglemit.map(yuglemit.load(pathlib.Path(sys.argv[1])), inputs))
+program = yuglemit.load(pathlib.Path(sys.argv[1]))
+folder.table(program, folder.read(program, sys.argv[2]))
 TEXT
     check "threads: $count inputs" same "$room/threads.table"
+}
+
+# Files that end early, and wrong ones: a line each, which is the one of the shell's scripts.
+odd_files() {
+    mkdir "$room/odd" "$room/odd.out" && printf 'ints:1=3,2=7\r\nend\r\n39\n' >"$room/odd/a.in" && echo 39 >"$room/odd/b.in" &&
+        echo 'ints:1=3,1=7' >"$room/odd/c.in" && printf 'text:\377\n' >"$room/odd/d.in" && echo 'tints:' >"$room/odd/e.in" || return
+    for it in a b c d e; do "$many/one.sh" "$tw" "$program" "$room/odd/$it.in" "$room/odd.out/$it" 2>/dev/null || return; done
+    "$python" "$many/processes.py" "$program" "$room/odd" >"$room/odd.table" && table_of "$room/odd.out" | cmp - "$room/odd.table" && [ "$(wc -l <"$room/odd.table")" = 5 ]
 }
 
 processes() {
@@ -324,6 +332,7 @@ processes() {
     kill_one "$child"
     wait "$child"
     check "processes: $count inputs, one process killed" same "$room/processes.table"
+    check "processes: files that end early or are wrong, as one.sh has them" odd_files
 }
 
 # Kills the first process that a process started, a moment after it is there.

@@ -6,20 +6,59 @@ from __future__ import annotations
 import pathlib
 import sys
 from collections.abc import Iterable
+from concurrent.futures import Executor
+from dataclasses import dataclass
 from typing import TextIO
 
 import yuglemit
 
-STATUS = {"quiet": 0, "refused": 1, "stuck": 3, "limit": 4}
+STATUS = {"quiet": 0, "stuck": 3, "limit": 4}
+TYPES = {"int": "int", "text": "text", "ints": "cont int", "texts": "cont text", "tints": "tcont int", "ttexts": "tcont text"}
 
 
-def read(folder: str) -> tuple[list[str], list[tuple[yuglemit.Value, ...]]]:
-    files = sorted(pathlib.Path(folder).glob("*.in"))
-    lines = [file.read_bytes().decode().split("\n") for file in files]
-    return [file.stem for file in files], [tuple(yuglemit.read_input(line) for line in its if line) for its in lines]
+@dataclass(frozen=True)
+class File:
+    """A file of inputs, which are None if the program's run can't begin with them."""
+
+    path: pathlib.Path
+    inputs: tuple[yuglemit.Value, ...] | None
 
 
-def table(names: Iterable[str], reports: Iterable[yuglemit.Report], file: TextIO = sys.stdout) -> None:
-    for name, report in zip(names, reports):
-        text = report.text if report.error is None else f"refused: {report.error}\n"
-        print(name, STATUS[report.end], text.replace("\n", ";"), sep="\t", file=file)
+def words(data: bytes) -> list[str]:
+    """Returns the words of a file, as `tw run --inputs` reads them: a line each, up to a line `end`."""
+    lines = data.decode().split("\n")
+    lines = [it[:-1] if it.endswith("\r") else it for it in lines[:-1]] + lines[-1:]
+    return [it for it in lines[: lines.index("end") if "end" in lines else None] if it]
+
+
+def inputs_of(program: yuglemit.Program, data: bytes) -> tuple[yuglemit.Value, ...] | None:
+    """Returns the inputs in a file, or None if it has others than the program takes."""
+    try:
+        its = words(data)
+        found = tuple(map(yuglemit.read_input, its))
+    except ValueError:
+        return None
+    return found if [TYPES[it.partition(":")[0]] for it in its] == [it.type for it in program.parameters] else None
+
+
+def read(program: yuglemit.Program, folder: str) -> list[File]:
+    """Reads the files of a folder, by their names."""
+    return [File(it, inputs_of(program, it.read_bytes())) for it in sorted(pathlib.Path(folder).glob("*.in"))]
+
+
+def answer(program: yuglemit.Program, file: File) -> tuple[int, str]:
+    """Returns the status and the report of `tw run` for a file that is wrong."""
+    source = program.bytes.hex() if program.source is None else program.source
+    text = [] if program.source is None else ["--text"]
+    status, report = yuglemit.session(["run", "--inputs", *text], source.encode() + b"\ninputs\n" + file.path.read_bytes())
+    return status, report.decode()
+
+
+def table(program: yuglemit.Program, files: Iterable[File], executor: Executor | None = None, file: TextIO = sys.stdout) -> None:
+    """Runs a program on files, by this executor, and prints the table: a line for each file with its name, the status and the report."""
+    files = list(files)
+    reports = yuglemit.map(program, [it.inputs for it in files if it.inputs is not None], executor)
+    for it in files:
+        report = None if it.inputs is None else next(reports)
+        status, text = answer(program, it) if report is None or report.error else (STATUS[report.end], report.text)
+        print(it.path.stem, status, text.replace("\n", ";"), sep="\t", file=file)

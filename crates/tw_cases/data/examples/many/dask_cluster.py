@@ -10,6 +10,5 @@ from dask.distributed import Client
 
 if __name__ == "__main__":
     program = yuglemit.load(pathlib.Path(sys.argv[1]))
-    names, inputs = folder.read(sys.argv[2])
     with Client(sys.argv[3]) as client:
-        folder.table(names, yuglemit.map(program, inputs, client.get_executor(pure=False)))
+        folder.table(program, folder.read(program, sys.argv[2]), client.get_executor(pure=False))

@@ -10,6 +10,5 @@ from mpi4py.futures import MPIPoolExecutor
 
 if __name__ == "__main__":
     program = yuglemit.load(pathlib.Path(sys.argv[1]))
-    names, inputs = folder.read(sys.argv[2])
     with MPIPoolExecutor() as pool:
-        folder.table(names, yuglemit.map(program, inputs, pool))
+        folder.table(program, folder.read(program, sys.argv[2]), pool)

@@ -15,8 +15,7 @@ import yuglemit
 if __name__ == "__main__":
     program = yuglemit.load(pathlib.Path(sys.argv[1]))
     job, jobs = int(os.environ["SLURM_ARRAY_TASK_ID"]), int(os.environ["SLURM_ARRAY_TASK_COUNT"])
-    names, inputs = folder.read(sys.argv[2])
     made = pathlib.Path(sys.argv[3]) / f"{job}.table"
     with open(made.with_suffix(".part"), "w", encoding="utf-8") as file:
-        folder.table(names[job::jobs], yuglemit.map(program, inputs[job::jobs]), file)
+        folder.table(program, folder.read(program, sys.argv[2])[job::jobs], file=file)
     os.replace(file.name, made)
