@@ -330,12 +330,12 @@ class Control(unittest.TestCase):
                     build_text(HEAD + text)
 
     def test_registers_are_taken_again(self) -> None:
-        """Of 20 results each is given away before the next, and the variable x has another register later; either may be refused."""
+        """Of 20 results each is given away before the next. The variable k has another register later, and in both the next product may be refused."""
         lines = [f"r{number} = add(x, {number})\n    out.r[{number}] = r{number}" for number in range(20)]
-        lines += ["k = add(x, y)", "out.r[20] = add(k, x * y)", "n = add(x, y)", "k = add(y, y)", "out.r[21] = add(n, x * y)", "out.q = add(k, y * y)"]
+        lines += ["k = add(x, y)", "out.r[20] = add(k, x * y)", "n = add(x, y)", "k = add(y, y)", "out.r[21] = add(n, x * y)", "out.q = add(x, y * y)"]
         program = build_text(HEAD + ORDINARY + "".join(f"    {line}\n" for line in lines)).program
         kept = {number: 3 + number for number in range(20)}
-        self.assertEqual(program.run(3, 4, {}).outputs, [8 + 16, {**kept, 20: 7 + 12, 21: 7 + 12}])
+        self.assertEqual(program.run(3, 4, {}).outputs, [3 + 16, {**kept, 20: 7 + 12, 21: 7 + 12}])
         report = program.run(3, 2**62, {})
         self.assertEqual((report.end, report.outputs), ("stuck", [None, kept]))
         report = program.run(0, 2**62, {})
