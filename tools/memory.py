@@ -33,6 +33,7 @@ ARGUMENT = 4_200  # a text that a task or a rule receives as a value
 BYTE = 1.1
 PRINTED = 80_000  # a text that an output prints of a member
 LISTED = 400  # an event of a trace, of statistics or of a timeline
+KEPT, JOINED = 2.2, 3.2  # a byte that --each prints; with --jobs
 LISTS = {"--trace", "--stats", "--picture"}
 BOUNDS = (*PRICES, "bytes", "events")
 ONE_ARENA = {"MALLOC_ARENA_MAX": "1"}
@@ -82,9 +83,11 @@ def heads_of(program: str, run: Run) -> list[str]:
 
 def threads_of(words: tuple[str, ...]) -> int:
     """Returns how many threads a run has in addition to the first."""
+    given = dict(re.findall(r"--(engines|servers|workers|jobs)[= ]([0-9]+)", " ".join(words)))
+    if "--each" in words:
+        return int(given.get("jobs", 0))
     if "--in-turn" in words:
         return 0
-    given = dict(re.findall(r"--(engines|servers|workers)[= ]([0-9]+)", " ".join(words)))
     return sum(int(given.get(kind, 1)) for kind in ("engines", "servers", "workers"))
 
 
@@ -103,6 +106,15 @@ def bytes_for(bounds: dict[str, int], heads: list[str], run: Run) -> int:
     passed = (bounds["tasks"] + bounds["rules"]) * texts * ARGUMENT
     printed = bounds["members"] * texts_printed(heads[0]) * PRINTED
     return read + kept + passed + printed + (bounds["events"] * LISTED if LISTS & set(run.words) else 0)
+
+
+def bytes_printed(program: str, run: Run) -> int:
+    """Returns the memory for what a run prints by `--each`; 0 without it."""
+    if "--each" not in run.words:
+        return 0
+    words = [program, "run", *format_of(run), *run.words]
+    printed = subprocess.run(words, input=(run.text + run.inputs).encode(), capture_output=True, check=False).stdout
+    return int((JOINED if "--jobs" in run.words else KEPT) * len(printed))
 
 
 # --- Runs
@@ -273,9 +285,20 @@ def hostile_programs() -> Iterator[Run]:
     yield Run("loops in all procedures, as hex text", loops_as_hex(), TURN, is_hex=True)
 
 
+def hostile_lines() -> Iterator[Run]:
+    """Yields programs that `--each` runs on many lines: with eight texts as outputs, just past the size at which memory grows; and short ones."""
+    stores = "".join(f"STORE d{output} v0\n" for output in range(8))
+    texts = f"proc control{' write text' * 8}\nregs text\n{literal(0, 'text')}{stores}RET\n"
+    for jobs in ((), ("--jobs", "2"), ("--jobs", "4")):
+        name = " ".join(("lines with texts as outputs", *jobs))
+        yield Run(name, texts, ("--each", "--quiet", *jobs), inputs="inputs\n" + "[]\n" * 2_050, environment=ONE_ARENA)
+    number = "proc control closed int write int\nregs int\nGET v0 d0\nDROPR d0\nSTORE d1 v0\nRET\n"
+    yield Run("short lines", number, ("--each", "--quiet"), inputs="inputs\n" + "[1]\n" * 190_000)
+
+
 def hostile() -> Iterator[Run]:
     """Yields programs that keep as much as they can of one thing."""
-    for kind in (hostile_programs, hostile_events, hostile_members, hostile_tasks, hostile_inputs):
+    for kind in (hostile_programs, hostile_events, hostile_members, hostile_tasks, hostile_inputs, hostile_lines):
         yield from kind()
 
 
@@ -302,7 +325,7 @@ def passes(program: str, run: Run) -> bool:
     if not all(kind in bounds for kind in BOUNDS):
         print(f"FAILED {run.name}: no bounds")
         return False
-    most = bytes_for(bounds, heads_of(program, run), run)
+    most = bytes_for(bounds, heads_of(program, run), run) + bytes_printed(program, run)
     statuses = {status_of(program, run, most) for _ in range(run.times)}
     well = statuses <= set(ENDED)
     print(f"{'' if well else 'FAILED '}{run.name}: status {' or '.join(map(str, sorted(statuses)))} with {most / 1_000_000:.1f} MB", flush=True)
