@@ -9,8 +9,8 @@ from fuzz_code import CALLS, FORMS, KINDS, MODES, TYPES, VAL, Instr, Procedure, 
 
 KEYWORDS = {"any", "names", "version", "proc", "regs", "const", "let", *KINDS, *MODES.values(), *TYPES.values()}
 LETTERS = "abcdefghijklmnopqrstuvwxyzABCDEFGHIJKLMNOPQRSTUVWXYZ"
-# Separators of the operands of an instruction.
-JOINTS = (" ", ", ", " , ")
+# Separators of the operands of an instruction. A quoted text needs a blank before it.
+JOINTS = (" ", ", ", " , ", ") ( ")
 MAKERS = {"NEW": 2, "LOOK": 1, "TLOOK": 1, "DUPR": 1, "DUPW": 1}
 
 
@@ -142,10 +142,8 @@ class Names:
         words = [self.operand(instr, at, labels.get(place + 1 + (instr.skip or 0)), at < made) for at in range(len(instr.operands))]
         words = [word for word in words if word]
         joint = self.chance.choice(JOINTS) if self.is_so(0.2) else " "
-        if "t" in instr.form or joint == " ":
-            self.lines.append(" ".join([instr.name, *words]))
-        else:
-            self.lines.append(f"{instr.name} {joint.join(joint.join(word.split(' ')) for word in words)}".rstrip())
+        parts = [part for word in words for part in ([word] if word[0] == '"' else word.split(" "))]
+        self.lines.append(f"{instr.name} {joint.join(parts)}".rstrip())
 
     def operand(self, instr: Instr, at: int, label: str | None, is_made: bool) -> str:
         form, found = instr.form[at], instr.operands[at]
