@@ -200,23 +200,24 @@ def begins_with_values(procedure: Procedure) -> bool:
     return list(procedure.registers[:len(values)]) == values
 
 
-def wrong_lines(chance: random.Random, scope: Scope, procedures: list[str], free: str) -> tuple[int, list[str]]:
-    """Returns lines of which the last one has an error of names, and its code. `free` is short and has no meaning yet."""
+def wrong_lines(chance: random.Random, scope: Scope, procedures: list[str], free: str) -> tuple[str, list[str]]:
+    """Returns lines of which the last one has an error of names, or signs right before a quote, and its code. `free` is short and has no meaning yet."""
     other = chance.choice([*scope.constants, *procedures, *scope.rights] or [free])
     found = [
-        (4, [f"INT {free} 1"]), (4, [f"DROPR {free}"]), (4, [f"REPEAT {free}"]), (4, [f"PUT {free} 0 any"]), (1, [f"const {free} 5"]), (1, [f"const {free} ="]),
-        (1, [f"const {free} = x"]), (1, [f"const {free} = {2**63}"]), (1, [f"let {free} d3"]), (1, [f"let {free} = 3"]), (2, ["const any = 5"]), (2, ["let v0 = d1"]),
-        (2, ["const 1a = 5"]), (2, [f"let {'a' * 65} = d1"]), (6, [f"let {free} = d15", f"NEW {free}_ {free}__ int"]),
+        ("N04", [f"INT {free} 1"]), ("N04", [f"DROPR {free}"]), ("N04", [f"REPEAT {free}"]), ("N04", [f"PUT {free} 0 any"]), ("N01", [f"const {free} 5"]), ("N01", [f"const {free} ="]),
+        ("N01", [f"const {free} = x"]), ("N01", [f"const {free} = {2**63}"]), ("N01", [f"let {free} d3"]), ("N01", [f"let {free} = 3"]), ("N02", ["const any = 5"]), ("N02", ["let v0 = d1"]),
+        ("N02", ["const 1a = 5"]), ("N02", [f"let {'a' * 65} = d1"]), ("N06", [f"let {free} = d15", f"NEW {free}_ {free}__ int"]),
+        ("A02", [f'TEXT v0,"{free}, (2)"']), ("A02", [f'TEXT v0 ("{free}")']),
     ]
     if other != free:
-        found += [(3, [f"const {other} = 5"]), (3, [f"let {other} = d3"]), (5, [f"INT {other} 5"])]
+        found += [("N03", [f"const {other} = 5"]), ("N03", [f"let {other} = d3"]), ("N05", [f"INT {other} 5"])]
     if scope.values:
-        found += [(5, [f"REPEAT {scope.values[0]}"]), (5, [f"DROPR {scope.values[0]}"]), (3, [f"let {scope.values[0]} = v0"])]
+        found += [("N05", [f"REPEAT {scope.values[0]}"]), ("N05", [f"DROPR {scope.values[0]}"]), ("N03", [f"let {scope.values[0]} = v0"])]
     return chance.choice(found)
 
 
-def wrong(program: Program, style: int) -> tuple[str, int, int]:
-    """Returns a symbolic assembly with one error of names, its code and its line."""
+def wrong(program: Program, style: int) -> tuple[str, str, int]:
+    """Returns a symbolic assembly with one error of names or signs, its code and its line."""
     writer = Names(program, random.Random(f"names {style}"))
     writer.text()
     scope = writer.chance.choice(writer.scopes)

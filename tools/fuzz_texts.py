@@ -331,7 +331,7 @@ class RenamedTest(FuzzTest):
 
 @dataclass(frozen=True)
 class WrongNameTest(TextTest):
-    """A symbolic assembly with one error of names: its code, its line, and the word that the diagnostic begins with."""
+    """A symbolic assembly with one error of names or signs: its code, its line, and the word that the diagnostic of a name begins with."""
 
     @property
     def words(self) -> list[str]:
@@ -345,15 +345,15 @@ class WrongNameTest(TextTest):
         text, code, line = wrong(self.program, self.style)
         status, got = library.session(self.words, text)
         lines = got.split("\n")
-        if status != 1 or lines[0] != f"refused N{code:02} at line {line}":
-            return f"asm --names: expected refused N{code:02} at line {line}, {text.split(chr(10))[line - 1]!r}, got {got[:300]!r}"
-        if len(lines) < 3 or lines[1] != text.split("\n")[line - 1] or lines[2].split(":")[0].split(" ")[0] not in lines[1]:
+        if status != 1 or lines[0] != f"refused {code} at line {line}":
+            return f"asm --names: expected refused {code} at line {line}, {text.split(chr(10))[line - 1]!r}, got {got[:300]!r}"
+        if code[0] == "N" and (len(lines) < 3 or lines[1] != text.split("\n")[line - 1] or lines[2].split(":")[0].split(" ")[0] not in lines[1]):
             return f"names: the diagnostic of line {line}: {got[:300]!r}"
         return None
 
     def case(self) -> list[str]:
         _, code, line = wrong(self.program, self.style)
-        return ["kind tw asm --names", *input_lines(self.text), *answer_part(1, f"refused N{code:02} at line {line}")]
+        return ["kind tw asm --names", *input_lines(self.text), *answer_part(1, f"refused {code} at line {line}")]
 
 
 def make_names(chance: random.Random, corpus: Corpus) -> FuzzTest:
