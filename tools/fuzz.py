@@ -38,9 +38,9 @@ from fuzz_common import Corpus, Failure, Kind, FuzzTest
 
 KINDS: dict[str, Kind] = {
     "check": Kind("budgets, needs and bounds against their definitions, and runs within them", fuzz_runs.make_check),
-    "bounds": Kind("programs with bounds, run to their end with the bounds as limit and caps; which bounds are reached", fuzz_reached.make_bounds, 0.25),
+    "bounds": Kind("programs with bounds, run to their end with the bounds as limit and caps; which bounds are reached", fuzz_reached.make_bounds),
     "run": Kind("runs in turn and in threads against the machine, and their replays", fuzz_runs.make_run),
-    "each": Kind("lines of inputs against a run of each, in turn and in threads", fuzz_each.make_each, 0.5),
+    "each": Kind("lines of inputs against a run of each, in turn and in threads", fuzz_each.make_each),
     "names": Kind("symbolic assembly against the program's bytes, its expansion, and other names", fuzz_texts.make_names),
     "asm": Kind("texts in many forms against the program's bytes; damaged texts", fuzz_texts.make_asm),
     "decode": Kind("changed bytes against a second decoder", fuzz_texts.make_decode),
@@ -183,8 +183,7 @@ def main(words: list[str]) -> int:
         print(changed, file=sys.stderr)
     well = True
     for kind in KINDS if given.kind == "all" else [given.kind]:
-        count = max(1, int(given.count * KINDS[kind].share))
-        numbers = range(count) if given.only is None else range(given.only, given.only + 1)
+        numbers = range(max(1, given.count)) if given.only is None else range(given.only, given.only + 1)
         well &= run_kind(kind, given.seed, numbers, given.seconds)
     return 0 if well else 1
 

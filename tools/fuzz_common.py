@@ -66,12 +66,10 @@ class Corpus:
 
 @dataclass(frozen=True)
 class Kind:
-    """A kind of test: what it is about, how one is made, and how many take a second or so."""
+    """A kind of test: what it is about, and how one is made."""
 
     about: str
     make: Callable[[random.Random, Corpus], FuzzTest]
-    share: float = 1.0
-    """How many of the given count it makes: less than 1 if a test starts programs."""
 
 
 # --- As a case
