@@ -174,7 +174,7 @@ def wheel_files(library: Path) -> dict[str, bytes]:
     if not files:
         raise SystemExit("embed/python/yuglemit has no module")
     files["yuglemit/_version.py"] = f'"""The version of the package."""\n\n__version__ = "{VERSION}"\n'.encode()
-    files["yuglemit/libyuglemit.so"] = library.read_bytes()
+    files["yuglemit/lib/libyuglemit.so"] = library.read_bytes()
     info = f"yuglemit-{VERSION}.dist-info"
     files[f"{info}/METADATA"] = wheel_metadata().encode()
     files[f"{info}/LICENSE"] = (ROOT / "LICENSE").read_bytes()
