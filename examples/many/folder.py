@@ -62,11 +62,16 @@ def line(program: yuglemit.Program, file: File, report: yuglemit.Report | None) 
 
 
 def table(
-    program: yuglemit.Program, files: Iterable[File], executor: Executor | None = None, file: TextIO = sys.stdout, window: int | None = None
+    program: yuglemit.Program,
+    files: Iterable[File],
+    executor: Executor | None = None,
+    file: TextIO = sys.stdout,
+    window: int | None = None,
+    on_broken: str = "raise",
 ) -> None:
     """Runs a program on files, by this executor, and prints the table: a line for each file with its name, the status and the report."""
     files = list(files)
-    reports = yuglemit.map(program, [it.inputs for it in files if it.inputs is not None], executor, text=True, window=window)
+    reports = yuglemit.map(program, [it.inputs for it in files if it.inputs is not None], executor, window=window, on_broken=on_broken, text=True)
     for it in files:
         status, text = line(program, it, None if it.inputs is None else next(reports))
         print(it.path.stem, status, text.replace("\n", ";"), sep="\t", file=file)

@@ -10,11 +10,11 @@ from typing import Iterator, List, NamedTuple, Optional, Sequence, Tuple
 from ._native import NO_BOUND, OVER, Head
 from ._shown import Shown
 
-# The most seconds that an instruction and an event take, without texts and with them. tools/prices.py measures the dearest ones;
-# examples/many/bound.sh has the same numbers.
-_DEAREST = {False: (2e-8, 1e-5), True: (1e-6, 1e-4)}
+# The most seconds that an instruction and an event take, by the work of the program. No register holds a text, or one does, or texts are read as
+# numbers, too. tools/prices.py measures the dearest ones; examples/many/bound.sh has the same prices.
+PRICES = {"ints": (1 / 50_000_000, 1 / 100_000), "texts": (1 / 2_000_000, 1 / 10_000), "numbers": (1 / 50_000, 1 / 10_000)}
 # Likewise what they usually take on one core of a common machine.
-_USUAL = {False: (2.5e-9, 3.3e-7), True: (2.5e-8, 1e-6)}
+_USUAL = {"ints": (2.5e-9, 3.3e-7), "texts": (2.5e-8, 1e-6), "numbers": (2.5e-8, 1e-6)}
 _BEGIN = 1e-4
 DEFAULT_LIMIT = 10_000
 
@@ -62,7 +62,7 @@ class Bounds(metaclass=Shown):
 
     All but the first are None past 1,000,000,000,000, or if a procedure starts itself, directly or through others (`is_endless`): then only the
     limit of events bounds a run. `members` and `bytes` are what the store holds at any time beyond those of the inputs, and of outputs that are
-    texts; a text counts 4,096 bytes. `has_texts` is False if no register can hold a text.
+    texts; a text counts 4,096 bytes. `work` is "ints" if no register can hold a text, "numbers" if READI may read one, else "texts".
     """
 
     greatest: int
@@ -74,7 +74,7 @@ class Bounds(metaclass=Shown):
     bytes: Optional[int]
     events: Optional[int]
     is_endless: bool = False
-    has_texts: bool = False
+    work: str = "ints"
 
     def events_within(self, limit: int = DEFAULT_LIMIT) -> int:
         """Returns how many events a run with this limit has at most."""
@@ -87,11 +87,11 @@ class Bounds(metaclass=Shown):
 
     def usual_seconds(self, limit: int = DEFAULT_LIMIT) -> float:
         """Estimates what a run of as many events takes on one core of a common machine."""
-        return _BEGIN + self._priced(_USUAL[self.has_texts], limit)
+        return _BEGIN + self._priced(_USUAL[self.work], limit)
 
     def seconds(self, limit: int = DEFAULT_LIMIT) -> float:
-        """Returns how long a run takes at most, if each of its instructions and events is the dearest that there is (docs/HOSTING.md)."""
-        return _BEGIN + self._priced(_DEAREST[self.has_texts], limit)
+        """Returns the seconds of processor time that a run takes at most, if all its instructions and events are the dearest of its kind."""
+        return _BEGIN + self._priced(PRICES[self.work], limit)
 
     def _priced(self, prices: Tuple[float, float], limit: int) -> float:
         return self.instructions_within(limit) * prices[0] + self.events_within(limit) * prices[1]
@@ -137,8 +137,13 @@ def procedures_of(heads: Sequence[Head], source: str) -> Tuple[Procedure, ...]:
     return tuple(found)
 
 
-def bounds_of(found: List[int], procedures: Tuple[Procedure, ...], has_texts: bool) -> Bounds:
+def work_of(text: str) -> str:
+    """Returns which work a program may do, by its text: one without these words does none of it."""
+    return "ints" if "text" not in text else "numbers" if "READI" in text else "texts"
+
+
+def bounds_of(found: List[int], procedures: Tuple[Procedure, ...], work: str) -> Bounds:
     """Reads the bounds that the library finds."""
     greatest = max(it.budget for it in procedures)
     tasks, instructions, data, members, rules, texts, events = (None if it in (OVER, NO_BOUND) else it for it in found)
-    return Bounds(greatest, tasks, instructions, data, members, rules, texts, events, NO_BOUND in found, has_texts)
+    return Bounds(greatest, tasks, instructions, data, members, rules, texts, events, NO_BOUND in found, work)

@@ -3,6 +3,7 @@
 
 from __future__ import annotations
 
+import importlib
 import os
 import sys
 import warnings
@@ -286,10 +287,10 @@ class _Progress:
 def _bar(count: Optional[int]) -> Optional[Callable[[int], object]]:
     """Returns what moves a bar of tqdm, if it is installed."""
     try:
-        from tqdm import tqdm
+        tqdm = importlib.import_module("tqdm")
     except ImportError:
         return None
-    return cast("Callable[[int], object]", tqdm(total=count, unit=" runs").update)
+    return cast("Callable[[int], object]", tqdm.tqdm(total=count, unit=" runs").update)
 
 
 def _print_progress(done: int, count: int) -> None:

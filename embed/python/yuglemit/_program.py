@@ -13,7 +13,7 @@ from . import _native
 from ._commands import ask, assemble, texted
 from ._errors import Refused
 from ._inputs import Input, given, shown, word_of
-from ._listing import DEFAULT_LIMIT, Bounds, Needs, Parameter, Procedure, bounds_of, procedures_of
+from ._listing import DEFAULT_LIMIT, Bounds, Needs, Parameter, Procedure, bounds_of, procedures_of, work_of
 from ._options import MOST_EVENTS, RunOptions, layout_of, options_of, within
 from ._report import LAST_EVENT, Made, Report, actors, range_of, report_of, report_of_text
 from ._shown import Shown
@@ -87,19 +87,18 @@ class Program(metaclass=Shown):
     @cached_property
     def bounds(self) -> Bounds:
         """The bounds of its runs."""
-        return bounds_of(self._kept.bounds(0), self.procedures, self._has_texts)
+        return bounds_of(self._kept.bounds(0), self.procedures, self._work)
 
     @cached_property
-    def _has_texts(self) -> bool:
-        """Whether a register may hold a text. A source without this word has none."""
+    def _work(self) -> str:
         try:
-            return "text" in (self.source if self.source is not None else self.text)
+            return work_of(self.source if self.source is not None else self.text)
         except Refused:  # it is too long to be listed
-            return True
+            return "numbers"
 
     def bounds_within(self, limit: int = DEFAULT_LIMIT) -> Bounds:
         """Returns the bounds of its runs with at most so many events, with which `run` compares its caps."""
-        return bounds_of(self._kept.bounds(within("limit", limit, MOST_EVENTS)), self.procedures, self._has_texts)
+        return bounds_of(self._kept.bounds(within("limit", limit, MOST_EVENTS)), self.procedures, self._work)
 
     def is_long(self, limit: int = DEFAULT_LIMIT) -> bool:
         """Returns whether a run with this limit may take so long that one waits for it."""
