@@ -15,8 +15,21 @@ many=$root/examples/many
 tw=$(readlink -f "${TW:-$root/crates/tw_main/out/tw_main}")
 python=${PYTHON:-/usr/bin/python3}
 count=${COUNT:-10000}
-# The first of the three ports of loopback that our own servers of ssh and Slurm listen at.
-port=$((20000 + $$ % 20000))
+# The first of the three ports of loopback that our own servers of ssh and Slurm listen at; none of them is taken.
+port=$("$python" - <<'TEXT'
+import random
+import socket
+
+
+def is_free(port: int) -> bool:
+    with socket.socket() as it:
+        return it.connect_ex(("127.0.0.1", port)) != 0
+
+
+ports = random.sample(range(20000, 32000), 1000)
+print(next(port for port in ports if all(is_free(port + place) for place in range(3))))
+TEXT
+) || exit 70
 PYTHONPATH=$root/embed/python${PYTHONPATH:+:$PYTHONPATH}
 export PYTHONPATH PYTHONDONTWRITEBYTECODE=1
 [ $# -gt 0 ] || set -- scripts lines threads processes dask mpi parallel ssh slurm
