@@ -134,7 +134,7 @@ wrong_words() {
 
 # --- completions
 
-# What bash completes after these words, the last of which is incomplete.
+# Prints what bash completes after these words, the last of which is incomplete.
 bash_completes() {
     (cd "$room/files" && bash -c '. "$1"; shift; compopt() { echo "compopt $*"; }; COMP_WORDS=("$@"); COMP_CWORD=$(($# - 1)); _tw; printf "%s\n" "${COMPREPLY[@]}"' bash "$clone/tools/tw.bash" "$@") | sed '/^$/d' | LC_ALL=C sort | tr '\n' ' '
 }
