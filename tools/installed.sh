@@ -2,7 +2,7 @@
 # SPDX-License-Identifier: Apache-2.0
 # Tests what ./tw does of its own: `./tw install` and its removal, help pages, statuses, completions, and the Python package of a clone. Works in a
 # fresh clone of the committed files, with nothing in the environment but PATH=/usr/bin:/bin. Prints each check, ends with `N passed, M failed`,
-# and fails if one does. It needs no toolchain. Completions of zsh are left out if it isn't installed.
+# and fails if one does. It needs no toolchain, but a release of these sources. Completions of zsh are left out if it isn't installed.
 root=$(dirname "$(dirname "$(readlink -f "$0")")")
 room=$(mktemp -d)
 trap 'chmod -R u+w "$room"; rm -rf "$room"' EXIT
@@ -134,7 +134,7 @@ wrong_words() {
 
 # --- completions
 
-# What bash completes after these words, the last of which is incomplete.
+# Prints what bash completes after these words, the last of which is incomplete.
 bash_completes() {
     (cd "$room/files" && bash -c '. "$1"; shift; compopt() { echo "compopt $*"; }; COMP_WORDS=("$@"); COMP_CWORD=$(($# - 1)); _tw; printf "%s\n" "${COMPREPLY[@]}"' bash "$clone/tools/tw.bash" "$@") | sed '/^$/d' | LC_ALL=C sort | tr '\n' ' '
 }
@@ -191,6 +191,11 @@ python_of_clone() {
     [ -z "$(find "$TMPDIR" -mindepth 1)" ] && rm "$clone/out" "$home/.cache"
 }
 
+clean ./tw install "$room/first" 2>"$room/said"
+if [ $? = 70 ]; then
+    cat "$room/said"
+    exit 1
+fi
 check "two prefixes are an error" two_prefixes
 check "a foreign file stays" foreign_file
 check "--force replaces it" forced

@@ -143,7 +143,7 @@ list_all() {
     cat "$room/listed"
 }
 
-# Puts one file into its place in one step, so that a program that runs goes on.
+# Puts one file into its place in one step, so that a running program isn't disturbed.
 move_in() {
     mkdir -p "$base/$(dirname "$1")" && cp -P "$stage/$1" "$base/$1.new.$$" && mv -fT "$base/$1.new.$$" "$base/$1" && return
     rm -f "$base/$1.new.$$"
