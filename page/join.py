@@ -1,5 +1,5 @@
 # SPDX-License-Identifier: Apache-2.0
-"""Writes the page as one file: join.py FOLDER EXAMPLES GRAMMAR WASM, with the folder page/, examples/, tools/tw.vim and the module."""
+"""Writes the page as one file: join.py ROOT WASM, with the repository and the module."""
 import base64
 import gzip
 import json
@@ -71,9 +71,10 @@ def literal(what: object) -> str:
     return json.dumps(what, ensure_ascii=False).replace("</", "<\\/").replace("<!--", "<\\!--")
 
 
-def page(folder: str, examples: str, grammar: str, wasm: bytes) -> str:
+def page(root: str, wasm: bytes) -> str:
     """Returns the page."""
-    keywords = {group.lower(): words for group, words in KEYWORDS.findall(read(grammar))}
+    folder, examples = f"{root}/page", f"{root}/examples"
+    keywords = {group.lower(): words for group, words in KEYWORDS.findall(read(f"{root}/tools/tw.vim"))}
     module = base64.b64encode(gzip.compress(wasm, 9, mtime=0)).decode()
     script = "".join(wrapped(folder, name) for name in order(folder, "app", []))
     for mark, value in (("@GRAMMAR@*/ {}", keywords), ("@EXAMPLES@*/ []", groups(folder, examples)), ("@WORKER@*/ \"\"", f'self.wasm = "{module}";\n{read(f"{folder}/worker.js")}')):
@@ -84,5 +85,5 @@ def page(folder: str, examples: str, grammar: str, wasm: bytes) -> str:
 
 
 if __name__ == "__main__":
-    with open(sys.argv[4], "rb") as opened:
-        print(page(sys.argv[1], sys.argv[2], sys.argv[3], opened.read()))
+    with open(sys.argv[2], "rb") as opened:
+        print(page(sys.argv[1], opened.read()))
