@@ -93,6 +93,12 @@ check_tests() {
     [ "$status" = 0 ] || cat "$room/err"
 }
 
+check_script() {
+    clean tools/installed.sh
+    report "tools/installed.sh" "$status" "$(tail -n 1 "$room/out")"
+    [ "$status" = 0 ] || cat "$room/out" "$room/err"
+}
+
 # Installs below a prefix with a blank in its name, plays HOSTING.md with it, and uninstalls.
 check_install() {
     prefix="$room/a prefix"
@@ -131,6 +137,7 @@ check_first_commands
 check_changed_sources
 check_shown
 check_tests
+check_script
 check_install
 [ "$failed" = 0 ] && echo "all as it should be"
 [ "$failed" = 0 ]
