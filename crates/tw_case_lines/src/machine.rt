@@ -11,7 +11,7 @@ use crate::programs::{read_program, with_bytes};
 use crate::state::put_state;
 use crate::text::Text;
 use std::alloc::Global;
-use tw_cli::input_of;
+use tw_inputs::input_of;
 use tw_machine::{Plain, Stopped};
 use tw_types::{Actor, Event, Input, Layout};
 
