@@ -126,9 +126,10 @@ run_wheel() {
 
 # A clean clone has only the release to answer by, so it is tried if that is of these sources.
 run_released() {
-    is_named released || return
+    is_named released || is_named scarce || return
     if python3 -B "$clone/tools/release.py" --fresh >"$logs/fresh.log" 2>&1; then
         harness released 1200 tools/released.sh
+        harness_with "cc taskset" scarce 1200 tools/scarce.sh "$(whole_or_quick 5 1)"
     else
         report "left out" released "" "$(tail -n 1 "$logs/fresh.log")"
     fi
