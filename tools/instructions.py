@@ -6,7 +6,7 @@
     tools/instructions.py --rows NAME    lists the rows of an instruction, such as Length or Insert
 
 The instructions are the opcodes of crates/tw_code/src/opcode.rt and the variants of LocalInstr and DataInstr in instr.rt next to it. RULE, PUT and RET
-aren't variants of these; tools/where-is.sh lists where they are. Checks (tw_cases, tw_fuzz) may name any instruction.
+aren't variants of these; tools/where-is.sh lists where they are. Checks (crates of cases, tw_fuzz) may name any instruction.
 """
 
 from __future__ import annotations
@@ -21,7 +21,7 @@ ROOT = Path(__file__).resolve().parent.parent
 DOCUMENT = Path("docs/ADDING.md")
 OPCODES = Path("crates/tw_code/src/opcode.rt")
 VARIANTS = Path("crates/tw_code/src/instr.rt")
-CHECKS = ("tw_cases", "tw_fuzz")
+CHECKS = ("tw_case_lines", "tw_cases", "tw_host_cases", "tw_fuzz")
 
 
 class Whole(NamedTuple):

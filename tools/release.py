@@ -1,6 +1,6 @@
 #!/usr/bin/env python3
 # SPDX-License-Identifier: Apache-2.0
-"""Makes release/ from what `rt ci` has proved: the program, the libraries, the runner of the cases, the page, and MANIFEST.
+"""Makes release/ from what `rt ci` has proved: the program, the libraries, the runners of the cases, the page, and MANIFEST.
 
   tools/release.py               runs CI (`rt ci`) on the committed files, builds everything in two folders, compares, and writes release/
   tools/release.py --gate LOG    takes CI's last line from the log of a run of it on the same files
@@ -37,7 +37,7 @@ import must_fail  # noqa: E402
 
 ROOT = Path(__file__).resolve().parent.parent
 # The crates that something is built of, with the file in release/.
-PROGRAMS = {"tw_main": "tw", "tw_cases": "tw_cases"}
+PROGRAMS = {"tw_main": "tw", "tw_cases": "tw_cases", "tw_host_cases": "tw_host_cases"}
 LIBRARY = "tw_embed"
 LIBRARIES = ("libyuglemit.so", "libyuglemit.a")
 PAGE = "index.html"
@@ -128,7 +128,7 @@ def staleness(root: Path) -> list[str]:
     if manifest.version != version_of(root):
         faults.append(f"the release is of version {manifest.version}, and VERSION is {version_of(root)}")
     if manifest.sources["all"] != sums_of_sources(root)[0]:
-        changed = [name for name in BUILT if sums_of_sources(root, name)[0] != manifest.sources[name]]
+        changed = [name for name in BUILT if sums_of_sources(root, name)[0] != manifest.sources.get(name)]
         faults.append(f"sources have changed since the release, of what is built: {', '.join(changed) or 'nothing'}")
     return faults
 

@@ -26,17 +26,18 @@ MUTANT = "file: src/lib.rt\nold:     1\nnew:     2\n"
 
 
 def make_repository(root: Path) -> None:
-    """Writes a repository of three crates, two of which belong to a program."""
+    """Writes a repository of six crates, four of which something is built of."""
     files = {
         "VERSION": "0.5\n",
         "CHANGELOG.md": "# Changelog\n\n## 0.5 - unreleased\n",
-        "crates.txt": "# comment\nlow: slab\ntw_main: low\ntw_embed staticlib: low\ntw_cases: low\nother:\n",
+        "crates.txt": "# comment\nlow: slab\ntw_main: low\ntw_embed staticlib: low\ntw_cases: low\ntw_host_cases: low\nother:\n",
         "crates/tw_cli/src/help.rt": 'pub(crate) const VERSION: &str = "0.5";\n',
         "crates/low/src/lib.rt": "pub fn one() -> u8 {\n    1\n}\n",
         "crates/low/proofs/Lib.antt": "mod one\n",
         "crates/tw_main/src/main.rt": "fn main() {}\n",
         "crates/tw_embed/src/lib.rt": "fn embed() {}\n",
         "crates/tw_cases/src/main.rt": "fn rows() {}\n",
+        "crates/tw_host_cases/src/main.rt": "fn host_rows() {}\n",
         "crates/other/src/lib.rt": "fn other() {}\n",
         "tools/must-fail/low/two.edit": MUTANT,
     }
@@ -88,7 +89,13 @@ class OfARepository(WithRepository):
     def test_a_changed_library_changes_all_that_is_built_on_it(self) -> None:
         self.edit("crates/low/src/lib.rt", "pub fn one() -> u8 {\n    2\n}\n")
         (fault,) = release.staleness(self.root)
-        self.assertTrue(fault.endswith("tw_main, tw_cases, tw_embed"), fault)
+        self.assertTrue(fault.endswith("tw_main, tw_cases, tw_host_cases, tw_embed"), fault)
+
+    def test_a_program_that_the_release_has_not_yet_is_named(self) -> None:
+        self.edit("release/MANIFEST", "".join(line for line in self.manifest.text().splitlines(True) if "tw_host_cases" not in line))
+        self.edit("crates/other/src/lib.rt", "fn another() {}\n")
+        (fault,) = release.staleness(self.root)
+        self.assertTrue(fault.endswith("of what is built: tw_host_cases"), fault)
 
     def test_a_changed_crate_that_nothing_is_built_on_is_named_so(self) -> None:
         self.edit("crates/other/src/lib.rt", "fn another() {}\n")
@@ -106,11 +113,11 @@ class OfARepository(WithRepository):
         self.assertNotEqual(release.sums_of_sources(self.root, "tw_main")[0], self.manifest.sources["tw_main"])
 
     def test_a_comment_of_the_list_and_another_crates_line_change_nothing(self) -> None:
-        self.edit("crates.txt", "low: slab # low\ntw_main: low\ntw_embed staticlib: low\ntw_cases: low\nother: low\n")
+        self.edit("crates.txt", "low: slab # low\ntw_main: low\ntw_embed staticlib: low\ntw_cases: low\ntw_host_cases: low\nother: low\n")
         self.assertEqual(release.sums_of_sources(self.root, "tw_main")[0], self.manifest.sources["tw_main"])
 
     def test_a_crates_own_line_changes_the_sources(self) -> None:
-        self.edit("crates.txt", "low: slab\ntw_main: low slab\ntw_embed staticlib: low\ntw_cases: low\nother:\n")
+        self.edit("crates.txt", "low: slab\ntw_main: low slab\ntw_embed staticlib: low\ntw_cases: low\ntw_host_cases: low\nother:\n")
         self.assertNotEqual(release.sums_of_sources(self.root, "tw_main")[0], self.manifest.sources["tw_main"])
 
     def test_each_place_of_the_version_is_compared(self) -> None:
@@ -229,7 +236,7 @@ class OfABuild(WithRepository):
         for name, (size, digest) in made.sums.items():
             data = gzip.decompress((self.root / f"release/{name}.gz").read_bytes())
             self.assertEqual((len(data), hashlib.sha256(data).hexdigest()), (size, digest))
-        self.assertEqual(sorted(made.sums), ["index.html", "libyuglemit.a", "libyuglemit.so", "tw", "tw_cases"])
+        self.assertEqual(sorted(made.sums), ["index.html", "libyuglemit.a", "libyuglemit.so", "tw", "tw_cases", "tw_host_cases"])
 
     def test_mutants_that_were_not_rejected_make_none(self) -> None:
         before = release.manifest_at_hand(self.root)

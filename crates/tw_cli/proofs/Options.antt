@@ -27,9 +27,9 @@ use Rattle.tw_cli.specs.Options.{HasActors, HasCaps, HasStretch, bounds_faults, 
 use Rattle.tw_cli.specs.Order.{HasReason, IsRequest}
 use Rattle.tw_cli.specs.CommandLine.{Asked, check_faults, drawing_faults, each_excludes, given_faults, given_words, input_faults, is_json_with_more, json_excludes, picture_faults, replay_faults, report_faults, run_faults, stretch_faults}
 use Rattle.tw_cli.specs.declared.command.NoOrder.TheVariants.{Refused}
-use Rattle.tw_cli.specs.declared.caps.Caps.{Caps}
-use Rattle.tw_cli.specs.declared.checks.BoundsOf.{BoundsOf}
-use Rattle.tw_cli.specs.declared.shown.EventRange.{EventRange}
+use Rattle.tw_order.specs.declared.caps.Caps.{Caps}
+use Rattle.tw_order.specs.declared.check.BoundsOf.{BoundsOf}
+use Rattle.tw_order.specs.declared.range.EventRange.{EventRange}
 
 -- ---- the digits
 

@@ -2,18 +2,12 @@
 use Rattle.std.proofs.Common.{Some, None, true, refl, ap}
 use Rattle.clap.specs.Words.{Kinds}
 use Rattle.tw_cli.specs.CommandLine.{Asked, Assembles, Disassembles, Checks, Runs, RunsJson, RunsEach, Replays, Explains, IsAsked}
-use Rattle.tw_cli.specs.InTurn.{IsInTurn, IsInputsInTurn, IsProgramInTurn, IsVerifiedInTurn, inputs_in_turn, order_in_turn, program_in_turn, turned, verified_in_turn}
+use Rattle.tw_order.specs.InTurn.{order_in_turn}
+use Rattle.tw_cli.specs.InTurn.{turned}
 use Rattle.tw_cli.specs.Order.{HasReason}
-use Rattle.tw_cli.specs.declared.command.InputsOrder.{InputsOrder}
-use Rattle.tw_cli.specs.declared.command.InputsOrder.TheVariants.{ToReplay, ToRun, ToRunJson}
 use Rattle.tw_cli.specs.declared.command.NoOrder.{NoOrder}
 use Rattle.tw_cli.specs.declared.command.NoOrder.TheVariants.{Help, Refused, InputWord, Explanation, NoMemory}
-use Rattle.tw_cli.specs.declared.command.Order.{Order}
-use Rattle.tw_cli.specs.declared.command.Order.TheVariants.{Assemble, Each, Inputs, Program, Replay}
-use Rattle.tw_cli.specs.declared.command.ProgramOrder.{ProgramOrder}
-use Rattle.tw_cli.specs.declared.command.ProgramOrder.TheVariants.{Disassemble, Verified}
-use Rattle.tw_cli.specs.declared.command.VerifiedOrder.{VerifiedOrder}
-use Rattle.tw_cli.specs.declared.command.VerifiedOrder.TheVariants.{Check, Run}
+use Rattle.tw_order.specs.declared.order.Order.{Order}
 
 pub asked_in_turn : (asked : Asked) (order : Order) → IsAsked asked order → IsAsked (turned asked) (order_in_turn order)
 asked_in_turn (Assembles what) order is = ap order_in_turn is
@@ -52,25 +46,3 @@ reason_in_turn kinds (RunsJson source answer layout caps most traced turns) (Exp
 reason_in_turn kinds (RunsEach source layout caps most threads) (Explanation text) h = h
 reason_in_turn kinds (Replays source answer layout words) (Explanation text) h = h
 reason_in_turn kinds (Explains other) (Explanation text) h = h
-
--- ---- an order with its run single-threaded
-
-verified_is : (order : VerifiedOrder) → IsVerifiedInTurn (verified_in_turn order)
-verified_is (Check requested) = tt
-verified_is (Run run) = refl
-
-program_is : (order : ProgramOrder) → IsProgramInTurn (program_in_turn order)
-program_is (Disassemble places) = tt
-program_is (Verified order) = verified_is order
-
-inputs_is : (order : InputsOrder) → IsInputsInTurn (inputs_in_turn order)
-inputs_is (ToRun options) = refl
-inputs_is (ToRunJson options) = refl
-inputs_is (ToReplay options) = tt
-
-pub is_in_turn : (order : Order) → IsInTurn (order_in_turn order)
-is_in_turn (Assemble what) = tt
-is_in_turn (Program source order) = program_is order
-is_in_turn (Replay source order) = tt
-is_in_turn (Inputs source order) = inputs_is order
-is_in_turn (Each source order) = tt

@@ -5,34 +5,33 @@ use Rattle.clap.specs.Lexer.{usize_max}
 use Rattle.clap.specs.Walk.{is_empty}
 use Rattle.clap.specs.Words.{App, Kinds, Row, Rule, Text, all_of, fault_of, first_of, new_app, new_rule, subcommand_of, with_rule, with_subcommand}
 use Rattle.clap.specs.declared.error.ErrorKind.TheVariants.{ArgumentConflict}
-use Rattle.tw_types.specs.declared.input.Input.{Input}
 use Rattle.tw_types.specs.Layout.{ActorCounts}
-use Rattle.tw_cli.specs.InputWords.{AreSpelled, IsRefusedWord, RefusedWord}
+use Rattle.tw_inputs.specs.InputWords.{AreSpelled, IsRefusedWord, RefusedWord}
 use Rattle.tw_cli.specs.Options.{NumberOption, actor_options, ExplainOrder, explaining, given_actors, given_assembly, given_disassembly, given_form, each, first_shown, flag_rule, in_turn, inputs, inputs_json, bounds, bounds_faults, cap_options, check_options, given_caps, given_check, checking, is_given, jobs, json, last_shown, limit, main_rule, names, number_options, option_faults, option_rule, picture, picture_options, places, plain, quiet, given_source, stats, stretch_options, given_range, text, requested, trace}
 use Rattle.tw_cli.specs.Explanations.{IsMeaningOf, number_faults, number_rule, number_word}
-use Rattle.tw_cli.specs.declared.command.Answer.{Answer}
-use Rattle.tw_cli.specs.declared.command.Answer.TheVariants.{Json, Numbers, Picture, Report}
-use Rattle.tw_cli.specs.declared.command.RunAnswer.{RunAnswer}
-use Rattle.tw_cli.specs.declared.command.RunAnswer.TheVariants as written
-use Rattle.tw_cli.specs.declared.command.Order.{Order}
-use Rattle.tw_cli.specs.declared.command.InputsOrder.TheVariants.{ToReplay, ToRun, ToRunJson}
-use Rattle.tw_cli.specs.declared.command.Order.TheVariants.{Assemble, Each, Inputs, Program, Replay}
-use Rattle.tw_cli.specs.declared.caps.Caps.{Caps}
-use Rattle.tw_cli.specs.declared.checks.BoundsOf.TheVariants.{NoBounds}
-use Rattle.tw_cli.specs.declared.checks.CheckOrder.{CheckOrder}
-use Rattle.tw_cli.specs.declared.command.EachOrder.{EachOrder}
-use Rattle.tw_cli.specs.declared.command.Places.TheVariants.{Hidden}
-use Rattle.tw_cli.specs.declared.command.ProgramOrder.TheVariants.{Disassemble, Verified}
-use Rattle.tw_cli.specs.declared.command.VerifiedOrder.TheVariants.{Check, Run}
-use Rattle.tw_cli.specs.declared.command.ReplayOptions.{ReplayOptions}
-use Rattle.tw_cli.specs.declared.command.ReplayOrder.{ReplayOrder}
-use Rattle.tw_cli.specs.declared.command.RunOptions.{RunOptions}
-use Rattle.tw_cli.specs.declared.command.RunOrder.{RunOrder}
-use Rattle.tw_cli.specs.declared.command.Source.{Source}
-use Rattle.tw_cli.specs.declared.form.AssembleOrder.{AssembleOrder}
-use Rattle.tw_cli.specs.declared.form.DisassembleOrder.{DisassembleOrder}
+use Rattle.tw_order.specs.declared.runs.Answer.{Answer}
+use Rattle.tw_order.specs.declared.runs.Answer.TheVariants.{Json, Numbers, Picture, Report}
+use Rattle.tw_order.specs.declared.runs.RunAnswer.{RunAnswer}
+use Rattle.tw_order.specs.declared.runs.RunAnswer.TheVariants as written
+use Rattle.tw_order.specs.declared.order.Order.{Order}
+use Rattle.tw_order.specs.declared.order.InputsOrder.TheVariants.{ToReplay, ToRun, ToRunJson}
+use Rattle.tw_order.specs.declared.order.Order.TheVariants.{Assemble, Each, Inputs, Program, Replay}
+use Rattle.tw_order.specs.declared.caps.Caps.{Caps}
+use Rattle.tw_order.specs.declared.check.BoundsOf.TheVariants.{NoBounds}
+use Rattle.tw_order.specs.declared.check.CheckOrder.{CheckOrder}
+use Rattle.tw_order.specs.declared.runs.EachOrder.{EachOrder}
+use Rattle.tw_order.specs.declared.form.Places.TheVariants.{Hidden}
+use Rattle.tw_order.specs.declared.order.ProgramOrder.TheVariants.{Disassemble, Verified}
+use Rattle.tw_order.specs.declared.order.VerifiedOrder.TheVariants.{Check, Run}
+use Rattle.tw_order.specs.declared.runs.ReplayOptions.{ReplayOptions}
+use Rattle.tw_order.specs.declared.runs.ReplayOrder.{ReplayOrder}
+use Rattle.tw_order.specs.declared.runs.RunOptions.{RunOptions}
+use Rattle.tw_order.specs.declared.runs.RunOrder.{RunOrder}
+use Rattle.tw_order.specs.declared.order.Source.{Source}
+use Rattle.tw_order.specs.declared.form.AssembleOrder.{AssembleOrder}
+use Rattle.tw_order.specs.declared.form.DisassembleOrder.{DisassembleOrder}
 use Rattle.tw_cli.specs.declared.form.Explained.{Explained}
-use Rattle.tw_cli.specs.declared.command.Source.TheVariants.{Hex}
+use Rattle.tw_order.specs.declared.order.Source.TheVariants.{Hex}
 
 -- a command with options for caps
 abbrev pub capped_line : App → App
@@ -175,13 +174,6 @@ asked_of (Some named) =
 -- returns what the program's arguments request
 abbrev pub asked_by_words : List Text → Asked
 asked_by_words words = asked_of (subcommand_of command_line words)
-
--- return how a program is run, or a trace replayed, with these inputs
-abbrev pub run_with : RunOptions → List Input → RunOrder
-run_with options given = record { answer = options.answer; layout = options.layout; limit = options.limit; caps = options.caps; trace = options.trace; in_turn = options.in_turn; inputs = given }
-
-abbrev pub replay_with : ReplayOptions → List Input → ReplayOrder
-replay_with options given = record { answer = options.answer; layout = options.layout; inputs = given }
 
 -- holds if the order is what was requested: each input argument encodes its input, or the inputs are to be read
 abbrev pub IsAsked : Asked → Order → Type 0

@@ -1,8 +1,6 @@
 -- The definitions that a reader has to trust for the command line. CommandLine and Options define which arguments are accepted, and what they
--- request. InputWords defines which input a word encodes. Order says why there is no order, and Complaint and InputReasons which text says so. InTurn
--- is about orders whose runs are single-threaded. The definitions for private clauses are in reading.
-pub mod InputReasons
-pub mod InputWords
+-- request. Order says why there is no order, and Complaint which text says so. InTurn is about requests whose runs are single-threaded. The
+-- definitions for private clauses are in reading.
 pub mod Options
 pub mod Explanations
 pub mod CommandLine

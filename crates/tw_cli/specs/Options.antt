@@ -5,22 +5,23 @@ use Rattle.std.specs.Option.{option_map_or}
 use Rattle.std.specs.Str.{bytes_eq}
 use Rattle.std.specs.Str.Parse.{digits_value}
 use Rattle.tw_types.specs.Layout.{ActorCounts}
-use Rattle.tw_cli.specs.declared.command.Assembling.{Assembling}
-use Rattle.tw_cli.specs.declared.command.Assembling.TheVariants.{Names, Plain}
-use Rattle.tw_cli.specs.declared.command.Assembling.TheVariants as assembling
-use Rattle.tw_cli.specs.declared.caps.Caps.{Caps}
-use Rattle.tw_cli.specs.declared.checks.BoundsOf.{BoundsOf}
-use Rattle.tw_cli.specs.declared.checks.BoundsOf.TheVariants.{NoBounds, OfMain, OfEach}
-use Rattle.tw_cli.specs.declared.checks.CheckOrder.{CheckOrder}
-use Rattle.tw_cli.specs.declared.command.Places.{Places}
-use Rattle.tw_cli.specs.declared.form.AssembleOrder.{AssembleOrder}
-use Rattle.tw_cli.specs.declared.form.DisassembleOrder.{DisassembleOrder}
-use Rattle.tw_cli.specs.declared.form.Form.{Form}
-use Rattle.tw_cli.specs.declared.form.Form.TheVariants as form
-use Rattle.tw_cli.specs.declared.command.Places.TheVariants.{Hidden, Shown}
-use Rattle.tw_cli.specs.declared.command.Source.{Source}
-use Rattle.tw_cli.specs.declared.command.Source.TheVariants.{Hex, Assembly}
-use Rattle.tw_cli.specs.declared.shown.EventRange.{EventRange}
+use Rattle.tw_order.specs.Orders.{greatest_cap}
+use Rattle.tw_order.specs.declared.form.Assembling.{Assembling}
+use Rattle.tw_order.specs.declared.form.Assembling.TheVariants.{Names, Plain}
+use Rattle.tw_order.specs.declared.form.Assembling.TheVariants as assembling
+use Rattle.tw_order.specs.declared.caps.Caps.{Caps}
+use Rattle.tw_order.specs.declared.check.BoundsOf.{BoundsOf}
+use Rattle.tw_order.specs.declared.check.BoundsOf.TheVariants.{NoBounds, OfMain, OfEach}
+use Rattle.tw_order.specs.declared.check.CheckOrder.{CheckOrder}
+use Rattle.tw_order.specs.declared.form.Places.{Places}
+use Rattle.tw_order.specs.declared.form.AssembleOrder.{AssembleOrder}
+use Rattle.tw_order.specs.declared.form.DisassembleOrder.{DisassembleOrder}
+use Rattle.tw_order.specs.declared.form.Form.{Form}
+use Rattle.tw_order.specs.declared.form.Form.TheVariants as form
+use Rattle.tw_order.specs.declared.form.Places.TheVariants.{Hidden, Shown}
+use Rattle.tw_order.specs.declared.order.Source.{Source}
+use Rattle.tw_order.specs.declared.order.Source.TheVariants.{Hex, Assembly}
+use Rattle.tw_order.specs.declared.range.EventRange.{EventRange}
 use Rattle.clap.specs.ValueTests.{is_numeral}
 use Rattle.clap.specs.Words.{Kinds, Row, Rule, Text, first_of, new_rule, one_of}
 use Rattle.clap.specs.declared.builder.action.ArgAction.TheVariants.{SetTrue}
@@ -68,9 +69,6 @@ abbrev pub number_options : List NumberOption
 number_options = engines ∷ servers ∷ workers ∷ limit ∷ first_shown ∷ last_shown ∷ []
 
 -- caps on a run: a program whose bounds are larger isn't admitted
-abbrev pub greatest_cap : ℕ
-greatest_cap = 18446744073709551615
-
 abbrev pub most_tasks : NumberOption
 most_tasks = record { name = codes "most-tasks"; most = greatest_cap; default = greatest_cap }
 

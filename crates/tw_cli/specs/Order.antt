@@ -1,11 +1,10 @@
 -- Why the arguments give no order.
-use Rattle.std.specs.Prelude.{◌≡◌, ◌≢◌, ◌⊎◌, ℕ, List, [], ⊤}
+use Rattle.std.specs.Prelude.{◌≡◌, ◌≢◌, ◌⊎◌, List, [], ⊤}
 use Rattle.clap.specs.Words.{IsAmong, Kinds, Text}
 use Rattle.clap.specs.declared.error.ErrorKind.{ErrorKind}
 use Rattle.clap.specs.declared.error.ErrorKind.TheVariants.{DisplayHelp, DisplayVersion, OutOfMemory}
 use Rattle.tw_cli.specs.CommandLine.{Asked, IsExplained, IsRefusedInput}
-use Rattle.tw_cli.specs.InputReasons.{diagnostic_line}
-use Rattle.tw_cli.specs.InputWords.{IsRefusedWord, refused_word}
+use Rattle.tw_inputs.specs.InputWords.{IsRefusedWord, refused_word}
 use Rattle.tw_cli.specs.declared.command.NoOrder.{NoOrder}
 use Rattle.tw_cli.specs.declared.command.NoOrder.TheVariants.{Help, Refused, InputWord, Explanation, NoMemory}
 
@@ -22,20 +21,12 @@ IsReason kind (InputWord number reason) = ⊥
 IsReason kind (Explanation text) = ⊥
 
 -- holds if this reason comes from these input words
-abbrev pub IsInputReason : List Text → NoOrder → Type 0
-IsInputReason words NoMemory = ⊤
-IsInputReason words (Help text) = ⊥
-IsInputReason words Refused = ⊥
-IsInputReason words (InputWord number reason) = IsRefusedWord words (refused_word number reason.items)
-IsInputReason words (Explanation text) = ⊥
-
--- holds if the word is rejected, with the line that says why
-abbrev pub IsRejection : ℕ → List ℕ → NoOrder → Type 0
-IsRejection number word NoMemory = ⊤
-IsRejection number word (Help text) = ⊥
-IsRejection number word Refused = ⊥
-IsRejection number word (InputWord at reason) = (at ≡ number) × (reason.items ≡ diagnostic_line number word)
-IsRejection number word (Explanation text) = ⊥
+abbrev pub IsWordReason : List Text → NoOrder → Type 0
+IsWordReason words NoMemory = ⊤
+IsWordReason words (Help text) = ⊥
+IsWordReason words Refused = ⊥
+IsWordReason words (InputWord number reason) = IsRefusedWord words (refused_word number reason.items)
+IsWordReason words (Explanation text) = ⊥
 
 -- holds if the reason comes from one of the kinds; or the arguments are accepted, and it comes from the input words, or is the explanation that they
 -- request

@@ -1,5 +1,4 @@
 -- The definitions for the readers of words, which no public clause uses.
-pub mod Members
 pub mod Inputs
 pub mod Runs
 pub mod Rows

@@ -5,38 +5,14 @@ ghost use Rattle.clap.specs.Words.{found_of, rows_of};
 ghost use Rattle.clap.specs.declared.error.ErrorKind.TheVariants.{ValueValidation};
 ghost use Rattle.tw_cli.specs.CommandLine.{check_faults};
 ghost use Rattle.tw_cli.specs.Options.{bounds_in, checking, given_bounds, given_check, limit, named_limit, number_of};
-ghost use Rattle.tw_cli.specs.declared.checks.BoundsOf.TheVariants as bounds_of;
+ghost use Rattle.tw_order.specs.declared.check.BoundsOf.TheVariants as bounds_of;
 
-use crate::caps::{Caps, caps_given};
-use crate::command::Places;
-use crate::form::{Form, form_given};
+use crate::caps::caps_given;
+use crate::form::form_given;
 use crate::found::{limit_given, places_given};
-use crate::limit::EventLimit;
 use crate::shown::is_named;
 use clap::ArgMatches;
-
-/// The procedures whose bounds are printed.
-#[derive(Clone, Copy, PartialEq, Eq)]
-pub enum BoundsOf {
-    NoBounds,
-    /// Main's, which are those of whole runs.
-    OfMain,
-    OfEach,
-}
-
-/// The output of a check in addition to the budgets.
-#[derive(Clone, Copy)]
-pub struct CheckOrder {
-    /// Whether the instructions are listed before the budgets.
-    pub places: Places,
-    /// Whose bounds are printed after the budgets.
-    pub bounds: BoundsOf,
-    /// The most events of a run, if its bounds by this limit are printed too.
-    pub limit: Option<EventLimit>,
-    /// The caps above which the program is rejected.
-    pub caps: Caps,
-    pub form: Form,
-}
+use tw_order::{BoundsOf, Caps, CheckOrder, EventLimit, Form, Places};
 
 fn bounds_in(word: &str) -> Option<BoundsOf>
     ensures { result ≡ bounds_in word.now }

@@ -8,9 +8,10 @@ ghost use Rattle.tw_cli.specs.Explanations.{IsExplanation, IsMeaningOf, assembly
 
 use crate::explained_names::NAMES;
 use crate::explained_programs::{BYTES, TRAPS, VERIFIER};
-use crate::form::{Explained, Form};
+use crate::form::Explained;
 use std::alloc::{AllocError, Global};
 use tw_lexer::put;
+use tw_order::Form;
 
 /// The explanation of a code.
 #[derive(Clone, Copy)]

@@ -1,36 +1,12 @@
-//! The form of a command's output, and the orders that have little more.
+//! Reads the form of a command's output, and the orders that have little more.
 
 ghost use Rattle.std.specs.Prelude.{◌≡◌};
 ghost use Rattle.clap.specs.Words.{found_of, rows_of};
 ghost use Rattle.tw_cli.specs.Options.{given_assembly, given_disassembly, given_form};
 
-use crate::command::{Assembling, Places};
 use crate::found::{assembling_given, flag_given, places_given};
 use clap::ArgMatches;
-
-/// The form of a command's output.
-#[derive(Clone, Copy, PartialEq, Eq)]
-pub enum Form {
-    Text,
-    /// One JSON object on one line.
-    Json,
-}
-
-/// The order to assemble.
-#[derive(Clone, Copy)]
-pub struct AssembleOrder {
-    /// The texts that are read and written.
-    pub what: Assembling,
-    pub form: Form,
-}
-
-/// The order to disassemble.
-#[derive(Clone, Copy)]
-pub struct DisassembleOrder {
-    /// Whether each instruction has its place.
-    pub places: Places,
-    pub form: Form,
-}
+use tw_order::{AssembleOrder, DisassembleOrder, Form};
 
 /// The explanation of a code.
 #[derive(Drop)]

@@ -1,24 +1,24 @@
 //! Reads the options and input arguments that clap found after a command.
 
-ghost use Rattle.std.specs.Prelude.{◌≡◌, false, not, [], ◌∷◌, map, IfOk, IfErr, IfSome, MatchOption};
+ghost use Rattle.std.specs.Prelude.{◌≡◌, false, not, [], ◌∷◌, List, IfOk, IfErr, IfSome, MatchOption};
 ghost use Rattle.clap.specs.Walk.{is_empty};
-ghost use Rattle.clap.specs.Words.{found_of, rows_of};
+ghost use Rattle.clap.specs.Words.{Text, found_of, rows_of};
 ghost use Rattle.clap.specs.declared.error.ErrorKind.TheVariants.{ValueValidation};
 ghost use Rattle.tw_cli.specs.CommandLine.{given_answer, given_words, input_faults, replay_asked, single_asked, listed_words};
-ghost use Rattle.tw_cli.specs.declared.command.Answer.{Answer as Answers};
-ghost use Rattle.tw_cli.specs.InputWords.{AreSpelled};
+ghost use Rattle.tw_order.specs.declared.runs.Answer.{Answer as Answers};
+ghost use Rattle.tw_inputs.specs.InputWords.{AreSpelled};
 ghost use Rattle.tw_cli.specs.reading.Inputs.{HasInputs};
 ghost use Rattle.tw_cli.specs.Options.{HasActors, actor_options, given_assembling, is_given, limit, number_of, option_faults, given_places, given_source};
 ghost use Rattle.std.specs.Int.{IsInRange};
-ghost use Rattle.tw_cli.specs.Order.{HasReason, IsInputReason};
+ghost use Rattle.tw_cli.specs.Order.{HasReason, IsWordReason};
+ghost use Rattle.tw_inputs.specs.WordErrors.{IsInputReason};
 
-use crate::command::{Answer, Assembling, NoOrder, Places, Source};
-use crate::input_diagnostics::refused_word;
-use crate::input_words::input_of;
-use crate::limit::EventLimit;
+use crate::command::NoOrder;
 use clap::ArgMatches;
 use std::alloc::Global;
+use tw_inputs::{WordError, inputs_of};
 use tw_lexer::digits;
+use tw_order::{Answer, Assembling, EventLimit, Places, Source};
 use tw_types::{Input, Items, Layout};
 
 /// Returns the number from 1 to `most` of an option, or `default` if it isn't given. Returns none if its value is no number in this range.
@@ -114,23 +114,18 @@ pub(crate) fn answer_given(matches: &ArgMatches<'_>) -> Answer
     }
 }
 
-/// Returns the inputs that words encode, one each. The errors are `NoOrder::InputWord` for the first word that encodes none, and `NoOrder::NoMemory`.
-pub fn inputs_of(alloc: Global, words: &[&str]) -> Result<Items<Input>, NoOrder>
-    ensures spelled { IfOk result (λ inputs. AreSpelled inputs (map (λ word. word.now) words.now)) }
-    ensures refused { IfErr result (IsInputReason (map (λ word. word.now) words.now)) }
+/// Returns the reason that input words are.
+fn word_reason(why: WordError) -> NoOrder
+    ensures { (words : List Text) → IsInputReason words why → IsWordReason words result }
 {
-    let mut inputs = Vec::new(alloc);
-    for (index, word) in words.iter().enumerate() {
-        match input_of(alloc, word)? {
-            Some(input) => inputs.push(input)?,
-            None => return Err(refused_word(alloc, index + 1, word)),
-        }
+    match why {
+        WordError::Refused(number, line) => NoOrder::InputWord(number, line),
+        WordError::NoMemory => NoOrder::NoMemory,
     }
-    Ok(Items::from(inputs))
 }
 
 /// Returns the inputs that the arguments after `run`, `replay` or `picture` encode.
-fn inputs_in_words(alloc: Global, matches: &ArgMatches<'_>) -> Result<Items<Input>, NoOrder>
+fn inputs_in_words(alloc: Global, matches: &ArgMatches<'_>) -> Result<Items<Input>, WordError>
     ensures spelled { IfOk result (λ inputs. AreSpelled inputs (given_words (rows_of (found_of matches.now)))) }
     ensures refused { IfErr result (IsInputReason (given_words (rows_of (found_of matches.now)))) }
 {
@@ -162,7 +157,10 @@ pub(crate) fn inputs_given(
         (HasReason (input_faults (rows_of (found_of matches.now))) (replay_asked answer (rows_of (found_of matches.now)))) }
 {
     if !flag_given(matches, "inputs") {
-        return Ok(Some(inputs_in_words(alloc, matches)?));
+        return match inputs_in_words(alloc, matches) {
+            Ok(inputs) => Ok(Some(inputs)),
+            Err(why) => Err(word_reason(why)),
+        };
     }
     if has_words(matches) {
         return Err(NoOrder::Refused);

@@ -3,9 +3,9 @@
 ghost use Rattle.std.specs.Prelude.{◌≡◌, true, false, [], map, IfOk, IfErr, MatchOption, string_bytes};
 ghost use Rattle.clap.specs.Words.{found_of, kind_of, rows_of, subcommand_rows_of};
 ghost use Rattle.tw_cli.specs.CommandLine.{Checks, Explains, IsAsked, asked_by_words, asked_of, check_faults, drawing_faults, explain_asked, faults_after, given_answer, replay_asked, report_faults, replay_faults, run_asked, run_faults, word_faults};
-ghost use Rattle.tw_cli.specs.declared.command.Answer.{Answer as Answers};
-ghost use Rattle.tw_cli.specs.declared.command.Order.TheVariants.{Program};
-ghost use Rattle.tw_cli.specs.declared.command.ProgramOrder.TheVariants.{Verified};
+ghost use Rattle.tw_order.specs.declared.runs.Answer.{Answer as Answers};
+ghost use Rattle.tw_order.specs.declared.order.Order.TheVariants.{Program};
+ghost use Rattle.tw_order.specs.declared.order.ProgramOrder.TheVariants.{Verified};
 ghost use Rattle.tw_cli.specs.reading.Runs.{IsRunBy};
 ghost use Rattle.tw_cli.specs.Options.{each, explaining, given_check, given_range, given_source, inputs_json, is_given};
 ghost use Rattle.tw_cli.specs.Explanations.{number_faults, number_word};
@@ -14,13 +14,10 @@ ghost use Rattle.tw_cli.specs.declared.command.NoOrder.TheVariants.{Refused};
 
 use crate::caps::caps_given;
 use crate::checks::{bare_check, check_given};
-use crate::command::{
-    Answer, EachOrder, InputsOrder, NoOrder, Order, ProgramOrder, ReplayOptions, RunOptions,
-    Source, VerifiedOrder, command,
-};
+use crate::command::{NoOrder, command};
 use crate::each::{each_excludes, jobs_given, json_excludes, names_jobs};
 use crate::explanations::explained;
-use crate::form::{Form, assembly_given, disassembly_given, form_given};
+use crate::form::{assembly_given, disassembly_given, form_given};
 use crate::found::{
     answer_given, flag_given, inputs_given, layout_given, limit_given, source_given,
 };
@@ -28,6 +25,10 @@ use crate::shown::{event_range_given, is_json_with_more, run_answer};
 use clap::error::ErrorKind;
 use clap::{ArgMatches, Error};
 use std::alloc::Global;
+use tw_order::{
+    Answer, EachOrder, Form, InputsOrder, Order, ProgramOrder, ReplayOptions, RunOptions, Source,
+    VerifiedOrder,
+};
 
 pub(crate) fn reason_of(alloc: Global, error: &Error) -> NoOrder
     ensures { IsReason (kind_of error.now) result }

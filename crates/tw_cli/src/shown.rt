@@ -1,30 +1,14 @@
-//! Which events a timeline shows.
+//! Reads what a run prints, and which events its timeline shows.
 
-ghost use Rattle.std.specs.Prelude.{◌≡◌, [], ◌∷◌, is_some, nat_lt, IfErr, IfOk, MatchOption};
+ghost use Rattle.std.specs.Prelude.{◌≡◌, [], ◌∷◌, is_some, IfErr, IfOk, MatchOption};
 ghost use Rattle.clap.specs.Words.{first_of, found_of, rows_of};
 ghost use Rattle.clap.specs.declared.error.ErrorKind.TheVariants.{ArgumentConflict, ValueValidation};
 ghost use Rattle.tw_cli.specs.CommandLine.{has_more, is_cut, is_json_with_more, json_faults, picture_faults, run_answer, stretch_faults, written_answer};
 ghost use Rattle.tw_cli.specs.Options.{HasStretch, option_faults, stretch_options, given_range};
 
-use crate::command::RunAnswer;
 use crate::found::{flag_given, number_given};
 use clap::ArgMatches;
-
-/// The events from one number to another, which a timeline shows. They count from 1. Past the last event there are none.
-#[derive(Clone, Copy, PartialEq, Eq)]
-pub struct EventRange {
-    pub from: u32,
-    pub to: u32,
-}
-
-impl EventRange {
-    /// Returns whether the last event is before the first.
-    pub(crate) fn is_reversed(self) -> bool
-        ensures { result ≡ nat_lt self.to self.from }
-    {
-        self.to < self.from
-    }
-}
+use tw_order::{EventRange, RunAnswer};
 
 /// Options that exclude each other.
 #[derive(Clone, Copy)]

@@ -3,16 +3,15 @@
 ghost use Rattle.std.specs.Prelude.{◌≡◌, ℕ, true, false, List, [], ◌∷◌, Some, None, codes};
 ghost use Rattle.clap.specs.declared.error.ErrorKind.TheVariants.{ArgumentConflict, DisplayHelp, DisplayVersion, InvalidSubcommand, InvalidValue, TooManyValues, UnknownArgument, ValueValidation};
 ghost use Rattle.tw_cli.specs.CommandLine.{Assembles, Checks, Disassembles, Explains, Replays, Runs, RunsEach, RunsJson, asked_by_words, word_faults};
-ghost use Rattle.tw_cli.specs.declared.command.Answer.TheVariants.{Json, Numbers, Picture, Report};
-ghost use Rattle.tw_cli.specs.declared.command.RunAnswer.TheVariants as written;
-ghost use Rattle.tw_cli.specs.declared.command.Assembling.TheVariants.{Names, Plain, Text};
-ghost use Rattle.tw_cli.specs.declared.checks.BoundsOf.TheVariants.{NoBounds, OfEach, OfMain};
-ghost use Rattle.tw_cli.specs.declared.command.Places.TheVariants.{Hidden, Shown};
-ghost use Rattle.tw_cli.specs.declared.form.Form.TheVariants as form;
-ghost use Rattle.tw_cli.specs.declared.command.Source.TheVariants.{Assembly, Hex};
+ghost use Rattle.tw_order.specs.declared.runs.Answer.TheVariants.{Json, Numbers, Picture, Report};
+ghost use Rattle.tw_order.specs.declared.runs.RunAnswer.TheVariants as written;
+ghost use Rattle.tw_order.specs.declared.form.Assembling.TheVariants.{Names, Plain, Text};
+ghost use Rattle.tw_order.specs.declared.check.BoundsOf.TheVariants.{NoBounds, OfEach, OfMain};
+ghost use Rattle.tw_order.specs.declared.form.Places.TheVariants.{Hidden, Shown};
+ghost use Rattle.tw_order.specs.declared.form.Form.TheVariants as form;
+ghost use Rattle.tw_order.specs.declared.order.Source.TheVariants.{Assembly, Hex};
 ghost use Rattle.tw_cli.specs.Options.{actors, assembling_to, capped, checking, disassembling, explaining, stretch, uncapped};
 ghost use Rattle.tw_cli.specs.Explanations.{meant};
-ghost use Rattle.tw_cli.specs.InputWords.{OneInput, OneRefusedWord};
 
 /// Each command is accepted, and gives the order that it names, with the options and arguments after it.
 pub fn commands_are_taken()
@@ -154,10 +153,4 @@ pub fn strangers_are_refused()
     ensures value { word_faults (codes "run" ∷ codes "--trace=true" ∷ []) ≡ TooManyValues ∷ [] }
     ensures number { word_faults (codes "explain" ∷ codes "V19" ∷ []) ≡ ValueValidation ∷ [] }
     ensures word { word_faults (codes "run" ∷ codes "--engines" ∷ codes "+1" ∷ []) ≡ ValueValidation ∷ [] }
-{}
-
-/// A word encodes at most one input, and at most one input word is the first that encodes none.
-pub fn words_spell_one_input()
-    ensures input { OneInput }
-    ensures refused { OneRefusedWord }
 {}

@@ -14,8 +14,8 @@ use Rattle.tw_pool.specs.Openings.{IsRejection, MayOpen, open_error_code, opened
 use Rattle.tw_pool.specs.PoolView.{PoolView}
 use Rattle.tw_in_turn.specs.InTurn.{IsLeft}
 use Rattle.tw_in_turn.specs.declared.run.InTurnResult.TheVariants as left
-use Rattle.tw_json_inputs.specs.Inputs.{AreInputsIn, HasFaultAt, IsFaultText}
-use Rattle.tw_json_inputs.specs.declared.inputs.Place.{Place}
+use Rattle.tw_inputs.specs.JsonInputs.{AreInputsIn, HasFaultAt, IsFaultText}
+use Rattle.tw_inputs.specs.declared.json_inputs.Place.{Place}
 use Rattle.tw_json_output.specs.Error.{error_json}
 use Rattle.tw_json_output.specs.Run.{json_line}
 use Rattle.tw_program_output.specs.Input.{is_gap_byte}

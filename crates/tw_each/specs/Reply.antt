@@ -5,9 +5,9 @@ use Rattle.tw_code.specs.declared.procedure.Procedure.{Procedure}
 use Rattle.tw_code.specs.format.Program.{Versioned}
 use Rattle.tw_code.specs.accepting.WellTyped.{IsAccepted}
 use Rattle.tw_verify.specs.Typed.{TypedProgram}
-use Rattle.tw_cli.specs.declared.command.EachOrder.{EachOrder}
-use Rattle.tw_cli.specs.declared.command.Places.TheVariants.{Hidden}
-use Rattle.tw_cli.specs.declared.command.Source.{Source}
+use Rattle.tw_order.specs.declared.runs.EachOrder.{EachOrder}
+use Rattle.tw_order.specs.declared.form.Places.TheVariants.{Hidden}
+use Rattle.tw_order.specs.declared.order.Source.{Source}
 use Rattle.tw_json_output.specs.Error.{error_json}
 use Rattle.tw_json_output.specs.Run.{json_line}
 use Rattle.tw_program_output.specs.Admission.{AreExcessLines, StaysWithinCaps, has_cap}

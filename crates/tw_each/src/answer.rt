@@ -12,7 +12,7 @@ use crate::numbered::put_numbered_line;
 use std::alloc::{AllocError, Global};
 use tw_code::main_params;
 use tw_in_turn::{InTurnResult, run_in_turn};
-use tw_json_inputs::{NoInputs, Place, Scratch, fault_text, read_inputs};
+use tw_inputs::{NoInputs, Place, Scratch, fault_text, read_inputs};
 use tw_json_output::error_line;
 use tw_pool::OpenError;
 use tw_program_output::SourceText;

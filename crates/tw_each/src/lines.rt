@@ -7,7 +7,7 @@ ghost use Rattle.tw_each.specs.Answers.{AreAnswers, IsLine, is_blank, way};
 use crate::answer::{EachRun, put_answer};
 use crate::line_count::LineCount;
 use std::alloc::{AllocError, Global};
-use tw_json_inputs::Scratch;
+use tw_inputs::Scratch;
 
 /// Answers to lines, and whether one of them is refused.
 #[derive(Drop)]

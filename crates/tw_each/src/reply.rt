@@ -11,9 +11,9 @@ use crate::answer::EachRun;
 use crate::input_lines::line_parts;
 use crate::threads::Answering;
 use std::alloc::{AllocError, Global};
-use tw_cli::{EachOrder, Places, Source};
 use tw_code::Program;
 use tw_json_output::error_line;
+use tw_order::{EachOrder, Places, Source};
 use tw_program_output::{
     Close, ReadProgram, Reply, SourceText, excess_reply, excess_text, not_utf8_reply,
     parse_error_reply, read_program, rejection_reply,

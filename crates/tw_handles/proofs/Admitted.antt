@@ -11,7 +11,7 @@ use Rattle.tw_bounds.specs.Contents.{bytes_held, members_held}
 use Rattle.tw_bounds.specs.Least.{LeastRuns}
 use Rattle.tw_bounds.specs.Limited.{IsLargestBudget}
 use Rattle.tw_bounds.specs.Runs.{instructions_in, tasks_in}
-use Rattle.tw_cli.specs.Options.{greatest_cap}
+use Rattle.tw_order.specs.Orders.{greatest_cap}
 use Rattle.tw_program_output.specs.Admission.{is_within}
 use Rattle.tw_handles.specs.Caps.{StaysWithin, are_within, has_cap, is_cap}
 use Rattle.tw_handles.specs.declared.caps.AllCaps.{AllCaps}

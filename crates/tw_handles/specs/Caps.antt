@@ -17,7 +17,7 @@ use Rattle.tw_bounds.specs.Runs.{instructions_in, tasks_in}
 use Rattle.tw_bounds.specs.declared.bound.Bound.{Bound}
 use Rattle.tw_bounds.specs.declared.bound.Bound.TheVariants.{AtMost, Over, Endless}
 use Rattle.tw_bounds.specs.declared.limited.LimitedBounds.{LimitedBounds}
-use Rattle.tw_cli.specs.Options.{greatest_cap}
+use Rattle.tw_order.specs.Orders.{greatest_cap}
 use Rattle.tw_program_output.specs.Admission.{is_within}
 use Rattle.tw_verify.specs.Typed.{TypedProgram}
 use Rattle.tw_handles.specs.Asking.{Fails}

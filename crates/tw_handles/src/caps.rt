@@ -1,13 +1,13 @@
 //! Caps on the runs of a loaded program.
 
 ghost use Rattle.std.specs.Prelude.{◌≡◌, IfOk, slice_get, true, unwrap_or};
-ghost use Rattle.tw_cli.specs.Options.{greatest_cap};
+ghost use Rattle.tw_order.specs.Orders.{greatest_cap};
 ghost use Rattle.tw_program_output.specs.Admission.{is_within};
 ghost use Rattle.tw_handles.specs.Caps.{AreCompared, AreComparedIf, IsDecided, StaysWithin, are_within, caps_of, has_cap, listed_caps};
 
 use std::alloc::{AllocError, Global};
 use tw_bounds::{Bound, LimitedBounds, largest_budget, least_bounds};
-use tw_cli::EventLimit;
+use tw_order::EventLimit;
 use tw_verify::Verified;
 
 /// The first five caps, as a struct. `u64::MAX` is no cap.

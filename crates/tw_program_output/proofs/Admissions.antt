@@ -5,8 +5,8 @@ use Rattle.std.proofs.lemmas.Bool.{eq-eqb, eqb-true, leb-true, lt-ltb}
 use Rattle.std.proofs.lemmas.Option.{slice_get_within}
 use Rattle.tw_code.specs.declared.procedure.Procedure.{Procedure}
 use Rattle.tw_code.specs.machine.Opening.{opening}
-use Rattle.tw_cli.specs.declared.caps.Caps.{Caps}
-use Rattle.tw_cli.specs.Options.{greatest_cap}
+use Rattle.tw_order.specs.declared.caps.Caps.{Caps}
+use Rattle.tw_order.specs.Orders.{greatest_cap}
 use Rattle.tw_bounds.specs.declared.bound.Bound.{Bound}
 use Rattle.tw_bounds.specs.declared.bound.Bound.TheVariants.{AtMost, Over, Endless}
 use Rattle.tw_bounds.specs.declared.limited.LimitedBounds.{LimitedBounds}

@@ -2,7 +2,7 @@
 use Rattle.std.proofs.Common.{◌≡◌, ◌≢◌, ◌++◌, ℕ, List, [], IsUtf8, inr, refl, sym}
 use Rattle.tw_program_output.proofs.ReplyNames.{Assembly, Hex, AreFaultDetails, AreParseErrorDetails, NoProgram, Refused, RepliesBySource, SpellsNone, Spoken as Reply, ExpandsTo, Versioned, append-nil, name_details, no_program_line, reply}
 use Rattle.tw_asm.specs.declared.fault.AsmFault.{AsmFault}
-use Rattle.tw_cli.specs.declared.command.Source.{Source}
+use Rattle.tw_order.specs.declared.order.Source.{Source}
 use Rattle.tw_symbols.specs.declared.rejection.NameError.{NameError}
 use Rattle.tw_program_output.specs.declared.program.NoProgram.TheVariants.{NotHex, NotUtf8, Bytes, Text, Named, NoMemory}
 

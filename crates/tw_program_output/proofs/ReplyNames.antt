@@ -8,7 +8,7 @@ pub use Rattle.std.specs.Str.Lines.{lines}
 pub use Rattle.tw_code.specs.declared.procedure.Procedure.{Procedure}
 pub use Rattle.tw_code.specs.format.Program.{IsProcedure, IsProgram, Versioned}
 pub use Rattle.tw_code.specs.machine.Rights.{RightType, Typing, right_at}
-pub use Rattle.tw_cli.specs.declared.command.Source.TheVariants.{Assembly, Hex}
+pub use Rattle.tw_order.specs.declared.order.Source.TheVariants.{Assembly, Hex}
 pub use Rattle.tw_program_output.specs.declared.close.Close.TheVariants.{Refused, Success}
 pub use Rattle.tw_program_output.specs.declared.inputs.Section.TheVariants.{Inputs, Program, Rest}
 pub use Rattle.tw_program_output.specs.declared.program.NoProgram.{NoProgram}

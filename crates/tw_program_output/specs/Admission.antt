@@ -17,8 +17,8 @@ use Rattle.tw_bounds.specs.Contents.{bytes_held}
 use Rattle.tw_bounds.specs.Least.{AreLeastBounds, IsShort}
 use Rattle.tw_bounds.specs.Limited.{IsLargestBudget}
 use Rattle.tw_bounds.specs.Runs.{instructions_in, tasks_in}
-use Rattle.tw_cli.specs.declared.caps.Caps.{Caps}
-use Rattle.tw_cli.specs.Options.{greatest_cap}
+use Rattle.tw_order.specs.declared.caps.Caps.{Caps}
+use Rattle.tw_order.specs.Orders.{greatest_cap}
 use Rattle.tw_program_output.specs.Reply.{Reply, reply}
 use Rattle.tw_program_output.specs.declared.close.Close.TheVariants.{Refused}
 

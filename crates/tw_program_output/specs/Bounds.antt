@@ -11,9 +11,9 @@ use Rattle.tw_bounds.specs.declared.bound.Bound.TheVariants.{AtMost, Over, Endle
 use Rattle.tw_bounds.specs.declared.bound.RunBounds.{RunBounds}
 use Rattle.tw_bounds.specs.declared.circles.Circle.{Circle}
 use Rattle.tw_bounds.specs.declared.limited.LimitedBounds.{LimitedBounds}
-use Rattle.tw_cli.specs.declared.checks.BoundsOf.{BoundsOf}
-use Rattle.tw_cli.specs.declared.checks.BoundsOf.TheVariants.{NoBounds, OfMain, OfEach}
-use Rattle.tw_cli.specs.declared.checks.CheckOrder.{CheckOrder}
+use Rattle.tw_order.specs.declared.check.BoundsOf.{BoundsOf}
+use Rattle.tw_order.specs.declared.check.BoundsOf.TheVariants.{NoBounds, OfMain, OfEach}
+use Rattle.tw_order.specs.declared.check.CheckOrder.{CheckOrder}
 use Rattle.tw_symbols.specs.Symbols.{AreSymbols, bracketed, name_at}
 use Rattle.tw_program_output.specs.Text.{IsPlaceText}
 use Rattle.tw_program_output.specs.declared.bound_rows.BoundRow.{BoundRow}

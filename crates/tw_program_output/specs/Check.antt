@@ -7,11 +7,11 @@ use Rattle.tw_code.specs.accepting.Flow.{flows}
 use Rattle.tw_code.specs.accepting.Needs.{needed}
 use Rattle.tw_code.specs.accepting.Walk.{IsBudget}
 use Rattle.tw_code.specs.accepting.WellTyped.{IsFirstRejection}
-use Rattle.tw_cli.specs.declared.checks.CheckOrder.{CheckOrder}
-use Rattle.tw_cli.specs.declared.command.Places.{Places}
-use Rattle.tw_cli.specs.declared.command.Places.TheVariants.{Hidden, Shown}
-use Rattle.tw_cli.specs.declared.form.Form.{Form}
-use Rattle.tw_cli.specs.declared.form.Form.TheVariants as form
+use Rattle.tw_order.specs.declared.check.CheckOrder.{CheckOrder}
+use Rattle.tw_order.specs.declared.form.Places.{Places}
+use Rattle.tw_order.specs.declared.form.Places.TheVariants.{Hidden, Shown}
+use Rattle.tw_order.specs.declared.form.Form.{Form}
+use Rattle.tw_order.specs.declared.form.Form.TheVariants as form
 use Rattle.tw_program_output.specs.CheckJson.{IsCheckLine}
 use Rattle.tw_symbols.specs.Symbols.{AreSymbols, bracketed, name_at}
 use Rattle.tw_program_output.specs.Admission.{RepliesIfAdmitted}

@@ -18,11 +18,11 @@ use Rattle.tw_bounds.specs.declared.bound.Bound.TheVariants.{AtMost, Over, Endle
 use Rattle.tw_bounds.specs.declared.bound.RunBounds.{RunBounds}
 use Rattle.tw_bounds.specs.declared.circles.Circle.{Circle}
 use Rattle.tw_bounds.specs.declared.limited.LimitedBounds.{LimitedBounds}
-use Rattle.tw_cli.specs.declared.checks.BoundsOf.{BoundsOf}
-use Rattle.tw_cli.specs.declared.checks.BoundsOf.TheVariants.{NoBounds, OfMain, OfEach}
-use Rattle.tw_cli.specs.declared.checks.CheckOrder.{CheckOrder}
-use Rattle.tw_cli.specs.declared.command.Places.{Places}
-use Rattle.tw_cli.specs.declared.command.Places.TheVariants.{Hidden, Shown}
+use Rattle.tw_order.specs.declared.check.BoundsOf.{BoundsOf}
+use Rattle.tw_order.specs.declared.check.BoundsOf.TheVariants.{NoBounds, OfMain, OfEach}
+use Rattle.tw_order.specs.declared.check.CheckOrder.{CheckOrder}
+use Rattle.tw_order.specs.declared.form.Places.{Places}
+use Rattle.tw_order.specs.declared.form.Places.TheVariants.{Hidden, Shown}
 use Rattle.tw_json_output.specs.Error.{lines_json}
 use Rattle.tw_json_output.specs.Run.{json_line}
 use Rattle.tw_json_output.specs.Texts.{whole_json, with_status}

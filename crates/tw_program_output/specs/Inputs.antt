@@ -4,7 +4,7 @@ use Rattle.std.specs.Str.{bytes_eq}
 use Rattle.std.specs.Str.Lines.{lines}
 use Rattle.clap.specs.Words.{Text}
 use Rattle.tw_types.specs.declared.input.Input.{Input}
-use Rattle.tw_cli.specs.InputWords.{AreSpelled, IsRefusedWord, RefusedWord}
+use Rattle.tw_inputs.specs.InputWords.{AreSpelled, IsRefusedWord, RefusedWord}
 use Rattle.tw_program_output.specs.Lines.{input_word_line}
 use Rattle.tw_program_output.specs.Reply.{Reply, reply}
 use Rattle.tw_program_output.specs.Text.{RepliesByUtf8}

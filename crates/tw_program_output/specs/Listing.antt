@@ -17,8 +17,8 @@ use Rattle.tw_diagnostics.specs.declared.parser_state.LineRole.TheVariants as sa
 use Rattle.tw_soundness.specs.NoTrap.{AreRight}
 use Rattle.tw_asm.specs.Disassembly.{disassembly, label_at, label_line, label_places}
 use Rattle.tw_asm.specs.Listing.{head_lines, instr_text, right_text}
-use Rattle.tw_cli.specs.declared.command.Places.{Places}
-use Rattle.tw_cli.specs.declared.command.Places.TheVariants.{Hidden, Shown}
+use Rattle.tw_order.specs.declared.form.Places.{Places}
+use Rattle.tw_order.specs.declared.form.Places.TheVariants.{Hidden, Shown}
 use Rattle.tw_verify.specs.Known.{AreFound}
 
 -- ---- columns

@@ -9,10 +9,10 @@ use Rattle.tw_binary.specs.Fault as fault
 use Rattle.tw_code.specs.format.Program.{Versioned}
 use Rattle.tw_binary.specs.Reading.{program_of}
 use Rattle.tw_binary.specs.Spelling.{spelling}
-use Rattle.tw_cli.specs.declared.command.Assembling.{Assembling}
-use Rattle.tw_cli.specs.declared.command.Assembling.TheVariants as assembling
-use Rattle.tw_cli.specs.declared.command.Source.{Source}
-use Rattle.tw_cli.specs.declared.command.Source.TheVariants.{Hex, Assembly}
+use Rattle.tw_order.specs.declared.form.Assembling.{Assembling}
+use Rattle.tw_order.specs.declared.form.Assembling.TheVariants as assembling
+use Rattle.tw_order.specs.declared.order.Source.{Source}
+use Rattle.tw_order.specs.declared.order.Source.TheVariants.{Hex, Assembly}
 use Rattle.tw_asm.specs.declared.fault.FaultNo.{FaultNo}
 use Rattle.tw_symbols.specs.Answers.{seen_rejection}
 use Rattle.tw_symbols.specs.Expansion.{IsFirstRejection, ExpandsTo}

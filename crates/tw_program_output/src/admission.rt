@@ -8,8 +8,8 @@ use crate::close::Close;
 use crate::reply::{Reply, refused_by};
 use std::alloc::{AllocError, Global};
 use tw_bounds::{Bound, LimitedBounds, largest_budget, least_bounds};
-use tw_cli::{Caps, EventLimit};
 use tw_lexer::{put, put_numbered};
+use tw_order::{Caps, EventLimit};
 use tw_verify::Verified;
 
 /// Returns whether a bound is at most a cap.

@@ -2,7 +2,7 @@
 
 ghost use Rattle.std.specs.Prelude.{◌≡◌, IfOk};
 ghost use Rattle.tw_asm.specs.Fault.{fault_number};
-ghost use Rattle.tw_cli.specs.declared.command.Source.TheVariants.{Assembly};
+ghost use Rattle.tw_order.specs.declared.order.Source.TheVariants.{Assembly};
 ghost use Rattle.tw_program_output.specs.Lines.{asm_line};
 ghost use Rattle.tw_program_output.specs.Program.{IsWritten, RepliesByAssembling, RepliesBySource, RepliesByText};
 ghost use Rattle.tw_program_output.specs.Reply.{reply};
@@ -16,9 +16,9 @@ use crate::reply::{Reply, not_utf8_reply, refused_by};
 use std::alloc::{AllocError, Global};
 use tw_asm::{AsmFault, assemble};
 use tw_binary::encode;
-use tw_cli::{Assembling, Source};
 use tw_code::Program;
 use tw_lexer::put;
+use tw_order::{Assembling, Source};
 
 /// Returns a program as hex digits, in one line.
 fn hex_reply(alloc: Global, program: &Program) -> Result<Reply, AllocError>

@@ -13,8 +13,8 @@ use crate::bound_rows::{BoundRow, limit_rows, run_rows};
 use crate::source::{SourceText, put_place_line, symbols_of};
 use std::alloc::{AllocError, Global};
 use tw_bounds::{Bound, Circle, RunBounds, circle_of_calls, limited_bounds, run_bounds};
-use tw_cli::{BoundsOf, CheckOrder, EventLimit};
 use tw_lexer::{put, put_both, put_decimal, put_numbered};
+use tw_order::{BoundsOf, CheckOrder, EventLimit};
 use tw_symbols::Symbols;
 use tw_verify::Verified;
 

@@ -12,7 +12,7 @@ use std::alloc::{AllocError, Global};
 use tw_bounds::{
     Bound, Circle, LimitedBounds, RunBounds, circle_of_calls, limited_bounds, run_bounds,
 };
-use tw_cli::{BoundsOf, EventLimit};
+use tw_order::{BoundsOf, EventLimit};
 use tw_verify::Verified;
 
 /// The bounds of a program's runs.

@@ -3,7 +3,7 @@
 ghost use Rattle.std.specs.Prelude.{◌≡◌, ◌++◌, ℕ, List, IfOk, OnOk, decimal};
 ghost use Rattle.tw_code.specs.accepting.WellTyped.{IsFirstRejection};
 ghost use Rattle.tw_program_output.specs.Check.{AreProcedureLines, IsCheckText, IsChecked, IsRefused, IsInForm, IsPrintedByCheck, RepliesByCheck, IsListedBefore, kind_text, needs_line, procedure_line};
-ghost use Rattle.tw_cli.specs.declared.command.Places.TheVariants.{Shown};
+ghost use Rattle.tw_order.specs.declared.form.Places.TheVariants.{Shown};
 ghost use Rattle.tw_symbols.specs.Symbols.{name_at};
 ghost use Rattle.tw_program_output.specs.Listing.{IsListing, IsRefusedListing};
 ghost use Rattle.tw_program_output.specs.Reply.{reply};
@@ -20,8 +20,8 @@ use crate::reply::{Reply, refused_by};
 use crate::source::{SourceText, put_rejection_details, symbols_of};
 use crate::text_listing::{accepted_lines, refused_lines};
 use std::alloc::{AllocError, Global};
-use tw_cli::{CheckOrder, Form, Places};
 use tw_lexer::{put, put_numbered};
+use tw_order::{CheckOrder, Form, Places};
 use tw_symbols::Symbols;
 use tw_types::Kind;
 use tw_verify::{Refused, Verified};

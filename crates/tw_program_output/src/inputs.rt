@@ -3,8 +3,8 @@
 ghost use Rattle.std.specs.Prelude.{◌≡◌, ◌++◌, ◌∷◌, [], List, map, IfOk, OnOk};
 ghost use Rattle.std.specs.Str.Lines.{lines};
 ghost use Rattle.clap.specs.Words.{Text};
-ghost use Rattle.tw_cli.specs.InputWords.{IsRefusedWord, RefusedWord, refused_word};
-ghost use Rattle.tw_cli.specs.Order.{IsInputReason};
+ghost use Rattle.tw_inputs.specs.InputWords.{IsRefusedWord, RefusedWord, refused_word};
+ghost use Rattle.tw_inputs.specs.WordErrors.{IsInputReason};
 ghost use Rattle.tw_program_output.specs.Inputs.{PrintsInputWord, before_inputs, after_inputs, words_in};
 ghost use Rattle.tw_program_output.specs.Parts.{after_in, after_line, seen};
 ghost use Rattle.tw_program_output.specs.Reply.{reply};
@@ -14,7 +14,7 @@ use crate::close::Close;
 use crate::lines::put_input_word_line;
 use crate::reply::Reply;
 use std::alloc::{AllocError, Global};
-use tw_cli::NoOrder;
+use tw_inputs::WordError;
 use tw_lexer::put;
 
 /// A section of what is read, by its lines.
@@ -113,13 +113,13 @@ pub fn input_word_reply(alloc: Global, number: usize, reason: &[u8]) -> Result<R
     })
 }
 
-/// Returns the reply to input words of which one can't be parsed. The only other reason is that an allocation failed.
-pub fn refused_words_reply(alloc: Global, why: NoOrder) -> Result<Reply, AllocError>
+/// Returns the reply to input words of which one can't be parsed.
+pub fn refused_words_reply(alloc: Global, why: WordError) -> Result<Reply, AllocError>
     ensures { IfOk result (λ r. (words : List Text) → IsInputReason words why
         → (refused : RefusedWord) × IsRefusedWord words refused × PrintsInputWord refused (reply r.text.items r.close)) }
 {
     match why {
-        NoOrder::InputWord(number, reason) => input_word_reply(alloc, number, reason.as_slice()),
-        _ => Err(AllocError),
+        WordError::Refused(number, reason) => input_word_reply(alloc, number, reason.as_slice()),
+        WordError::NoMemory => Err(AllocError),
     }
 }

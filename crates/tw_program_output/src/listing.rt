@@ -11,9 +11,9 @@ ghost use Rattle.tw_verify.specs.Rejection.{verify_error_code};
 
 use std::alloc::{AllocError, Global};
 use tw_asm::{LabelPlaces, disassemble, put_head_lines, put_right};
-use tw_cli::Places;
 use tw_code::{Instr, Procedure, Program};
 use tw_lexer::{put, put_numbered};
+use tw_order::Places;
 use tw_symbols::{RightNames, put_named};
 use tw_types::Param;
 use tw_verify::{Refused, RightType, Typing, Verified};

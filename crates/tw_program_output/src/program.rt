@@ -4,8 +4,8 @@ ghost use Rattle.std.specs.Prelude.{◌≡◌, ◌≢◌, ◌++◌, ℕ, List, E
 ghost use Rattle.tw_asm.specs.Answers.{HasFault};
 ghost use Rattle.tw_asm.specs.Spelling.{SpellsProgram};
 ghost use Rattle.tw_asm.specs.declared.fault.AsmFault.{AsmFault as TextFault};
-ghost use Rattle.tw_cli.specs.declared.command.Source.TheVariants.{Assembly, Hex};
-ghost use Rattle.tw_cli.specs.declared.command.Source.{Source as ReadAs};
+ghost use Rattle.tw_order.specs.declared.order.Source.TheVariants.{Assembly, Hex};
+ghost use Rattle.tw_order.specs.declared.order.Source.{Source as ReadAs};
 ghost use Rattle.tw_asm.specs.Origins.{AreOrigins};
 ghost use Rattle.tw_symbols.specs.Expansion.{ExpandsTo};
 ghost use Rattle.tw_symbols.specs.declared.rejection.NameNo.TheVariants as no;
@@ -27,9 +27,9 @@ use hex::FromHexError;
 use std::alloc::{AllocError, Global};
 use tw_asm::{AsmFault, LinedProgram, assemble_lined};
 use tw_binary::{Fault, FaultNo, decode};
-use tw_cli::Source;
 use tw_code::Program;
 use tw_lexer::put;
+use tw_order::Source;
 use tw_symbols::{NameError, NameNo, expanded_text};
 
 /// A program, with the text from which it was read if there is one.

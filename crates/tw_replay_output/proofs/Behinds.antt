@@ -7,9 +7,9 @@ use Rattle.tw_types.specs.Layout.{ActorCounts}
 use Rattle.tw_code.specs.machine.Ending.{ending}
 use Rattle.tw_code.specs.machine.Machine.{run, step}
 use Rattle.tw_code.specs.machine.Pending.{circle}
-use Rattle.tw_cli.specs.declared.command.Answer.{Answer}
-use Rattle.tw_cli.specs.declared.command.Answer.TheVariants.{Json, Numbers, Picture, Report}
-use Rattle.tw_cli.specs.declared.shown.EventRange.{EventRange}
+use Rattle.tw_order.specs.declared.runs.Answer.{Answer}
+use Rattle.tw_order.specs.declared.runs.Answer.TheVariants.{Json, Numbers, Picture, Report}
+use Rattle.tw_order.specs.declared.range.EventRange.{EventRange}
 use Rattle.tw_machine.specs.declared.rejection.OpenError.{OpenError}
 use Rattle.tw_machine.specs.declared.rejection.OpenError.TheVariants as opening
 use Rattle.tw_replay_output.specs.Opening.{AreOpeningDetails}

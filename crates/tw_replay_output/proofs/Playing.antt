@@ -8,8 +8,8 @@ use Rattle.tw_types.specs.Layout.{ActorCounts}
 use Rattle.tw_code.specs.declared.version.Version.{Version}
 use Rattle.tw_code.specs.machine.Machine.{run, step}
 use Rattle.tw_code.specs.machine.Opening.{opening}
-use Rattle.tw_cli.specs.declared.command.ReplayOrder.{ReplayOrder}
-use Rattle.tw_cli.specs.declared.shown.EventRange.{EventRange}
+use Rattle.tw_order.specs.declared.runs.ReplayOrder.{ReplayOrder}
+use Rattle.tw_order.specs.declared.range.EventRange.{EventRange}
 use Rattle.tw_instr.specs.Attempts.{IsStopped}
 use Rattle.tw_instr.specs.declared.stopped.Stopped.{Stopped}
 use Rattle.tw_machine.specs.declared.rejection.OpenError.{OpenError}

@@ -18,10 +18,10 @@ use Rattle.tw_code.specs.machine.Opening.{opening}
 use Rattle.tw_code.specs.machine.Pending.{circle}
 use Rattle.tw_code.specs.machine.State.{State}
 use Rattle.tw_bounds.specs.Runs.{instructions_in}
-use Rattle.tw_cli.specs.declared.command.Answer.{Answer}
-use Rattle.tw_cli.specs.declared.command.Answer.TheVariants.{Json, Numbers, Picture, Report}
-use Rattle.tw_cli.specs.declared.command.ReplayOrder.{ReplayOrder}
-use Rattle.tw_cli.specs.declared.shown.EventRange.{EventRange}
+use Rattle.tw_order.specs.declared.runs.Answer.{Answer}
+use Rattle.tw_order.specs.declared.runs.Answer.TheVariants.{Json, Numbers, Picture, Report}
+use Rattle.tw_order.specs.declared.runs.ReplayOrder.{ReplayOrder}
+use Rattle.tw_order.specs.declared.range.EventRange.{EventRange}
 use Rattle.tw_json_output.specs.Run.{json_line, run_json}
 use Rattle.tw_machine.specs.PlainView.{PlainView}
 use Rattle.tw_machine.specs.declared.rejection.OpenError.{OpenError}

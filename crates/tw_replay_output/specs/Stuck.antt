@@ -15,8 +15,8 @@ use Rattle.tw_code.specs.machine.Due.{instr_here}
 use Rattle.tw_code.specs.machine.Ending.{ending}
 use Rattle.tw_code.specs.machine.Opening.{opening}
 use Rattle.tw_code.specs.machine.State.{Frame, State}
-use Rattle.tw_cli.specs.declared.command.Answer.{Answer}
-use Rattle.tw_cli.specs.declared.command.Answer.TheVariants.{Json, Numbers, Picture, Report}
+use Rattle.tw_order.specs.declared.runs.Answer.{Answer}
+use Rattle.tw_order.specs.declared.runs.Answer.TheVariants.{Json, Numbers, Picture, Report}
 use Rattle.tw_machine.specs.Opening.{rejection_of}
 use Rattle.tw_machine.specs.PlainView.{PlainView}
 use Rattle.tw_replay_output.specs.Circle.{IsMade, Start}

@@ -11,8 +11,8 @@ ghost use Rattle.tw_program_output.specs.Reply.{reply};
 
 use crate::replay::{close_of, stopped_reply};
 use std::alloc::{AllocError, Global};
-use tw_cli::EventRange;
 use tw_machine::Plain;
+use tw_order::EventRange;
 use tw_program_output::Reply;
 use tw_symbols::Symbols;
 use tw_timeline::{Settings, TimelineBuilder, timeline};

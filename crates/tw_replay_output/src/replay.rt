@@ -10,13 +10,13 @@ ghost use Rattle.tw_report.specs.Lines.{history_line, not_enabled_line, trap_lin
 ghost use Rattle.tw_types.specs.Cause.{cause_number};
 ghost use Rattle.tw_types.specs.Outcome.{Outcome};
 ghost use Rattle.std.specs.Str.Lines.{lines};
-ghost use Rattle.tw_cli.specs.CommandLine.{replay_with};
+ghost use Rattle.tw_order.specs.Orders.{replay_with};
 ghost use Rattle.tw_replay_output.specs.Counted.{AreShort};
 ghost use Rattle.tw_program_output.specs.Inputs.{RepliesByInputs, RepliesByWords, before_inputs, after_inputs, words_in};
 ghost use Rattle.tw_program_output.specs.Program.{RepliesBySource, source_text};
 ghost use Rattle.tw_program_output.specs.Source.{MayBeSource, text_of};
 ghost use Rattle.tw_stats.specs.Kept.{IsFirst};
-ghost use Rattle.tw_cli.specs.declared.command.Answer.TheVariants.{Numbers};
+ghost use Rattle.tw_order.specs.declared.runs.Answer.TheVariants.{Numbers};
 ghost use Rattle.tw_replay_output.specs.Replay.{AreKnownBudgets, ByOutcome, IsAnswer, IsReplayed, RepliesByHistory, RepliesByLines, after_event, close_of, played_from, state_reply};
 ghost use Rattle.tw_program_output.specs.Reply.{Reply as AReply, reply};
 
@@ -25,9 +25,10 @@ use crate::numbers::{Budgeted, counted_reply, with_budgets};
 use crate::replay_details::{details_reply, unopened_reply};
 use crate::state_json::json_reply;
 use std::alloc::{AllocError, Global};
-use tw_cli::{Answer, ReplayOptions, ReplayOrder, Source, inputs_of};
 use tw_code::Program;
+use tw_inputs::inputs_of;
 use tw_machine::{Plain, Stopped};
+use tw_order::{Answer, ReplayOptions, ReplayOrder, Source};
 use tw_program_output::{
     Close, ReadProgram, Reply, SourceText, input_parts, not_utf8_reply, parse_error_reply,
     read_program, refused_by, refused_words_reply, symbols_of,

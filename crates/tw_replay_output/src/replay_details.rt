@@ -18,8 +18,8 @@ ghost use Rattle.tw_replay_output.specs.Counted.{AreShort};
 use crate::opening::{inputs_refused_reply, opening_reply};
 use crate::stuck::put_stuck;
 use std::alloc::{AllocError, Global};
-use tw_cli::{Answer, ReplayOrder};
 use tw_machine::{OpenError, OpenRefused};
+use tw_order::{Answer, ReplayOrder};
 use tw_program_output::{Close, Reply, SourceText};
 use tw_types::Event;
 

@@ -1,10 +1,10 @@
 -- The lines after the report of a run.
 use Rattle.std.proofs.Common.{◌≡◌, ℕ, List, Some, refl, sym, subst}
 use Rattle.tw_run_output.proofs.RunNames.{Event, Procedure, State, circle}
-use Rattle.tw_cli.specs.declared.command.RunAnswer.{RunAnswer}
-use Rattle.tw_cli.specs.declared.command.RunAnswer.TheVariants.{Json, Numbers, Picture, Report}
-use Rattle.tw_cli.specs.declared.command.RunOrder.{RunOrder}
-use Rattle.tw_cli.specs.declared.shown.EventRange.{EventRange}
+use Rattle.tw_order.specs.declared.runs.RunAnswer.{RunAnswer}
+use Rattle.tw_order.specs.declared.runs.RunAnswer.TheVariants.{Json, Numbers, Picture, Report}
+use Rattle.tw_order.specs.declared.runs.RunOrder.{RunOrder}
+use Rattle.tw_order.specs.declared.range.EventRange.{EventRange}
 use Rattle.tw_pool.specs.declared.answer.Closing.{Closing}
 use Rattle.tw_pool.specs.declared.answer.Closing.TheVariants as closing
 use Rattle.tw_replay_output.specs.Circle.{PrintsCircle}

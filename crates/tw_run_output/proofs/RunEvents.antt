@@ -13,7 +13,7 @@ use Rattle.tw_code.specs.format.Program.{Versioned}
 use Rattle.tw_code.specs.machine.Holders.{Typings}
 use Rattle.tw_code.specs.machine.Inputs.{AreInputsOf}
 use Rattle.tw_code.specs.machine.Machine.{run, step}
-use Rattle.tw_cli.specs.declared.command.RunOrder.{RunOrder}
+use Rattle.tw_order.specs.declared.runs.RunOrder.{RunOrder}
 use Rattle.tw_soundness.specs.Invariant.{IsHeld}
 use Rattle.tw_soundness.specs.NoTrap.{AreRight}
 use Rattle.tw_soundness.proofs.Along.{event_small}

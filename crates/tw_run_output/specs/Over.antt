@@ -5,7 +5,7 @@ use Rattle.tw_types.specs.Outcome.{Went}
 use Rattle.tw_code.specs.declared.procedure.Procedure.{Procedure}
 use Rattle.tw_code.specs.machine.Opening.{reached}
 use Rattle.tw_code.specs.machine.State.{State}
-use Rattle.tw_cli.specs.declared.command.RunOrder.{RunOrder}
+use Rattle.tw_order.specs.declared.runs.RunOrder.{RunOrder}
 use Rattle.tw_pool.specs.declared.answer.Closing.{Closing}
 use Rattle.tw_pool.specs.Ends.{FinalView}
 use Rattle.tw_run_output.specs.Ends.{IsEndReport, end_report}

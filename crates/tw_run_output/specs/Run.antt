@@ -9,10 +9,10 @@ use Rattle.tw_code.specs.machine.Pending.{circle}
 use Rattle.tw_code.specs.machine.State.{State}
 use Rattle.tw_pool.specs.declared.answer.Closing.{Closing}
 use Rattle.tw_pool.specs.declared.answer.Closing.TheVariants.{Quiet, Stuck, Stopped, Limit}
-use Rattle.tw_cli.specs.declared.command.RunAnswer.{RunAnswer}
-use Rattle.tw_cli.specs.declared.command.RunAnswer.TheVariants.{Json, Numbers, Picture, Report}
-use Rattle.tw_cli.specs.declared.command.RunOrder.{RunOrder}
-use Rattle.tw_cli.specs.declared.shown.EventRange.{EventRange}
+use Rattle.tw_order.specs.declared.runs.RunAnswer.{RunAnswer}
+use Rattle.tw_order.specs.declared.runs.RunAnswer.TheVariants.{Json, Numbers, Picture, Report}
+use Rattle.tw_order.specs.declared.runs.RunOrder.{RunOrder}
+use Rattle.tw_order.specs.declared.range.EventRange.{EventRange}
 use Rattle.tw_machine.specs.PlainView.{PlainView}
 use Rattle.tw_timeline.specs.declared.drawing.Drawing.{Drawing}
 use Rattle.tw_machine.specs.Moments.{history}

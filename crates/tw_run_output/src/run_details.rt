@@ -12,7 +12,7 @@ ghost use Rattle.tw_replay_output.specs.Stuck.{CanPrintCircle, MayPrintCircle};
 
 use crate::ended::events_of;
 use std::alloc::{AllocError, Global};
-use tw_cli::{RunAnswer, RunOrder};
+use tw_order::{RunAnswer, RunOrder};
 use tw_pool::{Closing, History};
 use tw_program_output::SourceText;
 use tw_replay_output::put_stuck;

@@ -3,8 +3,8 @@ use Rattle.std.proofs.Common.{◌≡◌, ◌≢◌, ℕ, List, [], ◌∷◌, co
 use Rattle.std.specs.Io.KnownBytes.{Appends}
 use Rattle.clap.specs.Words.{Kinds, Text}
 use Rattle.tw_cli.specs.CommandLine.{Asked, Assembles, Checks, Disassembles, Explains, IsExplained, IsRefusedInput, Replays, Runs, RunsEach, RunsJson}
-use Rattle.tw_cli.proofs.InputTheorems.{never_refused, one_refused}
-use Rattle.tw_cli.specs.InputWords.{RefusedWord}
+use Rattle.tw_cli.proofs.Requests.{never_refused, one_refused}
+use Rattle.tw_inputs.specs.InputWords.{RefusedWord}
 use Rattle.tw_program_output.specs.Inputs.{PrintsInputWord}
 use Rattle.tw_program_output.specs.Reply.{Reply, reply}
 use Rattle.tw_cli.specs.Options.{ExplainOrder}

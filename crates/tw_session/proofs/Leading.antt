@@ -1,7 +1,7 @@
 -- Weakening: a result that leads to replies with a condition leads to replies with a weaker condition.
 use Rattle.std.proofs.Common.{◌≡◌, ◌∙◌, Option, subst, true}
 use Rattle.tw_session.proofs.SessionNames.{Action, Comes, IsActionInTurn, IsRunOf, Leads, OrderAction, Ordered, ProgramAction, Reply, RunOrder, RunWithJson, reply}
-use Rattle.tw_cli.specs.InTurn.{IsProgramInTurn}
+use Rattle.tw_order.specs.InTurn.{IsProgramInTurn}
 use Rattle.tw_session.specs.declared.order.OrderAction.TheVariants as step
 use Rattle.tw_program_output.specs.declared.source.SourceText.{SourceText}
 use Rattle.tw_session.specs.declared.programs.ProgramAction.TheVariants as answered

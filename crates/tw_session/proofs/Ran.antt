@@ -21,7 +21,7 @@ use Rattle.tw_pool.specs.Openings.{opened}
 use Rattle.tw_pool.specs.PoolView.{PoolView}
 use Rattle.tw_host.specs.Run.{Run, run_of}
 use Rattle.tw_in_turn.specs.InTurn.{ComesTo, IsOver}
-use Rattle.tw_cli.specs.declared.command.RunOrder.{RunOrder}
+use Rattle.tw_order.specs.declared.runs.RunOrder.{RunOrder}
 use Rattle.tw_run_output.specs.Ends.{IsEndReport, end_report}
 use Rattle.tw_run_output.specs.Json.{IsEndLine, run_line}
 use Rattle.tw_run_output.specs.Over.{IsRunOver}

@@ -1,11 +1,11 @@
 -- Names of sessions, of replies and of runs, for the files here.
 pub use Rattle.std.proofs.lemmas.Result.{IfOk-weaker}
 pub use Rattle.tw_cli.specs.CommandLine.{Asked}
-pub use Rattle.tw_cli.specs.InTurn.{IsInTurn}
-pub use Rattle.tw_cli.specs.declared.command.Order.{Order}
-pub use Rattle.tw_cli.specs.declared.command.ProgramOrder.TheVariants.{Verified}
-pub use Rattle.tw_cli.specs.declared.command.RunOrder.{RunOrder}
-pub use Rattle.tw_cli.specs.declared.command.VerifiedOrder.TheVariants.{Run}
+pub use Rattle.tw_order.specs.InTurn.{IsInTurn}
+pub use Rattle.tw_order.specs.declared.order.Order.{Order}
+pub use Rattle.tw_order.specs.declared.order.ProgramOrder.TheVariants.{Verified}
+pub use Rattle.tw_order.specs.declared.runs.RunOrder.{RunOrder}
+pub use Rattle.tw_order.specs.declared.order.VerifiedOrder.TheVariants.{Run}
 pub use Rattle.tw_program_output.specs.Program.{RepliesBySource, source_text}
 pub use Rattle.tw_program_output.specs.Reply.{Reply, reply}
 pub use Rattle.tw_program_output.specs.Source.{text_of}

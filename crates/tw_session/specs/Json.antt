@@ -1,24 +1,24 @@
 -- Replies as JSON.
 use Rattle.std.specs.Prelude.{ℕ, Bool, true, false, List, codes, if◌then◌else◌}
-use Rattle.tw_cli.specs.declared.command.Answer.{Answer}
-use Rattle.tw_cli.specs.declared.command.Answer.TheVariants as answer
-use Rattle.tw_cli.specs.declared.command.Assembling.{Assembling}
-use Rattle.tw_cli.specs.declared.command.Assembling.TheVariants as assembling
-use Rattle.tw_cli.specs.declared.command.InputsOrder.{InputsOrder}
-use Rattle.tw_cli.specs.declared.command.InputsOrder.TheVariants.{ToReplay, ToRun, ToRunJson}
-use Rattle.tw_cli.specs.declared.command.Order.{Order}
-use Rattle.tw_cli.specs.declared.command.Order.TheVariants.{Assemble, Each, Inputs, Program, Replay}
-use Rattle.tw_cli.specs.declared.command.Places.{Places}
-use Rattle.tw_cli.specs.declared.command.Places.TheVariants.{Hidden, Shown}
-use Rattle.tw_cli.specs.declared.command.ProgramOrder.{ProgramOrder}
-use Rattle.tw_cli.specs.declared.command.ProgramOrder.TheVariants.{Disassemble, Verified}
-use Rattle.tw_cli.specs.declared.command.RunAnswer.{RunAnswer}
-use Rattle.tw_cli.specs.declared.command.RunAnswer.TheVariants as written
-use Rattle.tw_cli.specs.declared.command.VerifiedOrder.{VerifiedOrder}
-use Rattle.tw_cli.specs.declared.command.VerifiedOrder.TheVariants.{Check, Run}
+use Rattle.tw_order.specs.declared.runs.Answer.{Answer}
+use Rattle.tw_order.specs.declared.runs.Answer.TheVariants as answer
+use Rattle.tw_order.specs.declared.form.Assembling.{Assembling}
+use Rattle.tw_order.specs.declared.form.Assembling.TheVariants as assembling
+use Rattle.tw_order.specs.declared.order.InputsOrder.{InputsOrder}
+use Rattle.tw_order.specs.declared.order.InputsOrder.TheVariants.{ToReplay, ToRun, ToRunJson}
+use Rattle.tw_order.specs.declared.order.Order.{Order}
+use Rattle.tw_order.specs.declared.order.Order.TheVariants.{Assemble, Each, Inputs, Program, Replay}
+use Rattle.tw_order.specs.declared.form.Places.{Places}
+use Rattle.tw_order.specs.declared.form.Places.TheVariants.{Hidden, Shown}
+use Rattle.tw_order.specs.declared.order.ProgramOrder.{ProgramOrder}
+use Rattle.tw_order.specs.declared.order.ProgramOrder.TheVariants.{Disassemble, Verified}
+use Rattle.tw_order.specs.declared.runs.RunAnswer.{RunAnswer}
+use Rattle.tw_order.specs.declared.runs.RunAnswer.TheVariants as written
+use Rattle.tw_order.specs.declared.order.VerifiedOrder.{VerifiedOrder}
+use Rattle.tw_order.specs.declared.order.VerifiedOrder.TheVariants.{Check, Run}
 use Rattle.tw_cli.specs.declared.form.Explained.{Explained}
-use Rattle.tw_cli.specs.declared.form.Form.{Form}
-use Rattle.tw_cli.specs.declared.form.Form.TheVariants as form
+use Rattle.tw_order.specs.declared.form.Form.{Form}
+use Rattle.tw_order.specs.declared.form.Form.TheVariants as form
 use Rattle.tw_json_output.specs.declared.text_object.Printed.{Printed}
 use Rattle.tw_json_output.specs.declared.text_object.Printed.TheVariants as printed
 use Rattle.tw_json_output.specs.Error.{error_json, listed_error_json}

@@ -2,12 +2,12 @@
 use Rattle.std.specs.Prelude.{◌≡◌, true, ℕ, List, Option, string_bytes}
 use Rattle.tw_types.specs.declared.param.Param.{Param}
 use Rattle.tw_code.specs.format.Program.{Versioned}
-use Rattle.tw_json_inputs.specs.Inputs.{AreInputsIn, HasFaultAt}
-use Rattle.tw_json_inputs.specs.declared.inputs.Place.{Place}
-use Rattle.tw_cli.specs.InTurn.{IsProgramInTurn}
-use Rattle.tw_cli.specs.declared.command.ProgramOrder.TheVariants.{Verified}
-use Rattle.tw_cli.specs.declared.command.RunOrder.{RunOrder}
-use Rattle.tw_cli.specs.declared.command.VerifiedOrder.TheVariants.{Run}
+use Rattle.tw_inputs.specs.JsonInputs.{AreInputsIn, HasFaultAt}
+use Rattle.tw_inputs.specs.declared.json_inputs.Place.{Place}
+use Rattle.tw_order.specs.InTurn.{IsProgramInTurn}
+use Rattle.tw_order.specs.declared.order.ProgramOrder.TheVariants.{Verified}
+use Rattle.tw_order.specs.declared.runs.RunOrder.{RunOrder}
+use Rattle.tw_order.specs.declared.order.VerifiedOrder.TheVariants.{Run}
 use Rattle.tw_session.specs.declared.json_run.Action.{Action}
 use Rattle.tw_session.specs.declared.json_run.Action.TheVariants.{Ordered, RunWithJson}
 use Rattle.tw_session.specs.declared.json_run.GivenInputs.{GivenInputs}

@@ -2,7 +2,8 @@
 
 ghost use Rattle.std.specs.Prelude.{◌≡◌, IfOk, map, string_bytes, true};
 ghost use Rattle.tw_cli.specs.CommandLine.{asked_by_words, word_faults};
-ghost use Rattle.tw_cli.specs.InTurn.{IsInTurn, turned};
+ghost use Rattle.tw_order.specs.InTurn.{IsInTurn};
+ghost use Rattle.tw_cli.specs.InTurn.{turned};
 ghost use Rattle.tw_code.specs.machine.Inputs.{AreInputsOf};
 ghost use Rattle.tw_in_turn.specs.InTurn.{IsLeft};
 ghost use Rattle.tw_pool.specs.Openings.{opened};
@@ -16,8 +17,9 @@ use crate::order::reply_in_turn;
 use crate::run::stop_reason;
 use crate::shell::unordered_reply;
 use std::alloc::{AllocError, Global};
-use tw_cli::{Order, RunOrder, read_order};
+use tw_cli::read_order;
 use tw_in_turn::{InTurnResult, run_in_turn};
+use tw_order::{Order, RunOrder};
 use tw_pool::OpenError;
 use tw_program_output::{Reply, SourceText};
 use tw_replay_output::inputs_refused_reply;

@@ -7,11 +7,11 @@ ghost use Rattle.tw_program_output.specs.Reply.{reply};
 ghost use Rattle.tw_session.specs.Json.{assembled_as, checked_as, disassembled_as, error_reply, error_status, explained_reply, in_form, in_json, inputs_rendering, is_error, output_reply, program_rendering, rendering_of, replayed_as, run_as_json, verified_rendering};
 
 use std::alloc::{AllocError, Global};
-use tw_cli::{
-    Answer, Assembling, Explained, Form, InputsOrder, Order, Places, ProgramOrder, RunAnswer,
-    VerifiedOrder,
-};
+use tw_cli::Explained;
 use tw_json_output::{Printed, error_line, explanation_line, listed_error_line, printed_line};
+use tw_order::{
+    Answer, Assembling, Form, InputsOrder, Order, Places, ProgramOrder, RunAnswer, VerifiedOrder,
+};
 use tw_program_output::{Close, Reply};
 
 /// The form that a reply's text takes.

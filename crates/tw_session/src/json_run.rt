@@ -2,7 +2,7 @@
 
 ghost use Rattle.std.specs.Prelude.{◌≡◌, IfOk, string_bytes, true};
 ghost use Rattle.std.specs.Str.Lines.{lines};
-ghost use Rattle.tw_cli.specs.declared.command.InputsOrder.TheVariants.{ToRunJson};
+ghost use Rattle.tw_order.specs.declared.order.InputsOrder.TheVariants.{ToRunJson};
 ghost use Rattle.tw_program_output.specs.Reply.{reply};
 ghost use Rattle.tw_program_output.specs.Source.{MayBeSource, text_of};
 ghost use Rattle.tw_session.specs.ProgramAction.{AreGiven, Comes, IsRunOf, Leads, RepliesByAction};
@@ -11,10 +11,10 @@ ghost use Rattle.tw_session.specs.Session.{PrintsFault, RepliesByJson, RepliesBy
 use crate::order::{OrderAction, ProgramRequest};
 use crate::programs::{ProgramAction, program_reply};
 use std::alloc::{AllocError, Global};
-use tw_cli::{ProgramOrder, RunOptions, Source, VerifiedOrder};
 use tw_code::{Program, main_params};
 use tw_each::line_parts;
-use tw_json_inputs::{NoInputs, Place, Scratch, fault_text, read_inputs};
+use tw_inputs::{NoInputs, Place, Scratch, fault_text, read_inputs};
+use tw_order::{ProgramOrder, RunOptions, Source, VerifiedOrder};
 use tw_program_output::{Close, Reply, SourceText, not_utf8_reply};
 use tw_types::{Input, Items, Param};
 

@@ -24,6 +24,6 @@ pub use shell::{answer, session, without_words};
 pub use standard_error::{complain, is_quiet};
 pub use status::Status;
 pub use streams::{InStream, OutStream};
-pub use tw_cli::input_of;
+pub use tw_inputs::input_of;
 pub use tw_program_output::{Close, Reply};
 pub use tw_workers::{Gate, NoGate, Progress, SoFar};

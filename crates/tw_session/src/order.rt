@@ -3,11 +3,11 @@
 ghost use Rattle.std.specs.Prelude.{◌≡◌, ◌≤◌, IfOk, length, true};
 ghost use Rattle.std.specs.Str.Lines.{lines};
 ghost use Rattle.std.specs.Thread.{IsSync};
-ghost use Rattle.tw_cli.specs.CommandLine.{run_with};
-ghost use Rattle.tw_cli.specs.InTurn.{IsInTurn, IsInputsInTurn};
-ghost use Rattle.tw_cli.specs.declared.command.InputsOrder.TheVariants.{ToRun};
-ghost use Rattle.tw_cli.specs.declared.command.ProgramOrder.TheVariants as ordered;
-ghost use Rattle.tw_cli.specs.declared.command.VerifiedOrder.TheVariants.{Run};
+ghost use Rattle.tw_order.specs.Orders.{run_with};
+ghost use Rattle.tw_order.specs.InTurn.{IsInTurn, IsInputsInTurn};
+ghost use Rattle.tw_order.specs.declared.order.InputsOrder.TheVariants.{ToRun};
+ghost use Rattle.tw_order.specs.declared.order.ProgramOrder.TheVariants as ordered;
+ghost use Rattle.tw_order.specs.declared.order.VerifiedOrder.TheVariants.{Run};
 ghost use Rattle.tw_session.specs.ProgramAction.{Comes, IsActionInTurn, RepliesByAction};
 ghost use Rattle.tw_program_output.specs.Inputs.{RepliesByWords, before_inputs, after_inputs, words_in};
 ghost use Rattle.tw_program_output.specs.Program.{RepliesBySource, source_text};
@@ -27,8 +27,9 @@ use std::alloc::{AllocError, Global};
 use std::sync::Wait;
 use std::thread::{Threads, join};
 use std::time::Clock;
-use tw_cli::{InputsOrder, Order, ProgramOrder, RunOptions, Source, VerifiedOrder, inputs_of};
 use tw_each::{Answering, InOneThread, InThreads, LineCount, each_reply};
+use tw_inputs::inputs_of;
+use tw_order::{InputsOrder, Order, ProgramOrder, RunOptions, Source, VerifiedOrder};
 use tw_program_output::{
     Close, ReadProgram, Reply, SourceText, assembled_reply, fixed_reply, input_parts,
     not_utf8_reply, parse_error_reply, read_program, refused_words_reply,

@@ -4,8 +4,8 @@ use Rattle.std.specs.declared.result.Result.{Result}
 use Rattle.tw_binary.specs.Reading.{program_of}
 use Rattle.tw_binary.specs.declared.fault.Fault.{Fault}
 use Rattle.tw_asm.specs.Origins.{ComesFrom, at_place, instr_at}
-use Rattle.tw_cli.specs.declared.command.Source.{Source}
-use Rattle.tw_cli.specs.declared.command.Source.TheVariants.{Hex, Assembly}
+use Rattle.tw_order.specs.declared.order.Source.{Source}
+use Rattle.tw_order.specs.declared.order.Source.TheVariants.{Hex, Assembly}
 use Rattle.tw_code.specs.declared.procedure.Procedure.{Procedure}
 use Rattle.tw_code.specs.format.Program.{Versioned}
 use Rattle.tw_program_output.specs.Program.{Spells, SpellsNone, source_text}

@@ -6,8 +6,8 @@ use Rattle.tw_asm.specs.Origins.{ComesFrom, instr_at}
 use Rattle.tw_asm.specs.declared.fault.FaultNo.{FaultNo}
 use Rattle.tw_binary.specs.Reading.{program_of}
 use Rattle.tw_binary.specs.declared.fault.Fault.{Fault}
-use Rattle.tw_cli.specs.declared.command.Source.{Source}
-use Rattle.tw_cli.specs.declared.command.Source.TheVariants as from
+use Rattle.tw_order.specs.declared.order.Source.{Source}
+use Rattle.tw_order.specs.declared.order.Source.TheVariants as from
 use Rattle.tw_code.specs.accepting.WellTyped.{IsAccepted, IsFirstRejection}
 use Rattle.tw_code.specs.declared.procedure.Procedure.{Procedure}
 use Rattle.tw_code.specs.format.Program.{Versioned}

@@ -10,8 +10,8 @@ use crate::format::Format;
 use crate::text::{SourceVerdict, no_program_verdict, without_line};
 use crate::verdict::{accepted, refused_at};
 use std::alloc::Global;
-use tw_cli::Source;
 use tw_code::Program;
+use tw_order::Source;
 use tw_program_output::{ReadProgram, SourceText, read_program};
 use tw_verify::{Refused, Verified, VerifyError, verify};
 

@@ -2,7 +2,7 @@
 use Rattle.std.specs.Prelude.{List, Option, Some, None}
 use Rattle.clap.specs.Words.{Text}
 use Rattle.tw_types.specs.declared.input.Input.{Input}
-use Rattle.tw_cli.specs.InputWords.{AreSpelled}
+use Rattle.tw_inputs.specs.InputWords.{AreSpelled}
 
 -- holds if these are the inputs that the words encode, or there are neither
 abbrev pub HasInputs : Option (List Text) → Option (List Input) → Type 0

@@ -3,7 +3,7 @@ use Rattle.std.specs.Prelude.{◌≡◌, List, []}
 use Rattle.clap.specs.Words.{Row}
 use Rattle.tw_cli.specs.CommandLine.{picture_faults, run_answer}
 use Rattle.tw_cli.specs.Options.{cap_options, given_actors, given_caps, in_turn, is_given, limit, number_options, option_faults, requested, trace}
-use Rattle.tw_cli.specs.declared.command.RunOptions.{RunOptions}
+use Rattle.tw_order.specs.declared.runs.RunOptions.{RunOptions}
 
 -- the options of a run: each has its number, and none excludes another
 pub record IsRunBy (rows : List Row) (o : RunOptions) : Type 0 where

@@ -3,7 +3,7 @@ use Rattle.std.specs.Option.{option_map_or}
 use Rattle.clap.specs.Words.{Text, first_of, found_of, rows_of}
 use Rattle.clap.proofs.WalkLemmas.{first_value-rows}
 use Rattle.tw_cli.specs.Options.{bounds_in}
-use Rattle.tw_cli.specs.declared.checks.BoundsOf.TheVariants.{NoBounds}
+use Rattle.tw_order.specs.declared.check.BoundsOf.TheVariants.{NoBounds}
 use Rattle.tw_cli.proofs.checks.bounds_given.Goals as goal
 
 pub returns-in-Some : goal.returns-in-Some

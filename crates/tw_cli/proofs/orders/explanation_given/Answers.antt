@@ -5,7 +5,7 @@ use Rattle.tw_cli.specs.CommandLine.{Explains}
 use Rattle.tw_cli.specs.Explanations.{number_faults}
 use Rattle.tw_cli.specs.Options.{explaining}
 use Rattle.tw_cli.specs.Order.{HasReason}
-use Rattle.tw_cli.specs.declared.form.Form.{Form}
+use Rattle.tw_order.specs.declared.form.Form.{Form}
 use Rattle.tw_cli.proofs.orders.explanation_given.Goals as goal
 
 pub returns-in-Some : goal.returns-in-Some

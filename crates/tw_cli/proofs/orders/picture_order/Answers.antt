@@ -2,7 +2,7 @@ use Rattle.std.proofs.Common.{◌∙◌, sym}
 use Rattle.clap.specs.Words.{found_of, rows_of}
 use Rattle.tw_cli.specs.CommandLine.{replay_asked}
 use Rattle.tw_cli.specs.Options.{given_range}
-use Rattle.tw_cli.specs.declared.command.Answer.TheVariants.{Picture}
+use Rattle.tw_order.specs.declared.runs.Answer.TheVariants.{Picture}
 use Rattle.tw_cli.proofs.Options.{backward_refused, events_backward, has_conflict, has_fault, unnumbered_refused}
 use Rattle.tw_cli.proofs.orders.picture_order.Goals as goal
 

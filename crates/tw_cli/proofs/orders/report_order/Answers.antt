@@ -3,7 +3,7 @@ use Rattle.std.proofs.lemmas.Result.{IfErr-weaker, IfOk-weaker}
 use Rattle.clap.specs.Words.{Kinds, found_of, rows_of}
 use Rattle.tw_cli.specs.CommandLine.{IsAsked, given_answer, replay_asked, replay_faults, report_faults}
 use Rattle.tw_cli.specs.Order.{HasReason}
-use Rattle.tw_cli.specs.declared.command.Answer.{Answer}
+use Rattle.tw_order.specs.declared.runs.Answer.{Answer}
 use Rattle.tw_cli.proofs.Options.{has_conflict, report_alone, report_conflict}
 use Rattle.tw_cli.proofs.orders.report_order.Goals as goal
 

@@ -2,8 +2,8 @@ use Rattle.std.proofs.Common.{List, inl, inr, string_bytes, subst}
 use Rattle.std.proofs.lemmas.Result.{IfOk-weaker}
 use Rattle.tw_types.specs.declared.input.Input.{Input}
 use Rattle.tw_types.specs.declared.param.Param.{Param}
-use Rattle.tw_json_inputs.specs.Inputs.{AreInputsIn, HasFault, HasFaultAt}
-use Rattle.tw_json_inputs.specs.declared.inputs.NoInputs.{NoInputs}
+use Rattle.tw_inputs.specs.JsonInputs.{AreInputsIn, HasFault, HasFaultAt}
+use Rattle.tw_inputs.specs.declared.json_inputs.NoInputs.{NoInputs}
 use Rattle.tw_each.specs.Answers.{IsAnswer, IsInputsAnswer, way}
 use Rattle.tw_each.proofs.answer.line_answer.Goals as goal
 

@@ -4,7 +4,7 @@ use Rattle.tw_code.specs.accepting.WellTyped.{IsFirstRejection}
 use Rattle.tw_code.specs.declared.procedure.Procedure.{Procedure}
 use Rattle.tw_code.specs.format.Program.{Versioned}
 use Rattle.tw_verify.specs.Rejection.{verify_error_code}
-use Rattle.tw_cli.specs.declared.command.Places.TheVariants.{Hidden}
+use Rattle.tw_order.specs.declared.form.Places.TheVariants.{Hidden}
 use Rattle.tw_program_output.specs.Check.{IsRefused}
 use Rattle.tw_program_output.specs.Reply.{reply}
 use Rattle.tw_program_output.specs.Source.{MayBeSource, text_of}

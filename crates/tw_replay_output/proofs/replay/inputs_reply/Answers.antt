@@ -1,10 +1,10 @@
 use Rattle.std.proofs.Common.{◌≡◌, ◌∙◌, List, Bor, ℕ, ap, inl, inr, map, subst}
 use Rattle.tw_replay_output.proofs.ReplayNames.{IfOk-weaker, RepliesByLines, RepliesBySource, Reply, lines, reply, source_text}
 use Rattle.clap.specs.Words.{Text}
-use Rattle.tw_cli.specs.CommandLine.{replay_with}
-use Rattle.tw_cli.specs.InputWords.{AreSpelled}
-use Rattle.tw_cli.specs.Order.{IsInputReason}
-use Rattle.tw_cli.specs.declared.command.ReplayOrder.{ReplayOrder}
+use Rattle.tw_order.specs.Orders.{replay_with}
+use Rattle.tw_inputs.specs.InputWords.{AreSpelled}
+use Rattle.tw_inputs.specs.WordErrors.{IsInputReason}
+use Rattle.tw_order.specs.declared.runs.ReplayOrder.{ReplayOrder}
 use Rattle.tw_report.specs.History.{lines_in}
 use Rattle.tw_program_output.specs.Inputs.{before_inputs, after_inputs, words_in}
 use Rattle.tw_replay_output.proofs.replay.inputs_reply.Goals as goal

@@ -1,6 +1,6 @@
 use Rattle.std.proofs.Common.{◌++◌, ◌∙◌, ℕ, List, ap, append_assoc, subst, sym}
 use Rattle.tw_run_output.proofs.RunNames.{on_ok_weaker, text_of}
-use Rattle.tw_cli.specs.declared.command.RunAnswer.{RunAnswer}
+use Rattle.tw_order.specs.declared.runs.RunAnswer.{RunAnswer}
 use Rattle.tw_run_output.specs.Run.{IsRunText, limit_details}
 use Rattle.tw_run_output.proofs.ended.put_outcome.Goals as goal
 

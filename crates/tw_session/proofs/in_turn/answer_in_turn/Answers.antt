@@ -3,8 +3,10 @@ use Rattle.tw_session.proofs.SessionNames.{AnswersWords, IfOk-weaker, IsInTurn, 
 use Rattle.clap.specs.Words.{Kinds}
 use Rattle.tw_program_output.specs.declared.reply.Reply.{Reply as MadeReply}
 use Rattle.tw_cli.specs.CommandLine.{asked_by_words, word_faults}
-use Rattle.tw_cli.proofs.Turned.{asked_in_turn, is_in_turn, reason_in_turn}
-use Rattle.tw_cli.specs.InTurn.{order_in_turn, turned}
+use Rattle.tw_cli.proofs.Turned.{asked_in_turn, reason_in_turn}
+use Rattle.tw_order.proofs.InTurns.{is_in_turn}
+use Rattle.tw_order.specs.InTurn.{order_in_turn}
+use Rattle.tw_cli.specs.InTurn.{turned}
 use Rattle.tw_session.proofs.in_turn.answer_in_turn.Goals as goal
 
 pub order_reply-requires : goal.order_reply-requires

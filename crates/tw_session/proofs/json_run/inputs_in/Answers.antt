@@ -1,7 +1,7 @@
 use Rattle.std.proofs.Common.{List, subst, sym}
 use Rattle.tw_types.specs.declared.input.Input.{Input}
-use Rattle.tw_json_inputs.specs.Inputs.{AreInputsIn, HasFault}
-use Rattle.tw_json_inputs.specs.declared.inputs.NoInputs.{NoInputs}
+use Rattle.tw_inputs.specs.JsonInputs.{AreInputsIn, HasFault}
+use Rattle.tw_inputs.specs.declared.json_inputs.NoInputs.{NoInputs}
 use Rattle.tw_session.proofs.json_run.inputs_in.Goals as goal
 
 pub returns-in-Ok : goal.returns-in-Ok

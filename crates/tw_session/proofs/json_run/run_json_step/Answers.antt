@@ -1,7 +1,7 @@
 use Rattle.std.proofs.Common.{◌≡◌, List, ℕ, inl, subst, true}
 use Rattle.tw_session.proofs.SessionNames.{IfOk-weaker, Reply}
 use Rattle.std.specs.Str.Lines.{lines}
-use Rattle.tw_cli.specs.declared.command.InputsOrder.TheVariants.{ToRunJson}
+use Rattle.tw_order.specs.declared.order.InputsOrder.TheVariants.{ToRunJson}
 use Rattle.tw_session.specs.Session.{RepliesByJson, RepliesWithInputs}
 use Rattle.tw_session.proofs.Leading.{comes_on}
 use Rattle.tw_session.proofs.json_run.run_json_step.Goals as goal

@@ -2,9 +2,9 @@ use Rattle.std.proofs.Common.{◌≡◌, ◌∙◌, List, Bor, ℕ, ap, inl, inr
 use Rattle.tw_session.proofs.SessionNames.{RepliesByProgram, RepliesBySource, Run, RunOrder, Verified, source_text}
 use Rattle.std.specs.Str.Lines.{lines}
 use Rattle.clap.specs.Words.{Text}
-use Rattle.tw_cli.specs.CommandLine.{run_with}
-use Rattle.tw_cli.specs.InputWords.{AreSpelled}
-use Rattle.tw_cli.specs.Order.{IsInputReason}
+use Rattle.tw_order.specs.Orders.{run_with}
+use Rattle.tw_inputs.specs.InputWords.{AreSpelled}
+use Rattle.tw_inputs.specs.WordErrors.{IsInputReason}
 use Rattle.tw_program_output.specs.Inputs.{before_inputs, after_inputs, words_in}
 use Rattle.tw_session.proofs.order.inputs_step.Goals as goal
 

@@ -1,7 +1,7 @@
 use Rattle.std.proofs.Common.{◌≡◌, List, subst, sym, ℕ}
 use Rattle.tw_session.proofs.SessionNames.{IfOk-weaker, IsInTurn, Order, RepliesByInput, reply}
-use Rattle.tw_cli.specs.InTurn.{IsInputsInTurn}
-use Rattle.tw_cli.specs.declared.command.Order.TheVariants.{Each, Replay}
+use Rattle.tw_order.specs.InTurn.{IsInputsInTurn}
+use Rattle.tw_order.specs.declared.order.Order.TheVariants.{Each, Replay}
 use Rattle.tw_session.specs.Session.{RepliesWithInputs}
 use Rattle.tw_session.proofs.Leading.{comes_on}
 use Rattle.tw_session.proofs.order.ordered_step.Goals as goal

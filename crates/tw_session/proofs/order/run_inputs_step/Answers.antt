@@ -1,8 +1,8 @@
 use Rattle.std.proofs.Common.{◌≡◌, List, ℕ, inl, subst, true}
 use Rattle.tw_session.proofs.SessionNames.{IfOk-weaker, RepliesByProgram, RepliesBySource, Reply, Run, Verified, source_text}
 use Rattle.std.specs.Str.Lines.{lines}
-use Rattle.tw_cli.specs.CommandLine.{run_with}
-use Rattle.tw_cli.specs.declared.command.InputsOrder.TheVariants.{ToRun}
+use Rattle.tw_order.specs.Orders.{run_with}
+use Rattle.tw_order.specs.declared.order.InputsOrder.TheVariants.{ToRun}
 use Rattle.tw_program_output.specs.Inputs.{RepliesByWords, before_inputs, after_inputs, words_in}
 use Rattle.tw_session.specs.Session.{RepliesWithInputs}
 use Rattle.tw_session.proofs.Leading.{comes_on}

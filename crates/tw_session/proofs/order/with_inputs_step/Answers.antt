@@ -1,8 +1,8 @@
 use Rattle.std.proofs.Common.{subst, sym}
 use Rattle.std.specs.Prelude.{IfOk}
 use Rattle.tw_session.proofs.SessionNames.{Comes, reply}
-use Rattle.tw_cli.specs.InTurn.{IsInputsInTurn}
-use Rattle.tw_cli.specs.declared.command.InputsOrder.{InputsOrder}
+use Rattle.tw_order.specs.InTurn.{IsInputsInTurn}
+use Rattle.tw_order.specs.declared.order.InputsOrder.{InputsOrder}
 use Rattle.tw_session.specs.Session.{RepliesWithInputs}
 use Rattle.tw_session.proofs.order.with_inputs_step.Goals as goal
 

@@ -1,6 +1,6 @@
 use Rattle.std.proofs.Common.{◌≡◌, ◌∙◌, ap, subst, sym}
 use Rattle.tw_session.proofs.SessionNames.{IfOk-weaker, Run, RunOrder, text_of}
-use Rattle.tw_cli.specs.declared.command.VerifiedOrder.{VerifiedOrder}
+use Rattle.tw_order.specs.declared.order.VerifiedOrder.{VerifiedOrder}
 use Rattle.tw_session.specs.Session.{RepliesByAccepted}
 use Rattle.tw_session.proofs.Leading.{leads_on}
 use Rattle.tw_session.proofs.programs.accepted_reply.Goals as goal

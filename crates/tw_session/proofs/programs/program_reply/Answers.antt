@@ -1,6 +1,6 @@
 use Rattle.std.proofs.Common.{◌≡◌, ◌∙◌, ap, subst, sym}
 use Rattle.tw_session.proofs.SessionNames.{IfOk-weaker, RepliesByProgram, Run, RunOrder, Verified, text_of}
-use Rattle.tw_cli.specs.declared.command.ProgramOrder.{ProgramOrder}
+use Rattle.tw_order.specs.declared.order.ProgramOrder.{ProgramOrder}
 use Rattle.tw_session.specs.Session.{RepliesByVerified}
 use Rattle.tw_session.proofs.Leading.{leads_on}
 use Rattle.tw_session.proofs.programs.program_reply.Goals as goal

@@ -3,7 +3,7 @@ use Rattle.tw_session.proofs.SessionNames.{IfOk-weaker, Run, RunOrder, reply, te
 use Rattle.tw_code.specs.accepting.WellTyped.{IsAccepted, IsFirstRejection}
 use Rattle.tw_code.specs.declared.procedure.Procedure.{Procedure}
 use Rattle.tw_code.specs.format.Program.{Versioned}
-use Rattle.tw_cli.specs.declared.command.Places.{Places}
+use Rattle.tw_order.specs.declared.form.Places.{Places}
 use Rattle.tw_verify.specs.Rejection.{verify_error_code}
 use Rattle.tw_program_output.specs.Check.{IsRefused}
 use Rattle.tw_session.specs.Session.{RepliesByAccepted, RepliesByVerified}

@@ -1,6 +1,6 @@
 use Rattle.std.proofs.Common.{ℕ, List, inl, inr, subst, sym}
 use Rattle.clap.specs.Words.{Kinds}
-use Rattle.tw_cli.specs.InputWords.{refused_word}
+use Rattle.tw_inputs.specs.InputWords.{refused_word}
 use Rattle.tw_cli.specs.Order.{HasReason}
 use Rattle.tw_cli.specs.declared.command.NoOrder.{NoOrder}
 use Rattle.tw_program_output.specs.Inputs.{PrintsInputWord}

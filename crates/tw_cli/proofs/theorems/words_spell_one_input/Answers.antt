@@ -1,5 +1,0 @@
-use Rattle.tw_cli.proofs.InputTheorems.{one_input, one_refused_word}
-use Rattle.tw_cli.proofs.theorems.words_spell_one_input.Goals as goal
-
-pub returns : goal.returns
-returns c = record { input = one_input; refused = one_refused_word }

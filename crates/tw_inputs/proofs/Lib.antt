@@ -1,0 +1,4 @@
+pub mod Members
+pub mod InputReading
+pub mod InputTheorems
+pub mod Seen

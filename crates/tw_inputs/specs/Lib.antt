@@ -1,0 +1,7 @@
+-- A program's inputs. InputWords defines which input a word encodes, InputReasons and WordErrors why a word encodes none. JsonInputs defines which
+-- inputs a JSON array has. Lists is for private clauses.
+pub mod InputReasons
+pub mod InputWords
+pub mod WordErrors
+pub mod Lists
+pub mod JsonInputs

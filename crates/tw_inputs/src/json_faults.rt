@@ -1,0 +1,130 @@
+//! Says what of a text has no inputs, and where.
+
+ghost use Rattle.std.specs.Prelude.{◌≡◌, ◌++◌, List, ℕ, IfOk, OnOk};
+ghost use Rattle.tw_inputs.specs.JsonInputs.{IsFaultText, first_line};
+
+use crate::json_inputs::{Place, type_at};
+use json::{Reader, Scratch, Token};
+use std::alloc::{AllocError, Global};
+use tw_lexer::{put, put_numbered};
+use tw_types::{DataType, Param, Scalar};
+
+/// The deepest nesting of arrays and objects. Inputs nest two deep, and each level takes 300 bytes of stack.
+pub(crate) const MOST_DEPTH: usize = 16;
+
+/// Returns the offset of the item after so many. If one of them is no JSON, it is the offset of what is at fault.
+fn item_offset(reader: &mut Reader<'_>, index: usize) -> usize {
+    let _array = reader.next();
+    for _ in 0..index {
+        if reader.skip_value(MOST_DEPTH).is_err() {
+            return reader.offset();
+        }
+    }
+    reader.offset()
+}
+
+/// Returns the offset of the first byte at which a text is no JSON.
+fn text_offset(reader: &mut Reader<'_>) -> usize {
+    if reader.skip_value(MOST_DEPTH).is_err() {
+        return reader.offset();
+    }
+    let end = reader.offset();
+    let _token = reader.next();
+    end
+}
+
+/// Returns the offset of the fault.
+fn offset_of(text: &str, place: Place, scratch: &mut Scratch) -> Result<usize, AllocError> {
+    let mut reader = Reader::new(text, scratch)?;
+    match place {
+        Place::Text => Ok(text_offset(&mut reader)),
+        Place::Array => Ok(reader.offset()),
+        Place::Item(number) => Ok(item_offset(&mut reader, number.saturating_sub(1))),
+    }
+}
+
+/// Says which members an object has for a container of this type.
+fn members_text(ty: DataType) -> &'static str {
+    match (ty.is_container_by(Scalar::Text), ty.scalar()) {
+        (false, Scalar::Int) => "expected members such as \"1\": 7",
+        (false, Scalar::Text) => "expected members such as \"1\": \"text\"",
+        (true, Scalar::Int) => "expected members such as \"key\": 7",
+        (true, Scalar::Text) => "expected members such as \"key\": \"text\"",
+    }
+}
+
+/// Says what an item should be, by how it begins.
+fn item_text(ty: DataType, begins: Option<u8>) -> &'static str {
+    match begins {
+        Some(b'{') => members_text(ty),
+        Some(b'-' | b'0'..=b'9') => "expected an integer of 64 bits, without point and exponent",
+        _ => "expected an integer, a string or an object",
+    }
+}
+
+/// Says what is at fault.
+fn reason(params: &[Param], place: Place, begins: Option<u8>) -> &'static str {
+    match place {
+        Place::Text => "this is no JSON",
+        Place::Array => "expected an array with an item for each input",
+        Place::Item(number) => item_text(type_at(params, number.saturating_sub(1)), begins),
+    }
+}
+
+/// Appends the first line of an error: which input is at fault, or that all are.
+fn put_first_line(alloc: Global, out: &mut Vec<u8>, place: Place) -> Result<(), AllocError>
+    ensures { OnOk result (out.new.items ≡ out.old.items ++ first_line place) }
+{
+    match place {
+        Place::Text | Place::Array => put(out, "inputs refused\n"),
+        Place::Item(number) => {
+            put_numbered(alloc, out, "input ", number)?;
+            put(out, " refused\n")
+        }
+    }
+}
+
+/// Appends the line and the column of an offset, which count from 1. The text's first line has the number `first`.
+fn put_place(
+    alloc: Global,
+    out: &mut Vec<u8>,
+    text: &[u8],
+    offset: usize,
+    first: usize,
+) -> Result<(), AllocError>
+    ensures { OnOk result ((more : List ℕ) × (out.new.items ≡ out.old.items ++ more)) }
+{
+    let (mut line, mut column) = (first, 1_usize);
+    for byte in text.iter().take(offset) {
+        if *byte == b'\n' {
+            line = line.saturating_add(1);
+            column = 1;
+        } else {
+            column = column.saturating_add(1);
+        }
+    }
+    put_numbered(alloc, out, "line ", line)?;
+    put_numbered(alloc, out, ", column ", column)
+}
+
+/// Returns the lines of an error: which input of a text is refused, or that all are; and where and why. The text's first line has the number `first`.
+pub fn fault_text(
+    alloc: Global,
+    params: &[Param],
+    text: &str,
+    place: Place,
+    first: usize,
+    scratch: &mut Scratch,
+) -> Result<Vec<u8>, AllocError>
+    ensures { IfOk result (λ out. IsFaultText place out.items) }
+{
+    let offset = offset_of(text, place, scratch)?;
+    let bytes = text.as_bytes();
+    let mut out = Vec::new(alloc);
+    put_first_line(alloc, &mut out, place)?;
+    put_place(alloc, &mut out, bytes, offset, first)?;
+    put(&mut out, ": ")?;
+    put(&mut out, reason(params, place, bytes.get(offset).copied()))?;
+    put(&mut out, "\n")?;
+    Ok(out)
+}

@@ -1,0 +1,20 @@
+//! Reads a program's inputs: words, one an input, or a JSON array with an item for each.
+#![tactic(auto)]
+
+mod json_faults;
+mod json_inputs;
+mod json_item;
+mod json_members;
+mod json_parts;
+mod lists;
+mod theorems;
+mod word;
+mod word_diagnostics;
+mod words;
+
+pub use json::Scratch;
+pub use json_faults::fault_text;
+pub use json_inputs::{NoInputs, Place, read_inputs};
+pub use theorems::words_spell_one_input;
+pub use word::input_of;
+pub use words::{WordError, inputs_of};

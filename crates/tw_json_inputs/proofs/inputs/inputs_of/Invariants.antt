@@ -1,7 +1,0 @@
-use Rattle.std.proofs.Common.{map, take}
-use Rattle.json.specs.Value.{value_view}
-use Rattle.tw_json_inputs.specs.Inputs.{AreInputsFrom}
-use Rattle.tw_json_inputs.proofs.inputs.inputs_of.Given as goal
-
-abbrev pub invariant-loop-index : goal.invariant-loop-index
-invariant-loop-index l = AreInputsFrom l.params 0 (map value_view (take l.index l.items)) l.inputs.items

@@ -1,2 +1,0 @@
--- Inputs as JSON.
-pub mod Inputs

@@ -1,0 +1,130 @@
+#!/usr/bin/env python3
+# SPDX-License-Identifier: Apache-2.0
+"""Prints what share of the repository is proved again after an edit of a crate: that crate and all that depend on it, by lines of code and proof.
+
+    tools/shares.py            a line for each crate of crates.txt: its lines, the crates above it, and the share in percent
+    tools/shares.py --make     writes the table of docs/ARCHITECTURE.md
+    tools/shares.py --check    fails if a crate isn't in the table, or its share differs by more than one percent
+"""
+
+from __future__ import annotations
+
+import re
+import sys
+from pathlib import Path
+from typing import NamedTuple
+
+ROOT = Path(__file__).resolve().parent.parent
+DOCUMENT = Path("docs/ARCHITECTURE.md")
+BEGIN, END = "<!-- tools/shares.py -->\n", "<!-- end -->\n"
+HEAD = "| Proved again | After an edit of |\n|---|---|\n"
+TOLERANCE = 1
+
+
+class Share(NamedTuple):
+    """Holds what an edit of a crate has proved again."""
+
+    crate: str
+    lines: int
+    above: int
+    percent: int
+
+
+def dependencies(text: str) -> dict[str, list[str]]:
+    """Returns the crates of crates.txt, in its order, each with those that it names. Libraries of the toolchain are left out."""
+    named: dict[str, list[str]] = {}
+    for line in text.splitlines():
+        head, colon, names = line.partition(":")
+        if colon and not line.startswith("#"):
+            named[head.split()[0]] = names.split()
+    return {crate: [name for name in names if name in named] for crate, names in named.items()}
+
+
+def lines_of(folder: Path) -> int:
+    """Returns how many lines of code, definitions and proofs a crate has."""
+    kinds = (("src", ".rt"), ("specs", ".antt"), ("proofs", ".antt"))
+    files = (path for kind, ending in kinds for path in (folder / kind).rglob("*" + ending))
+    return sum(path.read_bytes().count(b"\n") for path in files)
+
+
+def above(crate: str, below: dict[str, list[str]]) -> set[str]:
+    """Returns the crates that depend on a crate, directly or through others."""
+    found = {crate}
+    while True:
+        more = {other for other, names in below.items() if found.intersection(names)} - found
+        if not more:
+            return found - {crate}
+        found |= more
+
+
+def shares(root: Path) -> list[Share]:
+    """Returns the share of each crate, in the order of crates.txt."""
+    below = dependencies((root / "crates.txt").read_text(encoding="utf-8"))
+    lines = {crate: lines_of(root / "crates" / crate) for crate in below}
+    whole = max(sum(lines.values()), 1)
+    found = []
+    for crate in below:
+        others = above(crate, below)
+        again = lines[crate] + sum(lines[other] for other in others)
+        found.append(Share(crate, lines[crate], len(others), round(100 * again / whole)))
+    return found
+
+
+def table(found: list[Share]) -> str:
+    """Returns the table: a row for each share, the greatest first, with its crates."""
+    rows = []
+    for percent in sorted({share.percent for share in found}, reverse=True):
+        crates = ", ".join(f"`{share.crate}`" for share in found if share.percent == percent)
+        rows.append(f"| {percent} % | {crates} |\n")
+    return HEAD + "".join(rows)
+
+
+def parts(text: str) -> tuple[str, str, str]:
+    """Splits a document before its table and after it."""
+    front, begin, rest = text.partition(BEGIN)
+    made, end, back = rest.partition(END)
+    if not begin or not end:
+        raise SystemExit(f"{DOCUMENT}: no lines {BEGIN.strip()} and {END.strip()}")
+    return front + begin, made, end + back
+
+
+def written(made: str) -> dict[str, int]:
+    """Returns the share that a table has for each crate."""
+    rows = re.findall(r"^\| (\d+) % \| (.*) \|$", made, re.M)
+    return {crate: int(percent) for percent, crates in rows for crate in re.findall(r"`(\w+)`", crates)}
+
+
+def findings(found: list[Share], made: str) -> list[str]:
+    """Says which rows of a table are missing, too many or wrong."""
+    has = written(made)
+    lines = [f"{crate}: no such crate" for crate in has if crate not in {share.crate for share in found}]
+    for share in found:
+        if share.crate not in has:
+            lines.append(f"{share.crate}: no row")
+        elif abs(has[share.crate] - share.percent) > TOLERANCE:
+            lines.append(f"{share.crate}: {share.percent} %, and {has[share.crate]} % in the table")
+    return lines
+
+
+def main(words: list[str], root: Path = ROOT) -> int:
+    found = shares(root)
+    document = root / DOCUMENT
+    if not words:
+        for share in found:
+            print(f"{share.crate:20} {share.lines:6} lines  {share.above:2} above  {share.percent:3} %")
+        return 0
+    if words not in (["--make"], ["--check"]):
+        print(__doc__, file=sys.stderr)
+        return 2
+    front, made, back = parts(document.read_text(encoding="utf-8"))
+    if words == ["--make"]:
+        document.write_text(front + table(found) + back, encoding="utf-8")
+        return 0
+    wrong = findings(found, made)
+    for line in wrong:
+        print(f"{DOCUMENT}: {line}")
+    return 1 if wrong else 0
+
+
+if __name__ == "__main__":
+    sys.exit(main(sys.argv[1:]))
