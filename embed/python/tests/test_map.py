@@ -45,6 +45,14 @@ class Late(Executor):
 
 FORK = multiprocessing.get_context("fork")
 
+# Ends while runs are under way in threads.
+LEFT = """
+import sys
+import yuglemit
+reports = yuglemit.map(yuglemit.load(sys.argv[1]), [()] * 50, limit=1_000_000)
+print("left")
+"""
+
 # Maps over programs of which one takes more memory than the process may have.
 SCARCE = """
 import resource, sys
@@ -158,6 +166,19 @@ class Map(unittest.TestCase):
         seen: List[Any] = []
         list(yuglemit.map(PROGRAM, INPUTS, chunk=100, progress=lambda done, count: seen.append((done, count))))
         self.assertEqual(seen, [(100, 300), (200, 300), (300, 300)])
+
+    def test_progress_of_an_iterator(self) -> None:
+        """Without a length all are those that are read so far."""
+        seen: List[Any] = []
+        list(yuglemit.map(PROGRAM, iter(INPUTS), ThreadPoolExecutor(1), 100, window=1, progress=lambda done, count: seen.append((done, count))))
+        self.assertEqual(seen, [(100, 200), (200, 300), (300, 300)])
+
+    def test_progress_by_a_bar(self) -> None:
+        bar = mock.Mock()
+        with mock.patch.dict(sys.modules, tqdm=bar):
+            list(yuglemit.map(PROGRAM, INPUTS, chunk=100, progress=True))
+        bar.tqdm.assert_called_once_with(total=300, unit=" runs")
+        self.assertEqual([call.args for call in bar.tqdm.return_value.update.call_args_list], [(100,)] * 3)
 
     def test_lost_process(self) -> None:
         """With on_broken="here" the runs that a killed process had are made here; without it, its error comes after the reports before."""
@@ -282,6 +303,18 @@ class Map(unittest.TestCase):
             reports = list(yuglemit.map(program, [()] * 3, executor, limit=1_000_000, timeout=0.2))
             self.assertEqual([it.end for it in reports], ["stopped"] * 3)
             self.assertTrue(all(it.events < 1_000_000 for it in reports))
+
+    def test_ending_the_iteration_stops_the_runs_of_a_pool_of_threads(self) -> None:
+        with ThreadPoolExecutor(2) as pool:
+            reports = yuglemit.map(yuglemit.load(ENDLESS), [()] * 50, pool, limit=1_000_000)
+            time.sleep(0.2)
+            reports.close()  # type: ignore[attr-defined]
+            begun = time.monotonic()
+        self.assertLess(time.monotonic() - begun, 20)
+
+    def test_a_process_that_ends_stops_its_runs(self) -> None:
+        done = subprocess.run([sys.executable, "-c", LEFT, ENDLESS], stdout=subprocess.PIPE, text=True, check=True, timeout=60)
+        self.assertEqual(done.stdout, "left\n")
 
     def test_nothing_is_left_when_it_is_given_up(self) -> None:
         runs = yuglemit.map(yuglemit.load("proc control\nregs\nREPEAT 1000\nREPEAT 1000\nEND\nEND\nRET\n"), [()] * 10_000, chunk=1)

@@ -204,27 +204,6 @@ class Programs(unittest.TestCase):
             self.assertLessEqual(report.instructions, program.bounds.instructions, name)
             self.assertLess(program.bounds.seconds(), 10, name)
 
-    def test_seconds_of_texts(self) -> None:
-        """A run of texts takes no more processor time than `seconds`, and about what `usual_seconds` says."""
-        text = f'TEXT v0 "{"a" * 2000}"\nTEXT v1 "{"b" * 2000}"\nREPEAT 1000\nREPEAT 1000\nREPEAT 2\nCAT v2 v0 v1 +0\nEND\nEND\nEND\n'
-        program = yuglemit.load(f"proc control\nregs text text text\n{text}RET\n")
-        begun = time.process_time()
-        program.run()
-        took = time.process_time() - begun
-        self.assertLessEqual(took, program.bounds.seconds())
-        self.assertLess(took, 9 * program.bounds.usual_seconds())
-        self.assertEqual((program.bounds.work, yuglemit.load(DOUBLE).bounds.work, yuglemit.load(yuglemit.assemble(DOUBLE)).bounds.work), ("texts", "ints", "ints"))
-        self.assertEqual(yuglemit.load(yuglemit.assemble(example("texts.twn"))).bounds.work, yuglemit.load(example("texts.twn")).bounds.work)
-
-    def test_seconds_of_numbers_in_texts(self) -> None:
-        """READI of the longest text is the dearest instruction; it takes more than a hundred of ints."""
-        text = f'TEXT v0 "{"0" * 4096}"\nREPEAT 1000\nREPEAT 20\nREADI v1 v0 +0\nEND\nEND\n'
-        program = yuglemit.load(f"proc control\nregs text int\n{text}RET\n")
-        begun = time.process_time()
-        program.run()
-        self.assertLessEqual(time.process_time() - begun, program.bounds.seconds())
-        self.assertEqual(program.bounds.work, "numbers")
-
     def test_tasks_in_a_circle_have_the_limit_alone(self) -> None:
         program = yuglemit.load("proc control\nregs\nPUT 0 0 any\nRET\n")
         self.assertEqual((program.bounds.tasks, program.bounds.events), (None, None))
@@ -326,6 +305,31 @@ class Reports(unittest.TestCase):
         self.assertGreater(len(report.text), 400_000)
         again = yuglemit.load(EXAMPLES / "texts.twn")
         self.assertEqual(again.run({1: "x" * 4096}).outputs[0], "x" * 4096)
+
+
+class Seconds(unittest.TestCase):
+    """Bounds of the time of runs, which valgrind would break."""
+
+    def test_seconds_of_texts(self) -> None:
+        """A run of texts takes no more processor time than `seconds`, and about what `usual_seconds` says."""
+        text = f'TEXT v0 "{"a" * 2000}"\nTEXT v1 "{"b" * 2000}"\nREPEAT 1000\nREPEAT 1000\nREPEAT 2\nCAT v2 v0 v1 +0\nEND\nEND\nEND\n'
+        program = yuglemit.load(f"proc control\nregs text text text\n{text}RET\n")
+        begun = time.process_time()
+        program.run()
+        took = time.process_time() - begun
+        self.assertLessEqual(took, program.bounds.seconds())
+        self.assertLess(took, 9 * program.bounds.usual_seconds())
+        self.assertEqual((program.bounds.work, yuglemit.load(DOUBLE).bounds.work, yuglemit.load(yuglemit.assemble(DOUBLE)).bounds.work), ("texts", "ints", "ints"))
+        self.assertEqual(yuglemit.load(yuglemit.assemble(example("texts.twn"))).bounds.work, yuglemit.load(example("texts.twn")).bounds.work)
+
+    def test_seconds_of_numbers_in_texts(self) -> None:
+        """READI of the longest text is the dearest instruction; it takes more than a hundred of ints."""
+        text = f'TEXT v0 "{"0" * 4096}"\nREPEAT 1000\nREPEAT 20\nREADI v1 v0 +0\nEND\nEND\n'
+        program = yuglemit.load(f"proc control\nregs text int\n{text}RET\n")
+        begun = time.process_time()
+        program.run()
+        self.assertLessEqual(time.process_time() - begun, program.bounds.seconds())
+        self.assertEqual(program.bounds.work, "numbers")
 
 
 class Threads(unittest.TestCase):
