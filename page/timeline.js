@@ -173,9 +173,9 @@ export class Timeline {
         strip.width = strip.clientWidth;
         strip.height = Math.max(18, run.actors.length * STRIP);
         strip.style.height = `${strip.height}px`;
-        const pen = /** @type {CanvasRenderingContext2D} */ (strip.getContext("2d")), step = strip.width / run.length;
+        const pen = /** @type {CanvasRenderingContext2D} */ (strip.getContext("2d")), wide = strip.width, seen = run.track.columns(wide);
         pen.fillStyle = getComputedStyle(strip).color;
-        for (let k = 1; k <= run.length; k++) pen.fillRect((k - 1) * step, (this.lanes.get(run.track.actorOf(k)) ?? 0) * STRIP + 1, Math.max(step, 0.3), STRIP - 2);
+        seen.forEach((there, k) => { if (there) pen.fillRect(k % wide, Math.floor(k / wide) * STRIP + 1, 1, STRIP - 2); });
         this.window();
     }
 
