@@ -592,9 +592,9 @@ async function inputs(reader) {
 async function picture(reader) {
     await reader.forget(); await reader.key("Shift"); await reader.event(4);
     const boxes = () => reader.js('[...document.querySelectorAll("#data .box[class~=open], #data .box[class~=closed]")].map(it => it.textContent)'), arrows = look => reader.js(`document.querySelectorAll("#data .arrow.${look}").length`);
-    say((await boxes()).length === 3 && (await boxes()).some(it => /middle 3: int.*not yet written/.test(it)), "other boxes", await boxes());
+    say((await boxes()).length === 3 && (await boxes()).some(it => /middle \(datum 3\): int.*not yet written/.test(it)), "other boxes", await boxes());
     say((await arrows("writes")) === 2 && (await arrows("waits")) === 2, "other arrows", await arrows("writes"), await arrows("waits"), await arrows("reads"));
-    say(/middle 3: int, open, not yet written; .*double writes middle 3/.test(await reader.js('document.querySelector("#data .picture").getAttribute("aria-label")')), "not in words", await reader.js('document.querySelector("#data .picture").getAttribute("aria-label")'));
+    say(/middle \(datum 3\): int, open, not yet written; .*double writes middle \(datum 3\)/.test(await reader.js('document.querySelector("#data .picture").getAttribute("aria-label")')), "not in words", await reader.js('document.querySelector("#data .picture").getAttribute("aria-label")'));
     await reader.js('document.querySelector("#data .box.open").dispatchEvent(new MouseEvent("click", {bubbles: true}))');
     say(/^d\d/.test(await reader.value("by")), "a box can't be picked", await reader.value("by"));
     await reader.write("text", "proc control closed cont int write int\nregs int\nDROPR d0\nSTORE d1 v0\nRET\n");
