@@ -48,7 +48,7 @@ export class Timeline {
         box.addEventListener("keydown", event => this.key(event));
         new ResizeObserver(() => { this.draw(); this.overview(); }).observe(box);
         for (const kind of ["pointerdown", "pointermove"]) strip.addEventListener(kind, event => this.fromStrip(/** @type {PointerEvent} */ (event)));
-        $("legend").replaceChildren(...Object.entries(SHAPES).flatMap(([kind, shape]) => [s("svg.key", {viewBox: "-7 -7 14 14"}, s(`path.${kind}`, {d: shape(6)})), CALLED[/** @type {keyof typeof CALLED} */ (kind)], " "]), "Order, not time.");
+        $("legend").replaceChildren(...Object.entries(SHAPES).flatMap(([kind, shape]) => [s("svg.key", {viewBox: "-7 -7 14 14"}, s(`path.${kind}`, {d: shape(6)})), CALLED[/** @type {keyof typeof CALLED} */ (kind)], " "]), "· In order, not in time.");
     }
 
     /** Shows a run.
