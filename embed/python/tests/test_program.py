@@ -289,7 +289,7 @@ class Reports(unittest.TestCase):
         report = yuglemit.load(DOUBLE).run(4)
         again = pickle.loads(pickle.dumps(report))
         self.assertEqual((again.outputs, again.events, again.instructions), ([8], report.events, report.instructions))
-        with self.assertRaisesRegex(ValueError, "another process"):
+        with self.assertRaisesRegex(ValueError, "text=True asked for it"):
             _ = again.text
         made = again.again()
         self.assertEqual((made.text, made.trace, made.line), (report.text, report.trace, report.line))
