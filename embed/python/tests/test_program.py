@@ -68,6 +68,22 @@ except KeyboardInterrupt:
     print(waited, time.process_time() - begun)
 """
 
+# One event of five seconds or more: the most instructions of a task, DIV and END.
+ONE_EVENT = """proc control write int
+regs int int int
+INT v1 9223372036854775807
+INT v2 3
+REPEAT 1000
+REPEAT 1000
+REPEAT 490
+DIV v0 v1 v2 +0
+END
+END
+END
+STORE d0 v0
+RET
+"""
+
 SLOW = """proc control write int
 regs int int
 INT v1 1
@@ -289,7 +305,7 @@ class Reports(unittest.TestCase):
         report = yuglemit.load(DOUBLE).run(4)
         again = pickle.loads(pickle.dumps(report))
         self.assertEqual((again.outputs, again.events, again.instructions), ([8], report.events, report.instructions))
-        with self.assertRaisesRegex(ValueError, "another process"):
+        with self.assertRaisesRegex(ValueError, "text=True asked for it"):
             _ = again.text
         made = again.again()
         self.assertEqual((made.text, made.trace, made.line), (report.text, report.trace, report.line))
@@ -378,16 +394,16 @@ class Threads(unittest.TestCase):
         self.assertLess(min(busy), 0.05)
 
     def test_ctrl_c_ends_the_wait_for_a_long_event(self) -> None:
-        program = yuglemit.load(SLOW.format(turns=400))
+        program = yuglemit.load(ONE_EVENT)
         started = time.perf_counter()
         with self.assertRaises(KeyboardInterrupt):
             threading.Timer(0.3, _thread.interrupt_main).start()
             program.run()
-        self.assertLess(time.perf_counter() - started, 0.3 + 0.1 + 0.3)
+        self.assertLess(time.perf_counter() - started, 3)
 
     def test_ctrl_c_of_a_program(self) -> None:
-        """A process that is interrupted in a long run ends at once, though the run would take seconds."""
-        code = f"import yuglemit\np = yuglemit.load({SLOW.format(turns=400)!r})\nprint('ready', flush=True)\ntry:\n    p.run()\nexcept KeyboardInterrupt:\n    print('interrupted', flush=True)\n"
+        """A process that is interrupted in a long event ends at once, though the event would take seconds."""
+        code = f"import yuglemit\np = yuglemit.load({ONE_EVENT!r})\nprint('ready', flush=True)\ntry:\n    p.run()\nexcept KeyboardInterrupt:\n    print('interrupted', flush=True)\n"
         with subprocess.Popen([sys.executable, "-c", code], stdout=subprocess.PIPE, text=True) as child:
             assert child.stdout is not None
             self.assertEqual(child.stdout.readline(), "ready\n")
@@ -395,8 +411,8 @@ class Threads(unittest.TestCase):
             child.send_signal(2)
             self.assertEqual(child.stdout.readline(), "interrupted\n")
             started = time.perf_counter()
-            child.wait(2)
-            self.assertLess(time.perf_counter() - started, 1)
+            child.wait(60)
+            self.assertLess(time.perf_counter() - started, 3)
 
 
 class Stops(unittest.TestCase):

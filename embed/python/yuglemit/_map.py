@@ -172,7 +172,7 @@ def map(
     options = options_of(layout_of(engines, servers, workers, limit, *caps), trace, text, line, stop, timeout)
     if on_broken not in ("raise", "here"):
         raise ValueError(f'on_broken: expected "raise" or "here", got {shown(on_broken, with_type=False)}')
-    if executor is not None and not isinstance(executor, Executor):
+    if executor is not None and not callable(getattr(executor, "submit", None)):
         raise TypeError(f"executor: expected one of concurrent.futures, got {shown(executor)}")
     most = None if chunk is None else within("chunk", chunk, _MOST)
     width = None if window is None else within("window", window, _MOST)
