@@ -138,7 +138,7 @@ class OrdersTest(RunTest):
         if not any(machine.has_contested for machine in runs):
             return self.reports_fault(library, over)
         if first_copy_insertion(self.program) is None:
-            return "an insertion is contested, though none goes by a copy"
+            return "an insertion is contested, though none is by a copy"
         return None if all(machine.has_contested for machine in over) else "one order contests an insertion, another that ends doesn't"
 
     def reports_fault(self, library: Library, over: list[Machine]) -> str | None:

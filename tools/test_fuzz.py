@@ -234,7 +234,7 @@ class RulesTest(unittest.TestCase):
         test = fuzz_orders.OrdersTest(RACE, (), (1, 1, 2))
         self.assertIsNone(test.fault(Library()))
         with mock.patch.object(fuzz_orders, "copies", return_value=set()):
-            self.assertEqual(test.fault(Library()), "an insertion is contested, though none goes by a copy")
+            self.assertEqual(test.fault(Library()), "an insertion is contested, though none is by a copy")
         with mock.patch.object(fuzz_orders.OrdersTest, "runs", return_value=[run_in_turn(PIPELINE, [number], (1, 1, 1), 100) for number in (1, 2)]):
             self.assertIn("in another order", str(test.fault(Library())))
 
