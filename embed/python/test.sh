@@ -2,7 +2,7 @@
 # SPDX-License-Identifier: Apache-2.0
 # Tests the Python package: the unit tests, the examples of docstrings and README.md, and mypy and pyflakes if they are installed.
 #
-#   embed/python/test.sh              the modules of this folder, with the library of ./tw build --library or YUGLEMIT_LIBRARY
+#   embed/python/test.sh              the modules of this folder, with the library that YUGLEMIT_LIBRARY names, or the built or released one
 #   embed/python/test.sh FILE.whl     a wheel, from a folder of its own, offline
 #   embed/python/test.sh test_build   one file of tests
 #   embed/python/test.sh --valgrind   tests that call the library, under valgrind, which has to find no error in a call

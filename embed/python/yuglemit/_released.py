@@ -37,9 +37,14 @@ def _is(path: Path, digest: str) -> bool:
 
 
 def _own_folder() -> Path:
-    """Makes a folder that is removed when the process ends."""
-    folder = tempfile.mkdtemp(prefix="yuglemit.")
-    atexit.register(shutil.rmtree, folder, ignore_errors=True)
+    """Makes a folder that is removed when the process ends, and not when one ends that was forked off it."""
+    folder, process = tempfile.mkdtemp(prefix="yuglemit."), os.getpid()
+
+    def remove() -> None:
+        if os.getpid() == process:
+            shutil.rmtree(folder, ignore_errors=True)
+
+    atexit.register(remove)
     return Path(folder)
 
 
