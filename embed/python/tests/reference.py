@@ -5,6 +5,9 @@ and `if check(..)` is try and except. Tasks run when what they wait for is there
 from __future__ import annotations
 
 import ast
+from copy import copy
+from functools import lru_cache
+from types import CodeType
 from typing import Any, Callable, Dict, Iterator, List, Optional, Sequence, Tuple, Union
 
 from random_programs import Number, Overflow, Word, read_int, word
@@ -79,8 +82,10 @@ class Outputs:
 class Function:
     """A function of the file: a call of it is a task."""
 
-    def __init__(self, machine: "Machine", node: ast.FunctionDef) -> None:
-        self.machine, self.name = machine, node.name
+    machine: "Machine"
+
+    def __init__(self, node: ast.FunctionDef) -> None:
+        self.name = node.name
         called = [it.func.id if isinstance(it, ast.Call) else it.id for it in node.decorator_list]  # type: ignore[attr-defined]
         self.is_leaf = called == ["leaf"]
         keywords = node.decorator_list[0].keywords if isinstance(node.decorator_list[0], ast.Call) else []
@@ -145,19 +150,28 @@ class Task:
             setattr(out, name, value)
 
 
+@lru_cache(maxsize=1)
+def _read(text: str) -> Tuple[List[Function], CodeType]:
+    """Returns the functions of a file, and what Python runs."""
+    tree = ast.parse(text)
+    functions = {it.name: Function(it) for it in tree.body if isinstance(it, ast.FunctionDef)}
+    return list(functions.values()), compile(ast.fix_missing_locations(_AsPython(functions).visit(tree)), "<run>", "exec")
+
+
 class Machine:
     """A run of a file."""
 
     def __init__(self, text: str) -> None:
-        tree = ast.parse(text)
+        functions, code = _read(text)
         self.names: Dict[str, Any] = dict(_NAMES)
         self.waiting: List[Task] = []
         self.made: List[List[Box]] = []
         self.aliases: List[Tuple[Box, Box]] = []
         self.is_stuck = False
-        self.functions = {it.name: Function(self, it) for it in tree.body if isinstance(it, ast.FunctionDef)}
+        self.functions = {it.name: copy(it) for it in functions}
+        for it in self.functions.values():
+            it.machine = self
         self.names["Array"] = self.names["Table"] = _Maker(self)
-        code = compile(ast.fix_missing_locations(_AsPython(self.functions).visit(tree)), "<run>", "exec")
         exec(code, self.names)
         self.names.update({f"task_{name}": it for name, it in self.functions.items()})
 

@@ -123,7 +123,7 @@ class Programs(unittest.TestCase):
         self.assertEqual(yuglemit.load(EXAMPLES / "for_one_worker.twn").needs, (0, 2))
         # main, eight squares, one reduce with eight adds and a copy; main inserts two members for each of eight. By hand as in examples/sessions.txt
         bounds = program.bounds
-        self.assertEqual((bounds.tasks, bounds.instructions, bounds.data, bounds.rules, bounds.events), (19, 275, 18, 18, 364))
+        self.assertEqual((bounds.tasks, bounds.instructions, bounds.data, bounds.rules, bounds.events), (19, 278, 18, 18, 367))
         self.assertEqual((bounds.members, bounds.bytes), (16, 0))
         self.assertEqual(program.bounds.greatest, max(it.budget for it in program.procedures))
 

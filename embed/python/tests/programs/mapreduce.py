@@ -25,6 +25,9 @@ def reduce(members: Array[Int]) -> Int:
 
 @control
 def main(numbers: Array[Int], squares: Out[Array[Int]], total: Out[Int]) -> None:
+    if len(numbers) > MOST:
+        out.total = -1
+        return
     kept = Array[Int]()
     for subscript, number in each(numbers, MOST):
         result = square(number, priority=10)

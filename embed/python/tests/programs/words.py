@@ -22,6 +22,9 @@ def tell(word: Text, tally: Table[Int], counts: Out[Table[Int]]) -> None:
 
 @control
 def main(words: Array[Text], counts: Out[Table[Int]]) -> None:
+    if len(words) > MOST:
+        out.counts["too many words"] = len(words)
+        return
     tally = Table[Int]()
     for _, word in each(words, MOST):
         count(word, tally)
