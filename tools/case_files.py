@@ -26,6 +26,8 @@ INDENT = "    "
 # The crates whose programs run cases: that of all other kinds, and that of the kinds of hosts and pools.
 CRATES = ("tw_cases", "tw_host_cases")
 HOST_KINDS = {"turns", "rounds", "stops", "drives", "threads", "woken", "unthreaded", "scarce_pool"}
+# Kinds that hold all addresses, so that an allocation fails. AddressSanitizer, with which unverified builds are made, allocates otherwise.
+SCARCE_KINDS = {"scarce", "scarce_pool", "unthreaded"}
 SESSION_KINDS = {"tw", "called", "ends", "scarce", "cuts", "stream"}
 # Kinds whose expected output begins with an exit status.
 STATUS_KINDS = {"tw", "called", "ends", "scarce", "stream", "phrases"}
@@ -93,6 +95,11 @@ class Case:
     def crate(self) -> str:
         """Returns the crate whose program runs the case."""
         return CRATES[self.kind.split(" ")[0] in HOST_KINDS]
+
+    @property
+    def is_scarce(self) -> bool:
+        """Returns whether the case holds all addresses."""
+        return self.kind.split(" ")[0] in SCARCE_KINDS
 
     @property
     def row(self) -> str:

@@ -163,17 +163,21 @@ def run_cases(book: Book, programs: dict[str, Program], cases: list[Case]) -> li
     return sorted(results, key=lambda result: order[result.case.name])
 
 
-def without_long(cases: list[Case], programs: dict[str, Program], patterns: list[str]) -> list[Case]:
-    """Returns the cases without those that take long by an unverified build, unless they are named."""
-    left_out = [case for case in cases if case.name.startswith(LONG) and case.name not in patterns and programs[case.crate].is_unverified]
-    if left_out:
-        print(f"tw: {len(left_out)} cases take long by an unverified build, and are left out: {LONG}*", file=sys.stderr)
-    return [case for case in cases if case not in left_out]
+def possible(cases: list[Case], programs: dict[str, Program], patterns: list[str]) -> list[Case]:
+    """Returns the cases without those that an unverified build can't run, or takes long for, unless they are named."""
+    unverified = [case for case in cases if programs[case.crate].is_unverified]
+    scarce = [case for case in unverified if case.is_scarce]
+    if scarce:
+        print(f"tw: {len(scarce)} cases are short of memory, which an unverified build can't be, and are left out", file=sys.stderr)
+    long = [case for case in unverified if case.name.startswith(LONG) and case.name not in patterns and case not in scarce]
+    if long:
+        print(f"tw: {len(long)} cases take long by an unverified build, and are left out: {LONG}*", file=sys.stderr)
+    return [case for case in cases if case not in scarce and case not in long]
 
 
 def test(book: Book, programs: dict[str, Program], patterns: list[str]) -> list[Result]:
     """Runs cases, and prints what failed and how many passed. Returns those that failed."""
-    cases = without_long(chosen(book, patterns), programs, patterns)
+    cases = possible(chosen(book, patterns), programs, patterns)
     results = run_cases(book, programs, cases)
     failed = [result for result in results if not result.is_expected]
     width = max(NARROW, shutil.get_terminal_size((WIDE, 0)).columns)

@@ -343,6 +343,12 @@ class Running(unittest.TestCase):
         self.assertIn("2 passed, 0 failed", self.run_words(text, "built")[1])
         self.assertEqual(self.run_words(text, "unverified", "long_a"), (0, "1 passed, 0 failed\n"))
 
+    def test_cases_short_of_memory(self) -> None:
+        text = "# W.\nlong_a | scarce run | 1 | 1\nb | scarce_pool 1 1 1 | 2 | 2\nlong_c | layout | 3 | 3\n"
+        said = "tw: 2 cases are short of memory, which an unverified build can't be, and are left out\n"
+        self.assertEqual(self.run_words(text, "unverified", "long_a", "b", "long_c"), (0, said + "1 passed, 0 failed\n"))
+        self.assertEqual(self.run_words(text, "built"), (0, "3 passed, 0 failed\n"))
+
     def test_long_cases_are_begun_first(self) -> None:
         book = self.write("# W.\n" + "".join(f"{name}_{number} | layout | 1 | 1\n" for number in range(20) for name in ("short", "long")))
         batches = case_runs.batches_of(book.cases, case_runs.Times(self.room / "times"))

@@ -53,22 +53,6 @@ fn make_arenas<H: AllocGlobal + Threads + Wait + Sync>(rt: &H) {
     });
 }
 
-/// How much deeper the stack of a session may be if an allocation fails, in bytes.
-const DEEPER: usize = 65_536;
-
-/// Like `written`, but deeper in the stack. The stack can't grow while all addresses are held, so it grows here before.
-fn written_below<H: AllocGlobal + Threads + Wait + Clock + Sync>(
-    rt: &H,
-    words: &[String],
-    input: &[u8],
-) -> (u8, Room) {
-    let mut above = [0_u8; DEEPER];
-    above[words.len() % DEEPER] = 1;
-    let (code, room) = written(rt, words, input);
-    let untouched = above[words.len().wrapping_add(1) % DEEPER];
-    (code.wrapping_add(untouched), room)
-}
-
 /// The result of a session that is run with more and more memory.
 #[derive(Drop)]
 enum Scarce {
@@ -139,7 +123,7 @@ pub fn scarce_text<H: AllocGlobal + Threads + Wait + Clock + Sync>(
     input: &[u8],
 ) -> Result<String, Complaint> {
     make_arenas(rt);
-    let (code, room) = written_below(rt, words, input);
+    let (code, room) = written(rt, words, input);
     let mut hoard = Hoard::new(rt.alloc())?;
     let scarce = refused_before(rt, &mut hoard, words, input, (code, room.written()));
     drop(hoard);
