@@ -52,6 +52,8 @@ that number of events does; they also hold if there are no other bounds.
 With --most-tasks, --most-instructions, --most-data, --most-bytes or --most-budget, a program is rejected as O07 if its bound is
 larger, or that by --limit if it is smaller; a line for each names the bound. No bound, or `over`, is larger than any number but
 the last.
+With --order a last line is `order same` if the text rules out that outputs depend on the order of events, or else names the
+first insertion that may show the order, such as `order may show in procedure 1 at place 3`.
 With --places a listing of the program precedes these lines. It is that of `tw disasm --places`, or for text input has the
 text's own lines. After each instruction it has what the right registers hold before it, such as `d0 write int`; in a rejected
 program, up to the rejected place.
@@ -209,6 +211,9 @@ pub(crate) const PLAIN_HELP: &str =
 
 pub(crate) const BOUNDS_HELP: &str =
     "Print bounds of whole runs: tasks, instructions, data, members, rules, bytes and events; with =all, of each procedure";
+
+pub(crate) const ORDER_HELP: &str =
+    "Say whether outputs are the same in every order of events, or which insertion may show it";
 
 pub(crate) const PLACES_HELP: &str = "List the instructions, each with its place";
 

@@ -7,6 +7,7 @@ ghost use Rattle.tw_order.specs.declared.runs.Answer.TheVariants.{Json, Numbers,
 ghost use Rattle.tw_order.specs.declared.runs.RunAnswer.TheVariants as written;
 ghost use Rattle.tw_order.specs.declared.form.Assembling.TheVariants.{Names, Plain, Text};
 ghost use Rattle.tw_order.specs.declared.check.BoundsOf.TheVariants.{NoBounds, OfEach, OfMain};
+ghost use Rattle.tw_order.specs.declared.check.EventOrder.TheVariants.{Checked};
 ghost use Rattle.tw_order.specs.declared.form.Places.TheVariants.{Hidden, Shown};
 ghost use Rattle.tw_order.specs.declared.form.Form.TheVariants as form;
 ghost use Rattle.tw_order.specs.declared.order.Source.TheVariants.{Assembly, Hex};
@@ -84,6 +85,8 @@ pub fn commands_are_taken()
         × (asked_by_words (codes "check" ∷ codes "--text" ∷ []) ≡ Checks Assembly (checking Hidden NoBounds)) }
     ensures places { (word_faults (codes "check" ∷ codes "--places" ∷ codes "--text" ∷ []) ≡ [])
         × (asked_by_words (codes "check" ∷ codes "--places" ∷ codes "--text" ∷ []) ≡ Checks Assembly (checking Shown NoBounds)) }
+    ensures order { (word_faults (codes "check" ∷ codes "--order" ∷ []) ≡ [])
+        × (asked_by_words (codes "check" ∷ codes "--order" ∷ []) ≡ Checks Hex (record (checking Hidden NoBounds) { event_order = Checked })) }
     ensures disasm_places { (word_faults (codes "disasm" ∷ codes "--places" ∷ []) ≡ [])
         × (asked_by_words (codes "disasm" ∷ codes "--places" ∷ []) ≡ Disassembles Hex (disassembling Shown form.Text)) }
     ensures run_text { (word_faults (codes "run" ∷ codes "int:7" ∷ codes "--text" ∷ []) ≡ [])
