@@ -206,13 +206,21 @@ def print_table() -> None:
         print(f"| {name} | {measured} | {aim} |")
 
 
-of_one_engine()
-beside_waiting()
-of_statistics()
-empty_leaf_tasks()
-waiting_for_one_another()
-long_jobs(50, "3.5")
-long_jobs(500, "3.5")
-memory()
-start_to_end()
-print_table()
+def main() -> None:
+    of_one_engine()
+    beside_waiting()
+    of_statistics()
+    empty_leaf_tasks()
+    waiting_for_one_another()
+    long_jobs(50, "3.5")
+    long_jobs(500, "3.5")
+    memory()
+    start_to_end()
+    print_table()
+
+
+if __name__ == "__main__":
+    try:
+        main()
+    except (OSError, subprocess.CalledProcessError) as fault:
+        sys.exit(f"runs: {fault}")

@@ -187,6 +187,7 @@ run_harnesses() {
     # shellcheck disable=SC2046
     harness_with node mutants 3600 tools/mutants.py $(whole_or_quick "--table" cases)
     [ -n "$quick" ] || harness_with rt wakes 3600 tools/wakes.py
+    [ -n "$quick" ] || harness_with rt must_fail 10800 tools/must_fail.py
     # shellcheck disable=SC2046
     harness many 2400 tools/many.sh $(whole_or_quick "" "threads")
     # shellcheck disable=SC2046

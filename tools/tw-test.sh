@@ -36,7 +36,7 @@ run_as_in_ci() {
 
 test_command() {
     case $1 in
-        --help | -h) test_usage; return ;;
+        --help | -h) printed test_usage; return ;;
         --list) exec python3 -B "$root/tools/cases.py" "$@" ;;
         --update) ;;
         -*) say "./tw test takes --list, --update and patterns"; exit 2 ;;
