@@ -1,7 +1,7 @@
 use Rattle.std.proofs.Common.{◌≤◌, length, arith}
 use Rattle.tw_symbols.proofs.TextNames.{seen_table, texts}
 use Rattle.tw_symbols.proofs.RightLines.{all_noted, one_noted}
-use Rattle.tw_symbols.proofs.right_names.noted_from.Goals as goal
+use Rattle.tw_symbols.proofs.right_names.note_from.Goals as goal
 
 pub loop-index-preserved : goal.loop-index-preserved
 loop-index-preserved c = λ first. one_noted (texts c.loop-index.rights.items) (texts c.note.new.rights.items) (seen_table c.args.table.now.entries) c.loop-index.index (c.loop-index.invariant first) c.note.ensures
