@@ -23,7 +23,7 @@ case $words[2]:$PREFIX in
     package:*) compadd -- deb wheel crate tar ;;
     asm:-*) compadd -- --names --plain --json --help ;;
     disasm:-*) compadd -- --text --places --json --help ;;
-    check:-*) compadd -- --text --places --json --bounds --limit --most-tasks --most-instructions --most-data --most-bytes --most-budget --help ;;
+    check:-*) compadd -- --text --places --json --order --bounds --limit --most-tasks --most-instructions --most-data --most-bytes --most-budget --help ;;
     run:-*) compadd -- --engines --servers --workers --limit --from --to --jobs --trace --stats --json --each --picture --most-tasks --most-instructions --most-data --most-bytes --most-budget --in-turn --quiet --inputs-json --text --inputs --help ;;
     replay:-*) compadd -- --engines --servers --workers --stats --json --text --inputs --help ;;
     picture:-*) compadd -- --engines --servers --workers --from --to --text --inputs --help ;;

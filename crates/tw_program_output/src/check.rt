@@ -163,9 +163,10 @@ fn checked_text(
     requires { MayBeSource source.now verified.now.program }
     ensures { IfOk result (λ text. IsPrintedByCheck order (text_of source.now) verified.now.program text.items) }
 {
+    let event_order = order.event_order;
     let mut text = budgets_text(alloc, source, order.places, verified)?;
     put_requested_bounds(alloc, &mut text, source, order, verified)?;
-    put_requested_order(alloc, &mut text, source, order.event_order, verified)?;
+    put_requested_order(alloc, &mut text, source, event_order, verified)?;
     Ok(text)
 }
 
