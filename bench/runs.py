@@ -40,7 +40,8 @@ def read(name: str) -> str:
 
 def timed(command: list[str], given: bytes | None = None) -> Times:
     before, begun = resource.getrusage(resource.RUSAGE_CHILDREN), time.perf_counter()
-    run = subprocess.run(command, input=given, stdout=subprocess.PIPE, check=False)
+    # Many runs end by their limit, which `tw` says on standard error.
+    run = subprocess.run(command, input=given, stdout=subprocess.PIPE, stderr=subprocess.DEVNULL, check=False)
     clock, after = time.perf_counter() - begun, resource.getrusage(resource.RUSAGE_CHILDREN)
     return clock, after.ru_utime + after.ru_stime - before.ru_utime - before.ru_stime, run.stdout.decode()
 

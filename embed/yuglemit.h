@@ -67,7 +67,8 @@ enum {
  * was. *status is the exit status, a YUGLEMIT_STATUS_.
  * Returns the length of the text: if it is more than `room_length`, nothing is written to `room`; call again with as much.
  * A program is run in the caller's thread, its actors in turn, as by `tw run --in-turn`: `--workers 4` are four workers of that one thread,
- * and the second call answers the same. Nothing is printed before the end, nor on standard error.
+ * and the second call answers the same: tests show that, and for a program without DUPW whose run ends by itself it is proved.
+ * Nothing is printed before the end, nor on standard error.
  * yuglemit_session_text, below, takes arguments with line feeds, and needs no second call. */
 size_t yuglemit_session(const uint8_t *words, size_t words_length, const uint8_t *input, size_t input_length,
                         uint8_t *room, size_t room_length, uint8_t *status);

@@ -211,7 +211,7 @@ async function show(setting, trace, event, playing) {
     const all = linesIn(trace);
     let shown = false;
     const work = following.follow(setting, trace, (made, part) => {
-        if (shown) stepper.grown();
+        if (shown) stepper.grown(part);
         else { $("controls").hidden = $("running").hidden = $("data").hidden = false; stepper.take(made, setting.places ?? new Map(), part ? 0 : event); }
         if (part && !shown && event) stepper.go(Math.min(event, made.length));
         shown = true;
@@ -220,6 +220,7 @@ async function show(setting, trace, event, playing) {
     });
     stoppable(false);
     const whole = await work;
+    stepper.grown(false);
     progress(stepper.run?.length ?? 0, 0, whole);
     if (whole && event > stepper.at && stepper.at === 0) stepper.go(Math.min(event, stepper.run?.length ?? 0));
     stoppable(false);

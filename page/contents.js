@@ -160,7 +160,7 @@ export class Contents {
     list() {
         const [name, form] = this.example.split(" "), texts = this.examples.get(name)?.texts ?? {}, mine = owns();
         const foreign = !this.own && !this.example;
-        this.pick.replaceChildren(h("option", {value: "", hidden: !foreign}, "a program from elsewhere"),
+        this.pick.replaceChildren(h("option", {value: "", hidden: !foreign}, "another program"),
             ...mine.length ? [h("optgroup", {label: "Your own programs"}, ...mine.map(it => h("option", {value: `own ${it.id}`}, ownTitle(it))))] : [],
             ...this.groups.map(({title, examples}) => h("optgroup", {label: title}, ...examples.map(it => h("option", {value: it.name}, it.title)))));
         this.pick.value = this.own ? `own ${this.own}` : name;

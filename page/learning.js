@@ -40,7 +40,7 @@ export class Learning {
      * @param {Instruction} it */
     card(it) {
         const rows = [["Operands", it.operands.join("; ")], ["Does", it.does], ["Requires", it.requires], ["Is refused", it.refused], ["Leaves", it.leaves]].filter(([, words]) => words);
-        return h("details", {id: `instruction-${it.name}`, "data-words": `${it.name} ${it.plain}`.toLowerCase()}, h("summary", {}, h("code", {}, it.name), ` ${it.plain}`),
+        return h("details", {id: `instruction-${it.name}`, "data-words": `${it.name} ${it.plain}`.toLowerCase()}, h("summary", {}, h("code", {}, it.name), " ", ...coded(it.plain)),
             h("p", {}, h("code", {}, it.form)), h("dl", {}, ...rows.flatMap(([name, words]) => [h("dt", {}, name), h("dd", {}, ...coded(words))])),
             h("pre", {}, it.text), h("button", {onclick: () => this.try(it)}, "Try it"), " ", h("a", {href: "#manual-MACHINE-instructions"}, "In the manual"));
     }

@@ -3,7 +3,7 @@
 // Draws a small state: tasks and rules at the left, data as boxes at the right, and rights as arrows from the one to the other.
 import {h, s} from "./dom.js";
 import {isClosed} from "./machine.js";
-import {argumentName, content} from "./model.js";
+import {argumentName, content, dataName} from "./model.js";
 import {callName} from "./source.js";
 
 /** @typedef {import("./run.js").Run} Run */
@@ -26,7 +26,7 @@ export function pictureOf(run, state) {
     const holders = [...frames].map(([actor, frame]) => running(run, actor, frame, arrows));
     for (const rule of rules.values()) holders.push(waiting(run, rule, `rule ${rule.number}`, "rule", arrows));
     for (const task of tasks.values()) holders.push(waiting(run, task, `task ${task.number}`, "task", arrows));
-    const boxes = [...data.values()].map(it => ({key: `d${it.id}`, datum: it.id, title: `${run.label(it.id) || "datum"} ${it.id}: ${it.type}`, words: content(it), look: isClosed(it) ? "closed" : "open"}));
+    const boxes = [...data.values()].map(it => ({key: `d${it.id}`, datum: it.id, title: `${dataName(run, it.id)}: ${it.type}`, words: content(it), look: isClosed(it) ? "closed" : "open"}));
     return {holders, data: boxes, arrows: arrows.filter(it => boxes.some(({key}) => key === it.to))};
 }
 

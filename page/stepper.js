@@ -12,8 +12,8 @@ import {show} from "./view.js";
 /** @typedef {import("./editor.js").Editor} Editor */
 /** @typedef {import("./timeline.js").Timeline} Timeline */
 
-/** Data that can be picked in the list of what to step through. */
-const PICKED = 300;
+/** Data that can be picked in the list of what to step through, and milliseconds between two looks at a run that grows. */
+const PICKED = 300, SELDOM = 700;
 
 export class Stepper {
     /** @param {Editor} editor @param {() => void} moved called when another event is shown */
@@ -30,6 +30,7 @@ export class Stepper {
         /** What is shown of the event: its run, its number and the view of its state.
          * @type {{run: Run, event: number, view: import("./model.js").View} | null} */
         this.viewed = null;
+        this.grew = 0;
         this.timer = 0;
         this.stale = false;
         /** Whether the page itself began to play; then any touch stops it. */
@@ -73,7 +74,7 @@ export class Stepper {
         Object.assign(this, {run, places, stale: false, viewed: null});
         this.fresh();
         this.timeline?.show(run);
-        this.grown();
+        this.grown(false);
         this.go(Math.min(event, run.length));
     }
 
@@ -83,10 +84,12 @@ export class Stepper {
         document.body.classList.remove("stale");
     }
 
-    /** Takes more events of the run. */
-    grown() {
-        const {run} = this;
-        if (!run) return;
+    /** Takes more events of the run. While more are to come it is done now and then.
+     * @param {boolean} part */
+    grown(part) {
+        const {run} = this, now = performance.now();
+        if (!run || part && now - this.grew < SELDOM) return;
+        this.grew = now;
         const option = (/** @type {string} */ value, /** @type {string} */ text) => h("option", {value}, text), chosen = this.by.value;
         this.slider.max = String(run.length);
         this.by.replaceChildren(option("all", "each event"), option("line", "events of the cursor's line"),

@@ -357,6 +357,333 @@ const CONTRAST = `(() => {
     return [...wrong];
 })()`;
 
+// Texts of 64 procedures, and of 16 KB.
+const LONG_TEXTS = {"64 procedures": 8, "16 KB": 20}, PATIENCE = +(process.env.PATIENCE ?? 1);
+const longText = remarks => "proc control write int\nregs int\nPUT 1 0 any 0\nRET\n" + `proc leaf write int\nregs int\n${"; a remark\n".repeat(remarks)}INT v0 1\nSTORE d0 v0\nRET\n`.repeat(63);
+
+// Editing never freezes: the page changes a long text within 0.2 s, by a planted mistake, by Undo and by a picked example. The least of three times counts.
+async function quick(reader) {
+    const took = what => reader.js(`new Promise(done => { const text = document.getElementById("text"), old = text.value, from = performance.now(); ${what}; const look = () => text.value === old ? setTimeout(look) : done(performance.now() - from); look(); })`);
+    const undo = 'document.getElementById("undo").click()', plant = 'document.querySelector("#mistakes button:nth-child(3)").click()', choose = 'document.getElementById("pick").value = "fan_out"; document.getElementById("pick").dispatchEvent(new Event("change"))';
+    for (const [name, remarks] of Object.entries(LONG_TEXTS)) {
+        await reader.forget(); await reader.key("Shift");
+        await reader.js(`(() => { const it = document.getElementById("text"); it.value = ${JSON.stringify(longText(remarks))}; document.body.dataset.state = "busy"; it.dispatchEvent(new Event("input")); })()`);
+        await reader.ready();
+        const times = {plant: [], "undo of it": [], pick: [], "undo of the pick": []};
+        for (let again = 0; again < 3; again++)
+            for (const [what, act] of [["plant", plant], ["undo of it", undo], ["pick", choose], ["undo of the pick", undo]]) { times[what].push(await took(act)); await reader.ready(); }
+        for (const [what, all] of Object.entries(times)) { console.log(`${name}, ${what}: ${all.map(it => Math.round(it)).join(", ")} ms`); say(Math.min(...all) < 200 * PATIENCE, name, what, "takes", all); }
+        say((await reader.value("text")) === longText(remarks), name, "another text");
+    }
+}
+
+// A million events are followed in a thread: with progress, with Stop, in little memory; a step is quick then.
+async function millions(reader) {
+    await reader.forget(); await reader.key("Shift");
+    await reader.write("limit", "900000");
+    const text = turns => `proc control\nregs int\nREPEAT 1000\nREPEAT ${turns}\nPUT 1 0 any\nEND\nEND\nRET\nproc leaf\nregs\nRET\n`, heap = async () => { const {totalSize, backingStorageSize} = await reader.page.ask("Runtime.getHeapUsage"); return (totalSize + backingStorageSize) / 1e6; };
+    await reader.write("text", text(300));
+    await reader.js('document.getElementById("run").click()');
+    say(await reader.page.until('/following event [\\d,]+ of 900,000/.test(document.getElementById("followed").innerText) && !document.getElementById("following").hidden', 60000), "no progress", await reader.seen("#followed"));
+    say(await reader.js('!document.getElementById("stop").disabled'), "following can't be stopped");
+    await reader.js('document.getElementById("stop").click()'); await reader.ready();
+    say(/followed up to event [\d,]+, then stopped/.test(await reader.seen("#followed")), "not stopped", await reader.seen("#followed"));
+    await reader.js('document.getElementById("run").click()');
+    let most = 0;
+    for (let ready = false; !ready; ready = await reader.js('document.body.dataset.state === "ready" && document.getElementById("step").max === "900000"')) { most = Math.max(most, await heap()); await new Promise(go => setTimeout(go, 100)); }
+    console.log(`900,000 events in ${Math.round(most)} MB`);
+    say(most < 200, "memory", most);
+    say((await reader.seen("#at")).endsWith("of 900,000"), "not all events", await reader.seen("#at"));
+    await reader.event(900000);
+    say((await reader.seen("#data")).includes("running"), "another end", await reader.seen("#data"));
+    await reader.write("limit", "100000");
+    await reader.click("#run"); await reader.key("Shift");
+    const step = button => reader.js(`(() => { const from = performance.now(); document.getElementById("${button}").click(); document.body.offsetHeight; return performance.now() - from; })()`);
+    await reader.event(50000);
+    for (const button of ["on", "back"]) { const times = []; for (let k = 0; k < 5; k++) times.push(await step(button)); say(Math.min(...times) < 100 * PATIENCE, button, "takes", times); }
+    await reader.write("limit", "10000");
+}
+
+// One's own program is never lost: by a link, by an example, by Undo, by closing the page at once.
+async function own(reader) {
+    await reader.forget(); await reader.key("Shift");
+    const first = await reader.value("text"), mine = first.replace("; Doubles a number twice.", "; Mine, and nobody else's."), other = `${address}#p=${zlib.deflateRawSync(JSON.stringify({text: "proc control\nregs\nRET\n", inputs: [], layout: [1, 1, 1, 100], event: 0, example: ""})).toString("base64url")}`;
+    await reader.write("text", mine);
+    say((await reader.js('document.getElementById("pick").selectedOptions[0].textContent')).startsWith("Mine, and nobody else's."), "the list doesn't know it", await reader.value("pick"));
+    await reader.go(other);
+    say((await reader.value("text")).startsWith("proc control\nregs"), "no link");
+    await reader.go(address);
+    say((await reader.value("text")) === mine, "lost by a link", await reader.value("text"));
+    await reader.go(`${address}?example=barrier`);
+    await reader.go(address);
+    say((await reader.value("text")) === mine, "lost by an example");
+    await reader.choose("pick", "first");
+    say((await reader.value("text")) === first, "the example can't be had back");
+    await reader.write("text", first.replace("answer", "result"));
+    await reader.click("#undo");
+    say((await reader.value("text")) === first, "no Undo of an edit", await reader.value("text"));
+    await reader.click("#redo");
+    say((await reader.value("text")) === first.replace("answer", "result"), "no Redo");
+    const listed = await reader.js('[...document.querySelectorAll("#pick option")].map(it => [it.value, it.textContent]).filter(([value]) => value.startsWith("own"))');
+    say(listed.length === 2, "not two own programs", listed);
+    await reader.choose("pick", listed.find(([, title]) => title.startsWith("Mine"))[0]);
+    say((await reader.value("text")) === mine, "the list loses one");
+    await reader.js('(() => { const it = document.getElementById("text"); it.focus(); it.setSelectionRange(0, 0); document.execCommand("insertText", false, "; last\\n"); })()');
+    await reader.go(address);
+    say((await reader.value("text")) === `; last\n${mine}`, "lost by closing", (await reader.value("text")).slice(0, 40));
+}
+
+// Results that are no longer those of the program are dimmed; the verdict promises what is proved.
+async function old_results(reader) {
+    await reader.forget(); await reader.key("Shift");
+    say((await reader.seen("#verdict")).startsWith("Accepted: no task of it can fail. A run may still get stuck, or reach its limit."), "another promise", await reader.seen("#verdict"));
+    say((await reader.seen("#results")) === "answer = 12" && (await reader.seen("#ended")).startsWith("Done: nothing is left to do."), "no outputs in words", await reader.seen("#results"));
+    await reader.click("#stats");
+    const text = await reader.value("text"), dim = () => reader.js('["answer", "numbers", "state", "data", "timeline"].map(id => +getComputedStyle(document.getElementById(id)).opacity)');
+    say((await dim()).every(it => it === 1), "dimmed at first", await dim());
+    await reader.write("text", text.replace("STORE to value", "; STORE to value"));
+    say((await dim()).every(it => it < 1) && (await reader.seen("#stale")).includes("Repair the program, then press Run."), "old results look new", await dim(), await reader.seen("#stale"));
+    await reader.click("#run");
+    say((await reader.seen("#ended")).includes("Repair the program"), "Run says nothing", await reader.seen("#ended"));
+    await reader.write("text", text);
+    say((await reader.seen("#stale")).includes("Press Run."), "no advice", await reader.seen("#stale"));
+    await reader.click("#run");
+    say((await dim()).slice(2).every(it => it === 1) && (await reader.seen("#numbers")) === "", "old numbers", await reader.seen("#numbers"));
+}
+
+// The language is explained: at the cursor, in the panel of instructions, whose examples run, in the glossary, in the manual and in Python.
+async function learning(reader) {
+    await reader.forget(); await reader.key("Shift");
+    const at = async word => { await reader.js(`(() => { const it = document.getElementById("text"), at = it.value.indexOf(${JSON.stringify(word)}) + 1; it.focus(); it.setSelectionRange(at, at); it.dispatchEvent(new Event("click")); })()`); return reader.seen("#help"); };
+    say((await at("STORE to")).startsWith("STORE d v writes a value into a datum, once and for all"), "no help at STORE", await at("STORE to"));
+    say(/begins when the datum is closed|nobody has a right to write it/.test(await at("closed int")), "no help at closed", await at("closed int"));
+    say(/Refused, and skips, if it doesn't fit 64 bits/.test(await at("ADD value")), "no refusal of ADD", await at("ADD value"));
+    await reader.click("#more");
+    say((await reader.seen("#instruction-ADD pre")).includes("ADD one one two refused") && (await reader.seen("#instruction-ADD")).includes("all int"), "no card of ADD", await reader.seen("#instruction-ADD"));
+    const names = await reader.js('[...document.querySelectorAll("#instructions > details")].map(it => it.id.slice(12))'), grammar = fs.readFileSync(path.join(examples, "../tools/tw.vim"), "utf8").match(/twInstruction (.*)/)[1].split(" ");
+    say(String([...names].sort()) === String([...grammar].sort()), "other instructions", names);
+    await reader.write("search", "remainder");
+    say((await reader.js('[...document.querySelectorAll("#instructions > details:not([hidden])")].map(it => it.id)')).join() === "instruction-REM", "the search finds otherwise");
+    await reader.js('document.getElementById("search").value = ""; document.getElementById("search").dispatchEvent(new Event("input"))');
+    for (const name of ["ADD", "TLOOK", "RULEV"]) {
+        await reader.js(`document.body.dataset.state = "busy"; document.querySelector("#instruction-${name} button").click()`); await reader.ready(); await reader.key("Shift");
+        say(new RegExp(`^${name} `, "m").test(await reader.value("text")) && (await reader.seen("#out")).endsWith("quiet"), name, "can't be tried", await reader.seen("#out"), await reader.seen("#verdict"));
+    }
+    await reader.click("#words summary");
+    for (const word of ["right", "datum", "closed", "rule", "engine", "budget"]) say((await reader.seen("#glossary")).includes(word), "no word", word);
+    await reader.click("footer a[href='#manual-MACHINE-']");
+    say((await reader.seen("#manual-title")) === "The machine" && (await reader.seen("#manual-text")).includes("single-assignment future"), "no manual", await reader.seen("#manual-title"));
+    await reader.js('[...document.querySelectorAll("#manual-text a")].find(it => it.getAttribute("href").startsWith("#manual-FORMAT")).click()');
+    say((await reader.seen("#manual-title")) === "Texts, inputs and reports", "no link in the manual", await reader.seen("#manual-title"));
+    await reader.click("#manual-close");
+    say((await reader.seen("footer")).includes(`Yuglemit ${fs.readFileSync(path.join(examples, "../VERSION"), "utf8").trim()}.`), "no version");
+    await reader.choose("pick", "pipeline"); await reader.key("Shift");
+    await reader.click("#python summary");
+    say((await reader.seen("#python-text")) === fs.readFileSync(path.join(examples, "../embed/python/tests/programs/pipeline.py"), "utf8").trim(), "no Python", await reader.seen("#python-text"));
+    await reader.choose("pick", "stuck_on_itself");
+    say((await reader.seen("#python")) === "", "Python of a program that has none");
+}
+
+// Words are completed: Tab takes the first, the arrow keys choose, Enter at the end of a word is a line end.
+async function completion(reader) {
+    await reader.forget(); await reader.key("Shift");
+    const typed = async (line, signs) => {
+        await reader.js(`(() => { const it = document.getElementById("text"), at = it.value.indexOf(${JSON.stringify(line)}); it.focus(); it.setSelectionRange(at, at); })()`);
+        for (const sign of signs) await reader.page.ask("Input.insertText", {text: sign});
+        await reader.ready();
+        return reader.js('[...document.querySelectorAll("#offers:not([hidden]) [role=option] b")].map(it => it.textContent)');
+    };
+    say(String(await typed("\nSTORE to", "\nDR")) === "DROPR,DROPW", "no instructions", await reader.seen("#offers"));
+    await reader.key("ArrowDown"); await reader.key("ArrowDown"); await reader.key("Enter");
+    say((await reader.value("text")).includes("too_large:\nDROPW\nSTORE to"), "Enter takes nothing", (await reader.value("text")).slice(-80));
+    await reader.forget(); await reader.key("Shift");
+    await typed("\nSTORE to", "\nDR"); await reader.key("Enter");
+    say((await reader.value("text")).includes("too_large:\nDR\n\nSTORE to"), "Enter isn't a line end", (await reader.value("text")).slice(-80));
+    await reader.forget(); await reader.key("Shift");
+    say(String(await typed("\nRET\n\nproc", "\nRULE dou")) === "double", "no procedure", await reader.seen("#offers"));
+    await reader.key("Tab");
+    say((await reader.value("text")).includes("\nRULE double\nRET\n\nproc"), "Tab takes nothing", (await reader.value("text")).slice(0, 400));
+    say((await reader.js("document.activeElement.id")) === "text" && (await reader.js('document.getElementById("offers").hidden')), "the list stays");
+    await reader.forget(); await reader.key("Shift");
+    say((await typed("\nADD value", "\nCOPY val")).includes("value"), "no register");
+    await reader.key("Escape");
+    say(await reader.js('document.getElementById("offers").hidden'), "Escape leaves the list");
+}
+
+// Another order of events: other events, the same outputs, as tw's replay says; a race for a subscript has different ones, and the page says which was refused.
+async function another(reader) {
+    await reader.go(`${address}?example=mapreduce`); await reader.key("Shift");
+    const before = await reader.seen("#out"), said = [];
+    for (let k = 1; k <= 3; k++) { await reader.click("#another"); said.push(await reader.seen("#order")); say(new RegExp(`^Order ${k}: [\\d,]+ events, the outputs are the same\\.`).test(said[k - 1]), "another order", said); }
+    await reader.event(+(await reader.js('document.getElementById("step").max')));
+    say((await reader.seen("#data")).includes("all is done") && (await reader.seen("#out")) === before, "the order doesn't end", await reader.seen("#data"));
+    const race = "proc control write cont int\nregs int int\nINT v1 1\nDUPW d1 d0\nPUT 1 0 any 1 0\nPUT 1 0 any 0 1\nRET\nproc leaf write cont int val int\nregs int int\nNEW d1 d2 int\nSTORE d1 v0\nINS d0 v1 d2 a\nJMP b\na:\nDROPR d2\nb:\nDROPW d0\nRET\n";
+    await reader.write("text", race);
+    await reader.write("workers", "2");
+    await reader.click("#run"); await reader.key("Shift");
+    let differs = 0;
+    for (let k = 0; k < 12; k++) { await reader.click("#another"); if ((await reader.seen("#order")).includes("the outputs differ")) differs++; }
+    say(differs > 0 && differs < 12, "a race has one outcome", differs);
+    await reader.event(+(await reader.js('document.getElementById("step").max')));
+    say(/Insertions that were refused\s+event \d+: Worker \d finds the subscript taken/.test(await reader.seen("#data")), "no refused insertion", await reader.seen("#data"));
+}
+
+// Links that lie or are broken do no harm.
+async function links(reader) {
+    const link = what => `${address}#p=${zlib.deflateRawSync(typeof what === "string" ? what : JSON.stringify(what)).toString("base64url")}`, text = "proc control write int\nregs int\nINT v0 7\nSTORE d0 v0\nRET\n";
+    const of = more => ({text, inputs: [], layout: [1, 1, 1, 100], event: 0, example: "", ...more});
+    for (const [event, shown] of [[-5, "event 0 of 4"], [2.5, "event 2 of 4"], ["x", "event 0 of 4"], [1e9, "event 4 of 4"]]) {
+        await reader.go(link(of({event}))); await reader.key("Shift");
+        say((await reader.seen("#at")) === shown, "event", event, await reader.seen("#at"));
+    }
+    await reader.go(link(of({layout: [-1, 2.5, 99, "x"]})));
+    say(String(await reader.js('["engines", "servers", "workers", "limit"].map(id => document.getElementById(id).value)')) === "1,2,16,1", "a layout");
+    await reader.go(link(of({example: "fan_out names"})));
+    say((await reader.value("text")) === text && (await reader.value("pick")) === "", "a link lies about its example", await reader.value("pick"));
+    const from = Date.now();
+    await reader.go(link(JSON.stringify(of({text: "x".repeat(20000000)}))));
+    say((await reader.seen("#said")).includes("broken") && Date.now() - from < 5000 * PATIENCE, "a link of 20 MB", await reader.seen("#said"), Date.now() - from);
+    await reader.go(link("[1, 2"));
+    say((await reader.seen("#said")).includes("broken"), "a link without contents");
+}
+
+// The page forbids itself every request.
+async function policy(reader, page) {
+    await reader.forget();
+    const tried = await reader.js(`Promise.all([
+        fetch("https://example.com/").then(() => "fetch", () => ""), fetch("data:text/plain,x").then(() => "data", () => ""),
+        new Promise(done => { const it = new Image(); it.onload = () => done("image"); it.onerror = () => done(""); it.src = "https://example.com/x.png"; }),
+        new Promise(done => { const it = document.createElement("script"); it.onload = () => done("script"); it.onerror = () => done(""); it.src = "https://example.com/x.js"; document.head.append(it); }),
+        new Promise(done => { const it = document.createElement("script"); it.textContent = "window.injected = true"; document.head.append(it); done(window.injected ? "inline" : ""); }),
+        new Promise(done => { const it = document.createElement("link"); it.rel = "stylesheet"; it.onload = () => done("style"); it.onerror = () => done(""); it.href = "https://example.com/x.css"; document.head.append(it); }),
+        Promise.resolve().then(() => { try { return new WebSocket("wss://example.com/") && "" } catch { return ""; } }),
+        Promise.resolve(navigator.sendBeacon("https://example.com/") ? "" : "")])`);
+    const refused = page.messages.splice(0).filter(it => /Content Security Policy/.test(it)).length;
+    say(tried.every(it => it === "") && refused >= 7, "a request isn't forbidden", tried, refused);
+    say((await page.ask("Runtime.evaluate", {expression: "Function('return 1')()", allowUnsafeEvalBlockedByCSP: false})).exceptionDetails, "a text is run as a script");
+    page.messages.splice(0);
+    say(await reader.js(`document.querySelector("meta[http-equiv]").content.startsWith("default-src 'none'; script-src 'sha256-")`), "no policy");
+}
+
+// Inputs are checked at their fields, and what phones put in is taken.
+async function inputs(reader) {
+    await reader.go(`${address}?example=words`); await reader.key("Shift");
+    const fault = async text => { await reader.write("input-0", text); return reader.seen("#input-0-fault"); };
+    say((await reader.seen("#inputs label")).startsWith("words"), "no name", await reader.seen("#inputs label"));
+    say((await fault('3="of",1="the"')).includes("have to rise"), "an order", await fault('3="of",1="the"'));
+    say((await fault('1="of",1="the"')).includes("twice"), "a subscript twice");
+    say((await fault(`1="${"x".repeat(4097)}"`)).includes("4,096"), "a long text");
+    await reader.click("#run");
+    say((await reader.seen("#ended")).startsWith("The input words is wrong: a text has over 4,096 bytes."), "no field is named", await reader.seen("#ended"));
+    say((await fault("1=\u201cof\u201d, 2=\u201cthe\u201d")) === "", "curly quotes", await fault("1=\u201cof\u201d, 2=\u201cthe\u201d"));
+    await reader.click("#run"); await reader.key("Shift");
+    say((await reader.seen("#out")).endsWith("quiet"), "not run", await reader.seen("#ended"));
+    await reader.write("workers", "0");
+    await reader.click("#run");
+    say((await reader.seen("#ended")).includes("workers: 1 to 16"), "a layout", await reader.seen("#ended"));
+    await reader.forget(); await reader.key("Shift");
+    const hint = async (from, to) => { const text = await reader.value("text"); await reader.write("text", text.replace(from, to)); const shown = await reader.seen("#verdict"); await reader.write("text", text); return shown; };
+    say((await hint("STORE to value", "STORE to vlue")).includes("Did you mean value?"), "no hint at a name", await hint("STORE to value", "STORE to vlue"));
+    say((await hint("; Doubles", "// Doubles")).includes("Comments begin with ;"), "no hint at a comment", await hint("; Doubles", "// Doubles"));
+    say((await hint("names\n", "")).includes("begin the text with the line names"), "no hint at names", await hint("names\n", ""));
+}
+
+// Data are boxes, and rights are arrows, for up to twenty; then there is a table.
+async function picture(reader) {
+    await reader.forget(); await reader.key("Shift"); await reader.event(4);
+    const boxes = () => reader.js('[...document.querySelectorAll("#data .box[class~=open], #data .box[class~=closed]")].map(it => it.textContent)'), arrows = look => reader.js(`document.querySelectorAll("#data .arrow.${look}").length`);
+    say((await boxes()).length === 3 && (await boxes()).some(it => /middle \(datum 3\): int.*not yet written/.test(it)), "other boxes", await boxes());
+    say((await arrows("writes")) === 2 && (await arrows("waits")) === 2, "other arrows", await arrows("writes"), await arrows("waits"), await arrows("reads"));
+    say(/middle \(datum 3\): int, open, not yet written; .*double writes middle \(datum 3\)/.test(await reader.js('document.querySelector("#data .picture").getAttribute("aria-label")')), "not in words", await reader.js('document.querySelector("#data .picture").getAttribute("aria-label")'));
+    await reader.js('document.querySelector("#data .box.open").dispatchEvent(new MouseEvent("click", {bubbles: true}))');
+    say(/^d\d/.test(await reader.value("by")), "a box can't be picked", await reader.value("by"));
+    await reader.write("text", "proc control closed cont int write int\nregs int\nDROPR d0\nSTORE d1 v0\nRET\n");
+    for (const [members, shown] of [[18, 1], [19, 0]]) {
+        await reader.write("input-0", Array.from({length: members}, (_, k) => `${k}=1`).join(","));
+        await reader.click("#run"); await reader.key("Shift"); await reader.event(1);
+        say((await reader.js('document.querySelectorAll("#data .picture").length')) === shown && (await reader.js('document.querySelectorAll("#data tbody tr").length')) === members + 2, members, "members as another picture");
+    }
+}
+
+// Paper gets the whole program and the report; the lit line is seen in forced colours; marks differ by their shape, and are seen on all grounds.
+async function looks(reader) {
+    await reader.forget(); await reader.key("Shift"); await reader.event(3);
+    await reader.js('dispatchEvent(new Event("beforeprint"))');
+    await reader.page.ask("Emulation.setEmulatedMedia", {media: "print"});
+    const shown = await reader.js('document.body.innerText');
+    say((await reader.value("text")).split("\n").every(line => shown.includes(line)) && shown.includes("out 0 int 12") && !shown.includes("Take the tour"), "other print", shown);
+    await reader.page.ask("Emulation.setEmulatedMedia", {media: "", features: [{name: "forced-colors", value: "active"}]});
+    await reader.pause();
+    say((await reader.js('getComputedStyle(document.querySelector("#paint .hit")).outlineStyle')) === "solid", "the line isn't seen in forced colours");
+    await reader.shot("forced");
+    for (const scheme of ["light", "dark"]) {
+        await reader.page.ask("Emulation.setEmulatedMedia", {media: "", features: [{name: "prefers-color-scheme", value: scheme}]});
+        say((await reader.js(MARKS)).length === 0, scheme, "a mark isn't seen", await reader.js(MARKS));
+    }
+    const shapes = await reader.js('[...document.querySelectorAll("#legend path")].map(it => it.getAttribute("d"))');
+    say(shapes.length === 7 && new Set(shapes).size === 7, "kinds have one shape", shapes);
+    await reader.scheme("light");
+    for (const [width, height] of [[360, 225], [720, 450]]) {
+        await reader.size(width, height);
+        const covered = await reader.js('(() => { const it = document.getElementById("controls"), {height} = it.getBoundingClientRect(); return getComputedStyle(it).position === "sticky" ? height / innerHeight : 0; })()');
+        say(covered < 0.35 && await reader.js("document.documentElement.scrollWidth <= innerWidth"), width, "covered by", covered);
+    }
+    await reader.size(1300);
+}
+
+// Returns the marks of the timeline that have less than 3 to 1 with the bars or the lanes.
+const MARKS = `(() => {
+    const rgb = value => { const made = document.createElement("canvas").getContext("2d"); made.fillStyle = value; made.fillRect(0, 0, 1, 1); return [...made.getImageData(0, 0, 1, 1).data]; };
+    const shine = ([r, g, b]) => [r, g, b].map(it => (it /= 255) <= 0.03928 ? it / 12.92 : ((it + 0.055) / 1.055) ** 2.4).reduce((sum, it, k) => sum + it * [0.2126, 0.7152, 0.0722][k], 0);
+    const of = name => shine(rgb(getComputedStyle(document.documentElement).getPropertyValue("--" + name).trim())), wrong = [];
+    for (const kind of ["take", "local", "call", "end", "ask", "deliver", "release"]) for (const ground of ["bar", "card", "odd"]) {
+        const [one, other] = [of(kind), of(ground)].sort((a, b) => b - a), ratio = (one + 0.05) / (other + 0.05);
+        if (ratio < 3) wrong.push(kind + " on " + ground + " " + ratio.toFixed(2));
+    }
+    return wrong;
+})()`;
+
+// The timeline is scrolled to the event in both directions, has an overview, and lines of the marked task alone; keys step; steps say what is computed.
+async function timeline(reader) {
+    await reader.go(`${address}?example=words`); await reader.key("Shift");
+    await reader.write("workers", "12");
+    await reader.click("#run"); await reader.key("Shift");
+    const inSight = event => reader.js(`(() => { const box = document.getElementById("timeline").getBoundingClientRect(), lane = document.querySelectorAll(".lane-name")[${event}].getBoundingClientRect(); return lane.top >= box.top - 1 && lane.bottom <= box.bottom + 1; })()`);
+    const all = +(await reader.js('document.getElementById("step").max')), seen = new Set();
+    for (let k = 1; k <= all; k += 9) {
+        await reader.event(k);
+        const actor = (await reader.seen("#what")).match(/^(Engine|Server|Worker) (\d+)/), lane = {Engine: 0, Server: 2, Worker: 3}[actor[1]] + +actor[2];
+        seen.add(lane);
+        say(await inSight(lane), "lane", lane, "isn't in sight at", k);
+        say((await reader.js('document.querySelectorAll("#lanes .thread").length')) <= 2, "lines of others at", k);
+    }
+    say(seen.size > 4, "few lanes", [...seen]);
+    const box = await reader.js('(() => { const {x, y, width, height} = document.getElementById("strip").getBoundingClientRect(); return {x, y, width, height}; })()');
+    say(box.width > 200 && box.height > 10, "no overview", box);
+    await reader.js('document.getElementById("strip").scrollIntoView({block: "center"})');
+    const at = await reader.js('(() => { const {x, y, width} = document.getElementById("strip").getBoundingClientRect(); return [x + width / 2, y + 5]; })()');
+    for (const type of ["mousePressed", "mouseReleased"]) await reader.page.ask("Input.dispatchMouseEvent", {type, x: at[0], y: at[1], button: "left", buttons: type === "mousePressed" ? 1 : 0, clickCount: 1});
+    const there = +(await reader.value("step"));
+    say(Math.abs(there - all / 2) < all / 20, "the overview leads elsewhere", there, all);
+    await reader.forget(); await reader.key("Shift"); await reader.event(0);
+    await reader.js("document.activeElement.blur()");
+    await reader.key("."); await reader.key("."); await reader.key(",");
+    say((await reader.seen("#at")).startsWith("event 1 "), "keys don't step", await reader.seen("#at"));
+    await reader.click("#last");
+    say((await reader.seen("#at")) === "event 22 of 22", "not at the end", await reader.seen("#at"));
+    const steps = [];
+    for (let k = 0; k <= 22; k++) { await reader.event(k); steps.push(await reader.seen("#what")); }
+    say(steps.some(it => it.endsWith("computes: ADD value value value too_large: 3 + 3 = 6")), "no sum", steps);
+    await reader.click("#play");
+    say((await reader.js('document.getElementById("what").getAttribute("aria-live")')) === "off", "a screen reader hears each event");
+    await reader.click("#play");
+    await reader.js('document.querySelector("#mistakes button").focus()');
+    await reader.key("ArrowRight");
+    say((await reader.js("document.activeElement.textContent")) === "Write it twice", "no arrow keys in toolbars");
+    await reader.click("#mistakes button:nth-child(1)");
+    say((await reader.seen("#broken .change")).includes("- ") && (await reader.seen("#broken")).includes("Show it in the program"), "the mistake isn't shown", await reader.seen("#broken"));
+}
+
 // A browser without WebAssembly gets advice, with a screenshot.
 async function old(reader) {
     const {identifier} = await reader.page.ask("Page.addScriptToEvaluateOnNewDocument", {source: "delete window.WebAssembly;"});
@@ -397,7 +724,7 @@ async function screens(reader) {
 const page = await open(address), reader = new Reader(page);
 say(await page.until('document.body?.dataset.state === "ready"', 60000), "the page isn't ready");
 const only = process.env.ONLY?.split(",");
-for (const part of [firstSight, steps, typing, kept, mistakes, tour, downloads, everywhere, allExamples, long, old, narrowed, screens].filter(it => !only || only.includes(it.name))) {
+for (const part of [firstSight, steps, typing, kept, mistakes, tour, downloads, quick, millions, own, old_results, learning, completion, another, links, policy, inputs, picture, looks, timeline, everywhere, allExamples, long, old, narrowed, screens].filter(it => !only || only.includes(it.name))) {
     const from = Date.now(), failures = failed;
     await part(reader, page).catch(error => say(false, part.name, error.stack));
     console.log(`${part.name}: ${failed === failures ? "well" : "FAILED"}, ${((Date.now() - from) / 1000).toFixed(1)} s`);

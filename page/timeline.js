@@ -48,7 +48,7 @@ export class Timeline {
         box.addEventListener("keydown", event => this.key(event));
         new ResizeObserver(() => { this.draw(); this.overview(); }).observe(box);
         for (const kind of ["pointerdown", "pointermove"]) strip.addEventListener(kind, event => this.fromStrip(/** @type {PointerEvent} */ (event)));
-        $("legend").replaceChildren(...Object.entries(SHAPES).flatMap(([kind, shape]) => [s("svg.key", {viewBox: "-7 -7 14 14"}, s(`path.${kind}`, {d: shape(6)})), CALLED[/** @type {keyof typeof CALLED} */ (kind)], " "]), "Order, not time.");
+        $("legend").replaceChildren(...Object.entries(SHAPES).flatMap(([kind, shape]) => [s("svg.key", {viewBox: "-7 -7 14 14"}, s(`path.${kind}`, {d: shape(6)})), CALLED[/** @type {keyof typeof CALLED} */ (kind)], " "]), "· In order, not in time.");
     }
 
     /** Shows a run.
@@ -173,9 +173,9 @@ export class Timeline {
         strip.width = strip.clientWidth;
         strip.height = Math.max(18, run.actors.length * STRIP);
         strip.style.height = `${strip.height}px`;
-        const pen = /** @type {CanvasRenderingContext2D} */ (strip.getContext("2d")), step = strip.width / run.length;
+        const pen = /** @type {CanvasRenderingContext2D} */ (strip.getContext("2d")), wide = strip.width, seen = run.track.columns(wide);
         pen.fillStyle = getComputedStyle(strip).color;
-        for (let k = 1; k <= run.length; k++) pen.fillRect((k - 1) * step, (this.lanes.get(run.track.actorOf(k)) ?? 0) * STRIP + 1, Math.max(step, 0.3), STRIP - 2);
+        seen.forEach((there, k) => { if (there) pen.fillRect(k % wide, Math.floor(k / wide) * STRIP + 1, 1, STRIP - 2); });
         this.window();
     }
 

@@ -121,6 +121,14 @@ export class Track extends Columns {
         if (kind === "call" && this.small.all[at + 4] % 2) this.refused.push(event);
     }
 
+    /** Returns for each actor, and each of so many columns of equally many events, whether the actor has an event there.
+     * @param {number} wide */
+    columns(wide) {
+        const seen = new Uint8Array(wide * this.actors.length), step = wide / this.length, {all} = this.small;
+        for (let k = 0; k < this.length; k++) seen[all[k * SMALL + 1] * wide + Math.floor(k * step)] = 1;
+        return seen;
+    }
+
     /** @param {number} event */
     kindOf(event) { return KINDS[this.small.all[(event - 1) * SMALL]]; }
     /** @param {number} event */

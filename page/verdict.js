@@ -20,7 +20,7 @@ export const counted = (count, noun) => `${grouped(count)} ${noun}${count === 1 
 /** Returns the sentence of a program that is accepted.
  * @param {Verdict} verdict @param {import("./source.js").Source} source @param {bigint | null} most its events */
 export function accepted({budgets, engines, workers}, source, most) {
-    const budget = budgets.slice(0, 3).map(it => `${callName(source, it.procedure)} ${grouped(it.budget)}`).join(", "), more = budgets.length > 3 ? " .." : "";
+    const budget = budgets.slice(0, 3).map(it => `${callName(source, it.procedure)} ${grouped(it.budget)}`).join(", "), more = budgets.length > 3 ? " and others" : "";
     const needs = [engines > 1 && `${engines} engines`, workers > 1 && `${workers} workers`].filter(it => it).join(" and ");
     const events = most === null ? "Its tasks start one another in a circle, so the limit ends a run." : `A run has at most ${grouped(most)} events.`;
     return `Accepted: no task of it can fail. A run may still get stuck, or reach its limit. Budgets: ${budget}${more}. ${events}${needs ? ` It needs ${needs}.` : ""}`;

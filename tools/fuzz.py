@@ -49,7 +49,7 @@ KINDS: dict[str, Kind] = {
     "library": Kind("the library's calls: buffers of each size, verdicts, threads", fuzz_calls.make_library),
     "handles": Kind("programs that are loaded once, their runs and outputs", fuzz_handles.make_handles),
     "verify": Kind("the verifier against a search of all paths", fuzz_verify.make_verify),
-    "orders": Kind("programs in random orders of events: which have one result, and the library's", fuzz_orders.make_orders),
+    "orders": Kind("programs in random orders of events: those whose insertions go by no copy have one result", fuzz_orders.make_orders),
     "history": Kind("changed traces, each event against the machine", fuzz_runs.make_history),
     "traces": Kind("the lines of a trace: which have the form of an event", fuzz_inputs.make_trace_lines),
     "inputs": Kind("the forms of inputs, as arguments and as lines, and which fit main", fuzz_inputs.make_inputs),

@@ -1,10 +1,11 @@
-"""Fuzz tests of `check --order`: a program that it finds the same in every order has one result in each order of events and each layout.
+"""Fuzz tests of orders: a program whose insertions go by no copied right has one result in each order of events and each layout.
 
-The oracle has the rule of docs/FORMAT.md, and the machine of fuzz_machine.py, which makes events in random orders.
+The oracle has the rule of docs/FORMAT.md, `check --order`, and the machine of fuzz_machine.py, which makes events in random orders.
 """
 
 from __future__ import annotations
 
+import json
 import random
 from dataclasses import dataclass
 from typing import Iterator
@@ -12,10 +13,10 @@ from typing import Iterator
 import fuzz_make
 from fuzz_bounds import needs
 from fuzz_code import CALLS, LOCAL, VAL, Instr, Program
-from fuzz_common import Corpus, FuzzTest, RunTest, answer_part, case_word, difference, program_part
+from fuzz_common import Corpus, FuzzTest, RunTest, difference
 from fuzz_library import Library
-from fuzz_machine import Event, Layout, Machine, NotEnabled, locals_ahead, run_in_turn
-from fuzz_report import report_lines, split_circle
+from fuzz_machine import Event, Layout, Machine, locals_ahead, run_in_turn
+from fuzz_report import report_lines, split_circle, status_of
 from fuzz_runs import has_targets, run_test
 
 # How many orders of a program are compared, and how many programs of a hundred are also run in threads.
@@ -127,28 +128,38 @@ class OrdersTest(RunTest):
         return self.check_fault(library) or self.orders_fault(library)
 
     def check_fault(self, library: Library) -> str | None:
-        status, text = library.session(["check", "--order"], self.hex)
-        lines = [line for line in text.splitlines() if line.startswith("order ")]
-        return difference(f"check --order, status {status}", order_line(self.program), "\n".join(lines))
+        """Compares the last line of the check, as text and as JSON."""
+        _, text = library.session(["check", "--order"], self.hex)
+        return difference("check --order", order_line(self.program), text.splitlines()[-1]) or self.json_fault(library)
+
+    def json_fault(self, library: Library) -> str | None:
+        at = first_copy_insertion(self.program)
+        expected = "same" if at is None else {"procedure": at[0], "place": at[1]}
+        found = json.loads(library.session(["check", "--order", "--json"], self.hex)[1])["order"]
+        return None if found == expected else f"check --order --json: expected {expected}, got {found}"
+
+    def runs(self) -> list[Machine]:
+        """Makes a run in turn, and one in a random order for each layout."""
+        chance = random.Random(self.seed)
+        at_random = [run_at_random(chance, self, layout) for layout in self.layouts(chance)]
+        return [run_in_turn(self.program, list(self.inputs), self.layout, self.limit), *at_random]
 
     def orders_fault(self, library: Library) -> str | None:
-        chance = random.Random(self.seed)
-        runs = [run_at_random(chance, self, layout) for layout in self.layouts(chance)]
-        runs.append(run_in_turn(self.program, list(self.inputs), self.layout, self.limit))
+        runs = self.runs()
         over = [machine for machine in runs if machine.is_over]
-        is_same = first_copy_insertion(self.program) is None
-        if is_same and any(machine.has_contested for machine in runs):
-            return "an insertion is contested, though none goes by a copy"
-        calm = [machine for machine in over if not machine.has_contested]
-        if not is_same and not calm:
-            return None
-        if calm and any(machine.has_contested for machine in runs):
-            return "one order contests an insertion, another that ends doesn't"
+        if not any(machine.has_contested for machine in runs):
+            return self.reports_fault(library, over)
+        if first_copy_insertion(self.program) is None:
+            return "an insertion is contested, though none is by a copy"
+        return None if all(machine.has_contested for machine in over) else "one order contests an insertion, another that ends doesn't"
+
+    def reports_fault(self, library: Library, over: list[Machine]) -> str | None:
+        """Compares the reports of runs that contest no insertion, and a run by the library."""
         reports = ["\n".join(report_lines(machine, True)) for machine in over]
         faults = (difference("in another order", reports[0], report) for report in reports[1:])
-        return next((why for why in faults if why), None) or (self.program_fault(library, reports[0]) if reports else None)
+        return next((why for why in faults if why), None) or (self.library_fault(library, reports[0]) if reports else None)
 
-    def program_fault(self, library: Library, report: str) -> str | None:
+    def library_fault(self, library: Library, report: str) -> str | None:
         """Compares the library's run in turn, or the program's in threads, with the machine's."""
         words = ["--limit", str(self.limit), *self.options, *self.words]
         if not self.in_threads or any("\0" in word for word in self.words):
@@ -160,7 +171,9 @@ class OrdersTest(RunTest):
         return difference(f"run, status {status}", report, "\n".join(split_circle(text)[0]))
 
     def case(self) -> list[str]:
-        return [f"kind tw check --order {' '.join(map(case_word, self.words))}".rstrip(), *program_part(self.program), *answer_part(0, "?")]
+        machine = run_in_turn(self.program, list(self.inputs), self.layout, self.limit)
+        words = ["run", "--in-turn", "--limit", str(self.limit), *self.options, *self.words]
+        return self.case_of(words, status_of(machine), "\n".join(report_lines(machine, True)))
 
 
 def make_orders(chance: random.Random, corpus: Corpus) -> FuzzTest:

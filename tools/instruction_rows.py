@@ -221,8 +221,7 @@ def decoding_rows(rows: list[Row]) -> Iterator[str]:
         if not row.part:
             yield f"        Opcode::{row.opcode} => {decoded(row)}"
     for part in VALUES:
-        opcodes = " | ".join(f"Opcode::{row.opcode}" for row in rows if row.part == part)
-        yield from textwrap.wrap(f"{opcodes} => decode_{part}(opcode, bytes),", 150, initial_indent="        ", subsequent_indent="        ")
+        yield from shared([row for row in rows if row.part == part], f"decode_{part}(opcode, bytes)")
 
 
 def part_rows(part: str) -> Callable[[list[Row]], Iterator[str]]:
@@ -245,8 +244,6 @@ def nested(names: list[str]) -> str:
 def read(row: Row) -> str:
     """Returns the arm that reads the operands of an instruction from words."""
     shape = SHAPES[" ".join(row.forms)]
-    if row.operation:
-        return f"compute(Arithmetic::{row.operation}, words),"
     instr = "Instr::Ret" if row.kind == "Ret" else literal(row, list(row.fields))
     if row.skips:
         return f"{{ let {nested([*row.fields[:-1], 'Goal { skip, label }'])} = {shape}(words)?; Ok(going({instr}, label)) }}"
@@ -257,12 +254,31 @@ def read(row: Row) -> str:
     return f"{{ let {nested([*row.fields, '()'])} = {shape}(words)?; Ok(straight({instr})) }}"
 
 
+def shared(rows: list[Row], call: str) -> Iterator[str]:
+    """Yields a row that these opcodes share, if there are any."""
+    if rows:
+        opcodes = " | ".join(f"Opcode::{row.opcode}" for row in rows)
+        yield from textwrap.wrap(f"{opcodes} => {call},", 150, initial_indent="        ", subsequent_indent="            ")
+
+
 def reading_rows(skips: bool) -> Callable[[list[Row]], Iterator[str]]:
     """Returns a function that yields the rows that read words, of instructions with or without a skip, and no memory."""
     def rows_read(rows: list[Row]) -> Iterator[str]:
-        for row in rows:
-            if row.skips == skips and not row.takes_memory:
+        mine = [row for row in rows if row.skips == skips and not row.takes_memory]
+        for row in mine:
+            if not row.part:
                 yield f"        Opcode::{row.opcode} => {read(row)}"
+        for part in VALUES:
+            yield from shared([row for row in mine if row.part == part], f"{part.replace('skip', 'goal')}_of(opcode, words)")
+    return rows_read
+
+
+def bank_rows(part: str) -> Callable[[list[Row]], Iterator[str]]:
+    """Returns a function that yields the rows that read the words of a part, by the banks of its registers."""
+    def rows_read(rows: list[Row]) -> Iterator[str]:
+        mine = [row for row in rows if row.part == part]
+        for forms in dict.fromkeys(row.forms for row in mine):
+            yield from shared([row for row in mine if row.forms == forms], f"{SHAPES[' '.join(forms)]}(words)")
     return rows_read
 
 
@@ -338,6 +354,11 @@ REGIONS: tuple[Region, ...] = (
     Region("tw_binary/src/rows.rt", "fn instr_of_two(", "    match opcode {", "        _ =>", part_rows("two")),
     Region("tw_binary/src/rows.rt", "fn instr_of_two_and_skip(", "    match opcode {", "        _ =>", part_rows("two_and_skip")),
     Region("tw_binary/src/rows.rt", "fn instr_of_three_and_skip(", "    match opcode {", "        _ =>", part_rows("three_and_skip")),
+    Region("tw_asm/src/instructions.rt", "fn two_registers<", "    match opcode {", "        _ =>", bank_rows("two")),
+    Region("tw_asm/src/instructions.rt", "fn three_registers_and_goal<", "    match opcode {", "        _ =>", bank_rows("three_and_skip")),
+    Region("tw_asm/src/instructions.rt", "fn instr_of_two(", "    match opcode {", "        _ =>", part_rows("two")),
+    Region("tw_asm/src/instructions.rt", "fn instr_of_two_and_skip(", "    match opcode {", "        _ =>", part_rows("two_and_skip")),
+    Region("tw_asm/src/instructions.rt", "fn instr_of_three_and_skip(", "    match opcode {", "        _ =>", part_rows("three_and_skip")),
     Region("tw_asm/src/instructions.rt", "fn going_of<", "    match opcode {", "        _ =>", reading_rows(True)),
     Region("tw_asm/src/instructions.rt", "fn plain_of<", "    match opcode {", "        _ =>", reading_rows(False)),
     Region("tw_asm/src/skip.rt", "fn local_with_skip(", "    match instr {", "        without =>", skip_rows("Local")),

@@ -185,8 +185,7 @@ run_harnesses() {
     harness_with "unshare" packaged 2400 tools/packaged.sh
     run_released
     run_counted
-    # shellcheck disable=SC2046
-    harness orders 3600 python3 -B tools/orders.py --examples --runs $(whole_or_quick 20 1)
+    harness orders 3600 python3 -B tools/orders.py --examples --runs "$(whole_or_quick 20 1)"
     harness replayed 3600 tools/replayed.sh "$(whole_or_quick 200 4)"
     harness broken 3600 python3 tools/broken.py "$program" examples
     # shellcheck disable=SC2046

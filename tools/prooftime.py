@@ -32,7 +32,7 @@ ROOT = Path(__file__).resolve().parent.parent
 KINDS = ("Lts", "Proof", "Tie", "Reads", "Kinds", "Layout")
 TICKS = os.sysconf("SC_CLK_TCK")
 
-Seconds = dict[str, "collections.Counter[str]"]
+Seconds = dict[str, dict[str, float]]
 
 
 class Samples(NamedTuple):
@@ -74,7 +74,7 @@ def kind_of(module: str) -> str:
 def seconds_by_function(modules: Iterable[Module], samples: Samples, functions: Iterable[str]) -> tuple[float, Seconds]:
     """Returns the seconds before the first module, and those of each function by kind; those of no function are under ``."""
     ordered = sorted(modules, key=lambda module: module.written)
-    found: Seconds = collections.defaultdict(collections.Counter)
+    found: Seconds = collections.defaultdict(lambda: collections.defaultdict(float))
     names = set(functions)
     last = first = samples.at(ordered[0].written) if ordered else 0.0
     for module in ordered[1:]:
@@ -160,11 +160,8 @@ def row(seconds: float, name: str, kinds: Mapping[str, float]) -> str:
 
 def report(first: float, found: Seconds, most: int) -> list[str]:
     """Returns the lines on a crate's functions: by kind, and the dearest."""
-    kinds: collections.Counter[str] = collections.Counter()
-    for name, used in found.items():
-        if name:
-            kinds.update(used)
     sums = {name: sum(used.values()) for name, used in found.items() if name}
+    kinds = {kind: sum(found[name].get(kind, 0.0) for name in sums) for kind in (*KINDS, "other")}
     rows = [row(first, "before the first module", {}), row(sum(sums.values()), f"{len(sums)} functions", kinds)]
     rows.append(row(sum(found.get("", {}).values()), "lemmas and definitions", {}))
     return rows + [row(sums[name], name, found[name]) for name in sorted(sums, key=lambda name: -sums[name])[:most]]

@@ -108,6 +108,7 @@ check_install() {
     [ "$(head -n 1 "$room/out")" = "out 0 int 7" ] && [ ! -s "$room/err" ]
     report "the installed tw" $?
     check_hosting
+    check_first_block
     clean ./tw install "$prefix" --uninstall
     [ "$status" = 0 ] && [ -z "$(find "$prefix" -mindepth 1)" ]
     report "./tw install --uninstall" $? "$(find "$prefix" -mindepth 1 | wc -l) files are left"
@@ -126,6 +127,15 @@ check_hosting() {
         (cd "$room/hosting" && env -i PATH="$prefix/bin:/usr/bin:/bin" sh -e "$block") >"$room/out" 2>"$room/err"
         report "HOSTING.md, ${block##*/}" $? "$(tail -n 1 "$room/out")"
     done
+}
+
+# The first block names the line of a rejected program.
+check_first_block() {
+    printf 'proc control write int\nregs int\nSTORE d0 v0\nSTORE d0 v0\nRET\n' >"$room/hosting/refused.tw"
+    sed 's|examples/[a-z_]*.twn*|refused.tw|' "$room/hosting/block01" >"$room/first"
+    (cd "$room/hosting" && env -i PATH="$prefix/bin:/usr/bin:/bin" sh "$room/first") >"$room/out" 2>"$room/err"
+    grep -qx 'at line 4: STORE d0 v0' "$room/out"
+    report "HOSTING.md, a rejected program" $? "$(sed -n 2p "$room/out")"
 }
 
 git clone -q --no-hardlinks --depth 1 "file://$root" "$clone" || exit

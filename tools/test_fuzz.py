@@ -24,6 +24,7 @@ import fuzz
 import fuzz_calls
 import fuzz_inputs
 import fuzz_make
+import fuzz_orders
 import fuzz_runs
 from fuzz_assembler import Error, assembled
 from fuzz_bounds import COUNTED, bound, bound_lines, budgets, check_lines, has_circle, is_circle
@@ -44,6 +45,18 @@ PIPELINE = Program((
     )),
     Procedure(1, (Param(2, (1,)), Param(4, (1,))), (1, 1), (
         Instr("GET", (0, 0)), Instr("INT", (1, 1)), Instr("ADD", (0, 0, 1, 0)), Instr("DROPR", (0,)), Instr("STORE", (1, 0)), Instr("RET"),
+    )),
+))
+
+# Two tasks insert 1 and 2 at one subscript, each by its copy of a write right.
+RACE = Program((
+    Procedure(0, (Param(4, (3, 1)),), (1, 1), (
+        Instr("INT", (0, 1)), Instr("INT", (1, 2)), Instr("DUPW", (1, 0)), Instr("DUPW", (2, 0)), Instr("PUT", (1, 0, 0, (1, 0))),
+        Instr("PUT", (1, 0, 0, (2, 1))), Instr("DROPW", (0,)), Instr("RET"),
+    )),
+    Procedure(1, (Param(4, (3, 1)), Param(1, (1,))), (1, 1), (
+        Instr("NEW", (1, 2, (1,))), Instr("STORE", (1, 0)), Instr("INS", (0, 1, 2, 1)), Instr("JMP", (1,)), Instr("DROPR", (2,)), Instr("DROPW", (0,)),
+        Instr("RET"),
     )),
 ))
 
@@ -203,6 +216,27 @@ class RulesTest(unittest.TestCase):
         program = Program((main_of(Instr("PUT", (1, 0, 0, ()))).main, main_of(Instr("PUT", (1, 0, 0, ()))).main))
         self.assertTrue(has_circle(program) and is_circle(program, 1, 0))
         self.assertFalse(is_circle(program, 0, 0))
+
+    def test_copies_go_along_calls(self) -> None:
+        self.assertEqual(fuzz_orders.first_copy_insertion(RACE), (1, 2))
+        self.assertEqual(fuzz_orders.copies(RACE), {(0, 0), (0, 1), (0, 2), (1, 0)})
+        main = RACE.main
+        without = tuple(instr for instr in main.code if instr.name not in ("DUPW", "PUT"))
+        self.assertIsNone(fuzz_orders.first_copy_insertion(replace(RACE, procedures=(replace(main, code=without), *RACE.procedures[1:]))))
+
+    def test_random_orders(self) -> None:
+        ends = set()
+        for seed in range(40):
+            machine = fuzz_orders.run_at_random(random.Random(seed), RunTest(RACE, (), (1, 1, 2)), (1, 1, 2))
+            self.assertTrue(machine.is_over and machine.has_contested)
+            ends.add(report_lines(machine, True)[1])
+        self.assertEqual(ends, {"  at 0 int 1", "  at 0 int 2"})
+        test = fuzz_orders.OrdersTest(RACE, (), (1, 1, 2))
+        self.assertIsNone(test.fault(Library()))
+        with mock.patch.object(fuzz_orders, "copies", return_value=set()):
+            self.assertEqual(test.fault(Library()), "an insertion is contested, though none is by a copy")
+        with mock.patch.object(fuzz_orders.OrdersTest, "runs", return_value=[run_in_turn(PIPELINE, [number], (1, 1, 1), 100) for number in (1, 2)]):
+            self.assertIn("in another order", str(test.fault(Library())))
 
     def test_errors_of_the_manual(self) -> None:
         write = (Param(4, (1,)),)

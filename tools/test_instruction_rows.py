@@ -57,7 +57,10 @@ class Rows(unittest.TestCase):
             "tw_code/src/sink.rt": ("        Arithmetic::Minimum => Opcode::Minimum,",),
             instruction_rows.TABLE: ("opcode_of_operation operation.Minimum = opcode.Minimum",),
             "tw_binary/src/rows.rt": ("        Opcode::Minimum => Instr::Local(LocalInstr::Compute { operation: Arithmetic::Minimum, to: first, left: second, right: third, skip }),",),
-            "tw_asm/src/instructions.rt": ("        Opcode::Minimum => compute(Arithmetic::Minimum, words),",),
+            "tw_asm/src/instructions.rt": (
+                "        Opcode::Minimum => Instr::Local(LocalInstr::Compute { operation: Arithmetic::Minimum, to: first, left: second, right: third, skip }),",
+                " | Opcode::Remainder | Opcode::Minimum | Opcode::Concatenate =>\n            three_values_and_goal(words),",
+            ),
             "tw_symbols/proofs/RenamedTexts.antt": ("kind_of opcode.Minimum = inl (λ a b. refl)",),
         }.items():
             for row in rows:

@@ -129,8 +129,8 @@ refuse_foreign() {
         { ! is_there "$name" || is_ours "$name"; } || echo "$name"
     done <"$room/names" >"$room/foreign"
     [ -s "$room/foreign" ] || return 0
-    say "$(head -n 1 "$room/foreign") is in the way below $prefix, and $(($(wc -l <"$room/foreign") - 1)) more: no installation put them there, or they have changed"
-    say "nothing is installed; --force replaces them"
+    while read -r name; do say "$prefix/$name is in the way: no installation put it there, or it has changed"; done <"$room/foreign"
+    say "nothing is installed; --force replaces what is in the way"
     exit 73
 }
 

@@ -5,4 +5,5 @@ pub mod Goals
 pub mod Operands
 pub mod Lines
 pub mod Forms
+pub mod Shapes
 pub mod Heads

@@ -6,9 +6,10 @@ ghost use Rattle.tw_code.specs.declared.instr.Instr.TheVariants as instr;
 ghost use Rattle.tw_code.specs.declared.instr.LocalInstr.TheVariants as local;
 ghost use Rattle.tw_code.specs.declared.instr.Priority.TheVariants.{Computed, Constant};
 ghost use Rattle.tw_code.specs.declared.version.Version.{Version};
-ghost use Rattle.tw_code.specs.format.Table.{forms_of};
+ghost use Rattle.tw_code.specs.format.Table.{forms_of, row_of};
 ghost use Rattle.tw_asm.specs.Seen.{bytes_of};
 ghost use Rattle.tw_asm.specs.reading.Forms.{EndsInSkip, TakesNoMemory};
+ghost use Rattle.tw_asm.specs.reading.Shapes.{AreThreeAndSkip, AreTwo, AreTwoAndSkip, made_of_three_and_skip, made_of_two, made_of_two_and_skip, three_in, two_in};
 ghost use Rattle.tw_asm.specs.reading.Lines.{Gives, args, draft_in, drafted, goal, line_in, literal, more, natural, nothing, number, target, value};
 ghost use Rattle.tw_lexer.specs.Digits.{as_is};
 
@@ -123,50 +124,142 @@ fn text(parts: (u8, (Text, ()))) -> Instr
     Instr::Local(LocalInstr::Text { to, text })
 }
 
-/// Reads the operands of ADD, SUB, MUL, DIV and REM.
-fn compute<'a>(operation: Arithmetic, words: &[Word<'a>]) -> Result<Unlinked<'a>, TokenError>
-    ensures { as_is drafted result
-        ≡ as_is (λ x. (instr.Local (local.Compute operation x.0 x.1.0 x.1.1.0 x.1.1.1.skip), x.1.1.1.label)) (line_in (more value (more value (more value goal))) (map seen_word words.now)) }
+// ---- instructions that differ in their opcodes alone
+
+/// Reads two registers of the opcode's banks.
+#[rattlefmt::skip]
+fn two_registers<'a>(opcode: Opcode, words: &[Word<'a>]) -> Result<(u8, (u8, ())), TokenError>
+    requires { AreTwo (forms_of opcode) }
+    ensures { result ≡ two_in (forms_of opcode) (map seen_word words.now) }
 {
-    let (to, (left, (right, Goal { skip, label }))) = three_values_and_goal(words)?;
-    let compute = LocalInstr::Compute {
-        operation,
-        to,
-        left,
-        right,
-        skip,
-    };
-    Ok(going(Instr::Local(compute), label))
+    match opcode {
+        Opcode::Copy | Opcode::Length | Opcode::Show => two_values(words),
+        Opcode::Store => right_and_value(words),
+        Opcode::Get | Opcode::Size => value_and_right(words),
+        Opcode::CopyRead | Opcode::CopyWrite => two_rights(words),
+        _ => unreachable!(),
+    }
 }
 
-/// Reads an instruction whose last operand is a goal. Each row has one opcode.
+/// Reads three registers of the opcode's banks, and a goal.
+#[rattlefmt::skip]
+fn three_registers_and_goal<'a>(opcode: Opcode, words: &[Word<'a>]) -> Result<(u8, (u8, (u8, Goal<'a>))), TokenError>
+    requires { AreThreeAndSkip (forms_of opcode) }
+    ensures { result ≡ three_in (forms_of opcode) (map seen_word words.now) }
+{
+    match opcode {
+        Opcode::Add | Opcode::Subtract | Opcode::Multiply | Opcode::Divide | Opcode::Remainder | Opcode::Concatenate => three_values_and_goal(words),
+        Opcode::Insert | Opcode::InsertByText => right_value_right_and_goal(words),
+        Opcode::Look | Opcode::LookByText => right_right_value_and_goal(words),
+        Opcode::SubscriptAt | Opcode::SubscriptAtByText => value_right_value_and_goal(words),
+        _ => unreachable!(),
+    }
+}
+
+/// Returns an instruction of two registers.
+#[rattlefmt::skip]
+fn instr_of_two(opcode: Opcode, first: u8, second: u8) -> Instr
+    requires { AreTwo (forms_of opcode) }
+    ensures { result ≡ made_of_two (row_of opcode) first second }
+{
+    match opcode {
+        Opcode::Copy => Instr::Local(LocalInstr::Copy { to: first, from: second }),
+        Opcode::Length => Instr::Local(LocalInstr::Length { to: first, from: second }),
+        Opcode::Show => Instr::Local(LocalInstr::Show { to: first, from: second }),
+        Opcode::Store => Instr::Data(DataInstr::Store { datum: first, from: second }),
+        Opcode::Get => Instr::Data(DataInstr::Get { to: first, datum: second }),
+        Opcode::Size => Instr::Data(DataInstr::Size { to: first, container: second }),
+        Opcode::CopyRead => Instr::Data(DataInstr::CopyRead { to: first, from: second }),
+        Opcode::CopyWrite => Instr::Data(DataInstr::CopyWrite { to: first, from: second }),
+        _ => unreachable!(),
+    }
+}
+
+/// Returns an instruction of two registers and a skip.
+#[rattlefmt::skip]
+fn instr_of_two_and_skip(opcode: Opcode, first: u8, second: u8, skip: u16) -> Instr
+    requires { AreTwoAndSkip (forms_of opcode) }
+    ensures { result ≡ made_of_two_and_skip (row_of opcode) first second skip }
+{
+    match opcode {
+        Opcode::ReadInt => Instr::Local(LocalInstr::ReadInt { to: first, from: second, skip }),
+        Opcode::JumpEqual => Instr::Local(LocalInstr::JumpEqual { left: first, right: second, skip }),
+        Opcode::JumpLess => Instr::Local(LocalInstr::JumpLess { left: first, right: second, skip }),
+        _ => unreachable!(),
+    }
+}
+
+/// Returns an instruction of three registers and a skip.
+#[rattlefmt::skip]
+fn instr_of_three_and_skip(opcode: Opcode, first: u8, second: u8, third: u8, skip: u16) -> Instr
+    requires { AreThreeAndSkip (forms_of opcode) }
+    ensures { result ≡ made_of_three_and_skip (row_of opcode) first second third skip }
+{
+    match opcode {
+        Opcode::Add => Instr::Local(LocalInstr::Compute { operation: Arithmetic::Add, to: first, left: second, right: third, skip }),
+        Opcode::Subtract => Instr::Local(LocalInstr::Compute { operation: Arithmetic::Subtract, to: first, left: second, right: third, skip }),
+        Opcode::Multiply => Instr::Local(LocalInstr::Compute { operation: Arithmetic::Multiply, to: first, left: second, right: third, skip }),
+        Opcode::Divide => Instr::Local(LocalInstr::Compute { operation: Arithmetic::Divide, to: first, left: second, right: third, skip }),
+        Opcode::Remainder => Instr::Local(LocalInstr::Compute { operation: Arithmetic::Remainder, to: first, left: second, right: third, skip }),
+        Opcode::Concatenate => Instr::Local(LocalInstr::Concatenate { to: first, left: second, right: third, skip }),
+        Opcode::Insert => Instr::Data(DataInstr::Insert { by: Scalar::Int, container: first, subscript: second, member: third, skip }),
+        Opcode::Look => Instr::Data(DataInstr::Look { by: Scalar::Int, member: first, container: second, subscript: third, skip }),
+        Opcode::SubscriptAt => Instr::Data(DataInstr::SubscriptAt { by: Scalar::Int, to: first, container: second, index: third, skip }),
+        Opcode::InsertByText => Instr::Data(DataInstr::Insert { by: Scalar::Text, container: first, subscript: second, member: third, skip }),
+        Opcode::LookByText => Instr::Data(DataInstr::Look { by: Scalar::Text, member: first, container: second, subscript: third, skip }),
+        Opcode::SubscriptAtByText => Instr::Data(DataInstr::SubscriptAt { by: Scalar::Text, to: first, container: second, index: third, skip }),
+        _ => unreachable!(),
+    }
+}
+
+/// Reads an instruction of two registers.
+fn two_of<'a>(opcode: Opcode, words: &[Word<'a>]) -> Result<Unlinked<'a>, TokenError>
+    requires { AreTwo (forms_of opcode) }
+    ensures { (version : Version) → as_is drafted result ≡ draft_in version opcode (map seen_word words.now) }
+{
+    let (first, (second, ())) = two_registers(opcode, words)?;
+    Ok(straight(instr_of_two(opcode, first, second)))
+}
+
+/// Reads an instruction of two registers and a goal.
+fn two_and_goal_of<'a>(opcode: Opcode, words: &[Word<'a>]) -> Result<Unlinked<'a>, TokenError>
+    requires { AreTwoAndSkip (forms_of opcode) }
+    ensures { (version : Version) → as_is drafted result ≡ draft_in version opcode (map seen_word words.now) }
+{
+    let (first, (second, Goal { skip, label })) = two_values_and_goal(words)?;
+    Ok(going(instr_of_two_and_skip(opcode, first, second, skip), label))
+}
+
+/// Reads an instruction of three registers and a goal.
+fn three_and_goal_of<'a>(opcode: Opcode, words: &[Word<'a>]) -> Result<Unlinked<'a>, TokenError>
+    requires { AreThreeAndSkip (forms_of opcode) }
+    ensures { (version : Version) → as_is drafted result ≡ draft_in version opcode (map seen_word words.now) }
+{
+    let (first, (second, (third, Goal { skip, label }))) = three_registers_and_goal(opcode, words)?;
+    Ok(going(
+        instr_of_three_and_skip(opcode, first, second, third, skip),
+        label,
+    ))
+}
+
+// ---- all instructions
+
+/// Reads an instruction whose last operand is a goal. Those that differ in their opcodes alone share a row.
 #[rattlefmt::skip]
 fn going_of<'a>(opcode: Opcode, words: &[Word<'a>]) -> Result<Unlinked<'a>, TokenError>
     requires { EndsInSkip (forms_of opcode) }
     ensures { (version : Version) → as_is drafted result ≡ draft_in version opcode (map seen_word words.now) }
 {
     match opcode {
-        Opcode::Add => compute(Arithmetic::Add, words),
-        Opcode::Subtract => compute(Arithmetic::Subtract, words),
-        Opcode::Multiply => compute(Arithmetic::Multiply, words),
-        Opcode::Divide => compute(Arithmetic::Divide, words),
-        Opcode::Remainder => compute(Arithmetic::Remainder, words),
-        Opcode::Concatenate => { let (to, (left, (right, Goal { skip, label }))) = three_values_and_goal(words)?; Ok(going(Instr::Local(LocalInstr::Concatenate { to, left, right, skip }), label)) }
-        Opcode::ReadInt => { let (to, (from, Goal { skip, label })) = two_values_and_goal(words)?; Ok(going(Instr::Local(LocalInstr::ReadInt { to, from, skip }), label)) }
         Opcode::Jump => { let Goal { skip, label } = only_goal(words)?; Ok(going(Instr::Local(LocalInstr::Jump { skip }), label)) }
-        Opcode::JumpEqual => { let (left, (right, Goal { skip, label })) = two_values_and_goal(words)?; Ok(going(Instr::Local(LocalInstr::JumpEqual { left, right, skip }), label)) }
-        Opcode::JumpLess => { let (left, (right, Goal { skip, label })) = two_values_and_goal(words)?; Ok(going(Instr::Local(LocalInstr::JumpLess { left, right, skip }), label)) }
-        Opcode::Insert => { let (container, (subscript, (member, Goal { skip, label }))) = right_value_right_and_goal(words)?; Ok(going(Instr::Data(DataInstr::Insert { by: Scalar::Int, container, subscript, member, skip }), label)) }
-        Opcode::Look => { let (member, (container, (subscript, Goal { skip, label }))) = right_right_value_and_goal(words)?; Ok(going(Instr::Data(DataInstr::Look { by: Scalar::Int, member, container, subscript, skip }), label)) }
-        Opcode::SubscriptAt => { let (to, (container, (index, Goal { skip, label }))) = value_right_value_and_goal(words)?; Ok(going(Instr::Data(DataInstr::SubscriptAt { by: Scalar::Int, to, container, index, skip }), label)) }
-        Opcode::InsertByText => { let (container, (subscript, (member, Goal { skip, label }))) = right_value_right_and_goal(words)?; Ok(going(Instr::Data(DataInstr::Insert { by: Scalar::Text, container, subscript, member, skip }), label)) }
-        Opcode::LookByText => { let (member, (container, (subscript, Goal { skip, label }))) = right_right_value_and_goal(words)?; Ok(going(Instr::Data(DataInstr::Look { by: Scalar::Text, member, container, subscript, skip }), label)) }
-        Opcode::SubscriptAtByText => { let (to, (container, (index, Goal { skip, label }))) = value_right_value_and_goal(words)?; Ok(going(Instr::Data(DataInstr::SubscriptAt { by: Scalar::Text, to, container, index, skip }), label)) }
+        Opcode::ReadInt | Opcode::JumpEqual | Opcode::JumpLess => two_and_goal_of(opcode, words),
+        Opcode::Add | Opcode::Subtract | Opcode::Multiply | Opcode::Divide | Opcode::Remainder | Opcode::Concatenate | Opcode::Insert | Opcode::Look |
+            Opcode::SubscriptAt | Opcode::InsertByText | Opcode::LookByText | Opcode::SubscriptAtByText => three_and_goal_of(opcode, words),
         _ => unreachable!(),
     }
 }
 
-/// Reads an instruction whose operands need no allocation. Each row has one opcode.
+/// Reads an instruction whose operands need no allocation. Those that differ in their opcodes alone share a row.
 #[rattlefmt::skip]
 fn plain_of<'a>(version: Version, opcode: Opcode, words: &[Word<'a>]) -> Result<Unlinked<'a>, TokenError>
     requires { TakesNoMemory (forms_of opcode) }
@@ -174,20 +267,14 @@ fn plain_of<'a>(version: Version, opcode: Opcode, words: &[Word<'a>]) -> Result<
 {
     match opcode {
         Opcode::Int => { let (to, (value, ())) = value_and_number(words)?; Ok(straight(Instr::Local(LocalInstr::Int { to, value }))) }
-        Opcode::Copy => { let (to, (from, ())) = two_values(words)?; Ok(straight(Instr::Local(LocalInstr::Copy { to, from }))) }
-        Opcode::Length => { let (to, (from, ())) = two_values(words)?; Ok(straight(Instr::Local(LocalInstr::Length { to, from }))) }
-        Opcode::Show => { let (to, (from, ())) = two_values(words)?; Ok(straight(Instr::Local(LocalInstr::Show { to, from }))) }
         Opcode::Repeat => { let (iterations, ()) = only_iterations(words)?; Ok(straight(Instr::Local(LocalInstr::Repeat { iterations }))) }
         Opcode::End => { nothing_of(words)?; Ok(straight(Instr::Local(LocalInstr::End))) }
         Opcode::New => { let (write, (read, ty)) = two_rights_and_type(version, words)?; Ok(straight(Instr::Data(DataInstr::New { write, read, ty }))) }
-        Opcode::Store => { let (datum, (from, ())) = right_and_value(words)?; Ok(straight(Instr::Data(DataInstr::Store { datum, from }))) }
-        Opcode::Get => { let (to, (datum, ())) = value_and_right(words)?; Ok(straight(Instr::Data(DataInstr::Get { to, datum }))) }
-        Opcode::Size => { let (to, (container, ())) = value_and_right(words)?; Ok(straight(Instr::Data(DataInstr::Size { to, container }))) }
-        Opcode::CopyRead => { let (to, (from, ())) = two_rights(words)?; Ok(straight(Instr::Data(DataInstr::CopyRead { to, from }))) }
-        Opcode::CopyWrite => { let (to, (from, ())) = two_rights(words)?; Ok(straight(Instr::Data(DataInstr::CopyWrite { to, from }))) }
         Opcode::DropRead => { let (right, ()) = only_right(words)?; Ok(straight(Instr::Data(DataInstr::DropRead { right }))) }
         Opcode::DropWrite => { let (right, ()) = only_right(words)?; Ok(straight(Instr::Data(DataInstr::DropWrite { right }))) }
         Opcode::Ret => { nothing_of(words)?; Ok(straight(Instr::Ret)) }
+        Opcode::Copy | Opcode::Length | Opcode::Show | Opcode::Store | Opcode::Get | Opcode::Size | Opcode::CopyRead | Opcode::CopyWrite =>
+            two_of(opcode, words),
         _ => going_of(opcode, words),
     }
 }

@@ -7,7 +7,7 @@ use std::alloc::{AllocError, AllocFailed};
 use tw_lexer::TokenError;
 
 /// The reason why no statement is read: the words have an error, or an allocation failed.
-#[derive(Clone, Copy, Debug, PartialEq, Eq)]
+#[derive(Clone, Copy)]
 pub enum Rejection {
     Flawed(TokenError),
     NoMemory,

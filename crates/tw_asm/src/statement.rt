@@ -25,7 +25,7 @@ pub enum Statement<'a> {
 }
 
 /// The kind of a statement, as its first word shows it.
-#[derive(Clone, Copy, Debug, PartialEq, Eq)]
+#[derive(Clone, Copy, PartialEq, Eq)]
 pub enum First {
     /// `version`.
     Version,

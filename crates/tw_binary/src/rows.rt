@@ -258,10 +258,10 @@ fn operands_of<'a>(alloc: Global, version: Version, opcode: Opcode, bytes: &mut 
         Opcode::RuleComputed => Ok(Instr::Rule(computed_action(alloc, bytes)?)),
         Opcode::PutComputed => Ok(Instr::Put(computed_action(alloc, bytes)?)),
         Opcode::Copy | Opcode::Length | Opcode::Show | Opcode::Store | Opcode::Get | Opcode::Size | Opcode::CopyRead | Opcode::CopyWrite =>
-        decode_two(opcode, bytes),
+            decode_two(opcode, bytes),
         Opcode::ReadInt | Opcode::JumpEqual | Opcode::JumpLess => decode_two_and_skip(opcode, bytes),
         Opcode::Add | Opcode::Subtract | Opcode::Multiply | Opcode::Divide | Opcode::Remainder | Opcode::Concatenate | Opcode::Insert | Opcode::Look |
-        Opcode::SubscriptAt | Opcode::InsertByText | Opcode::LookByText | Opcode::SubscriptAtByText => decode_three_and_skip(opcode, bytes),
+            Opcode::SubscriptAt | Opcode::InsertByText | Opcode::LookByText | Opcode::SubscriptAtByText => decode_three_and_skip(opcode, bytes),
     }
 }
 

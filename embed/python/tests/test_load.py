@@ -3,8 +3,12 @@
 
 from __future__ import annotations
 
+import _thread
 import re
+import signal
 import tempfile
+import threading
+import time
 import unittest
 from pathlib import Path
 from typing import Any, Iterator
@@ -101,7 +105,22 @@ class Loading(unittest.TestCase):
             yuglemit.load(str(EXAMPLES / "pipeline.twn"))
 
 
+class Slow:
+    """A library that takes five seconds to load a program."""
+
+    def yuglemit_load_source(self, *words: object) -> None:
+        time.sleep(5)
+
+
 class Large(unittest.TestCase):
+    def test_ctrl_c_ends_the_wait_for_a_long_load(self) -> None:
+        signal.signal(signal.SIGINT, signal.default_int_handler)
+        begun = time.monotonic()
+        with mock.patch("yuglemit._native.library", return_value=Slow()), self.assertRaises(KeyboardInterrupt):
+            threading.Timer(0.2, _thread.interrupt_main).start()
+            yuglemit.load_text(";" * 1_000_000)
+        self.assertLess(time.monotonic() - begun, 3)
+
     def test_program_of_nine_megabytes(self) -> None:
         """Its hex text is longer than any command reads."""
         code = of_bytes(9)

@@ -45,6 +45,28 @@ class Late(Executor):
 
 FORK = multiprocessing.get_context("fork")
 
+# Keeps the reports of many runs, in 400 MB of addresses more than it has.
+MANY_REPORTS = """
+import resource, sys
+import yuglemit
+double = yuglemit.load(sys.argv[1])
+double.run(1)
+with open("/proc/self/statm") as file:
+    used = int(file.read().split()[0]) * resource.getpagesize()
+resource.setrlimit(resource.RLIMIT_AS, (used + 400_000_000, -1))
+from concurrent.futures import ThreadPoolExecutor
+with ThreadPoolExecutor(1) as pool:
+    print(sum(it.end == "quiet" for it in list(yuglemit.map(double, range(2000), pool, limit=1_000_000))))
+"""
+
+# Ends while runs are under way in threads.
+LEFT = """
+import sys
+import yuglemit
+reports = yuglemit.map(yuglemit.load(sys.argv[1]), [()] * 50, limit=1_000_000)
+print("left")
+"""
+
 # Maps over programs of which one takes more memory than the process may have.
 SCARCE = """
 import resource, sys
@@ -159,6 +181,19 @@ class Map(unittest.TestCase):
         list(yuglemit.map(PROGRAM, INPUTS, chunk=100, progress=lambda done, count: seen.append((done, count))))
         self.assertEqual(seen, [(100, 300), (200, 300), (300, 300)])
 
+    def test_progress_of_an_iterator(self) -> None:
+        """Without a length all are those that are read so far."""
+        seen: List[Any] = []
+        list(yuglemit.map(PROGRAM, iter(INPUTS), ThreadPoolExecutor(1), 100, window=1, progress=lambda done, count: seen.append((done, count))))
+        self.assertEqual(seen, [(100, 200), (200, 300), (300, 300)])
+
+    def test_progress_by_a_bar(self) -> None:
+        bar = mock.Mock()
+        with mock.patch.dict(sys.modules, tqdm=bar):
+            list(yuglemit.map(PROGRAM, INPUTS, chunk=100, progress=True))
+        bar.tqdm.assert_called_once_with(total=300, unit=" runs")
+        self.assertEqual([call.args for call in bar.tqdm.return_value.update.call_args_list], [(100,)] * 3)
+
     def test_lost_process(self) -> None:
         """With on_broken="here" the runs that a killed process had are made here; without it, its error comes after the reports before."""
         program = slow(5)  # 10 ms and more
@@ -252,28 +287,30 @@ class Map(unittest.TestCase):
         self.assertEqual(found, [[2], [4], [6]])
 
     def test_properties_make_no_run(self) -> None:
-        """Reports of threads keep their runs; those of processes have what was asked for, and say what else to do."""
+        """Reports have what was asked for, and say what else to do."""
         stuck = yuglemit.load(EXAMPLES / "stuck_on_itself.twn")
         once = PROGRAM.run(INPUTS[7])
-        with ProcessPoolExecutor(1, mp_context=FORK) as pool:
-            plain = list(yuglemit.map([PROGRAM, stuck], [INPUTS[7], ()], pool))
-            full = list(yuglemit.map(PROGRAM, INPUTS[7:8], pool, text=True, trace=True, line=True))
-        with mock.patch("yuglemit._native.session", side_effect=AssertionError), mock.patch("yuglemit._native.run", side_effect=AssertionError):
-            self.assertEqual((plain[0].events, plain[0].instructions), (once.events, once.instructions))
-            self.assertEqual((plain[1].end, plain[1].circle), ("stuck", [(1, 1, 1)]))
-            for name in ("text", "trace", "line"):
-                with self.assertRaisesRegex(ValueError, f"{name}=True sends it along"):
-                    getattr(plain[0], name)
-                self.assertEqual(getattr(full[0], name), getattr(once, name))
-        again = plain[0].again()
-        self.assertEqual((again.text, again.trace, again.line), (once.text, once.trace, once.line))
-        report = next(yuglemit.map(PROGRAM, INPUTS[7:8]))
-        with mock.patch("yuglemit._native.session", side_effect=AssertionError), mock.patch("yuglemit._native.run", side_effect=AssertionError):
-            self.assertEqual((report.text, report.trace, report.line), (once.text, once.trace, once.line))
+        for executor in (None, ProcessPoolExecutor(1, mp_context=FORK)):
+            plain = list(yuglemit.map([PROGRAM, stuck], [INPUTS[7], ()], executor))
+            full = list(yuglemit.map(PROGRAM, INPUTS[7:8], executor, text=True, trace=True, line=True))
+            with mock.patch("yuglemit._native.session", side_effect=AssertionError), mock.patch("yuglemit._native.run", side_effect=AssertionError):
+                self.assertEqual((plain[0].events, plain[0].instructions), (once.events, once.instructions))
+                self.assertEqual((plain[1].end, plain[1].circle), ("stuck", [(1, 1, 1)]))
+                for name in ("text", "trace", "line"):
+                    with self.assertRaisesRegex(ValueError, f"if {name}=True asked for it"):
+                        getattr(plain[0], name)
+                    self.assertEqual(getattr(full[0], name), getattr(once, name))
+            again = plain[0].again()
+            self.assertEqual((again.text, again.trace, again.line), (once.text, once.trace, once.line))
+
+    def test_reports_keep_no_memory_of_their_runs(self) -> None:
+        """A run with a limit of a million events takes 10 MB while it runs; many of their reports take little."""
+        done = subprocess.run([sys.executable, "-c", MANY_REPORTS, DOUBLE], stdout=subprocess.PIPE, text=True, check=True)
+        self.assertEqual(done.stdout, "2000\n")
 
     def test_texts_that_no_command_line_has(self) -> None:
         program = yuglemit.load("proc control closed text write text\nregs text\nGET v0 d0\nDROPR d0\nSTORE d1 v0\nRET\n")
-        for report in (next(yuglemit.map(program, ["a\0\nb"])), program.run("a\0\nb").again()):
+        for report in (next(yuglemit.map(program, ["a\0\nb"], text=True)), program.run("a\0\nb").again()):
             self.assertEqual((report.text, report.outputs), ('out 0 text "a\\x00\\nb"\nquiet\n', ["a\0\nb"]))
 
     def test_timeout_of_each_run(self) -> None:
@@ -282,6 +319,18 @@ class Map(unittest.TestCase):
             reports = list(yuglemit.map(program, [()] * 3, executor, limit=1_000_000, timeout=0.2))
             self.assertEqual([it.end for it in reports], ["stopped"] * 3)
             self.assertTrue(all(it.events < 1_000_000 for it in reports))
+
+    def test_ending_the_iteration_stops_the_runs_of_a_pool_of_threads(self) -> None:
+        with ThreadPoolExecutor(2) as pool:
+            reports = yuglemit.map(yuglemit.load(ENDLESS), [()] * 50, pool, limit=1_000_000)
+            time.sleep(0.2)
+            reports.close()  # type: ignore[attr-defined]
+            begun = time.monotonic()
+        self.assertLess(time.monotonic() - begun, 20)
+
+    def test_a_process_that_ends_stops_its_runs(self) -> None:
+        done = subprocess.run([sys.executable, "-c", LEFT, ENDLESS], stdout=subprocess.PIPE, text=True, check=True, timeout=60)
+        self.assertEqual(done.stdout, "left\n")
 
     def test_nothing_is_left_when_it_is_given_up(self) -> None:
         runs = yuglemit.map(yuglemit.load("proc control\nregs\nREPEAT 1000\nREPEAT 1000\nEND\nEND\nRET\n"), [()] * 10_000, chunk=1)

@@ -68,6 +68,22 @@ except KeyboardInterrupt:
     print(waited, time.process_time() - begun)
 """
 
+# One event of five seconds or more: the most instructions of a task, DIV and END.
+ONE_EVENT = """proc control write int
+regs int int int
+INT v1 9223372036854775807
+INT v2 3
+REPEAT 1000
+REPEAT 1000
+REPEAT 490
+DIV v0 v1 v2 +0
+END
+END
+END
+STORE d0 v0
+RET
+"""
+
 SLOW = """proc control write int
 regs int int
 INT v1 1
@@ -204,27 +220,6 @@ class Programs(unittest.TestCase):
             self.assertLessEqual(report.instructions, program.bounds.instructions, name)
             self.assertLess(program.bounds.seconds(), 10, name)
 
-    def test_seconds_of_texts(self) -> None:
-        """A run of texts takes no more processor time than `seconds`, and about what `usual_seconds` says."""
-        text = f'TEXT v0 "{"a" * 2000}"\nTEXT v1 "{"b" * 2000}"\nREPEAT 1000\nREPEAT 1000\nREPEAT 2\nCAT v2 v0 v1 +0\nEND\nEND\nEND\n'
-        program = yuglemit.load(f"proc control\nregs text text text\n{text}RET\n")
-        begun = time.process_time()
-        program.run()
-        took = time.process_time() - begun
-        self.assertLessEqual(took, program.bounds.seconds())
-        self.assertLess(took, 9 * program.bounds.usual_seconds())
-        self.assertEqual((program.bounds.work, yuglemit.load(DOUBLE).bounds.work, yuglemit.load(yuglemit.assemble(DOUBLE)).bounds.work), ("texts", "ints", "ints"))
-        self.assertEqual(yuglemit.load(yuglemit.assemble(example("texts.twn"))).bounds.work, yuglemit.load(example("texts.twn")).bounds.work)
-
-    def test_seconds_of_numbers_in_texts(self) -> None:
-        """READI of the longest text is the dearest instruction; it takes more than a hundred of ints."""
-        text = f'TEXT v0 "{"0" * 4096}"\nREPEAT 1000\nREPEAT 20\nREADI v1 v0 +0\nEND\nEND\n'
-        program = yuglemit.load(f"proc control\nregs text int\n{text}RET\n")
-        begun = time.process_time()
-        program.run()
-        self.assertLessEqual(time.process_time() - begun, program.bounds.seconds())
-        self.assertEqual(program.bounds.work, "numbers")
-
     def test_tasks_in_a_circle_have_the_limit_alone(self) -> None:
         program = yuglemit.load("proc control\nregs\nPUT 0 0 any\nRET\n")
         self.assertEqual((program.bounds.tasks, program.bounds.events), (None, None))
@@ -310,7 +305,7 @@ class Reports(unittest.TestCase):
         report = yuglemit.load(DOUBLE).run(4)
         again = pickle.loads(pickle.dumps(report))
         self.assertEqual((again.outputs, again.events, again.instructions), ([8], report.events, report.instructions))
-        with self.assertRaisesRegex(ValueError, "another process"):
+        with self.assertRaisesRegex(ValueError, "text=True asked for it"):
             _ = again.text
         made = again.again()
         self.assertEqual((made.text, made.trace, made.line), (report.text, report.trace, report.line))
@@ -326,6 +321,31 @@ class Reports(unittest.TestCase):
         self.assertGreater(len(report.text), 400_000)
         again = yuglemit.load(EXAMPLES / "texts.twn")
         self.assertEqual(again.run({1: "x" * 4096}).outputs[0], "x" * 4096)
+
+
+class Seconds(unittest.TestCase):
+    """Bounds of the time of runs, which valgrind would break."""
+
+    def test_seconds_of_texts(self) -> None:
+        """A run of texts takes no more processor time than `seconds`, and about what `usual_seconds` says."""
+        text = f'TEXT v0 "{"a" * 2000}"\nTEXT v1 "{"b" * 2000}"\nREPEAT 1000\nREPEAT 1000\nREPEAT 2\nCAT v2 v0 v1 +0\nEND\nEND\nEND\n'
+        program = yuglemit.load(f"proc control\nregs text text text\n{text}RET\n")
+        begun = time.process_time()
+        program.run()
+        took = time.process_time() - begun
+        self.assertLessEqual(took, program.bounds.seconds())
+        self.assertLess(took, 9 * program.bounds.usual_seconds())
+        self.assertEqual((program.bounds.work, yuglemit.load(DOUBLE).bounds.work, yuglemit.load(yuglemit.assemble(DOUBLE)).bounds.work), ("texts", "ints", "ints"))
+        self.assertEqual(yuglemit.load(yuglemit.assemble(example("texts.twn"))).bounds.work, yuglemit.load(example("texts.twn")).bounds.work)
+
+    def test_seconds_of_numbers_in_texts(self) -> None:
+        """READI of the longest text is the dearest instruction; it takes more than a hundred of ints."""
+        text = f'TEXT v0 "{"0" * 4096}"\nREPEAT 1000\nREPEAT 20\nREADI v1 v0 +0\nEND\nEND\n'
+        program = yuglemit.load(f"proc control\nregs text int\n{text}RET\n")
+        begun = time.process_time()
+        program.run()
+        self.assertLessEqual(time.process_time() - begun, program.bounds.seconds())
+        self.assertEqual(program.bounds.work, "numbers")
 
 
 class Threads(unittest.TestCase):
@@ -374,16 +394,16 @@ class Threads(unittest.TestCase):
         self.assertLess(min(busy), 0.05)
 
     def test_ctrl_c_ends_the_wait_for_a_long_event(self) -> None:
-        program = yuglemit.load(SLOW.format(turns=400))
+        program = yuglemit.load(ONE_EVENT)
         started = time.perf_counter()
         with self.assertRaises(KeyboardInterrupt):
             threading.Timer(0.3, _thread.interrupt_main).start()
             program.run()
-        self.assertLess(time.perf_counter() - started, 0.3 + 0.1 + 0.3)
+        self.assertLess(time.perf_counter() - started, 3)
 
     def test_ctrl_c_of_a_program(self) -> None:
-        """A process that is interrupted in a long run ends at once, though the run would take seconds."""
-        code = f"import yuglemit\np = yuglemit.load({SLOW.format(turns=400)!r})\nprint('ready', flush=True)\ntry:\n    p.run()\nexcept KeyboardInterrupt:\n    print('interrupted', flush=True)\n"
+        """A process that is interrupted in a long event ends at once, though the event would take seconds."""
+        code = f"import yuglemit\np = yuglemit.load({ONE_EVENT!r})\nprint('ready', flush=True)\ntry:\n    p.run()\nexcept KeyboardInterrupt:\n    print('interrupted', flush=True)\n"
         with subprocess.Popen([sys.executable, "-c", code], stdout=subprocess.PIPE, text=True) as child:
             assert child.stdout is not None
             self.assertEqual(child.stdout.readline(), "ready\n")
@@ -391,8 +411,8 @@ class Threads(unittest.TestCase):
             child.send_signal(2)
             self.assertEqual(child.stdout.readline(), "interrupted\n")
             started = time.perf_counter()
-            child.wait(2)
-            self.assertLess(time.perf_counter() - started, 1)
+            child.wait(60)
+            self.assertLess(time.perf_counter() - started, 3)
 
 
 class Stops(unittest.TestCase):

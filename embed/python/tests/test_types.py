@@ -98,7 +98,7 @@ class Help(unittest.TestCase):
             self.assertTrue(hidden not in text, hidden)
         for shown in ("run_async(", "load_text(", "again(", "events_within(", "Stop", "class Bounds", "rule\n", "engines\n"):
             self.assertTrue(shown in text, shown)
-        self.assertLess(len(text.split("\n")), 420)
+        self.assertLess(len(text.split("\n")), 520)
         modules = re.findall(r"^    (\w+)", text.split("PACKAGE CONTENTS", 1)[1].split("CLASSES", 1)[0], re.M)
         self.assertEqual([it for it in modules if not it.startswith("_")], ["build"])
 

@@ -29,7 +29,7 @@ def _explained(verdict: _native.Verdict, words: list[str], source: bytes) -> Exc
     if verdict.letter == "M":
         return MemoryError("yuglemit: out of memory")
     try:
-        ask(words, source)
+        ask(words, source, _native.is_long_source(source))
     except Refused as why:
         if verdict.letter == "N" and verdict.column:  # the text of an error of names has no column
             why.column = verdict.column

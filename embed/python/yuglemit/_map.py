@@ -6,18 +6,20 @@ from __future__ import annotations
 import importlib
 import os
 import sys
+import threading
 import warnings
 from collections import deque
 from concurrent.futures import BrokenExecutor, Executor, Future, ThreadPoolExecutor
 from typing import Callable, Deque, Iterable, Iterator, List, NamedTuple, Optional, Sized, Tuple, Union, cast
+from weakref import WeakSet
 
+from . import _native
 from ._inputs import Input, shown
 from ._listing import DEFAULT_LIMIT
 from ._options import RunOptions, layout_of, options_of, within
 from ._program import Program
 from ._report import Made, Report, failed_report, received, sent
 from ._stop import Stop, attach
-from . import _native
 
 CHUNK_SECONDS = 0.1
 _CHUNKS_A_WORKER = 4
@@ -25,6 +27,20 @@ _UNKNOWN_WORKERS = 64  # of an executor that doesn't say how many it has
 _MOST = 1 << 40
 Job = Tuple[Program, Tuple[object, ...]]
 Progress = Union[bool, Callable[[int, int], object]]
+
+
+# The stops of maps that aren't read to their end. A process that ends waits for its threads, so their runs are stopped before.
+_own_stops: "WeakSet[Stop]" = WeakSet()
+
+
+def _stop_all() -> None:
+    for it in list(_own_stops):
+        it.set()
+
+
+_at_exit = getattr(threading, "_register_atexit", None)  # runs before threads are waited for, as `atexit` doesn't
+if _at_exit is not None:
+    _at_exit(_stop_all)
 
 
 class Chunk(NamedTuple):
@@ -156,7 +172,7 @@ def map(
     options = options_of(layout_of(engines, servers, workers, limit, *caps), trace, text, line, stop, timeout)
     if on_broken not in ("raise", "here"):
         raise ValueError(f'on_broken: expected "raise" or "here", got {shown(on_broken, with_type=False)}')
-    if executor is not None and not isinstance(executor, Executor):
+    if executor is not None and not callable(getattr(executor, "submit", None)):
         raise TypeError(f"executor: expected one of concurrent.futures, got {shown(executor)}")
     most = None if chunk is None else within("chunk", chunk, _MOST)
     width = None if window is None else within("window", window, _MOST)
@@ -185,7 +201,9 @@ class _Runs:
             known = getattr(executor, "_max_workers", None)
             self.workers = known if isinstance(known, int) else _UNKNOWN_WORKERS
         self.own = None if executor is not None else ThreadPoolExecutor(self.workers)
-        self.stop = None if executor is not None else Stop()
+        self.stop = Stop() if executor is None or isinstance(executor, ThreadPoolExecutor) else None
+        if self.stop is not None:
+            _own_stops.add(self.stop)
         self.executor = executor if executor is not None else self.own
         self.window = window or _CHUNKS_A_WORKER * self.workers
         self.here, self.options, self.progress = here, options, progress

@@ -237,11 +237,24 @@ class Flag:
 
 
 def load(source: bytes, format_: str) -> Tuple[Verdict, Optional[Loaded]]:
-    """Verifies a program, and keeps it if it is accepted. The format is "b" for bytes, "h" for hex text, "t" for assembly text."""
+    """Verifies a program, and keeps it if it is accepted. The format is "b" for bytes, "h" for hex text, "t" for assembly text. A long one gives
+    way to Ctrl-C, and continues in its thread."""
     root, verdict = _owner("program"), SourceVerdict()
-    library().yuglemit_load_source(source, len(source), ord(format_), root.at, ctypes.byref(verdict))
+
+    def call() -> None:
+        library().yuglemit_load_source(source, len(source), ord(format_), root.at, ctypes.byref(verdict))
+
+    if is_long_source(source) and threading.current_thread() is threading.main_thread():
+        _aside(call)
+    else:
+        call()
     answer = _verdict_of(verdict.verdict)._replace(column=verdict.column)
     return answer, None if answer.letter else Loaded(root)
+
+
+def is_long_source(source: bytes) -> bool:
+    """Returns whether reading a source takes so long that one waits for it."""
+    return len(source) > 500_000
 
 
 def _verdict_of(raw: RawVerdict) -> Verdict:

@@ -117,7 +117,7 @@ class Program(metaclass=Shown):
     def _data(self) -> Bytes:
         return self._hex if self.source is None else self.source.encode()
 
-    def given(self, inputs: Sequence[object]) -> Tuple[_native.Given, ...]:
+    def _given(self, inputs: Sequence[object]) -> Tuple[_native.Given, ...]:
         """Checks inputs; raises TypeError or ValueError with the number and the name of the first that is none."""
         asked = self.parameters
         if len(inputs) != len(asked):
@@ -130,7 +130,7 @@ class Program(metaclass=Shown):
 
     def words(self, inputs: Sequence[object]) -> Tuple[str, ...]:
         """Returns the words of inputs on a command line."""
-        return tuple(map(word_of, self.given(inputs)))
+        return tuple(map(word_of, self._given(inputs)))
 
     def run(
         self,
@@ -213,7 +213,7 @@ class Program(metaclass=Shown):
 
     def _run(self, inputs: Tuple[object, ...], options: RunOptions, flag: Optional[_native.Flag] = None) -> Report:
         """Makes a run, which `flag` ends, too."""
-        checked, layout = self.given(inputs), options.layout
+        checked, layout = self._given(inputs), options.layout
         made, seconds = Made(self, inputs, layout), self.bounds.usual_seconds(layout.limit)
         timeout = options.timeout if options.timeout is not None and self._may_take(options.timeout, layout.limit) else None
         if flag is None and (options.stop is not None or timeout is not None):

@@ -117,8 +117,8 @@ class Report(metaclass=Shown):
     of `map` may have no run: then `end` is "refused" or "memory", and `error` says why. `outputs` has an int, a str or a dict for each output
     of main, None for one that is unset; `unfinished` the numbers of those that are unset or still open.
 
-    The library keeps the run, so `text`, `trace` and `line` only print. A report that comes from another process has what `run` or `map` was
-    asked to send along, by `text=True` and so on. No property makes a run again; `again`, `rules` and `timeline` do.
+    The library keeps the run for the report of `Program.run`, so `text`, `trace` and `line` only print. A report of `map`, or one that was pickled, has
+    those that were asked for, by `text=True` and so on. No property makes a run again; `again`, `rules` and `timeline` do.
     """
 
     end: str
@@ -147,7 +147,7 @@ class Report(metaclass=Shown):
     def _why_not(self, what: str) -> str:
         if self._made is None:
             return _NO_RUN
-        return f"it comes from another process; {_ASKED[what]}=True sends it along, and again() makes the run again"
+        return f"reports of map and pickled ones have it if {_ASKED[what]}=True asked for it; again() makes the run again"
 
     @property
     def text(self) -> str:
@@ -240,12 +240,15 @@ def report_of(ran: Ran, made: Made, options: RunOptions) -> Report:
 
 def failed_report(why: Exception) -> Report:
     """Makes the report of a run that couldn't be made. Its error keeps no traceback, and so nothing of the run."""
+    why.__context__ = None
     return Report("memory" if isinstance(why, MemoryError) else "refused", error=why.with_traceback(None))
 
 
 def sent(report: Report) -> Report:
-    """Returns a report without the causes of its run, which whoever receives it has."""
-    return replace(report, _made=None)
+    """Returns a report without its run, which takes memory, and without the causes, which whoever receives it has."""
+    if report.end == "stuck":
+        report._print("report")  # for `circle`
+    return replace(report, _made=None, _kept=None)
 
 
 def received(report: Report, made: Made) -> Report:

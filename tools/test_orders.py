@@ -1,0 +1,99 @@
+"""Tests of tools/orders.py: python3 tools/test_orders.py"""
+
+from __future__ import annotations
+
+import contextlib
+import io
+import sys
+import tempfile
+import unittest
+from pathlib import Path
+from unittest import mock
+
+sys.path.insert(0, str(Path(__file__).resolve().parent))
+import orders
+from fuzz_library import unpacked
+
+# Two tasks insert 1 and 2 at one subscript, each by its copy; the first one takes longer, so with two workers the second one is first.
+RACE = """names
+proc control main(out: write cont int)
+regs a: int, b: int
+INT a 1
+INT b 2
+DUPW first out
+DUPW second out
+PUT slow 0 any first a
+PUT fast 0 any second b
+DROPW out
+RET
+proc leaf slow(into: write cont int, x: val int)
+regs zero: int
+NEW mo m int
+STORE mo x
+DUPR k m
+DROPR k
+DUPR k2 m
+DROPR k2
+DUPR k3 m
+DROPR k3
+INS into zero m taken
+JMP done
+taken:
+DROPR m
+done:
+DROPW into
+RET
+proc leaf fast(into: write cont int, x: val int)
+regs zero: int
+NEW mo m int
+STORE mo x
+INS into zero m taken
+JMP done
+taken:
+DROPR m
+done:
+DROPW into
+RET
+"""
+
+
+class OrdersTest(unittest.TestCase):
+    def setUp(self) -> None:
+        folder = tempfile.TemporaryDirectory()
+        self.addCleanup(folder.cleanup)
+        self.path = Path(folder.name, "race.twn")
+        self.path.write_text(RACE, encoding="utf-8")
+        self.orders = orders.Orders(unpacked("tw"), 0, 1000)
+
+    def call(self, *words: str) -> tuple[int, str]:
+        out = io.StringIO()
+        with mock.patch.object(sys, "argv", ["orders.py", *words]), contextlib.redirect_stdout(out), contextlib.redirect_stderr(out):
+            return orders.main(), out.getvalue()
+
+    def test_layouts_that_differ(self) -> None:
+        found = self.orders.compare(str(self.path), [])
+        self.assertEqual(set(found.reports), {f"out 0 cont int closed 1\n  at 0 int {number}\nquiet" for number in (1, 2)})
+        self.assertEqual((found.status, sum(found.reports.values()), found.limited), (orders.DIFFERENT, 7, 0))
+        self.assertEqual(self.orders.rule(str(self.path)), "order may show in procedure 1 at place 8")
+        self.assertEqual(self.call("--runs", "0", str(self.path))[0], 1)
+
+    def test_other_ends(self) -> None:
+        self.assertEqual(self.call("--runs", "0", "--limit", "3", str(self.path)), (4, "7 runs reached the limit\nno run ended by itself\n"))
+        status, text = self.call("--runs", "0", "examples/pipeline.twn")
+        self.assertEqual((status, text.splitlines()[0]), (2, "status 1: refused O01"))
+        self.assertEqual(self.call("--runs", "0", "examples/stuck_on_itself.twn")[1].splitlines()[1:], ["    stuck 1", "the same in all orders"])
+
+    def test_a_circle_does_not_count(self) -> None:
+        self.assertEqual(orders.without_circle("out 0 unset\nstuck 2\nwaits 1 1 2\nwaits 2 2 1\nrule 1 runs procedure 1\n"), "out 0 unset\nstuck 2")
+
+    def test_examples(self) -> None:
+        runs = dict(orders.example_runs())
+        self.assertEqual(runs["examples/two_inputs.tw"], ["ints:1=7,5=-3", "int:-4"])
+        with mock.patch.object(orders, "example_runs", return_value=[(str(self.path), []), ("examples/cut.hex", [])]):
+            self.assertEqual(self.call("--runs", "0", "--examples"), (0, f"{self.path} : order may show in procedure 1 at place 8; DIFFERENT\n"))
+            with mock.patch.object(orders, "order_line", return_value="order same"):
+                self.assertEqual(self.call("--runs", "0", "--examples")[0], 1)
+
+
+if __name__ == "__main__":
+    unittest.main()
