@@ -17,8 +17,8 @@ _tw() {
         disasm:-*) COMPREPLY=($(compgen -W "--text --places --json --help" -- "$word")) ;;
         check:-*) COMPREPLY=($(compgen -W "--text --places --json --bounds --limit --most-tasks --most-instructions --most-data --most-bytes --most-budget --help" -- "$word")) ;;
         run:-*) COMPREPLY=($(compgen -W "--engines --servers --workers --limit --from --to --jobs --trace --stats --json --each --picture --most-tasks --most-instructions --most-data --most-bytes --most-budget --in-turn --quiet --inputs-json --text --inputs --help" -- "$word")) ;;
-        replay:-*) COMPREPLY=($(compgen -W "--engines --servers --workers --stats --json --text --inputs --help" -- "$word")) ;;
-        picture:-*) COMPREPLY=($(compgen -W "--engines --servers --workers --from --to --text --inputs --help" -- "$word")) ;;
+        replay:-*) COMPREPLY=($(compgen -W "--engines --servers --workers --stats --json --events --text --inputs --help" -- "$word")) ;;
+        picture:-*) COMPREPLY=($(compgen -W "--engines --servers --workers --from --to --events --text --inputs --help" -- "$word")) ;;
         explain:-*) COMPREPLY=($(compgen -W "--json --help" -- "$word")) ;;
         run:* | replay:* | picture:*) COMPREPLY=($(compgen -W "int: ints: text: texts: tints: ttexts:" -- "$word") $(compgen -f -- "$word")) ;;
         asm:* | check:* | disasm:*) COMPREPLY=($(compgen -f -- "$word")) ;;

@@ -17,8 +17,8 @@ case $words[2]:$PREFIX in
     disasm:-*) compadd -- --text --places --json --help ;;
     check:-*) compadd -- --text --places --json --bounds --limit --most-tasks --most-instructions --most-data --most-bytes --most-budget --help ;;
     run:-*) compadd -- --engines --servers --workers --limit --from --to --jobs --trace --stats --json --each --picture --most-tasks --most-instructions --most-data --most-bytes --most-budget --in-turn --quiet --inputs-json --text --inputs --help ;;
-    replay:-*) compadd -- --engines --servers --workers --stats --json --text --inputs --help ;;
-    picture:-*) compadd -- --engines --servers --workers --from --to --text --inputs --help ;;
+    replay:-*) compadd -- --engines --servers --workers --stats --json --events --text --inputs --help ;;
+    picture:-*) compadd -- --engines --servers --workers --from --to --events --text --inputs --help ;;
     explain:-*) compadd -- --json --help ;;
     run:* | replay:* | picture:*) compadd -S '' -- int: ints: text: texts: tints: ttexts:; _files ;;
     asm:* | check:* | disasm:*) _files ;;
