@@ -40,7 +40,8 @@ def read(name: str) -> str:
 
 def timed(command: list[str], given: bytes | None = None) -> Times:
     before, begun = resource.getrusage(resource.RUSAGE_CHILDREN), time.perf_counter()
-    run = subprocess.run(command, input=given, stdout=subprocess.PIPE, check=False)
+    # Many runs end by their limit, which `tw` says on standard error.
+    run = subprocess.run(command, input=given, stdout=subprocess.PIPE, stderr=subprocess.DEVNULL, check=False)
     clock, after = time.perf_counter() - begun, resource.getrusage(resource.RUSAGE_CHILDREN)
     return clock, after.ru_utime + after.ru_stime - before.ru_utime - before.ru_stime, run.stdout.decode()
 
@@ -206,13 +207,21 @@ def print_table() -> None:
         print(f"| {name} | {measured} | {aim} |")
 
 
-of_one_engine()
-beside_waiting()
-of_statistics()
-empty_leaf_tasks()
-waiting_for_one_another()
-long_jobs(50, "3.5")
-long_jobs(500, "3.5")
-memory()
-start_to_end()
-print_table()
+def main() -> None:
+    of_one_engine()
+    beside_waiting()
+    of_statistics()
+    empty_leaf_tasks()
+    waiting_for_one_another()
+    long_jobs(50, "3.5")
+    long_jobs(500, "3.5")
+    memory()
+    start_to_end()
+    print_table()
+
+
+if __name__ == "__main__":
+    try:
+        main()
+    except (OSError, subprocess.CalledProcessError) as fault:
+        sys.exit(f"runs: {fault}")

@@ -5,6 +5,7 @@
 #
 #   page/build.sh             builds the library first
 #   page/build.sh MODULE.bc   uses this module of the library
+#   page/build.sh --released  uses the release's WebAssembly module: only scripts, style and examples are new. It needs python3 alone
 #
 # The module is the library's own, as rattle passed it to its clang (tools/library.py keeps it). It is retargeted from x86-64 to wasm64, whose pointers,
 # sizes and alignments are the same (retarget.py). A heap (heap.c), 128-bit arithmetic (wide.c) and rattle's three functions over malloc
@@ -14,6 +15,17 @@ set -e
 here=$(dirname "$(readlink -f "$0")")
 root=$(dirname "$here")
 out=$here/out
+join() {
+    python3 -B "$here/join.py" "$root" "$out/yuglemit.wasm" >"$out/index.html"
+    echo "the page is $out/index.html, $(wc -c <"$out/index.html") bytes, $(gzip -9c "$out/index.html" | wc -c) compressed"
+}
+if [ "${1-}" = --released ]; then
+    mkdir -p "$out"
+    gzip -dc "$root/release/index.html.gz" >"$out/released.html"
+    python3 -B "$here/unpack.py" "$out/released.html" "$out/yuglemit.wasm"
+    join
+    exit
+fi
 kit=$(dirname "$(dirname "$(readlink -f "$(command -v rt)")")")
 tools=$kit/toolchain/bin
 module=${1:-$root/crates/tw_embed/out/module.bc}
@@ -33,5 +45,4 @@ $link -z stack-size=1048576 --export=yuglemit_session --export=yuglemit_verify -
 $link --export=go "$out/narrow_test.o" -o "$out/test_wide.wasm"
 python3 -B "$here/narrow.py" <"$out/wide.wasm" >"$out/yuglemit.wasm"
 python3 -B "$here/narrow.py" <"$out/test_wide.wasm" >"$out/test_narrow.wasm"
-python3 -B "$here/join.py" "$here" "$root/examples" "$root/tools/tw.vim" "$out/yuglemit.wasm" >"$out/index.html"
-echo "the page is $out/index.html, $(wc -c <"$out/index.html") bytes, $(gzip -9c "$out/index.html" | wc -c) compressed"
+join

@@ -8,8 +8,26 @@ import {coloured, uncommented} from "./source.js";
 /** The marks: lines of the event, lines where actors continue, a fault, and notes after lines.
  * @typedef {{hits: Set<number>, next: Map<number, string[]>, fault: {line: number, from: number, to: number, message: string} | null, heads: Map<number, string>, held: {line: number, text: string} | null}} Marks */
 
-/** A text up to this length is set by an edit that Ctrl+Z takes back. */
-const UNDOABLE = 300000;
+/** A change of up to so many lines is made by an edit that Ctrl+Z takes back; browsers need a time for it that is quadratic in the lines. */
+const UNDOABLE = 60;
+
+/** Returns what differs between two texts: the lengths of their common head and tail.
+ * @param {string} old @param {string} text */
+function differing(old, text) {
+    const most = Math.min(old.length, text.length);
+    let head = 0, tail = 0;
+    while (head < most && old[head] === text[head]) head++;
+    while (tail < most - head && old[old.length - 1 - tail] === text[text.length - 1 - tail]) tail++;
+    return {head, tail};
+}
+
+/** Returns the number of lines of a text.
+ * @param {string} text */
+function linesIn(text) {
+    let count = 1;
+    for (let at = text.indexOf("\n"); at >= 0; at = text.indexOf("\n", at + 1)) count++;
+    return count;
+}
 
 export class Editor {
     /** @param {HTMLTextAreaElement} field @param {HTMLElement} paint @param {HTMLElement} gutter */
@@ -22,12 +40,16 @@ export class Editor {
         /** @type {string[]} */
         this.lines = [""];
         this.high = 20;
+        this.wide = 8;
+        /** Whether the page itself changes the text now. */
+        this.setting = false;
         /** Called when a line's number is clicked.
          * @type {(line: number) => void} */
         this.online = () => {};
-        field.addEventListener("scroll", () => this.draw());
+        this.painted = "";
+        field.addEventListener("scroll", () => this.scrolled());
         field.addEventListener("input", () => this.changed());
-        new ResizeObserver(() => this.draw()).observe(field);
+        new ResizeObserver(() => this.measure()).observe(field);
         gutter.addEventListener("click", event => {
             const line = /** @type {HTMLElement} */ (event.target).closest("[data-line]")?.getAttribute("data-line");
             if (line) this.online(+line);
@@ -36,21 +58,29 @@ export class Editor {
 
     get text() { return this.field.value; }
 
-    /** Puts another text in; undo brings the one before back, if `undoable`.
+    /** Puts another text in, by replacing what differs. The browser's undo brings a short change back.
      * @param {string} text @param {boolean} undoable */
     set(text, undoable) {
-        const {field} = this, before = /** @type {HTMLElement | null} */ (document.activeElement);
-        let done = field.value === text;
-        if (!done && undoable && text.length < UNDOABLE) {
-            field.focus({preventScroll: true});
-            field.select();
-            done = text ? document.execCommand("insertText", false, text) : document.execCommand("delete");
-            if (before && before !== field) before.focus({preventScroll: true});
-        }
-        if (!done || field.value !== text) field.value = text;
+        const {field} = this, old = field.value;
+        this.setting = true;
+        if (old !== text) this.replace(old, text, undoable);
+        if (field.value !== text) field.value = text;
+        this.setting = false;
         field.setSelectionRange(0, 0);
         field.scrollTop = field.scrollLeft = 0;
         this.changed();
+    }
+
+    /** @param {string} old @param {string} text @param {boolean} undoable */
+    replace(old, text, undoable) {
+        const {field} = this, {head, tail} = differing(old, text), put = text.slice(head, text.length - tail), gone = old.slice(head, old.length - tail);
+        if (!undoable || linesIn(put) + linesIn(gone) > UNDOABLE) { field.setRangeText(put, head, old.length - tail); return; }
+        const before = /** @type {HTMLElement | null} */ (document.activeElement);
+        field.focus({preventScroll: true});
+        field.setSelectionRange(head, old.length - tail);
+        if (put) document.execCommand("insertText", false, put);
+        else document.execCommand("delete");
+        if (before && before !== field) before.focus({preventScroll: true});
     }
 
     changed() {
@@ -59,10 +89,11 @@ export class Editor {
         this.draw();
     }
 
-    /** Changes marks, and paints.
-     * @param {Partial<Marks>} marks */
-    mark(marks) {
+    /** Changes marks, brings a line into sight if one is given, and paints.
+     * @param {Partial<Marks>} marks @param {number} [line] */
+    mark(marks, line) {
         Object.assign(this.marks, marks);
+        if (line !== undefined) this.scrollTo(line);
         this.draw();
     }
 
@@ -74,17 +105,28 @@ export class Editor {
         return line;
     }
 
+    /** Returns the cursor's column. */
+    get column() { return this.field.selectionStart - this.field.value.lastIndexOf("\n", this.field.selectionStart - 1) - 1; }
+
     /** Brings a line into sight, if it isn't.
      * @param {number} line */
     reveal(line) {
-        const {field, high} = this, top = line * high, room = field.clientHeight - 3 * high;
-        if (top < field.scrollTop || top > field.scrollTop + room) field.scrollTop = Math.max(0, top - field.clientHeight / 3);
+        this.scrollTo(line);
         this.draw();
     }
 
+    /** @param {number} line */
+    scrollTo(line) {
+        const {field, high} = this, top = line * high, room = field.clientHeight - 3 * high;
+        if (top < field.scrollTop || top > field.scrollTop + room) field.scrollTop = Math.max(0, top - field.clientHeight / 3);
+    }
+
+    /** Paints where the field has been scrolled to, if that isn't painted yet. */
+    scrolled() { if (`${this.field.scrollTop} ${this.field.scrollLeft}` !== this.painted) this.draw(); }
+
     draw() {
         const {field, paint, gutter} = this;
-        this.high = parseFloat(getComputedStyle(field).lineHeight) || 20;
+        this.painted = `${field.scrollTop} ${field.scrollLeft}`;
         const first = Math.max(0, Math.floor(field.scrollTop / this.high)), count = Math.ceil(field.clientHeight / this.high) + 1;
         const shift = first * this.high - field.scrollTop, lines = this.lines.slice(first, first + count);
         paint.replaceChildren(...lines.map((line, k) => this.lineOf(line, first + k)));
@@ -94,11 +136,19 @@ export class Editor {
         gutter.style.minWidth = `${String(this.lines.length).length + 3.5}ch`;
     }
 
+    /** Measures the lines, after the field has another size. */
+    measure() {
+        const style = getComputedStyle(this.field), pen = document.createElement("canvas").getContext("2d");
+        this.high = parseFloat(style.lineHeight) || 20;
+        if (pen) { pen.font = style.font; this.wide = pen.measureText("0").width; }
+        this.draw();
+    }
+
     /** @param {number} line */
     numberOf(line) {
         const {hits, next, fault} = this.marks, actors = next.get(line) ?? [];
         const kind = fault?.line === line ? "bad" : hits.has(line) ? "hit" : "";
-        return h(`div.${kind}`, {"data-line": line}, actors.length ? h("span.chip", {}, actors.length > 2 ? `${actors.length}` : actors.join(" ")) : "", String(line + 1));
+        return h(`div.${kind}`, {"data-line": line, title: "go to the next event of this line"}, actors.length ? h("span.chip", {}, actors.length > 2 ? `${actors.length}` : actors.join(" ")) : "", String(line + 1));
     }
 
     /** @param {string} line @param {number} number */

@@ -2,7 +2,7 @@
 // SPDX-License-Identifier: Apache-2.0
 // The fields above Run: an input for each that main asks for, and how many actors there are.
 import {$, h} from "./dom.js";
-import {inputFault} from "./values.js";
+import {inputFault, normal, openingFault} from "./values.js";
 
 /** @typedef {import("./program.js").Procedure} Procedure */
 
@@ -31,7 +31,7 @@ export class Fields {
      * @param {Procedure[]} program @param {string[]} names of main's parameters */
     ask(program, names) {
         const inputs = program[0].params.map(({mode, type}, k) => ({mode, type, name: names[k]})).filter(it => it.mode !== "write");
-        const asked = inputs.map(({type, name}, k) => ({name: /^d\d+$/.test(name) ? `input ${k}` : name, prefix: PREFIX[type] ?? ""}));
+        const asked = inputs.map(({type, name}, k) => ({name: /^d\d+$/.test(name) ? `input ${k + 1}` : name, prefix: PREFIX[type] ?? ""}));
         if (JSON.stringify(asked) === JSON.stringify(this.asked)) return;
         const words = this.words();
         this.asked = asked;
@@ -48,7 +48,7 @@ export class Fields {
     /** Shows a field for each input, with its word.
      * @param {string[]} words */
     show(words) {
-        const rows = this.asked ?? words.map((word, k) => ({name: `input ${k}`, prefix: /^\w+:/.exec(word)?.[0] ?? ""}));
+        const rows = this.asked ?? words.map((word, k) => ({name: `input ${k + 1}`, prefix: /^\w+:/.exec(word)?.[0] ?? ""}));
         this.box.replaceChildren(...rows.map(({name, prefix}, k) => {
             const word = words[k] ?? "", value = word.startsWith(prefix) ? word.slice(prefix.length) : word;
             const field = h("input", {type: "text", spellcheck: "false", autocapitalize: "off", autocomplete: "off", id: `input-${k}`, "data-prefix": prefix, placeholder: SAMPLE[prefix] ?? "", "aria-describedby": `input-${k}-fault`, oninput: () => { this.mark(); this.changed(); }});
@@ -64,35 +64,36 @@ export class Fields {
     /** Returns the words of all inputs. */
     words() {
         return this.inputs.map(field => {
-            const prefix = field.dataset.prefix ?? "", value = field.value;
-            return prefix !== "text:" && value.startsWith(prefix) ? value : prefix + value;
+            const prefix = field.dataset.prefix ?? "", {value} = field;
+            return prefix === "text:" ? prefix + value : normal(value.trim().startsWith(prefix) ? value : prefix + value);
         });
     }
 
-    /** Marks malformed inputs. Returns whether there are none. */
+    /** Marks wrong inputs. Returns the first fault, with the field's name; empty if there is none. */
     mark() {
-        const words = this.words();
-        return this.inputs.map((field, k) => {
-            const fault = field.value || field.dataset.prefix !== "int:" ? inputFault(words[k]) : "a number is wanted";
+        const words = this.words(), rows = this.inputs.map((field, k) => {
+            const fault = field.value.trim() || field.dataset.prefix !== "int:" ? inputFault(words[k]) || openingFault(words[k]) : "a number is wanted";
             field.setAttribute("aria-invalid", String(!!fault));
             $(`input-${k}-fault`).textContent = fault;
-            return !fault;
-        }).every(it => it);
+            return fault && `The input ${this.asked?.[k]?.name ?? k + 1} is wrong: ${fault}.`;
+        });
+        return rows.find(it => it) ?? "";
     }
 
-    /** @param {string} name @param {number} most */
+    /** Marks a wrong number of the layout. Returns the fault.
+     * @param {string} name @param {number} most */
     markNumber(name, most) {
         const field = /** @type {HTMLInputElement} */ ($(name)), good = /^\d+$/.test(field.value) && +field.value >= 1 && +field.value <= most;
         field.setAttribute("aria-invalid", String(!good));
         $("layout-fault").textContent = good ? "" : `${name}: 1 to ${most.toLocaleString("en")}`;
-        return good;
+        return $("layout-fault").textContent ?? "";
     }
 
-    /** Returns whether the program can be run with these fields. */
-    good() {
-        const numbers = NUMBERS.map(([name, most]) => this.markNumber(name, most)), bad = numbers.indexOf(false);
-        if (bad >= 0) this.markNumber(...NUMBERS[bad]);
-        return this.mark() && bad < 0;
+    /** Returns what is wrong with the fields; empty if the program can be run with them. */
+    wrong() {
+        const faults = NUMBERS.map(([name, most]) => this.markNumber(name, most)), bad = faults.find(it => it) ?? "";
+        $("layout-fault").textContent = bad;
+        return this.mark() || bad && `A number below the program is wrong: ${bad}.`;
     }
 
     /** The numbers of engines, servers and workers, and the limit. */

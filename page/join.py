@@ -1,11 +1,16 @@
 # SPDX-License-Identifier: Apache-2.0
-"""Writes the page as one file: join.py FOLDER EXAMPLES GRAMMAR WASM, with the folder page/, examples/, tools/tw.vim and the module."""
+"""Writes the page as one file: join.py ROOT WASM, with the repository and the module."""
 import base64
 import gzip
+import hashlib
 import json
 import os
 import re
 import sys
+from pathlib import Path
+
+from manual import manual
+from reference import reference
 
 IMPORT = re.compile(r'^import \{([\w, $]+)\} from "\./(\w+)\.js";$', re.M)
 EXPORT = re.compile(r"^export (?=(?:async )?(?:function|const|let|class) ([\w$]+))", re.M)
@@ -28,9 +33,14 @@ def order(folder: str, name: str, done: list[str]) -> list[str]:
     return done
 
 
+def uncommented(text: str) -> str:
+    """Returns a script without the comments that have lines of their own."""
+    return re.sub(r"^[ \t]*(?:/\*\*(?:[^*]|\*(?!/))*\*/|//.*)\n", "", text, flags=re.M)
+
+
 def wrapped(folder: str, name: str) -> str:
     """Returns a module as a function that is called once, whose value has what the module exports."""
-    text = read(f"{folder}/{name}.js")
+    text = uncommented(read(f"{folder}/{name}.js"))
     exported = EXPORT.findall(text)
     text = IMPORT.sub(lambda it: f"const {{{it[1]}}} = of_{it[2]};", text)
     text = EXPORT.sub("", text)
@@ -71,18 +81,57 @@ def literal(what: object) -> str:
     return json.dumps(what, ensure_ascii=False).replace("</", "<\\/").replace("<!--", "<\\!--")
 
 
-def page(folder: str, examples: str, grammar: str, wasm: bytes) -> str:
-    """Returns the page."""
-    keywords = {group.lower(): words for group, words in KEYWORDS.findall(read(grammar))}
-    module = base64.b64encode(gzip.compress(wasm, 9, mtime=0)).decode()
+def examples_of(root: str) -> list[dict[str, object]]:
+    """Returns the groups of examples, each example with its source in Python if the tests of Python's builder have one."""
+    listed = groups(f"{root}/page", f"{root}/examples")
+    for group in listed:
+        some = group["examples"]
+        assert isinstance(some, list)
+        for it in some:
+            path = f"{root}/embed/python/tests/programs/{it['name']}.py"
+            if os.path.exists(path):
+                it["python"] = read(path)
+    return listed
+
+
+def worker(folder: str, wasm: bytes) -> str:
+    """Returns the script of the thread that calls the module."""
+    return f'self.wasm = "{base64.b64encode(gzip.compress(wasm, 9, mtime=0)).decode()}";\n{uncommented(read(f"{folder}/worker.js"))}'
+
+
+def script_of(root: str, wasm: bytes) -> str:
+    """Returns the page's script."""
+    folder = f"{root}/page"
     script = "".join(wrapped(folder, name) for name in order(folder, "app", []))
-    for mark, value in (("@GRAMMAR@*/ {}", keywords), ("@EXAMPLES@*/ []", groups(folder, examples)), ("@WORKER@*/ \"\"", f'self.wasm = "{module}";\n{read(f"{folder}/worker.js")}')):
+    for mark, value in (
+        ("@GRAMMAR@*/ {}", {group.lower(): words for group, words in KEYWORDS.findall(read(f"{root}/tools/tw.vim"))}),
+        ("@EXAMPLES@*/ []", examples_of(root)),
+        ("@REFERENCE@*/ []", reference(Path(root))),
+        ("@GLOSSARY@*/ {}", json.loads(read(f"{folder}/glossary.json"))),
+        ('@FOLLOWER@*/ ""', '"use strict";\n' + "".join(wrapped(folder, name) for name in order(folder, "follower", []))),
+        ('@WORKER@*/ ""', worker(folder, wasm)),
+    ):
         if script.count(f"/*{mark}") != 1:
             raise ValueError(f"the script must have {mark} once")
         script = script.replace(f"/*{mark}", literal(value))
-    return read(f"{folder}/page.html").replace("@STYLE@", read(f"{folder}/page.css").strip()).replace("@SCRIPT@", script.strip())
+    return f"// SPDX-License-Identifier: Apache-2.0\n{script.strip()}"
+
+
+def policy(script: str) -> str:
+    """Returns the policy that forbids every request. Only this script runs, it may begin the module, and threads of its own."""
+    digest = base64.b64encode(hashlib.sha256(f"\n{script}\n".encode()).digest()).decode()
+    return f"default-src 'none'; script-src 'sha256-{digest}' 'wasm-unsafe-eval'; worker-src blob:; style-src 'unsafe-inline'; img-src data:; base-uri 'none'; form-action 'none'"
+
+
+def page(root: str, wasm: bytes) -> str:
+    """Returns the page."""
+    script = script_of(root, wasm)
+    text = read(f"{root}/page/page.html")
+    for mark, value in (("@STYLE@", read(f"{root}/page/page.css").strip()), ("@VERSION@", read(f"{root}/VERSION").strip()), ("@MANUAL@", manual(Path(root))), ("@POLICY@", policy(script)), ("@SCRIPT@", script)):
+        text = text.replace(mark, value, 1)
+    return text
 
 
 if __name__ == "__main__":
-    with open(sys.argv[4], "rb") as opened:
-        print(page(sys.argv[1], sys.argv[2], sys.argv[3], opened.read()))
+    with open(sys.argv[2], "rb") as opened:
+        print(page(sys.argv[1], opened.read()))

@@ -5,6 +5,9 @@
 /** A reply: the exit status, the text and the time it took; or the browser's error.
  * @typedef {{status: number, text: string, ms: number, memory: number, failed?: string}} Reply */
 
+/** A memory beyond which a new thread is begun, so that the browser gets it back. */
+const MEMORY = 100000000;
+
 export class Library {
     /** @param {string} source the script of the thread, with the module in it @param {(busy: boolean) => void} busy */
     constructor(source, busy) {
@@ -29,7 +32,7 @@ export class Library {
         this.waiting.delete(number);
         this.busy(this.waiting.size > 0);
         end?.(reply);
-        if (reply.failed) this.stop();
+        if (reply.failed || !this.waiting.size && reply.memory > MEMORY) this.stop();
     }
 
     /** Stops all calls; their callers get null.

@@ -3,15 +3,18 @@
 // others, and every prefix of its events must lead to the report that the library's replay writes. It ends with `N passed, 0 failed`.
 import fs from "node:fs";
 import {dearestWalk, mostEvents} from "./bounds.js";
-import {report, copyOf, step} from "./machine.js";
+import {followInParts} from "./follower.js";
+import {open, report, step} from "./machine.js";
+import {orderOf} from "./order.js";
 import {decode} from "./program.js";
 import {readPlaces, readTrace, readVerdict} from "./replies.js";
 import {Run} from "./run.js";
 import {namings, scan, wordsOf} from "./source.js";
-import {inputFault, readInput} from "./values.js";
+import {inputFault, normal, openingFault, readInput} from "./values.js";
 
 const [module, folder, examplesFolder] = process.argv.slice(2);
 const x = (await WebAssembly.instantiate(fs.readFileSync(module))).instance.exports;
+const groups = JSON.parse(fs.readFileSync(`${folder}/examples.json`, "utf8"));
 let passed = 0, failed = 0;
 const say = (is, ...what) => { if (is) passed++; else { failed++; console.log("FAILED", ...what); } };
 
@@ -32,11 +35,12 @@ const plain = text => text.replace(/^(waits|rule) .*\n/gm, "");
 // Follows a run, and compares every prefix.
 async function compare(name, text, words, [engines, servers, workers]) {
     const options = ["--engines", engines, "--servers", servers, "--workers", workers].map(String), limit = ["--limit", "1000"];
-    const {text: answer} = session(["run", "--text", "--trace", ...limit, ...options, ...words], text), {events} = readTrace(answer);
+    const {text: answer} = session(["run", "--text", "--trace", ...limit, ...options, ...words], text), {trace} = readTrace(answer), events = trace.split("\n").slice(0, -1);
     say(events.length > 0, name, "has no events", answer.slice(0, 200));
     const source = scan(text), program = decode(session(["asm", "--names"], text).text), names = namings(source, session(["asm", "--names", "--plain"], text).text);
-    const run = await new Run({program, source, names, inputs: words.map(readInput), engines, servers, workers, events}).follow();
-    const state = copyOf(run.kept[0]);
+    const setting = {program, source, names, inputs: words.map(readInput), engines, servers, workers}, run = new Run(setting).follow(trace);
+    const state = open(program, setting.inputs, servers);
+    sameInParts(name, setting, run, trace);
     for (let k = 0; k <= events.length; k++) {
         if (k) delivered(name, state, events[k - 1]);
         if (k) step(state, program, events[k - 1]);
@@ -51,6 +55,19 @@ async function compare(name, text, words, [engines, servers, workers]) {
     say(events.length <= Number(mostEvents(program)), name, "more events than bounded", events.length, mostEvents(program));
     heldRights(name, run, places);
     if (report(state).endsWith("quiet\n")) left(name, state);
+}
+
+// Checks that a run that is sent in parts has the same events and states, and that each event is the trace's line.
+function sameInParts(name, setting, run, trace) {
+    const other = new Run(setting);
+    followInParts(setting, trace, ({chunk, kept}) => { other.track.append(structuredClone(chunk)); for (const it of kept) other.keeper.keep(it); }, 7, 11);
+    const lines = trace.split("\n");
+    say(other.length === run.length && run.length === lines.length - 1, name, "another number of events", other.length, run.length);
+    for (let k = 1; k <= run.length; k++) {
+        say(JSON.stringify(other.event(k)) === JSON.stringify(run.event(k)), name, "in parts another event", k);
+        say(run.track.line(k) === lines[k - 1], name, "another line", k, run.track.line(k), lines[k - 1]);
+    }
+    for (const k of [run.length, run.length >> 1, 0, run.length >> 2]) say(report(other.at(k)) === report(run.at(k)), name, "in parts another state after", k);
 }
 
 // Checks the bounds of a run that can be counted by hand, and of one without a bound.
@@ -75,8 +92,8 @@ function heldRights(name, run, places) {
 function delivered(name, state, event) {
     const [kind, actor, ...numbers] = event.split(" "), [datum, rule, param] = numbers.map(Number);
     if (kind !== "deliver") return;
-    const notice = state.notices.find(it => it.datum === datum && it.rule === rule && it.param === param);
-    say(notice && `s${notice.server}` === actor, name, event, "is a notice of another server", notice);
+    const notice = state.notices.get(`${rule} ${param}`);
+    say(notice && notice.datum === datum && `s${notice.server}` === actor, name, event, "is a notice of another server", notice);
 }
 
 // Checks that at the end of a run that is quiet only outputs and their members are left, for which nothing waits: all other data are freed.
@@ -107,6 +124,57 @@ function words() {
     }
 }
 
+// Checks that the example of each instruction is accepted, has the instruction, and runs to its end.
+async function lessons() {
+    const parts = fs.readFileSync(`${folder}/lessons.txt`, "utf8").split("\n== ").slice(1);
+    for (const part of parts) {
+        const [head, ...lines] = part.split("\n"), [names, inputs = ""] = head.split(" | ");
+        for (const name of names.split(" ")) {
+            const text = lines.filter(it => !it.startsWith(": ")).join("\n").replaceAll("@", name), verdict = session(["check", "--text"], text).text;
+            say(verdict.startsWith("accepted") && new RegExp(`^${name}\\b`, "m").test(text), "the example of", name, verdict);
+            await compare(`the example of ${name}`, text, inputs.split(" ").filter(it => it), [1, 1, 1]);
+            say(session(["run", "--text", ...inputs.split(" ").filter(it => it)], text).text.endsWith("quiet\n"), "the example of", name, "doesn't end");
+        }
+    }
+}
+
+// Checks that runs in other orders are runs of the library's machine, that they end, and that the outputs are those in turn: no example depends on the order.
+async function orders() {
+    for (const it of groups.flatMap(group => group.examples).filter(it => !it.ends.startsWith("refused"))) {
+        const path = [`${examplesFolder}/${it.name}.twn`, `${examplesFolder}/${it.name}.tw`, `${folder}/${it.name}.twn`].find(path => fs.existsSync(path)), text = fs.readFileSync(path, "utf8");
+        const traces = new Set(), words = it.inputs ?? [], [engines, servers, workers] = [2, 2, 3], options = ["--engines", "2", "--servers", "2", "--workers", "3"];
+        const program = decode(session(["asm", "--names"], text).text), inTurn = plain(session(["run", "--text", ...options, ...words], text).text);
+        for (let seed = 1; seed <= 5; seed++) {
+            const {trace, ended} = await orderOf({program, inputs: words.map(readInput), engines, servers, workers}, seed, 5000);
+            const replayed = plain(session(["replay", "--text", ...options, ...words], `${text}\nevents\n${trace}end\n`).text);
+            say(ended && replayed === inTurn, it.name, "order", seed, ended, replayed, inTurn);
+            traces.add(trace);
+        }
+        say(traces.size > 1 || inTurn.length > 0 && traces.values().next().value.split("\n").length < 14, it.name, "has one order only");
+    }
+    const race = session(["replay", "--text", "--workers", "2"], `${RACE}\nevents\n`).text, outputs = new Set();
+    say(race.includes("running"), "the race", race);
+    for (let seed = 1; seed <= 20; seed++) {
+        const {trace} = await orderOf({program: decode(session(["asm"], RACE).text), inputs: [], engines: 1, servers: 1, workers: 2}, seed, 1000);
+        outputs.add(session(["replay", "--text", "--workers", "2"], `${RACE}\nevents\n${trace}end\n`).text);
+    }
+    say(outputs.size === 2, "a race for a subscript has", outputs.size, "outcomes");
+}
+// Two tasks insert at one subscript, each its own member.
+const RACE = "proc control write cont int\nregs int int\nINT v1 1\nDUPW d1 d0\nPUT 1 0 any 1 0\nPUT 1 0 any 0 1\nRET\nproc leaf write cont int val int\nregs int int\nNEW d1 d2 int\nSTORE d1 v0\nINS d0 v1 d2 a\nJMP b\na:\nDROPR d2\nb:\nDROPW d0\nRET\n";
+
+// Checks what is done with inputs that phones and habits spoil, and what the opening refuses.
+function normals() {
+    const is = [["int: 7 ", "int:7"], ["ints:1=7, 2=-3", "ints:1=7,2=-3"], ["texts:1=\u201ca b\u201d , 2=\u201cc\u201d", 'texts:1="a b",2="c"'], ['texts:1="a, \u201cb\u201d"', 'texts:1="a, \u201cb\u201d"'], ["text: a  b ", "text: a  b "], ['tints:"a b" = 1', 'tints:"a b"=1']];
+    for (const [word, wanted] of is) say(normal(word) === wanted, "normal", word, normal(word));
+    const echo = type => `version 2\nproc control ref ${type} write int\nregs int\nDROPR d0\nSTORE d1 v0\nRET\n`, many = Array.from({length: 1001}, (_, k) => `${k}=1`);
+    const types = {int: "int", text: "text", ints: "cont int", texts: "cont text", tints: "tcont int", ttexts: "tcont text"};
+    for (const word of ["ints:2=1,1=2", "ints:1=1,1=2", "ints:-1=1,0=1,5=1", 'tints:"b"=1,"a"=1', 'tints:"a"=1,"a"=2', 'tints:"Z"=1,"a"=1', `text:${"x".repeat(4096)}`, `text:${"é".repeat(2049)}`, `texts:1="${"x".repeat(4097)}"`, `tints:"${"x".repeat(4097)}"=1`, `ints:${many.join(",")}`, `ints:${many.slice(1).join(",")}`, 'texts:1="a=b",2="c=d"']) {
+        const refused = /^refused O02/.test(session(["run", "--text", word], echo(types[/^\w+/.exec(word)[0]])).text);
+        say(!!openingFault(word) === refused, "opening", word.slice(0, 40), openingFault(word), refused);
+    }
+}
+
 // Checks that the words of a comment are none of the text's.
 function comments() {
     const source = scan('proc control ; main\nregs ; n: int\nTEXT v0 "a;b" ; c\n; RET\nRET\n');
@@ -114,7 +182,6 @@ function comments() {
     say(String(wordsOf(source.text[2]).map(({word}) => word)) === 'TEXT,v0,"a;b"', "words", wordsOf(source.text[2]));
 }
 
-const groups = JSON.parse(fs.readFileSync(`${folder}/examples.json`, "utf8"));
 for (const it of groups.flatMap(group => group.examples)) {
     if (it.ends.startsWith("refused")) continue;
     for (const path of [`${examplesFolder}/${it.name}.tw`, `${examplesFolder}/${it.name}.twn`, `${folder}/${it.name}.twn`].filter(path => fs.existsSync(path)))
@@ -122,7 +189,10 @@ for (const it of groups.flatMap(group => group.examples)) {
 }
 for (const [name, text, inputs] of MORE) for (const layout of [[1, 1, 1], [2, 2, 2]]) await compare(name, text, inputs, layout);
 await compare("targets", FOR_TWO, [], [1, 1, 2]);
+await lessons();
+await orders();
 words();
+normals();
 comments();
 bounds();
 console.log(`${passed} passed, ${failed} failed`);

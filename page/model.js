@@ -1,7 +1,7 @@
 // @ts-check
 // SPDX-License-Identifier: Apache-2.0
 // Describes a step: its event in a sentence, and the state after it in rows.
-import {isClosed, lines, standing, subscripts} from "./machine.js";
+import {isBetter, isClosed, jumps, lines, standing, subscripts} from "./machine.js";
 import {callName, nameAt, uncommented} from "./source.js";
 import {shown} from "./values.js";
 
@@ -11,11 +11,30 @@ import {shown} from "./values.js";
 /** @typedef {import("./machine.js").Datum} Datum */
 /** @typedef {import("./machine.js").Frame} Frame */
 /** @typedef {import("./machine.js").Task} Task */
+/** @typedef {import("./values.js").Scalar} Scalar */
 /** A row: its key, its cells, its datum and its line.
  * @typedef {{key: string, cells: string[], datum?: number, line?: number, changed?: boolean, gone?: boolean}} Row */
 /** An actor that runs a task.
  * @typedef {{actor: string, title: string, line: number, next: string, values: Row[], rights: Row[], spent: string}} Running */
-/** @typedef {{running: Running[], idle: string[], rules: Row[], control: Row[], leaf: Row[], notices: Row[], data: Row[], outputs: string}} View */
+/** The first rows of a table, and how many there are in all.
+ * @typedef {{rows: Row[], all: number}} Table */
+/** @typedef {{running: Running[], idle: string[], rules: Table, control: Table, leaf: Table, notices: Table, data: Table, outputs: string, refused: string[]}} View */
+
+/** The rows of a table that are made; a few more than are shown, so that a row that moves up isn't taken for a new one. */
+const MADE = 160;
+/** The members of a container that are shown. */
+const MEMBERS = 12;
+
+/** Returns the first of many things, as rows.
+ * @template T @param {Iterable<T>} things @param {number} all @param {(it: T) => Row} row @returns {Table} */
+function firstRows(things, all, row) {
+    const rows = [];
+    for (const it of things) {
+        if (rows.length === MADE) break;
+        rows.push(row(it));
+    }
+    return {rows, all};
+}
 
 const KINDS = /** @type {Record<string, string>} */ ({e: "engine", s: "server", w: "worker"});
 /** Returns an actor in words, as `worker 1`.
@@ -24,7 +43,7 @@ export const actorName = actor => `${KINDS[actor[0]]} ${actor.slice(1)}`;
 
 /** Returns what a datum is called in a run.
  * @param {Run} run @param {number} id */
-export const dataName = (run, id) => run.labels.get(id) ? `${run.labels.get(id)} (datum ${id})` : `datum ${id}`;
+export const dataName = (run, id) => run.label(id) ? `${run.label(id)} (datum ${id})` : `datum ${id}`;
 
 /** Returns the statement of a line, without its comment.
  * @param {Run} run @param {number} line */
@@ -72,15 +91,15 @@ function describe(run, event) {
 
 /** Returns a datum's content in words.
  * @param {Datum} datum */
-function content(datum) {
+export function content(datum) {
     if (!datum.members) return datum.value === null ? "not yet written" : shown(datum.value);
-    const all = subscripts(datum), some = all.slice(0, 12).map(key => `${shown(key)} → ${datum.members?.get(key)}`).join(", ");
-    return all.length ? `${all.length} member${all.length > 1 ? "s" : ""}: ${some}${all.length > 12 ? ", .." : ""}` : "no members";
+    const some = subscripts(datum, MEMBERS).map(key => `${shown(key)} → ${datum.members?.get(key)}`).join(", "), {size} = datum.members;
+    return size ? `${size} member${size > 1 ? "s" : ""}: ${some}${size > MEMBERS ? ", .." : ""}` : "no members";
 }
 
 /** Returns what an argument is called.
  * @param {Run} run @param {import("./machine.js").Argument} argument */
-const argumentName = (run, argument) => "value" in argument ? shown(argument.value) : run.labels.get(argument.datum) || `datum ${argument.datum}`;
+export const argumentName = (run, argument) => "value" in argument ? shown(argument.value) : run.label(argument.datum) || `datum ${argument.datum}`;
 
 /** Returns a call in words, as `square(3, squares)`.
  * @param {Run} run @param {Task} task */
@@ -97,48 +116,82 @@ function runningOf(run, actor, frame, places) {
     return {actor, title: `task ${frame.task}: ${callName(source, procedure)}`, line, next: statement(run, line), values, rights, spent: `${frame.spent} instruction${frame.spent === 1 ? "" : "s"} done${loops}`};
 }
 
-/** Returns the rows of the rules.
- * @param {Run} run @param {State} state @returns {Row[]} */
-const ruleRows = (run, state) => [...state.rules.values()].map(rule => {
+/** Returns the row of a rule.
+ * @param {Run} run @param {import("./machine.js").Rule} rule @returns {Row} */
+function ruleRow(run, rule) {
     const waits = rule.stages.flatMap((stage, k) => stage ? [`${argumentName(run, rule.args[k])}: ${stage === "unasked" ? "not asked yet" : stage === "waiting" ? "waiting" : "closed"}`] : []);
-    return {key: `rule ${rule.number}`, line: run.ruleLines.get(rule.number), cells: [`rule ${rule.number}`, callOf(run, rule), waits.join(", ") || "waits for nothing", `engine ${rule.engine}`]};
-});
+    return {key: `rule ${rule.number}`, line: run.ruleLine(rule.number), cells: [`rule ${rule.number}`, callOf(run, rule), waits.join(", ") || "nothing, it is ready", `engine ${rule.engine}`]};
+}
 
 /** Returns the rows of the tasks that wait for one kind of actor, the best first.
- * @param {Run} run @param {State} state @param {string} kind @returns {Row[]} */
+ * @param {Run} run @param {State} state @param {string} kind @returns {Table} */
 function queueRows(run, state, kind) {
-    const all = [...state.tasks.values()].filter(task => run.setting.program[task.procedure].kind === kind);
-    all.sort((one, other) => one.priority === other.priority ? one.number - other.number : one.priority < other.priority ? 1 : -1);
+    /** @type {Task[]} */
+    const best = [];
+    let all = 0;
+    for (const task of state.tasks.values()) {
+        if (run.setting.program[task.procedure].kind !== kind) continue;
+        all++;
+        if (best.length === MADE && !isBetter(task, best[MADE - 1])) continue;
+        if (best.length === MADE) best.pop();
+        let at = best.length;
+        while (at > 0 && isBetter(task, best[at - 1])) at--;
+        best.splice(at, 0, task);
+    }
     const actor = kind === "control" ? "engine" : "worker";
-    return all.map(task => ({key: `task ${task.number}`, cells: [`task ${task.number}`, callOf(run, task), `priority ${task.priority}`, task.target === null ? `any ${actor}` : `${actor} ${task.target} alone`]}));
+    return firstRows(best, all, task => ({key: `task ${task.number}`, cells: [`task ${task.number}`, callOf(run, task), `priority ${task.priority}`, task.target === null ? `any ${actor}` : `${actor} ${task.target} alone`]}));
 }
 
 /** Returns the row of a datum.
  * @param {Run} run @param {Datum} datum @returns {Row} */
 function dataRow(run, datum) {
-    const waits = datum.waiters.map(it => `rule ${it.rule}`).join(", ");
-    return {key: `datum ${datum.id}`, datum: datum.id, cells: [String(datum.id), run.labels.get(datum.id) ?? "", datum.type, content(datum), isClosed(datum) ? "closed" : "open", `${datum.reads} / ${datum.writes}`, waits]};
+    const waits = datum.waiters.slice(0, MEMBERS).map(it => `rule ${it.rule}`).join(", ") + (datum.waiters.length > MEMBERS ? ", .." : "");
+    return {key: `datum ${datum.id}`, datum: datum.id, cells: [String(datum.id), run.label(datum.id), datum.type, content(datum), isClosed(datum) ? "closed" : "open", `${datum.reads} / ${datum.writes}`, waits]};
+}
+
+/** Returns the last insertions that were refused up to an event, in words.
+ * @param {Run} run @param {number} event */
+function refusedInsertions(run, event) {
+    const {program} = run.setting, all = [...run.track.refusedUpTo(event)].slice(-500);
+    const named = all.filter(it => /^T?INS$/.test(program[run.track.procedureOf(it)].code[run.track.placesOf(it)[0]].name));
+    return named.slice(-8).map(it => `event ${it}: ${sentence(run, run.event(it))}`);
 }
 
 /** Returns what a state shows.
- * @param {Run} run @param {State} state @param {Map<number, [string, string][]>} places @param {string[]} actors @returns {View} */
-export function viewOf(run, state, places, actors) {
-    const data = [...state.data.values()].sort((one, other) => one.id - other.id).map(datum => dataRow(run, datum));
+ * @param {Run} run @param {State} state @param {number} event @param {Map<number, [string, string][]>} places @returns {View} */
+export function viewOf(run, state, event, places) {
+    const {actors} = run;
     return {
         running: actors.flatMap(actor => { const frame = state.frames.get(actor); return frame ? [runningOf(run, actor, frame, places)] : []; }),
         idle: actors.filter(actor => actor[0] !== "s" && !state.frames.has(actor)),
-        rules: ruleRows(run, state), control: queueRows(run, state, "control"), leaf: queueRows(run, state, "leaf"),
-        notices: state.notices.map(it => ({key: `notice ${it.datum} ${it.rule} ${it.param}`, cells: [`server ${it.server}`, `${dataName(run, it.datum)} is closed`, `for rule ${it.rule}`]})),
-        data, outputs: outputsOf(state),
+        rules: firstRows(state.rules.values(), state.rules.size, it => ruleRow(run, it)), control: queueRows(run, state, "control"), leaf: queueRows(run, state, "leaf"),
+        notices: firstRows(state.notices.values(), state.notices.size, it => ({key: `notice ${it.datum} ${it.rule} ${it.param}`, cells: [`server ${it.server}`, `${dataName(run, it.datum)} is closed`, `for rule ${it.rule}`]})),
+        data: firstRows(state.data.values(), state.data.size, it => dataRow(run, it)), outputs: outputsOf(run, state),
+        refused: refusedInsertions(run, event),
     };
 }
 
 /** Returns the outputs of a state and its standing, a line each.
- * @param {State} state */
-function outputsOf(state) {
-    const all = state.outputs.map((id, k) => `output ${k}: ${lines(state, state.data.get(id)).join("\n")}`);
+ * @param {Run} run @param {State} state */
+function outputsOf(run, state) {
+    const all = state.outputs.map((id, k) => `${run.label(id) || `output ${k}`}: ${lines(state, state.data.get(id), MEMBERS).join("\n")}`);
     return [...all, {quiet: "all is done", running: "running"}[standing(state)] ?? `${standing(state)}: rules wait for ever`].join("\n");
 }
+
+/** Returns what local instructions compute, with the values: `3 + 3 = 6`. Empty for several at once.
+ * @param {Run} run @param {Event} event @param {Scalar[]} before the value registers before it @param {Scalar[]} after */
+export function computed(run, event, before, after) {
+    if (event.kind !== "local" || event.count > 1) return "";
+    const {name, operands} = run.setting.program[event.procedure].code[event.places[0]], sign = SIGNS[name];
+    const given = (/** @type {number} */ k) => shown(before[operands[k]]), result = shown(after[operands[0]] ?? "");
+    if (sign) return `${given(1)} ${sign} ${given(2)} ${event.refused ? "has no result" : `= ${result}`}`;
+    if (name === "JEQ" || name === "JLT") return `${given(0)} ${name === "JEQ" ? "=" : "<"} ${given(1)}? ${jumps(name, before[operands[0]], before[operands[1]]) ? "yes: it skips" : "no"}`;
+    if (/^(COPY|LEN|SHOW|READI)$/.test(name)) return event.refused ? `${given(1)} is no number` : `${given(1)} gives ${result}`;
+    return "";
+}
+/** The signs of instructions with two operands.
+ * @type {Record<string, string>} */
+const SIGNS = {ADD: "+", SUB: "-", MUL: "×", DIV: "÷", REM: "rem", CAT: "and"};
 
 /** Marks the rows that an event changed, and adds those that it took away.
  * @param {Row[]} now @param {Row[]} before @returns {Row[]} */

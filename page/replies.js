@@ -79,12 +79,11 @@ export function readPlaces(text, source) {
     return held;
 }
 
-/** Splits the answer of a traced run into its events and its report.
- * @param {string} text @returns {{events: string[], report: string}} */
+/** Splits the answer of a traced run into the lines of its events and its report.
+ * @param {string} text @returns {{trace: string, report: string}} */
 export function readTrace(text) {
-    const found = /^events\n([^]*?)^end\n/m.exec(text);
-    if (!text.startsWith("events\n") || !found) return {events: [], report: text};
-    return {events: found[1].split("\n").slice(0, -1), report: text.slice(found[0].length)};
+    const head = "events\n", end = text.startsWith(head) ? text.indexOf("\nend\n", head.length - 1) : -1;
+    return end < 0 ? {trace: "", report: text} : {trace: text.slice(head.length, end + 1), report: text.slice(end + 5)};
 }
 
 /** Returns an explanation as its parts: what a number means, and what was asked, the usual mistake and its mending.

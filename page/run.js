@@ -1,8 +1,9 @@
 // @ts-check
 // SPDX-License-Identifier: Apache-2.0
-// A finished run: its events, their effects, and the state after each.
-import {copyOf, open, step, TooLong} from "./machine.js";
+// A run: its events with their effects, and the state after each. Some states are kept; the others are computed from the nearest one before.
+import {copyOf, open, sizeOf, step, TooLong} from "./machine.js";
 import {nameAt} from "./source.js";
+import {Track} from "./track.js";
 
 /** @typedef {import("./machine.js").State} State */
 /** @typedef {import("./machine.js").Fact} Fact */
@@ -10,34 +11,129 @@ import {nameAt} from "./source.js";
 /** @typedef {import("./program.js").Procedure} Procedure */
 /** @typedef {import("./source.js").Source} Source */
 /** @typedef {import("./source.js").Naming} Naming */
-/** The program, inputs, layout and events of a run.
- * @typedef {{program: Procedure[], source: Source, names: Naming[], inputs: Input[], engines: number, servers: number, workers: number, events: string[]}} Setting */
+/** What a run begins with.
+ * @typedef {{program: Procedure[], inputs: Input[], engines: number, servers: number, workers: number}} Opening */
+/** The opening of a run, its program's text and names, and the rights at each line.
+ * @typedef {Opening & {source: Source, names: Naming[], places?: Map<number, [string, string][]>}} Setting */
 /** An event, with its lines.
  * @typedef {Fact & {lines: number[]}} Event */
+/** A state after so many events, with the number of things in it.
+ * @typedef {{count: number, state: State, size: number}} Kept */
 
-/** Local instructions that are followed, in all and between two kept states. */
-const FOLLOWED = 20000000, KEPT = 100;
+/** Local instructions that are followed in all, and between two kept states; events between two kept states; things in all kept states; and how
+ * far before an event a state is kept once somebody goes back there. */
+const FOLLOWED = 20000000, WORK = 300000, SPACING = 50, THINGS = 250000, NEAR = 100;
+
+/** Returns all actors of a layout, in their order.
+ * @param {Opening} opening */
+export const actorsOf = ({engines, servers, workers}) => [...many("e", engines), ...many("s", servers), ...many("w", workers)];
+/** @param {string} letter @param {number} count */
+const many = (letter, count) => Array.from({length: count}, (_, k) => letter + k);
+
+/** Chooses which states are kept: so often that going to an event is quick, and so seldom that they don't fill the memory. */
+export class Keeper {
+    /** @param {State} first */
+    constructor(first) {
+        this.spacing = SPACING;
+        this.things = 0;
+        /** @type {Kept[]} */
+        this.kept = [{count: 0, state: first, size: 0}];
+    }
+
+    /** Returns whether the state after so many events should be kept.
+     * @param {number} count @param {number} work the local instructions since the last one */
+    wants(count, work) { return count - this.kept[this.kept.length - 1].count >= this.spacing || work >= WORK; }
+
+    /** Keeps a state. If that makes too many things, every second state is dropped.
+     * @param {Kept} it */
+    keep(it) {
+        this.kept.push(it);
+        this.things += it.size;
+        while (this.kept.length > 2 && (this.things > THINGS || this.kept.length > 400)) {
+            this.kept = this.kept.filter((_, k) => k % 2 === 0);
+            this.things = this.kept.reduce((sum, {size}) => sum + size, 0);
+            this.spacing *= 2;
+        }
+    }
+
+    /** Returns the last kept state of at most so many events.
+     * @param {number} count */
+    before(count) {
+        let low = 0, high = this.kept.length - 1;
+        while (low < high) {
+            const middle = low + high + 1 >> 1;
+            if (this.kept[middle].count <= count) low = middle; else high = middle - 1;
+        }
+        return this.kept[low];
+    }
+}
+
+/** Executes the events of a trace, one after the other. */
+export class Follower {
+    /** @param {Opening} opening @param {string} trace its lines */
+    constructor(opening, trace) {
+        this.program = opening.program;
+        this.state = open(opening.program, opening.inputs, opening.servers);
+        this.trace = trace;
+        this.at = 0;
+        this.count = 0;
+        this.left = FOLLOWED;
+        this.work = 0;
+        /** A message, if an event is too long to be followed. */
+        this.cut = "";
+    }
+
+    /** Executes some events, up to one that is too long; then `cut` says so. Returns whether there are more.
+     * @param {import("./track.js").Columns} track @param {number} most @param {(state: State) => void} after called after each, with the state */
+    more(track, most, after) {
+        for (const {trace} = this; most > 0 && this.at < trace.length && !this.cut; most--) {
+            const end = trace.indexOf("\n", this.at), line = trace.slice(this.at, end < 0 ? trace.length : end);
+            if (!this.one(track, line)) break;
+            this.at += line.length + 1;
+            after(this.state);
+        }
+        return !this.cut && this.at < this.trace.length;
+    }
+
+    /** @param {import("./track.js").Columns} track @param {string} line */
+    one(track, line) {
+        try {
+            const fact = step(this.state, this.program, line, this.left);
+            this.left -= fact.count;
+            this.work += fact.count;
+            this.count++;
+            track.add(fact);
+            return true;
+        } catch (error) {
+            if (!(error instanceof TooLong)) throw error;
+            this.cut = `Event ${this.count + 1} has ${error.message}. The page follows ${FOLLOWED.toLocaleString("en")}; the library made the rest.`;
+            return false;
+        }
+    }
+}
 
 export class Run {
     /** Begins with the opening; `follow` computes the rest.
      * @param {Setting} setting */
     constructor(setting) {
         this.setting = setting;
-        /** @type {Event[]} */
-        this.events = [];
-        /** The names of data, by id.
-         * @type {Map<number, string>} */
-        this.labels = new Map();
+        this.actors = actorsOf(setting);
+        this.track = new Track(this.actors);
         /** A message, if an event is too long to be followed.
          * @type {string} */
         this.cut = "";
-        this.spacing = Math.max(50, Math.ceil(setting.events.length / KEPT));
         const first = open(setting.program, setting.inputs, setting.servers);
-        /** @type {State[]} */
-        this.kept = [first];
-        /** The lines of the RULEs that made rules.
-         * @type {Map<number, number>} */
-        this.ruleLines = new Map();
+        this.keeper = new Keeper(first);
+        /** The state that was asked for last, and one kept before it.
+         * @type {Kept} */
+        this.now = {count: 0, state: copyOf(first), size: 0};
+        /** @type {Kept | null} */
+        this.near = null;
+        /** The names of main's data, by id, and of the data that the program makes, by place.
+         * @type {Map<number, string>} */
+        this.given = new Map();
+        /** @type {Map<number, string>} */
+        this.made = new Map();
         this.nameInputs(first);
     }
 
@@ -48,60 +144,109 @@ export class Run {
         task.args.forEach((it, k) => {
             if (!("datum" in it)) return;
             const register = `d${k}`, name = nameAt(names, 0, head, register), datum = /** @type {import("./machine.js").Datum} */ (state.data.get(it.datum));
-            this.labels.set(it.datum, name === register ? datum.from : name);
-            for (const [key, id] of datum.members ?? []) this.labels.set(id, `${this.labels.get(it.datum)} at ${key}`);
+            this.given.set(it.datum, name === register ? datum.from : name);
+            for (const [key, id] of datum.members ?? []) this.given.set(id, `${this.given.get(it.datum)} at ${key}`);
         });
     }
 
-    /** Computes the effects of all events, up to one that is too long; then `cut` says so. Yields to the page now and then. */
-    async follow() {
-        const {program, events} = this.setting, state = copyOf(this.kept[0]);
-        let left = FOLLOWED;
-        for (let k = 0; k < events.length; k++) {
-            try {
-                const fact = step(state, program, events[k], left);
-                left -= fact.count;
-                this.events.push(this.eventOf(fact));
-            } catch (error) {
-                if (!(error instanceof TooLong)) throw error;
-                this.cut = `Event ${k + 1} has ${error.message}. The page follows ${FOLLOWED.toLocaleString("en")}; the library made the rest.`;
-                break;
-            }
-            if (this.events.length % this.spacing === 0) this.kept.push(copyOf(state));
-            if (k % 5000 === 4999) await new Promise(go => setTimeout(go));
-        }
+    /** Follows a trace to its end, here.
+     * @param {string} trace */
+    follow(trace) {
+        const follower = new Follower(this.setting, trace);
+        follower.more(this.track, Infinity, state => this.keepAt(follower, state));
+        this.cut = follower.cut;
         return this;
     }
 
-    /** Adds to a fact its lines, and names what it made.
-     * @param {Fact} fact @returns {Event} */
-    eventOf(fact) {
-        const {source, names} = this.setting, {kind, procedure} = fact;
-        const lines = fact.places.flatMap(place => source.places[procedure]?.[place] ?? []);
-        if (fact.makes === "datum") {
-            const {operands} = this.setting.program[procedure].code[fact.places[0]], register = `d${operands[1]}`, name = nameAt(names, procedure, lines[0], register);
-            this.labels.set(fact.made, name === register ? "" : name);
-        }
-        if (fact.makes === "rule") this.ruleLines.set(fact.made, lines[0]);
-        if (kind === "take") lines.push(source.heads[procedure]);
-        if (kind === "ask" || kind === "deliver" || kind === "release") lines.push(this.ruleLines.get(fact.rule) ?? 0);
-        return {...fact, lines};
+    /** @param {Follower} follower @param {State} state */
+    keepAt(follower, state) {
+        if (!this.keeper.wants(follower.count, follower.work)) return;
+        this.keeper.keep({count: follower.count, state: copyOf(state), size: sizeOf(state)});
+        follower.work = 0;
     }
 
-    get length() { return this.events.length; }
+    get length() { return this.track.length; }
 
-    /** Returns the state after so many events.
+    /** Returns which right registers have a right to write before a place. The verifier's listing says it, by line.
+     * @param {number} procedure @param {number} place */
+    writesAt(procedure, place) {
+        const line = this.setting.source.places[procedure][place], held = this.setting.places?.get(line) ?? [];
+        return new Set(held.filter(([, right]) => right.startsWith("write")).map(([register]) => +register.slice(1)));
+    }
+
+    /** Returns what a datum is called in the program; empty if it has no name.
+     * @param {number} id */
+    label(id) {
+        const given = this.given.get(id), event = this.track.makerOf("datum", id);
+        if (given !== undefined || !event) return given ?? "";
+        const procedure = this.track.procedureOf(event), [place] = this.track.placesOf(event), key = procedure * 65536 + place;
+        const known = this.made.get(key) ?? this.nameMade(procedure, place);
+        this.made.set(key, known);
+        return known;
+    }
+
+    /** @param {number} procedure @param {number} place */
+    nameMade(procedure, place) {
+        const {source, names, program} = this.setting, register = `d${program[procedure].code[place].operands[1]}`;
+        const name = nameAt(names, procedure, source.places[procedure][place], register);
+        return name === register ? "" : name;
+    }
+
+    /** Returns the ids of the first data.
+     * @param {number} most */
+    dataIds(most) {
+        const all = Math.max(this.track.makers.datum.length - 1, ...this.given.keys());
+        return Array.from({length: Math.max(0, Math.min(all, most))}, (_, k) => k + 1);
+    }
+
+    /** Returns the line of the RULE that made a rule.
+     * @param {number} rule */
+    ruleLine(rule) {
+        const event = this.track.makerOf("rule", rule);
+        return event ? this.placeLines(event)[0] ?? 0 : 0;
+    }
+
+    /** @param {number} event */
+    placeLines(event) {
+        const places = this.setting.source.places[this.track.procedureOf(event)] ?? [];
+        return this.track.placesOf(event).flatMap(place => places[place] ?? []);
+    }
+
+    /** Returns the lines of an event.
+     * @param {number} event */
+    linesOf(event) {
+        const {track} = this, kind = track.kindOf(event), lines = this.placeLines(event);
+        if (kind === "take") lines.push(this.setting.source.heads[track.procedureOf(event)]);
+        if (kind === "ask" || kind === "deliver" || kind === "release") lines.push(this.ruleLine(track.ruleOf(event)));
+        return lines;
+    }
+
+    /** @param {number} event @returns {Event} */
+    event(event) { return {...this.track.fact(event), lines: this.linesOf(event)}; }
+
+    /** Returns the state after so many events. It is changed by the next call.
      * @param {number} count @returns {State} */
     at(count) {
-        const from = Math.min(Math.floor(count / this.spacing), this.kept.length - 1), state = copyOf(this.kept[from]);
-        for (let k = from * this.spacing; k < count; k++) step(state, this.setting.program, this.setting.events[k]);
-        return state;
+        const kept = this.keeper.before(count), from = this.near && this.near.count <= count && this.near.count > kept.count ? this.near : kept;
+        const back = this.now.count > count;
+        if (back || this.now.count < from.count) this.now = {...from, state: copyOf(from.state)};
+        if (back && count - from.count > 2 * NEAR) {
+            this.stepTo(count - NEAR);
+            this.near = {...this.now, state: copyOf(this.now.state)};
+        }
+        return this.stepTo(count);
+    }
+
+    /** @param {number} count */
+    stepTo(count) {
+        for (; this.now.count < count; this.now.count++) step(this.now.state, this.setting.program, this.track.line(this.now.count + 1));
+        return this.now.state;
     }
 
     /** Returns the nearest event before or after one that meets a test; 0 if there is none.
-     * @param {number} from @param {1 | -1} way @param {(event: Event) => boolean} meets */
+     * @param {number} from @param {1 | -1} way @param {(event: number) => boolean} meets */
     find(from, way, meets) {
-        for (let k = from + way; k >= 1 && k <= this.length; k += way) if (meets(this.events[k - 1])) return k;
+        for (let k = from + way; k >= 1 && k <= this.length; k += way) if (meets(k)) return k;
         return 0;
     }
 }

@@ -1,11 +1,11 @@
 // @ts-check
 // SPDX-License-Identifier: Apache-2.0
-// Saves the page's contents in the address and in the browser's storage.
+// Saves the page's contents in the address.
 
 /** The page's contents: text, inputs, layout (engines, servers, workers, limit), event, and the example's name if the text is unchanged.
  * @typedef {{text: string, inputs: string[], layout: number[], event: number, example: string}} Kept */
 
-const KEY = "yuglemit", LONGEST_LINK = 30000;
+const LONGEST_LINK = 30000, LONGEST_TEXT = 1 << 20;
 
 /** Turns bytes through a stream into others.
  * @param {Uint8Array} bytes @param {GenericTransformStream} through */
@@ -26,47 +26,59 @@ export async function packed(kept) {
     return lettersOf(await through(new TextEncoder().encode(JSON.stringify(short)), new CompressionStream("deflate-raw")));
 }
 
+/** Unpacks bytes, up to a length; beyond it, the contents are taken as broken.
+ * @param {Uint8Array} bytes */
+async function inflated(bytes) {
+    const reader = new Blob([bytes]).stream().pipeThrough(new DecompressionStream("deflate-raw")).getReader(), decoder = new TextDecoder();
+    let text = "";
+    for (let it = await reader.read(); !it.done; it = await reader.read()) {
+        text += decoder.decode(it.value, {stream: true});
+        if (text.length > LONGEST_TEXT) { reader.cancel(); throw new Error("too long"); }
+    }
+    return text + decoder.decode();
+}
+
+/** Returns a whole number within bounds; for anything else the least.
+ * @param {any} it @param {number} least @param {number} most */
+const within = (it, least, most) => { const number = Math.floor(Number(it)); return number >= least ? Math.min(number, most) : least; };
+
+/** Returns contents of which each part has its type; null if they aren't contents.
+ * @param {any} it @returns {Kept | null} */
+export function whole(it) {
+    const good = it && typeof it.text === "string" && Array.isArray(it.inputs) && Array.isArray(it.layout) && it.layout.length === 4;
+    if (!good) return null;
+    const layout = [4, 4, 16, 1000000].map((most, k) => within(it.layout[k], 1, most));
+    return {text: it.text, inputs: it.inputs.slice(0, 16).map(String), layout, event: within(it.event, 0, 1000000), example: String(it.example ?? "")};
+}
+
 /** Decodes contents; null if they are broken.
  * @param {string} letters @returns {Promise<Kept | null>} */
 export async function unpacked(letters) {
     try {
         const binary = atob(letters.replace(/-/g, "+").replace(/_/g, "/"));
-        const kept = JSON.parse(new TextDecoder().decode(await through(Uint8Array.from(binary, sign => sign.charCodeAt(0)), new DecompressionStream("deflate-raw"))));
-        const whole = typeof kept.text === "string" && Array.isArray(kept.inputs) && Array.isArray(kept.layout) && kept.layout.length === 4;
-        if (!whole) return null;
-        return {text: kept.text, inputs: kept.inputs.map(String), layout: kept.layout.map(Number), event: Number(kept.event) || 0, example: String(kept.example ?? "")};
+        return whole(JSON.parse(await inflated(Uint8Array.from(binary, sign => sign.charCodeAt(0)))));
     } catch {
         return null;
     }
 }
 
-/** Saves contents. Returns whether the address holds them; if they are too long, only the storage does.
+let keeping = 0;
+/** Puts contents into the address. Returns whether they fit. Of two calls the later one counts, whichever is packed first.
  * @param {Kept} kept */
 export async function keep(kept) {
-    const letters = await packed(kept), fits = letters.length <= LONGEST_LINK;
+    const mine = ++keeping, letters = await packed(kept), fits = letters.length <= LONGEST_LINK;
+    if (mine !== keeping) return fits;
     try {
         history.replaceState(null, "", fits ? `#p=${letters}` : location.pathname + location.search);
     } catch {
         // Some browsers let a page change its address just so often; the next change keeps it.
     }
-    try {
-        localStorage.setItem(KEY, letters);
-    } catch {
-        // The storage is full or blocked: the address has it.
-    }
     return fits;
 }
 
-/** Returns the contents of the address, else of the storage.
- * @returns {Promise<{kept: Kept | null, wrong: boolean}>} */
-export async function kept() {
-    const letters = /^#p=([\w-]+)$/.exec(location.hash)?.[1], linked = letters ? await unpacked(letters) : null;
-    if (linked) return {kept: linked, wrong: false};
-    let stored = null;
-    try {
-        stored = localStorage.getItem(KEY);
-    } catch {
-        // A page without storage begins anew.
-    }
-    return {kept: stored ? await unpacked(stored) : null, wrong: !!letters};
+/** Returns the contents of the address, and whether it has a broken link.
+ * @returns {Promise<{linked: Kept | null, wrong: boolean}>} */
+export async function linked() {
+    const letters = /^#p=([\w-]*)/.exec(location.hash)?.[1], it = letters ? await unpacked(letters) : null;
+    return {linked: it, wrong: /^#p=/.test(location.hash) && !it};
 }

@@ -2,7 +2,9 @@
 // SPDX-License-Identifier: Apache-2.0
 // Steps through a run: plays it, moves forward and back, and shows each event in the program, the state and the timeline.
 import {$, h} from "./dom.js";
-import {actorName, dataName, sentence, viewOf} from "./model.js";
+import {actorName, computed, dataName, sentence, viewOf} from "./model.js";
+import {pictureOf} from "./picture.js";
+import {grouped} from "./verdict.js";
 import {show} from "./view.js";
 
 /** @typedef {import("./run.js").Run} Run */
@@ -10,8 +12,8 @@ import {show} from "./view.js";
 /** @typedef {import("./editor.js").Editor} Editor */
 /** @typedef {import("./timeline.js").Timeline} Timeline */
 
-/** Data that can be picked in the list of what to step through. */
-const PICKED = 300;
+/** Data that can be picked in the list of what to step through, and milliseconds between two looks at a run that grows. */
+const PICKED = 300, SELDOM = 700;
 
 export class Stepper {
     /** @param {Editor} editor @param {() => void} moved called when another event is shown */
@@ -24,41 +26,84 @@ export class Stepper {
         this.timeline = null;
         /** @type {Map<number, [string, string][]>} */
         this.places = new Map();
-        /** @type {string[]} */
-        this.actors = [];
         this.at = 0;
+        /** What is shown of the event: its run, its number and the view of its state.
+         * @type {{run: Run, event: number, view: import("./model.js").View} | null} */
+        this.viewed = null;
+        this.grew = 0;
         this.timer = 0;
         this.stale = false;
         /** Whether the page itself began to play; then any touch stops it. */
         this.gentle = false;
+        /** Whether the reader has scrolled the program while it plays; then it isn't scrolled for them. */
+        this.away = false;
         this.slider = /** @type {HTMLInputElement} */ ($("step"));
         this.by = /** @type {HTMLSelectElement} */ ($("by"));
         this.speed = /** @type {HTMLSelectElement} */ ($("speed"));
+        this.bind();
+    }
+
+    bind() {
         this.slider.addEventListener("input", () => this.go(+this.slider.value));
         $("back").addEventListener("click", () => this.move(-1));
         $("on").addEventListener("click", () => this.move(1));
-        $("first").addEventListener("click", () => this.go(0));
+        $("first").addEventListener("click", () => { this.stop(); this.go(0); });
+        $("last").addEventListener("click", () => { this.stop(); this.go(this.run?.length ?? 0); });
         $("play").addEventListener("click", () => this.timer ? this.stop() : this.play(false));
         this.by.addEventListener("change", () => this.buttons());
         this.speed.addEventListener("change", () => { if (this.timer) this.play(this.gentle); });
         for (const kind of ["pointerdown", "keydown"]) document.addEventListener(kind, () => { if (this.gentle) setTimeout(() => this.gentle && this.stop()); }, true);
+        for (const kind of ["wheel", "touchmove", "keydown"]) $("editor").addEventListener(kind, () => { this.away = this.timer !== 0; }, {passive: true});
+        document.addEventListener("keydown", event => this.key(event));
+    }
+
+    /** Steps by `.` and `,` outside of fields, and by F10 everywhere.
+     * @param {KeyboardEvent} event */
+    key(event) {
+        const field = /^(INPUT|TEXTAREA|SELECT)$/.test(/** @type {HTMLElement} */ (event.target).tagName ?? ""), plain = !event.ctrlKey && !event.metaKey && !event.altKey;
+        const way = event.key === "F10" ? event.shiftKey ? -1 : 1 : !field && plain ? {".": 1, ",": -1}[event.key] : 0;
+        if (!way || !this.run) return;
+        event.preventDefault();
+        this.move(way > 0 ? 1 : -1);
     }
 
     /** Takes a run, and shows one of its events.
-     * @param {Run} run @param {Map<number, [string, string][]>} places @param {string[]} actors @param {number} event */
-    take(run, places, actors, event) {
+     * @param {Run} run @param {Map<number, [string, string][]>} places @param {number} event */
+    take(run, places, event) {
         this.stop();
-        Object.assign(this, {run, places, actors, stale: false});
-        this.slider.max = String(run.length);
-        const option = (/** @type {string} */ value, /** @type {string} */ text) => h("option", {value}, text), data = [...run.labels.keys()].slice(0, PICKED);
-        this.by.replaceChildren(option("all", "each event"), option("line", "events of the cursor's line"),
-            h("optgroup", {label: "events of an actor"}, ...actors.map(it => option(it, actorName(it)))),
-            h("optgroup", {label: "events of a datum"}, ...data.map(id => option(`d${id}`, dataName(run, id)))));
-        document.body.classList.remove("stale");
-        $("cut").textContent = run.cut;
-        this.timeline?.show(run, actors);
+        Object.assign(this, {run, places, stale: false, viewed: null});
+        this.fresh();
+        this.timeline?.show(run);
+        this.grown(false);
         this.go(Math.min(event, run.length));
     }
+
+    /** Shows that the run belongs to the program. */
+    fresh() {
+        this.stale = false;
+        document.body.classList.remove("stale");
+    }
+
+    /** Takes more events of the run. While more are to come it is done now and then.
+     * @param {boolean} part */
+    grown(part) {
+        const {run} = this, now = performance.now();
+        if (!run || part && now - this.grew < SELDOM) return;
+        this.grew = now;
+        const option = (/** @type {string} */ value, /** @type {string} */ text) => h("option", {value}, text), chosen = this.by.value;
+        this.slider.max = String(run.length);
+        this.by.replaceChildren(option("all", "each event"), option("line", "events of the cursor's line"),
+            h("optgroup", {label: "events of an actor"}, ...run.actors.map(it => option(it, actorName(it)))),
+            h("optgroup", {label: "events of a datum"}, ...run.dataIds(PICKED).map(id => option(`d${id}`, dataName(run, id)))));
+        this.by.value = chosen || "all";
+        if (!this.by.value) this.by.value = "all";
+        $("cut").textContent = run.cut;
+        $("at").textContent = this.position;
+        this.timeline?.grown();
+        this.buttons();
+    }
+
+    get position() { return `event ${grouped(this.at)} of ${grouped(this.run?.length ?? 0)}`; }
 
     /** Marks the run as older than the program. */
     leave() {
@@ -67,14 +112,13 @@ export class Stepper {
         document.body.classList.add("stale");
     }
 
-    /** @returns {(event: Event) => boolean} */
+    /** @returns {(event: number) => boolean} */
     get test() {
-        const by = this.by.value, line = this.editor.line;
-        if (by === "line") return event => event.lines.includes(line);
-        if (/^d\d/.test(by)) return event => event.data.includes(+by.slice(1)) || event.makes === "datum" && event.made === +by.slice(1);
-        return by === "all" ? () => true : event => event.actor === by;
+        const by = this.by.value, line = this.editor.line, run = /** @type {Run} */ (this.run);
+        if (by === "line") return event => run.linesOf(event).includes(line);
+        if (/^d\d/.test(by)) return event => run.track.touches(event, +by.slice(1));
+        return by === "all" ? () => true : event => run.track.actorOf(event) === by;
     }
-
     /** Moves to the next or the previous event.
      * @param {1 | -1} way */
     move(way) {
@@ -93,6 +137,13 @@ export class Stepper {
         $("on").focus();
     }
 
+    /** Returns the view of the state before an event, and what an actor's value registers are there.
+     * @param {Run} run @param {number} event */
+    before(run, event) {
+        const known = this.viewed?.run === run && this.viewed.event === event - 1 ? this.viewed.view : null, state = run.at(event - 1);
+        return {view: known ?? viewOf(run, state, event - 1, this.places), values: [...state.frames.get(run.track.actorOf(event))?.values ?? []]};
+    }
+
     /** Shows an event, and the state after it.
      * @param {number} event */
     go(event) {
@@ -100,12 +151,14 @@ export class Stepper {
         if (!run) return;
         this.at = event;
         this.slider.value = String(event);
-        const state = run.at(event), before = event ? run.at(event - 1) : state, happened = event ? run.events[event - 1] : null;
-        const now = viewOf(run, state, this.places, this.actors);
-        $("at").textContent = `event ${event} of ${run.length}`;
-        $("what").textContent = happened ? sentence(run, happened) : "Nothing has happened yet: main waits for an engine.";
+        const before = event ? this.before(run, event) : null, state = run.at(event), happened = event ? run.event(event) : null;
+        const now = viewOf(run, state, event, this.places);
+        this.viewed = {run, event, view: now};
+        const sum = happened && before ? computed(run, happened, before.values, state.frames.get(happened.actor)?.values ?? []) : "";
+        $("at").textContent = this.position;
+        $("what").textContent = happened ? `${sentence(run, happened)}${sum && `: ${sum}`}` : "Nothing has happened yet: main waits for an engine.";
         this.slider.setAttribute("aria-valuetext", `${$("at").textContent}: ${$("what").textContent}`);
-        show($("state"), now, viewOf(run, before, this.places, this.actors), {pickDatum: id => this.pick(`d${id}`), pickLine: line => this.online(line)});
+        show(now, before?.view ?? now, pictureOf(run, state), {pickDatum: id => this.pick(`d${id}`), pickLine: line => this.online(line)});
         this.light(happened, now.running);
         this.timeline?.point(event);
         this.buttons();
@@ -119,9 +172,8 @@ export class Stepper {
         /** @type {Map<number, string[]>} */
         const next = new Map();
         for (const {actor, line} of running) next.set(line, [...next.get(line) ?? [], actor]);
-        this.editor.mark({hits: new Set(happened?.lines), next});
-        const line = happened?.lines[0] ?? running[0]?.line;
-        if (line !== undefined) this.editor.reveal(line);
+        const line = this.away ? undefined : happened?.lines[0] ?? running[0]?.line;
+        this.editor.mark({hits: new Set(happened?.lines), next}, line);
     }
 
     /** Moves to the next event of a line, or else to its first.
@@ -130,7 +182,7 @@ export class Stepper {
         const {run} = this;
         if (!run || this.stale) return;
         this.stop();
-        const meets = (/** @type {Event} */ event) => event.lines.includes(line), to = run.find(this.at, 1, meets) || run.find(0, 1, meets);
+        const meets = (/** @type {number} */ event) => run.linesOf(event).includes(line), to = run.find(this.at, 1, meets) || run.find(0, 1, meets);
         if (to) this.go(to);
         else $("what").textContent = `No event is of line ${line + 1}.`;
     }
@@ -138,7 +190,7 @@ export class Stepper {
     buttons() {
         const length = this.run?.length ?? 0;
         /** @type {[string, boolean][]} */
-        const all = [["back", this.at === 0], ["first", this.at === 0], ["on", this.at === length]];
+        const all = [["back", this.at === 0], ["first", this.at === 0], ["on", this.at === length], ["last", this.at === length]];
         for (const [id, off] of all) $(id).setAttribute("aria-disabled", String(off));
         $("play").textContent = this.timer ? "Pause" : "Play";
     }
@@ -149,6 +201,8 @@ export class Stepper {
         if (!this.run) return;
         this.stop();
         this.gentle = gentle;
+        this.away = false;
+        $("what").setAttribute("aria-live", "off");
         if (this.at === this.run.length) this.go(0);
         this.timer = setInterval(() => this.tick(), +this.speed.value);
         this.buttons();
@@ -166,7 +220,8 @@ export class Stepper {
         const played = this.timer;
         clearInterval(this.timer);
         this.timer = 0;
-        this.gentle = false;
+        this.gentle = this.away = false;
+        $("what").setAttribute("aria-live", "polite");
         this.buttons();
         if (played) this.moved();
     }

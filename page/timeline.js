@@ -1,62 +1,73 @@
 // @ts-check
 // SPDX-License-Identifier: Apache-2.0
-// Draws the events as markers in a row for each actor. Only what is in sight is drawn, so a million events take no longer than fifty.
-import {h, s} from "./dom.js";
+// Draws the events as markers in a row for each actor, and all of them small in a strip below. Only what is in sight is drawn, so a million events take no
+// longer than fifty.
+import {$, h, s} from "./dom.js";
 import {actorName, sentence} from "./model.js";
 import {callName} from "./source.js";
 
 /** @typedef {import("./run.js").Run} Run */
-/** A task's stretch: where it was made, taken and ended, and by whom.
- * @typedef {{task: number, procedure: number, made: number, maker: string, taken: number, end: number, actor: string}} Stretch */
 
-const LANE = 44, HEAD = 22, WIDEST = 22, LARGEST = 1600000;
-
-/** Returns the stretches of a run's tasks.
- * @param {Run} run @returns {Stretch[]} */
-function stretchesOf(run) {
-    /** @type {Map<number, Stretch>} */
-    const all = new Map();
-    run.events.forEach((event, k) => {
-        const at = k + 1;
-        if (event.makes === "task") all.set(event.made, {task: event.made, procedure: -1, made: at, maker: event.actor, taken: 0, end: 0, actor: ""});
-        else if (event.kind === "take") {
-            const it = all.get(event.task) ?? {task: event.task, procedure: -1, made: 0, maker: "", taken: 0, end: 0, actor: ""};
-            all.set(event.task, Object.assign(it, {procedure: event.procedure, taken: at, end: run.length, actor: event.actor}));
-        } else if (event.kind === "end") Object.assign(all.get(event.task) ?? {}, {end: at});
-    });
-    return [...all.values()].filter(it => it.taken);
-}
+const LANE = 44, HEAD = 22, WIDEST = 22, LARGEST = 1600000, STRIP = 6, DRAWN = 400;
+/** The shape of a marker of half size r, by the event's kind: kinds differ by more than their colour.
+ * @type {Record<string, (r: number) => string>} */
+export const SHAPES = {
+    take: r => `M${-r} ${-r}L${r} 0L${-r} ${r}Z`,
+    local: r => `M${-r} ${-r}H${r}V${r}H${-r}Z`,
+    call: r => `M${-r} 0A${r} ${r} 0 1 1 ${r} 0A${r} ${r} 0 1 1 ${-r} 0Z`,
+    end: r => `M${-r / 2} ${-r}H${r / 2}V${r}H${-r / 2}Z`,
+    ask: r => `M0 ${-r}L${r} 0L0 ${r}L${-r} 0ZM0 ${-r / 2.5}L${-r / 2.5} 0L0 ${r / 2.5}L${r / 2.5} 0Z`,
+    deliver: r => `M0 ${-r}L${r} 0L0 ${r}L${-r} 0Z`,
+    release: r => `M${-r} ${r}L0 ${-r}L${r} ${r}Z`,
+};
+/** What the kinds are called in the legend. */
+const CALLED = {take: "take", local: "compute", call: "data, tasks", end: "end", ask: "ask", deliver: "tell", release: "release"};
 
 export class Timeline {
     /** @param {HTMLElement} names @param {HTMLElement} box @param {HTMLElement} caption @param {(event: number) => void} go */
     constructor(names, box, caption, go) {
         this.names = names;
         this.box = box;
+        this.outer = /** @type {HTMLElement} */ (box.parentElement);
+        this.strip = /** @type {HTMLCanvasElement} */ ($("strip"));
         this.caption = caption;
         this.go = go;
         /** @type {Run | null} */
         this.run = null;
-        /** @type {Stretch[]} */
-        this.stretches = [];
         /** @type {Map<string, number>} */
         this.lanes = new Map();
         this.now = 0;
         this.wide = WIDEST;
+        this.drawn = "";
+        this.bind();
+    }
+
+    bind() {
+        const {box, strip} = this;
         box.addEventListener("scroll", () => this.draw());
         box.addEventListener("keydown", event => this.key(event));
-        new ResizeObserver(() => this.draw()).observe(box);
+        new ResizeObserver(() => { this.draw(); this.overview(); }).observe(box);
+        for (const kind of ["pointerdown", "pointermove"]) strip.addEventListener(kind, event => this.fromStrip(/** @type {PointerEvent} */ (event)));
+        $("legend").replaceChildren(...Object.entries(SHAPES).flatMap(([kind, shape]) => [s("svg.key", {viewBox: "-7 -7 14 14"}, s(`path.${kind}`, {d: shape(6)})), CALLED[/** @type {keyof typeof CALLED} */ (kind)], " "]), "Order, not time.");
     }
 
     /** Shows a run.
-     * @param {Run} run @param {string[]} actors */
-    show(run, actors) {
+     * @param {Run} run */
+    show(run) {
         this.run = run;
         this.wide = Math.min(WIDEST, LARGEST / Math.max(1, run.length));
-        this.lanes = new Map(actors.map((actor, k) => [actor, k]));
-        this.stretches = stretchesOf(run);
-        this.names.replaceChildren(h("div", {style: `height:${HEAD}px`}), ...actors.map(actor => h("div.lane-name", {style: `height:${LANE}px`}, actorName(actor))));
-        this.box.scrollLeft = 0;
+        this.lanes = new Map(run.actors.map((actor, k) => [actor, k]));
+        this.names.replaceChildren(h("div", {style: `height:${HEAD}px`}), ...run.actors.map(actor => h("div.lane-name", {style: `height:${LANE}px`}, actorName(actor))));
+        this.box.scrollLeft = this.outer.scrollTop = 0;
+        this.grown();
+    }
+
+    /** Shows more events of the run. */
+    grown() {
+        this.wide = Math.min(WIDEST, LARGEST / Math.max(1, this.run?.length ?? 1));
+        this.drawn = "";
         this.draw();
+        this.overview();
     }
 
     /** @param {KeyboardEvent} event */
@@ -67,13 +78,24 @@ export class Timeline {
         this.go(Math.max(0, Math.min(this.run.length, this.now + way)));
     }
 
+    /** Goes to the event at a place of the strip.
+     * @param {PointerEvent} event */
+    fromStrip(event) {
+        if (!this.run || !event.buttons) return;
+        const {left, width} = this.strip.getBoundingClientRect();
+        this.go(Math.max(0, Math.min(this.run.length, Math.round((event.clientX - left) / width * this.run.length))));
+    }
+
     /** Marks an event, and brings it into sight.
      * @param {number} event */
     point(event) {
         this.now = event;
-        const x = (event - 0.5) * this.wide, {scrollLeft, clientWidth} = this.box;
+        const x = this.x(event), {scrollLeft, clientWidth} = this.box, {outer} = this;
         if (x < scrollLeft + 40 || x > scrollLeft + clientWidth - 80) this.box.scrollLeft = x - clientWidth / 3;
+        const y = event && this.run ? this.y(this.run.track.actorOf(event)) : 0;
+        if (event && (y < outer.scrollTop + HEAD || y + LANE > outer.scrollTop + outer.clientHeight)) outer.scrollTop = y - outer.clientHeight / 2;
         this.draw();
+        this.window();
     }
 
     /** The middle of an event's column.
@@ -84,16 +106,17 @@ export class Timeline {
     y(actor) { return HEAD + (this.lanes.get(actor) ?? 0) * LANE; }
 
     draw() {
-        const {run, box, wide} = this;
-        if (!run) return;
+        const {run, box, wide} = this, state = `${this.now} ${box.scrollLeft} ${box.clientWidth}`;
+        if (!run || state === this.drawn) return;
+        this.drawn = state;
         const first = Math.max(1, Math.floor(box.scrollLeft / wide) - 2), last = Math.min(run.length, Math.ceil((box.scrollLeft + box.clientWidth) / wide) + 2);
         const height = HEAD + this.lanes.size * LANE, width = Math.max(box.clientWidth, run.length * wide + 20);
-        const seen = this.stretches.filter(it => it.made <= last && it.end >= first);
-        const picture = s("svg", {width, height, role: "img", "aria-label": `${run.length} events in ${this.lanes.size} lanes`},
-            ...[...this.lanes.keys()].map((actor, k) => s(`rect.lane${k % 2 ? ".odd" : ""}`, {x: 0, y: this.y(actor), width, height: LANE})),
+        const seen = run.actors.flatMap((_, k) => run.track.tasksOf(k, first, last).slice(0, DRAWN));
+        box.replaceChildren(s("svg", {width, height, role: "img", "aria-label": `${run.length} events in ${this.lanes.size} lanes`},
+            ...run.actors.map((actor, k) => s(`rect.lane${k % 2 ? ".odd" : ""}`, {x: 0, y: this.y(actor), width, height: LANE})),
             ...this.now ? [s("rect.now", {x: this.x(this.now) - wide / 2, y: 0, width: Math.max(wide, 2), height})] : [],
-            ...this.ticks(first, last), ...seen.slice(0, 600).map(it => this.thread(it, first)), ...seen.slice(0, 600).flatMap(it => this.bar(it)), ...this.marks(run, first, last));
-        box.replaceChildren(picture);
+            ...this.ticks(first, last), ...seen.flatMap(task => this.bar(task)), ...this.threads(), ...this.marks(run, first, last)));
+        this.window();
     }
 
     /** @param {number} first @param {number} last */
@@ -103,30 +126,65 @@ export class Timeline {
         return all;
     }
 
+    /** The lines of the marked event's task: from the event that made it, and to the tasks that this event makes. */
+    threads() {
+        const {run, now} = this;
+        if (!run || !now) return [];
+        const {task, makes, made} = run.track.fact(now);
+        return [task, makes === "task" ? made : 0].flatMap(it => it ? this.thread(it) : []);
+    }
+
     /** The line from the event that made a task to its beginning.
-     * @param {Stretch} it @param {number} first */
-    thread(it, first) {
-        if (!it.made || it.taken < first) return s("g");
-        const [x1, y1, x2, y2] = [this.x(it.made), this.y(it.maker) + 30, this.x(it.taken), this.y(it.actor) + 30];
-        return s("path.thread", {d: `M ${x1} ${y1} C ${x2} ${y1} ${x1} ${y2} ${x2} ${y2}`}, s("title", {}, `task ${it.task}, made at event ${it.made}, taken at event ${it.taken}`));
+     * @param {number} task */
+    thread(task) {
+        const run = /** @type {Run} */ (this.run), made = run.track.makerOf("task", task), taken = run.track.takenAt(task);
+        if (!made || !taken) return [];
+        const [x1, y1, x2, y2] = [this.x(made), this.y(run.track.actorOf(made)) + 30, this.x(taken), this.y(run.track.actorOf(taken)) + 30];
+        return [s("path.thread", {d: `M ${x1} ${y1} C ${x2} ${y1} ${x1} ${y2} ${x2} ${y2}`}, s("title", {}, `task ${task}, made at event ${made}, taken at event ${taken}`))];
     }
 
     /** The bar of a task, with its name where it has room.
-     * @param {Stretch} it */
-    bar(it) {
-        const run = /** @type {Run} */ (this.run), left = this.x(it.taken) - this.wide / 2, width = (it.end - it.taken + 1) * this.wide, y = this.y(it.actor);
-        const name = callName(run.setting.source, it.procedure), from = Math.max(left, this.box.scrollLeft), room = left + width - from;
-        const bar = s("rect.bar", {x: left, y: y + 20, width, height: 20, rx: 4}, s("title", {}, `task ${it.task}: ${name}, events ${it.taken} to ${it.end}`));
+     * @param {number} task */
+    bar(task) {
+        const run = /** @type {Run} */ (this.run), {track} = run, taken = track.takenAt(task), end = track.endOf(task), left = this.x(taken) - this.wide / 2, width = (end - taken + 1) * this.wide;
+        const y = this.y(track.actorOf(taken)), name = callName(run.setting.source, track.procedureOf(taken)), from = Math.max(left, this.box.scrollLeft), room = left + width - from;
+        const bar = s("rect.bar", {x: left, y: y + 20, width, height: 20, rx: 4}, s("title", {}, `task ${task}: ${name}, events ${taken} to ${end}`));
         return room > 28 ? [bar, s("text.task", {x: from + 3, y: y + 14}, name.slice(0, Math.floor(room / 7)))] : [bar];
     }
 
     /** @param {Run} run @param {number} first @param {number} last */
     marks(run, first, last) {
-        const all = [], stride = Math.max(1, Math.floor(2 / this.wide)), size = Math.max(2, Math.min(14, this.wide - 6));
+        const all = [], stride = Math.max(1, Math.floor(2 / this.wide)), size = Math.max(1, Math.min(7, this.wide / 2 - 3));
         for (let k = first; k <= last; k += stride) {
-            const event = run.events[k - 1], text = `${k}: ${sentence(run, event)}`;
-            all.push(s(`rect.mark.${event.kind}`, {x: this.x(k) - size / 2, y: this.y(event.actor) + 23, width: size, height: 14, rx: 2, onclick: () => this.go(k), onmouseenter: () => { this.caption.textContent = text; }}, s("title", {}, text)));
+            const kind = run.track.kindOf(k), text = () => `${k}: ${sentence(run, run.event(k))}`;
+            const mark = s(`path.mark.${kind}`, {d: SHAPES[kind](size), transform: `translate(${this.x(k)} ${this.y(run.track.actorOf(k)) + 30})`, onclick: () => this.go(k), onmouseenter: () => { this.caption.textContent = text(); }});
+            if (last - first < DRAWN) mark.append(s("title", {}, text()));
+            all.push(mark);
         }
         return all;
+    }
+
+    /** Draws all events small: a row for each actor. */
+    overview() {
+        const {run, strip} = this, width = strip.clientWidth;
+        strip.hidden = !run || run.length * this.wide <= this.box.clientWidth;
+        $("strip-box").hidden = strip.hidden;
+        if (!run || strip.hidden || !strip.clientWidth && !width) return;
+        strip.width = strip.clientWidth;
+        strip.height = Math.max(18, run.actors.length * STRIP);
+        strip.style.height = `${strip.height}px`;
+        const pen = /** @type {CanvasRenderingContext2D} */ (strip.getContext("2d")), wide = strip.width, seen = run.track.columns(wide);
+        pen.fillStyle = getComputedStyle(strip).color;
+        seen.forEach((there, k) => { if (there) pen.fillRect(k % wide, Math.floor(k / wide) * STRIP + 1, 1, STRIP - 2); });
+        this.window();
+    }
+
+    /** Shows in the strip which part is in sight above it. */
+    window() {
+        const {run, box} = this;
+        if (!run || this.strip.hidden) return;
+        const all = run.length * this.wide, at = $("strip-window");
+        at.style.left = `${box.scrollLeft / all * 100}%`;
+        at.style.width = `${Math.max(0.5, Math.min(100, box.clientWidth / all * 100))}%`;
     }
 }

@@ -1,7 +1,8 @@
 // @ts-check
 // SPDX-License-Identifier: Apache-2.0
-// A tour of five steps. It doesn't block the page, and Escape or a button leaves it.
+// A tour of six steps. It doesn't block the page, and Escape or a button leaves it.
 import {h} from "./dom.js";
+import {coded} from "./verdict.js";
 
 /** A step: its target, its title and its words.
  * @typedef {{at: string, title: string, words: string}} Step */
@@ -9,10 +10,11 @@ import {h} from "./dom.js";
 /** @type {Step[]} */
 const STEPS = [
     {at: "#editor", title: "A program", words: "It has procedures. A task runs one of them, once, from its head to RET. `main` runs first. Tasks share data, and each datum is written once. Words after a ; are comments."},
-    {at: "#verdict", title: "Checked as you type", words: "The checker reads the program at each pause. It follows who may read and write what. What it accepts never fails when it runs, and each task ends within its budget."},
+    {at: "#verdict", title: "Checked as you type", words: "The checker reads the program at each pause. It follows who may read and write what. No task of a program that it accepts ever fails, and each ends within its budget. Rules may still wait for one another for ever."},
     {at: "#controls", title: "Event by event", words: "A run is a list of events. Play them, or step forward and back. The line of the event is lit in the program, and the margin there shows where each actor continues."},
-    {at: "#state", title: "The state after the event", words: "It lists the running tasks with their registers, what waits and for what, and all data. What the event changed is marked."},
-    {at: "#breaking", title: "Try to break it", words: "Each button plants a mistake, and the checker says which rule refuses it. Undo brings your program back. Then write your own, and share it by a link."},
+    {at: "#state", title: "The state after the event", words: "Here are the running tasks with their registers, and what waits for what. What the event changed is marked. Below the program are the data, with arrows from those who have rights on them."},
+    {at: "#breaking", title: "Try to break it", words: "Each button plants a mistake, and the checker says which rule refuses it. Undo brings your program back."},
+    {at: "#learn", title: "Learn the language", words: "All words and instructions, each with an example to try; and the manual. Help is at the cursor too, and words are completed as you type. Then write your own program, and share it by a link."},
 ];
 
 export class Tour {
@@ -49,7 +51,7 @@ export class Tour {
         const {at, title, words} = STEPS[step], last = step === STEPS.length - 1, target = document.querySelector(at);
         const next = h("button.first", {id: "tour-next", onclick: () => last ? this.leave() : this.go(step + 1)}, last ? "Done" : "Next");
         this.box = h("div.tour", {id: "tour-box", role: "dialog", "aria-label": `tour, step ${step + 1} of ${STEPS.length}`},
-            h("h3", {}, `${step + 1} of ${STEPS.length}: ${title}`), h("p", {}, words),
+            h("h3", {}, `${step + 1} of ${STEPS.length}: ${title}`), h("p", {}, ...coded(words)),
             h("div.row", {}, next, step > 0 && h("button", {onclick: () => this.go(step - 1)}, "Back"), !last && h("button", {id: "tour-leave", onclick: () => this.leave()}, "Leave the tour")));
         document.body.append(this.box);
         target?.classList.add("toured");

@@ -120,3 +120,29 @@ export function inputFault(word) {
     if (/^t?texts:/.test(word)) return word.startsWith("tt") ? 'after ttexts: come pairs like "a"="b", with a comma between two' : 'after texts: come pairs like 1="a", with a comma between two';
     return "an input begins with int: text: ints: texts: tints: or ttexts:";
 }
+
+/** Returns an input word without the blanks and curly quotes that phones and habits put in: outside of texts, and not in a text input.
+ * @param {string} word */
+export function normal(word) {
+    if (/^\s*text:/.test(word)) return word;
+    const straight = /"/.test(word) ? word : word.replace(/[\u201c\u201d\u201e\u00ab\u00bb]/g, '"');
+    return straight.trim().replace(/"(?:[^"\\]|\\.)*"|\s+/g, it => it[0] === '"' ? it : "");
+}
+
+/** Returns why a program's opening would refuse an input; empty if it wouldn't.
+ * @param {string} word */
+export function openingFault(word) {
+    const input = readInput(word);
+    if (!input) return "";
+    const {value} = input, texts = value instanceof Map ? [...value].flat() : [value], keys = value instanceof Map ? [...value.keys()] : [];
+    if (texts.some(it => typeof it === "string" && byteLength(it) > LONGEST_TEXT)) return "a text has over 4,096 bytes";
+    if (keys.length > MEMBERS) return "it has over 1,000 members";
+    if (/^t?(ints|texts):/.test(word) && keys.length < pairsIn(word)) return "a subscript is there twice";
+    const wrong = keys.findIndex((key, k) => k > 0 && order(keys[k - 1], key) >= 0);
+    return wrong > 0 ? `the subscripts have to rise: ${shown(keys[wrong])} is after ${shown(keys[wrong - 1])}` : "";
+}
+const MEMBERS = 1000;
+
+/** Returns how many pairs a list word has.
+ * @param {string} word */
+const pairsIn = word => [...word.replace(/"(?:[^"\\]|\\.)*"/g, "").matchAll(/=/g)].length;

@@ -1,4 +1,4 @@
-"""Reads and writes the files of cases/, and expands each case to the line that crates/tw_cases plays.
+"""Reads and writes the files of cases/, and expands each case to the line that a program of crates/ runs.
 
 CONTRIBUTING.md, "Cases", has the format. A file is a list of blocks of text:
 
@@ -23,6 +23,9 @@ WIDTH = 200
 ROW_WIDTH = 160
 INDENT = "    "
 
+# The crates whose programs run cases: that of all other kinds, and that of the kinds of hosts and pools.
+CRATES = ("tw_cases", "tw_host_cases")
+HOST_KINDS = {"turns", "rounds", "stops", "drives", "threads", "woken", "unthreaded", "scarce_pool"}
 SESSION_KINDS = {"tw", "called", "ends", "scarce", "cuts", "stream"}
 # Kinds whose expected output begins with an exit status.
 STATUS_KINDS = {"tw", "called", "ends", "scarce", "stream", "phrases"}
@@ -87,8 +90,13 @@ class Case:
         return f"cases/{self.path.as_posix()}:{self.first}"
 
     @property
+    def crate(self) -> str:
+        """Returns the crate whose program runs the case."""
+        return CRATES[self.kind.split(" ")[0] in HOST_KINDS]
+
+    @property
     def row(self) -> str:
-        """Returns the line that crates/tw_cases plays."""
+        """Returns the line that the program reads."""
         return row_of(self.name, self.kind, self.given, self.wanted)
 
 

@@ -1,6 +1,6 @@
-"""Runs cases by the program of crates/tw_cases, on several processors, and shows what differs.
+"""Runs cases by programs of crates/, on several processors, and shows what differs.
 
-The program reads lines, and prints a line for each case that differs. After each case it is sent a line that it complains of, so that
+A program reads lines, and prints a line for each case that differs. After each case it is sent a line that it complains of, so that
 its complaint says that the case is done.
 """
 
@@ -27,6 +27,18 @@ MOST_SECONDS = 900.0
 SHORT_SECONDS = 0.1
 MOST_TOGETHER = 16
 MOST_BYTES = 32_000
+
+
+# Cases of this prefix take long, and longer by an unverified build.
+LONG = "long_"
+
+
+@dataclass
+class Program:
+    """The program of a crate that runs cases."""
+
+    path: Path
+    is_unverified: bool
 
 
 @dataclass
@@ -139,7 +151,7 @@ class Times:
         self.seconds = {name: float(number) for name, number in re.findall(r"^(\w+) ([0-9]+\.[0-9]+)$", text, re.M)}
 
     def of(self, case: Case) -> float:
-        return self.seconds.get(case.name, 0.0)
+        return self.seconds.get(case.name, MOST_SECONDS if case.name.startswith(LONG) else 0.0)
 
     def note(self, results: list[Result]) -> None:
         self.seconds.update((result.case.name, result.seconds) for result in results)
@@ -152,13 +164,14 @@ class Times:
 
 
 def batches_of(cases: list[Case], times: Times) -> list[list[Case]]:
-    """Returns the cases in batches, the longest first and alone."""
-    order = sorted(cases, key=times.of, reverse=True)
+    """Returns the cases in batches of one crate, the longest first and alone."""
+    order = sorted(sorted(cases, key=lambda case: case.crate), key=times.of, reverse=True)
     batches: list[list[Case]] = []
     size = 0
     for case in order:
         size += 2 * len(case.row)
-        fits = batches and len(batches[-1]) < MOST_TOGETHER and size < MOST_BYTES and times.of(batches[-1][0]) < SHORT_SECONDS
+        is_short = batches and batches[-1][0].crate == case.crate and times.of(batches[-1][0]) < SHORT_SECONDS
+        fits = is_short and len(batches[-1]) < MOST_TOGETHER and size < MOST_BYTES
         if not fits:
             batches.append([])
             size = 2 * len(case.row)
@@ -166,13 +179,13 @@ def batches_of(cases: list[Case], times: Times) -> list[list[Case]]:
     return batches
 
 
-def run_all(cases: list[Case], times: Times, make: Callable[[], Runner], jobs: int, report: Callable[[list[Result]], None]) -> list[Result]:
+def run_all(cases: list[Case], times: Times, make: Callable[[str], Runner], jobs: int, report: Callable[[list[Result]], None]) -> list[Result]:
     """Runs cases by so many processes, and reports each batch as it is done."""
     waiting: queue.SimpleQueue[list[Case]] = queue.SimpleQueue()
     done: queue.SimpleQueue[list[Result] | BaseException | None] = queue.SimpleQueue()
     for batch in batches_of(cases, times):
         waiting.put(batch)
-    threads = [threading.Thread(target=work, args=(make(), waiting, done), daemon=True) for _ in range(jobs)]
+    threads = [threading.Thread(target=work, args=(make, waiting, done), daemon=True) for _ in range(jobs)]
     for thread in threads:
         thread.start()
     results: list[Result] = []
@@ -189,22 +202,28 @@ def run_all(cases: list[Case], times: Times, make: Callable[[], Runner], jobs: i
     return results
 
 
-def work(runner: Runner, waiting: queue.SimpleQueue[list[Case]], done: queue.SimpleQueue[list[Result] | BaseException | None]) -> None:
-    """Runs batches until none is left. Cases that the program didn't reach, since it stopped, are run by its next process."""
+def work(make: Callable[[str], Runner], waiting: queue.SimpleQueue[list[Case]], done: queue.SimpleQueue[list[Result] | BaseException | None]) -> None:
+    """Runs batches until none is left. Cases that a program didn't reach, since it stopped, are run by its next process."""
+    runners: dict[str, Runner] = {}
     try:
         while True:
             try:
                 batch = waiting.get_nowait()
             except queue.Empty:
                 break
+            crate = batch[0].crate
+            if crate not in runners:
+                runners[crate] = make(crate)
             while batch:
-                results = runner.run(batch)
+                results = runners[crate].run(batch)
                 done.put(results)
                 batch = batch[len(results):]
-        runner.finish()
+        for runner in runners.values():
+            runner.finish()
         done.put(None)
     except BaseException as fault:
-        runner.stop()
+        for runner in runners.values():
+            runner.stop()
         done.put(fault)
 
 

@@ -1,11 +1,12 @@
 #!/usr/bin/env python3
 """The cases of cases/: runs them, lists them, and makes what CI reads of them.
 
-    cases.py --check                    says whether crates/tw_cases has what cases/ gives
-    cases.py --make                     writes crates/tw_cases/stdin and stdout
-    cases.py --compare FILE             says which cases FILE, an older stdin, has otherwise or in addition
+    cases.py --check                    says whether the crates that run cases have what cases/ gives
+    cases.py --make                     writes stdin and stdout of these crates
+    cases.py --compare FILE..           says which cases these files, older ones of stdin, have otherwise or in addition
     cases.py --list [PATTERN..]         lists cases with their places
-    cases.py --run PROGRAM KIND [--update] [PATTERN..]    runs cases by a program of crates/tw_cases; `./tw test` calls it
+    cases.py --crates [PATTERN..]       lists the crates that run these cases
+    cases.py --run CRATE=KIND:PROGRAM.. [--update] [PATTERN..]    runs cases by programs of these crates; `./tw test` calls it
 
 A pattern is a case's name, a part of a name or of a file's (as names/errors), or has `*`, `?` or `[` and is the whole of one.
 """
@@ -20,28 +21,32 @@ import sys
 from pathlib import Path
 
 sys.dont_write_bytecode = True
-from case_files import Book, Case, Fault, answer_text, lets_of, read_book, unknown_names, unused_lets
-from case_runs import Progress, Result, Runner, Times, run_all, shown_failure
+from case_files import CRATES, Book, Case, Fault, answer_text, lets_of, read_book, unknown_names, unused_lets
+from case_runs import LONG, Program, Progress, Result, Runner, Times, run_all, shown_failure
 
 ROOT = Path(__file__).resolve().parent.parent
 CASES = ROOT / "cases"
-ROWS = ROOT / "crates" / "tw_cases"
+ROWS = ROOT / "crates"
+# The folder that the programs are run in.
+DATA = ROWS / "tw_cases" / "data"
 HEAD = "# Made of cases/ by tools/cases.py --make: edit those files, not this one."
 # Columns of what is shown of a failed case: at least, and where there is no terminal.
 NARROW, WIDE = 80, 160
-# Cases of this prefix take long by an unverified build.
-LONG = "long_"
 
 
 # --- What CI reads
 
 
-def stdin_of(book: Book) -> str:
-    """Returns the lines that the program of crates/tw_cases reads: each case, after the bytes that it names."""
+def cases_of(book: Book, crate: str) -> list[Case]:
+    return [case for case in book.cases if case.crate == crate]
+
+
+def stdin_of(book: Book, crate: str) -> str:
+    """Returns the lines that a crate's program reads: each case, after the bytes that it names."""
     lines = [HEAD]
     done: set[str] = set()
     topic = ""
-    for case in book.cases:
+    for case in cases_of(book, crate):
         if case.topic != topic:
             topic = case.topic
             lines += ["", f"# cases/{case.path.as_posix()}"]
@@ -50,11 +55,12 @@ def stdin_of(book: Book) -> str:
     return "\n".join(lines) + "\n"
 
 
-def stdout_of(book: Book) -> str:
+def stdout_of(book: Book, crate: str) -> str:
     """Returns what the program prints if all is as expected: each control's complaint, and the number of the other cases."""
-    controls = [case for case in book.cases if case.complaint is not None]
+    cases = cases_of(book, crate)
+    controls = [case for case in cases if case.complaint is not None]
     lines = [f"{case.name}: {case.complaint}" for case in controls]
-    return "\n".join([*lines, f"{len(book.cases) - len(controls)} cases as wanted"]) + "\n"
+    return "\n".join([*lines, f"{len(cases) - len(controls)} cases as wanted"]) + "\n"
 
 
 def faults_of(book: Book) -> list[str]:
@@ -63,21 +69,28 @@ def faults_of(book: Book) -> list[str]:
     return faults + [f"{case.place}: no file has let {name}" for case, name in unknown_names(book)]
 
 
+def made_files(book: Book) -> dict[str, str]:
+    """Returns the files that CI reads, with their texts."""
+    made = {f"{crate}/stdin": stdin_of(book, crate) for crate in CRATES}
+    return made | {f"{crate}/stdout": stdout_of(book, crate) for crate in CRATES}
+
+
 def stale_files(book: Book) -> list[str]:
-    """Returns the files of crates/tw_cases that aren't what cases/ gives."""
-    made = {"stdin": stdin_of(book), "stdout": stdout_of(book)}
-    return [f"crates/tw_cases/{name}" for name, text in made.items() if not (ROWS / name).exists() or (ROWS / name).read_text(encoding="utf-8") != text]
+    """Returns the files that aren't what cases/ gives."""
+    made = made_files(book)
+    return [f"crates/{name}" for name, text in made.items() if not (ROWS / name).exists() or (ROWS / name).read_text(encoding="utf-8") != text]
 
 
 def check(book: Book) -> int:
     faults = faults_of(book) + [f"{name} isn't what cases/ gives; tools/cases.py --make writes it" for name in stale_files(book)]
-    print("\n".join(faults) or f"{len(book.cases)} cases, and crates/tw_cases has them")
+    counts = ", ".join(f"{len(cases_of(book, crate))} in crates/{crate}" for crate in CRATES)
+    print("\n".join(faults) or f"{len(book.cases)} cases: {counts}")
     return 1 if faults else 0
 
 
 def make(book: Book) -> int:
-    (ROWS / "stdin").write_text(stdin_of(book), encoding="utf-8")
-    (ROWS / "stdout").write_text(stdout_of(book), encoding="utf-8")
+    for name, text in made_files(book).items():
+        (ROWS / name).write_text(text, encoding="utf-8")
     return check(book)
 
 
@@ -91,9 +104,10 @@ def rows_in(text: str) -> dict[str, str]:
     return rows
 
 
-def compare(book: Book, path: Path) -> int:
-    """Says which lines of another stdin cases/ has otherwise, or doesn't have, and which it has in addition."""
-    old, new = rows_in(path.read_text(encoding="utf-8")), rows_in(stdin_of(book))
+def compare(book: Book, paths: list[Path]) -> int:
+    """Says which lines of other files of stdin cases/ has otherwise, or doesn't have, and which it has in addition."""
+    old = rows_in("".join(path.read_text(encoding="utf-8") for path in paths))
+    new = rows_in("".join(stdin_of(book, crate) for crate in CRATES))
     lost = [name for name in old if name not in new]
     changed = [name for name in old if name in new and old[name] != new[name]]
     added = [name for name in new if name not in old]
@@ -137,11 +151,11 @@ def processors() -> int:
     return len(os.sched_getaffinity(0)) if hasattr(os, "sched_getaffinity") else os.cpu_count() or 1
 
 
-def run_cases(book: Book, program: Path, cases: list[Case]) -> list[Result]:
+def run_cases(book: Book, programs: dict[str, Program], cases: list[Case]) -> list[Result]:
     times = Times(ROOT / "out" / "case_times")
     progress = Progress(len(cases))
     jobs = max(1, min(processors(), len(cases)))
-    results = run_all(cases, times, lambda: Runner(program, ROWS / "data", book), jobs, progress)
+    results = run_all(cases, times, lambda crate: Runner(programs[crate].path, DATA, book), jobs, progress)
     progress.close()
     times.note(results)
     times.keep()
@@ -149,15 +163,18 @@ def run_cases(book: Book, program: Path, cases: list[Case]) -> list[Result]:
     return sorted(results, key=lambda result: order[result.case.name])
 
 
-def test(book: Book, program: Path, kind: str, patterns: list[str]) -> list[Result]:
+def without_long(cases: list[Case], programs: dict[str, Program], patterns: list[str]) -> list[Case]:
+    """Returns the cases without those that take long by an unverified build, unless they are named."""
+    left_out = [case for case in cases if case.name.startswith(LONG) and case.name not in patterns and programs[case.crate].is_unverified]
+    if left_out:
+        print(f"tw: {len(left_out)} cases take long by an unverified build, and are left out: {LONG}*", file=sys.stderr)
+    return [case for case in cases if case not in left_out]
+
+
+def test(book: Book, programs: dict[str, Program], patterns: list[str]) -> list[Result]:
     """Runs cases, and prints what failed and how many passed. Returns those that failed."""
-    cases = chosen(book, patterns)
-    if kind == "unverified":
-        left_out = [case for case in cases if case.name.startswith(LONG) and case.name not in patterns]
-        if left_out:
-            print(f"tw: {len(left_out)} cases take long by an unverified build, and are left out: {LONG}*", file=sys.stderr)
-        cases = [case for case in cases if case not in left_out]
-    results = run_cases(book, program, cases)
+    cases = without_long(chosen(book, patterns), programs, patterns)
+    results = run_cases(book, programs, cases)
     failed = [result for result in results if not result.is_expected]
     width = max(NARROW, shutil.get_terminal_size((WIDE, 0)).columns)
     for result in failed:
@@ -195,14 +212,21 @@ def write_answer(case: Case, got: str) -> None:
     path.write_text("\n".join(lines), encoding="utf-8")
 
 
+def read_programs(words: list[str]) -> dict[str, Program]:
+    """Returns the programs of words such as tw_cases=built:PATH, by their crates."""
+    found = [re.fullmatch(r"(\w+)=(\w+):(.*)", word, re.DOTALL) for word in words]
+    return {match[1]: Program(Path(match[3]), match[2] == "unverified") for match in found if match and match[1] in CRATES}
+
+
 def run_command(book: Book, words: list[str]) -> int:
-    program, kind, *rest = words
+    programs = read_programs(words)
+    rest = words[len(programs):]
     is_update = "--update" in rest
     patterns = [word for word in rest if word != "--update"]
     if is_update and (os.environ.get("CI") or not patterns):
         print("tw: --update takes the cases that it may write, and is refused in CI", file=sys.stderr)
         return 2
-    failed = test(book, Path(program), kind, patterns)
+    failed = test(book, programs, patterns)
     if is_update and failed:
         return update(failed)
     if stale_files(book):
@@ -217,11 +241,14 @@ def command(words: list[str]) -> int:
             return check(book)
         case ["--make"]:
             return make(book)
-        case ["--compare", path]:
-            return compare(book, Path(path))
+        case ["--compare", _, *_]:
+            return compare(book, [Path(path) for path in words[1:]])
         case ["--list", *patterns]:
             return list_cases(chosen(book, patterns))
-        case ["--run", _, _, *_]:
+        case ["--crates", *patterns]:
+            print("\n".join(sorted({case.crate for case in chosen(book, [word for word in patterns if word != "--update"])})))
+            return 0
+        case ["--run", _, *_]:
             return run_command(book, words[1:])
         case _:
             print(__doc__, file=sys.stderr)

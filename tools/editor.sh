@@ -113,6 +113,18 @@ options() {
     "$program" "$1" --help </dev/null | sed -n '/^Options:/,/^$/s/^ *\(-[a-z], \)\{0,1\}\(--[a-z-]*\).*/\2/p' | tr '\n' ' ' | sed 's/ $//'
 }
 
+# The options of all commands that take a number: those whose help has a value, except for these that take a file.
+number_options() {
+    for name in $(all_commands); do
+        "$program" "$name" --help </dev/null | sed -n '/^Options:/,/^$/s/^ *\(-[a-z], \)\{0,1\}\(--[a-z-]*\) <\([a-z-]*\)>.*/\2 \3/p'
+    done | awk '$1 == "--" $2 && $1 !~ /^--(inputs|inputs-json|each|events)$/ { print $1 }' | sort -u
+}
+
+# The codes that `explain` lists.
+codes() {
+    "$program" explain </dev/null | sed -n 's/^\([A-Z][0-9]*\):.*/\1/p' | tr '\n' ' ' | sed 's/ $//'
+}
+
 # The kinds of packages of ./tw package.
 packages() {
     sed -n 's/^PACKAGES: .*{\(.*\)}$/\1/p' "$root/tools/package.py" | grep -o '"[a-z]*"' | tr -d '"' | tr '\n' ' ' | sed 's/ $//'
@@ -135,6 +147,14 @@ own_commands() {
 write_bash() {
     cat <<TEXT
 # Completes the arguments of tw and ./tw in bash. tools/editor.sh writes this file.
+
+# The folders, and the files with these endings, that begin with the word.
+_tw_files() {
+    local ending
+    compgen -d -- "\$word"
+    for ending; do compgen -f -X "!*.\$ending" -- "\$word"; done
+}
+
 _tw() {
     local word=\${COMP_WORDS[COMP_CWORD]} command=\${COMP_WORDS[1]} all="$(all_commands)"
     COMPREPLY=()
@@ -143,10 +163,18 @@ _tw() {
         COMPREPLY=(\$(compgen -W "\$all help --help --version" -- "\$word"))
         return
     fi
+    case \${COMP_WORDS[COMP_CWORD - 1]} in
+        $(number_options | tr '\n' ' ' | sed 's/ $//; s/ / | /g'))
+            compopt +o bashdefault
+            return ;;
+        --inputs | --inputs-json | --each | --events)
+            COMPREPLY=(\$(compgen -f -- "\$word"))
+            return ;;
+    esac
     case \$command:\$word in
         help:*) COMPREPLY=(\$(compgen -W "\$all" -- "\$word")) ;;
-        build:*) COMPREPLY=(\$(compgen -W "--library" -- "\$word")) ;;
-        install:-*) COMPREPLY=(\$(compgen -W "--uninstall" -- "\$word")) ;;
+        build:*) COMPREPLY=(\$(compgen -W "--library --help" -- "\$word")) ;;
+        install:-*) COMPREPLY=(\$(compgen -W "--uninstall --force --help" -- "\$word")) ;;
         install:*) COMPREPLY=(\$(compgen -d -- "\$word")) ;;
         package:*) COMPREPLY=(\$(compgen -W "$(packages)" -- "\$word")) ;;
 TEXT
@@ -156,8 +184,11 @@ TEXT
         printf '        %s:-*) COMPREPLY=($(compgen -W "%s" -- "$word")) ;;\n' "$name" "$(options "$name")"
     done
     cat <<TEXT
-        run:* | replay:* | picture:*) COMPREPLY=(\$(compgen -W "$(inputs)" -- "\$word") \$(compgen -f -- "\$word")) ;;
-        asm:* | check:* | disasm:*) COMPREPLY=(\$(compgen -f -- "\$word")) ;;
+        explain:*) COMPREPLY=(\$(compgen -W "$(codes)" -- "\${word^}")) ;;
+        run:*) COMPREPLY=(\$(compgen -W "$(inputs)" -- "\$word") \$(_tw_files tw twn hex)) ;;
+        replay:* | picture:*) COMPREPLY=(\$(compgen -W "$(inputs)" -- "\$word") \$(_tw_files tw twn hex history)) ;;
+        asm:*) COMPREPLY=(\$(_tw_files tw twn)) ;;
+        check:* | disasm:*) COMPREPLY=(\$(_tw_files tw twn hex)) ;;
     esac
     case \${COMPREPLY[0]} in *:) compopt -o nospace ;; esac
 }
@@ -176,10 +207,18 @@ if (( CURRENT == 2 )); then
     compadd -- \$all help --help --version
     return
 fi
+case \$words[CURRENT-1] in
+    $(number_options | tr '\n' ' ' | sed 's/ $//; s/ / | /g'))
+        _message number
+        return ;;
+    --inputs | --inputs-json | --each | --events)
+        _files
+        return ;;
+esac
 case \$words[2]:\$PREFIX in
     help:*) compadd -- \$all ;;
-    build:*) compadd -- --library ;;
-    install:-*) compadd -- --uninstall ;;
+    build:*) compadd -- --library --help ;;
+    install:-*) compadd -- --uninstall --force --help ;;
     install:*) _files -/ ;;
     package:*) compadd -- $(packages) ;;
 TEXT
@@ -187,8 +226,11 @@ TEXT
         printf '    %s:-*) compadd -- %s ;;\n' "$name" "$(options "$name")"
     done
     cat <<TEXT
-    run:* | replay:* | picture:*) compadd -S '' -- $(inputs); _files ;;
-    asm:* | check:* | disasm:*) _files ;;
+    explain:*) compadd -M 'm:{a-z}={A-Z}' -- $(codes) ;;
+    run:*) compadd -S '' -- $(inputs); _files -g '*.(tw|twn|hex)' ;;
+    replay:* | picture:*) compadd -S '' -- $(inputs); _files -g '*.(tw|twn|hex|history)' ;;
+    asm:*) _files -g '*.(tw|twn)' ;;
+    check:* | disasm:*) _files -g '*.(tw|twn|hex)' ;;
 esac
 TEXT
 }

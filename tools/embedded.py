@@ -102,7 +102,7 @@ def compare_unread(words: list[str]) -> None:
             continue
         read, write = os.pipe()
         try:
-            done = subprocess.run([f"{room}/{language}", *words], stdin=read, stdout=subprocess.PIPE, stderr=subprocess.DEVNULL, timeout=20, check=False)
+            done = subprocess.run([f"{room}/{language}", *words], stdin=read, stdout=subprocess.PIPE, stderr=subprocess.DEVNULL, timeout=120, check=False)
             say((done.returncode, done.stdout) == started(tw, words), language, words, done.returncode, done.stdout[:100])
         except subprocess.TimeoutExpired:
             say(False, language, words, "waits for an input")

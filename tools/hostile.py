@@ -17,6 +17,7 @@ from typing import NamedTuple
 ROOT = Path(__file__).resolve().parent.parent
 WHOLE = 16 * 1024 * 1024  # bytes of the longest input
 SECONDS = 3.0  # more processor time fails
+EARLY = 0.5  # .. where the first error is near the top of assembly text
 STOPPED = 10  # seconds of processor time after which a command is stopped
 TIMES = 40  # more memory than so many inputs of this size fails
 TRIES = 3  # a command that takes more time is run again, up to so many times in all: a busy machine's memory is slow
@@ -54,12 +55,13 @@ Maker = Callable[[int], str]
 
 
 class Input(NamedTuple):
-    """A hostile input, the commands that take it, what makes it of a number of bytes, and the MB that a command may take at least."""
+    """A hostile input, the commands that take it, what makes it of a number of bytes, and the MB and the seconds that a command may take."""
 
     name: str
     commands: tuple[str, ...]
     make: Maker
     floor: float = FLOOR
+    seconds: float = SECONDS
 
 
 class Use(NamedTuple):
@@ -168,7 +170,10 @@ def heads() -> Iterator[Input]:
     yield Input("types of registers after names", TEXT, padded("names\nproc control main()\nregs", " int", "\nRET\n"))
     yield Input("a deep type", TEXT, padded("proc control write", " cont", " int\nregs\nRET\n"))
     yield Input("commas in a head", TEXT, padded("names\nproc control main(", ",", ")\nregs\nRET\n"))
-    yield Input("procedures", TEXT, padded("proc control\nregs\nRET\n", "proc leaf\nregs\nRET\n"))
+    yield Input("procedures", TEXT, padded("proc control\nregs\nRET\n", "proc leaf\nregs\nRET\n"), seconds=EARLY)
+    yield Input("procedures without names after names", TEXT, padded("names\n", "proc leaf\nregs\nRET\n"))
+    yield Input("an unknown word before procedures", TEXT, padded("word 3\n", "proc leaf\nregs\nRET\n"), seconds=EARLY)
+    yield Input("an unknown word before procedures after names", TEXT, padded("names\nword 3\n", "proc leaf\nregs\nRET\n"))
     yield Input("procedures with names", TEXT, numbered("names\n", "proc leaf p%()\nregs\nRET\n"))
     yield Input("arguments of PUT", TEXT, padded("proc control\nregs\nPUT 0 0 any", " 1", "\nRET\n"))
     yield Input("arguments of PUT with names", TEXT, padded("names\nproc control main(a: ref int)\nregs\nPUT main 0 any", " a", "\nRET\n"))
@@ -333,24 +338,24 @@ def used(program: str, words: list[str], source: Path, output: Path) -> Use:
     return Use(os.waitstatus_to_exitcode(state), usage.ru_utime + usage.ru_stime, usage.ru_maxrss / 1024, output.stat().st_size)
 
 
-def least_used(program: str, words: list[str], source: Path, output: Path) -> Use:
+def least_used(program: str, words: list[str], source: Path, output: Path, seconds: float) -> Use:
     """Runs the program until it takes few enough seconds, up to TRIES times. Returns the run that took the fewest."""
     best = used(program, words, source, output)
     for _ in range(1, TRIES):
-        if best.seconds <= SECONDS or best.status < 0:
+        if best.seconds <= seconds or best.status < 0:
             break
         best = min(best, used(program, words, source, output), key=lambda use: use.seconds)
     return best
 
 
-def faults(words: str, use: Use, size: int, floor: float) -> list[str]:
+def faults(words: str, use: Use, size: int, given: Input) -> list[str]:
     """Lists what is too much."""
-    most = max(floor, TIMES * size / (1 << 20))
+    most = max(given.floor, TIMES * size / (1 << 20))
     is_listed = "--places" in words
     tried = (
         (use.status < 0, f"ended by signal {-use.status}"),
         (use.status == 127, "can't be started"),
-        (use.seconds > SECONDS, f"{use.seconds:.1f} s"),
+        (use.seconds > given.seconds, f"{use.seconds:.1f} s where {given.seconds:.1f} are allowed"),
         (use.megabytes > most, f"{use.megabytes:.0f} MB where {most:.0f} are allowed"),
         (use.status in (1, 2) and use.written > REASON and not is_listed, f"an error of {use.written} bytes"),
     )
@@ -362,8 +367,8 @@ def try_input(program: str, given: Input, most: int, room: Path) -> tuple[int, i
     source, output = room / "input", room / "output"
     data = given.make(WHOLE).encode()
     source.write_bytes(data)
-    uses = [(words, least_used(program, words.split(), source, output)) for words in given.commands[:most]]
-    found = [(words, faults(words, use, len(data), given.floor)) for words, use in uses]
+    uses = [(words, least_used(program, words.split(), source, output, given.seconds)) for words in given.commands[:most]]
+    found = [(words, faults(words, use, len(data), given)) for words, use in uses]
     slowest, largest = max(use.seconds for _, use in uses), max(use.megabytes for _, use in uses)
     print(f"{given.name}: {slowest:.2f} s, {largest:.0f} MB, of {len(data) / (1 << 20):.1f} MiB", flush=True)
     for words, wrong in found:

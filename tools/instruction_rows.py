@@ -31,7 +31,9 @@ READERS = {
     "Value": "register(bytes)?", "Right": "register(bytes)?", "Number": "number(bytes)?", "Literal": "text(alloc, bytes)?",
     "Skip": "skip(bytes)?", "Iterations": "iterations(bytes)?", "TypeOf": "data_type(version, bytes)?",
 }
+# The parts of several registers, and a skip or none: their names, and those of their values.
 PARTS = {(2, False): "two", (2, True): "two_and_skip", (3, True): "three_and_skip"}
+VALUES = {"two": ("first", "second"), "two_and_skip": ("first", "second", "skip"), "three_and_skip": ("first", "second", "third", "skip")}
 
 # The functions that read the words of operands.
 SHAPES = {
@@ -65,6 +67,12 @@ class Row(NamedTuple):
     def skips(self) -> bool:
         """Returns whether its last operand is a skip."""
         return self.forms[-1:] == ("Skip",)
+
+    @property
+    def part(self) -> str | None:
+        """Returns the part that its operands are; `None` if they aren't several registers, and a skip or none."""
+        registers = len(self.forms) - self.skips
+        return PARTS.get((registers, self.skips)) if set(self.forms[:registers]) <= set(REGISTERS) else None
 
     @property
     def takes_memory(self) -> bool:
@@ -193,31 +201,40 @@ def literal(row: Row, fields: list[str]) -> str:
 
 
 def decoded_fields(row: Row) -> str:
-    """Returns the arm that decodes the fields of an instruction: registers before a skip or the end together, others one by one."""
-    registers = sum(1 for form in row.forms if form in REGISTERS)
-    together = registers + row.skips if registers > 1 else 0
+    """Returns the arm that decodes the fields of an instruction: two registers together, others one by one."""
+    together = 2 if sum(1 for form in row.forms if form in REGISTERS) == 2 else 0
     alone = [f"{name}: {READERS[form]}" for form, name in list(zip(row.forms, row.fields))[together:]]
     instr = f"Ok({literal(row, [*row.fields[:together], *alone])})"
-    if not together:
-        return f"{instr},"
-    return f"{{ let ({', '.join(row.fields[:together])}) = {PARTS[registers, row.skips]}(bytes)?; {instr} }}"
+    return f"{{ let ({', '.join(row.fields[:together])}) = two(bytes)?; {instr} }}" if together else f"{instr},"
 
 
 def decoded(row: Row) -> str:
     """Returns the arm that decodes the operands of an instruction."""
     if row.action:
         return f"Ok(Instr::{row.kind}({'computed' if row.forms[1] == 'Value' else 'constant'}_action(alloc, bytes)?)),"
-    if row.kind == "Ret":
-        return "Ok(Instr::Ret),"
-    if row.operation:
-        return f"Ok(Instr::{row.kind}(compute(Arithmetic::{row.operation}, bytes)?)),"
-    return decoded_fields(row)
+    return "Ok(Instr::Ret)," if row.kind == "Ret" else decoded_fields(row)
 
 
 def decoding_rows(rows: list[Row]) -> Iterator[str]:
-    """Yields the rows that decode operands."""
+    """Yields the rows that decode operands. Those of a part share one."""
     for row in rows:
-        yield f"        Opcode::{row.opcode} => {decoded(row)}"
+        if not row.part:
+            yield f"        Opcode::{row.opcode} => {decoded(row)}"
+    for part in VALUES:
+        opcodes = " | ".join(f"Opcode::{row.opcode}" for row in rows if row.part == part)
+        yield from textwrap.wrap(f"{opcodes} => decode_{part}(opcode, bytes),", 150, initial_indent="        ", subsequent_indent="        ")
+
+
+def part_rows(part: str) -> Callable[[list[Row]], Iterator[str]]:
+    """Returns a function that yields the rows which make an instruction of the values of a part."""
+    def made_of(rows: list[Row]) -> Iterator[str]:
+        for row in rows:
+            if row.part == part:
+                given = {"operation": "Arithmetic", "by": "Scalar"}
+                fields = [f"{name}: {given[name]}::{value}" for name, value in row.given.items()]
+                fields += [name if name == value else f"{name}: {value}" for name, value in zip(row.fields, VALUES[part])]
+                yield f"        Opcode::{row.opcode} => Instr::{row.kind}({ENUMS[row.kind]}::{row.variant} {{ {', '.join(fields)} }}),"
+    return made_of
 
 
 def nested(names: list[str]) -> str:
@@ -318,6 +335,9 @@ REGIONS: tuple[Region, ...] = (
     Region(TABLE, "-- ---- one line for each instruction", "abbrev pub local_row : LocalInstr → Opcode × List Operand", "", back_rows("Local", "local_row")),
     Region(TABLE, "-- ---- one line for each instruction", "abbrev pub data_row : DataInstr → Opcode × List Operand", "", back_rows("Data", "data_row")),
     Region("tw_binary/src/rows.rt", "fn operands_of<", "    match opcode {", "    }", decoding_rows),
+    Region("tw_binary/src/rows.rt", "fn instr_of_two(", "    match opcode {", "        _ =>", part_rows("two")),
+    Region("tw_binary/src/rows.rt", "fn instr_of_two_and_skip(", "    match opcode {", "        _ =>", part_rows("two_and_skip")),
+    Region("tw_binary/src/rows.rt", "fn instr_of_three_and_skip(", "    match opcode {", "        _ =>", part_rows("three_and_skip")),
     Region("tw_asm/src/instructions.rt", "fn going_of<", "    match opcode {", "        _ =>", reading_rows(True)),
     Region("tw_asm/src/instructions.rt", "fn plain_of<", "    match opcode {", "        _ =>", reading_rows(False)),
     Region("tw_asm/src/skip.rt", "fn local_with_skip(", "    match instr {", "        without =>", skip_rows("Local")),

@@ -6,7 +6,7 @@
     tools/instructions.py --rows NAME    lists the rows of an instruction, such as Length or Insert
 
 The instructions are the opcodes of crates/tw_code/src/opcode.rt and the variants of LocalInstr and DataInstr in instr.rt next to it. RULE, PUT and RET
-aren't variants of these; tools/where-is.sh lists where they are. Checks (tw_cases, tw_fuzz) may name any instruction.
+aren't variants of these; tools/where-is.sh lists where they are. Checks (crates of cases, tw_fuzz) may name any instruction.
 """
 
 from __future__ import annotations
@@ -21,7 +21,7 @@ ROOT = Path(__file__).resolve().parent.parent
 DOCUMENT = Path("docs/ADDING.md")
 OPCODES = Path("crates/tw_code/src/opcode.rt")
 VARIANTS = Path("crates/tw_code/src/instr.rt")
-CHECKS = ("tw_cases", "tw_fuzz")
+CHECKS = ("tw_case_lines", "tw_cases", "tw_host_cases", "tw_fuzz")
 
 
 class Whole(NamedTuple):
@@ -60,6 +60,9 @@ WHOLES: tuple[Whole, ...] = (
             "tw_pool_state/src/data.rt", "tw_pool_state/specs/Memory.antt",
             "tw_stats/src/pre_state.rt", "tw_stats/specs/Waits.antt",
             "tw_diagnostics/src/data_checks.rt", "tw_diagnostics/specs/RegisterCheck.antt", "tw_diagnostics/proofs/Asking.antt",
+            "tw_determinism/proofs/Contesting.antt", "tw_determinism/proofs/CoreEffects.antt", "tw_determinism/proofs/DataShown.antt",
+            "tw_determinism/proofs/Keeping.antt", "tw_copies/proofs/DataSpare.antt", "tw_copies/proofs/Fitting.antt", "tw_copies/proofs/Marked.antt",
+            "tw_copies/proofs/Registers.antt", "tw_copies/proofs/Summing.antt", "tw_copies/proofs/Tracking.antt",
         ),
     }.items() for path in paths),
 )
@@ -74,6 +77,9 @@ PARTS: tuple[str, ...] = (
     "tw_bounds/src/limited.rt", "tw_bounds/specs/Limited.antt", "tw_bounds/proofs/LimitedRuns.antt",
     "tw_soundness/proofs/DataLeft.antt", "tw_soundness/proofs/DataMade.antt", "tw_soundness/proofs/DataNew.antt", "tw_soundness/proofs/DataReads.antt",
     "tw_pool_state/src/data/scalars.rt", "tw_pool_state/src/data/containers.rt", "tw_pool_state/src/data/rights.rt",
+    "tw_determinism/specs/Contested.antt", "tw_determinism/specs/OneResult.antt", "tw_determinism/specs/Refused.antt",
+    "tw_copies/specs/Copies.antt", "tw_copies/specs/Marks.antt", "tw_copies/src/insertions.rt", "tw_copies/src/marks.rt",
+    "tw_copies/proofs/Copying.antt", "tw_copies/proofs/Marking.antt",
     *(f"tw_pool_state/proofs/{name}.antt" for name in ("Copies", "Drops", "Gets", "Inserts", "Looks", "News", "Sizes", "Stores")),
 )
 

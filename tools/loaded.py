@@ -132,9 +132,9 @@ def input_words() -> list[str]:
 
 
 def is_word_refused(words: list[str], data: bytes) -> bool:
-    """Returns whether a program says that its second input is none, with status 2; a program that takes ten seconds hasn't said so."""
+    """Returns whether a program says that its second input is none, with status 2; a program that takes two minutes hasn't said so."""
     try:
-        done = subprocess.run(words, input=data, stdout=subprocess.PIPE, stderr=subprocess.DEVNULL, timeout=10, check=False)
+        done = subprocess.run(words, input=data, stdout=subprocess.PIPE, stderr=subprocess.DEVNULL, timeout=120, check=False)
     except subprocess.TimeoutExpired:
         return False
     return done.returncode == 2 and done.stdout.startswith(b"input word 2 refused\n")

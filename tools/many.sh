@@ -15,8 +15,21 @@ many=$root/examples/many
 tw=$(readlink -f "${TW:-$root/crates/tw_main/out/tw_main}")
 python=${PYTHON:-/usr/bin/python3}
 count=${COUNT:-10000}
-# The first of the three ports of loopback that our own servers of ssh and Slurm listen at.
-port=$((20000 + $$ % 20000))
+# The first of the three ports of loopback that our own servers of ssh and Slurm listen at; none of them is taken.
+port=$("$python" - <<'TEXT'
+import random
+import socket
+
+
+def is_free(port: int) -> bool:
+    with socket.socket() as it:
+        return it.connect_ex(("127.0.0.1", port)) != 0
+
+
+ports = random.sample(range(20000, 32000), 1000)
+print(next(port for port in ports if all(is_free(port + place) for place in range(3))))
+TEXT
+) || exit 70
 PYTHONPATH=$root/embed/python${PYTHONPATH:+:$PYTHONPATH}
 export PYTHONPATH PYTHONDONTWRITEBYTECODE=1
 [ $# -gt 0 ] || set -- scripts lines threads processes dask mpi parallel ssh slurm
@@ -189,6 +202,19 @@ bound_with_circle() {
     seconds=$("$many/bound.sh" "$tw" "$room/circle.tw" 1000000) && [ "$seconds" -ge 10 ]
 }
 
+# A run of texts takes no more processor time than bound.sh prints. CAT of 2,000 bytes takes five times as long as the dearest instruction of ints.
+bound_of_texts() {
+    text=$(head -c 2000 /dev/zero | tr '\0' a)
+    printf 'proc control\nregs text text text\nTEXT v0 "%s"\nTEXT v1 "%s"\nREPEAT 1000\nREPEAT 1000\nREPEAT 10\nCAT v2 v0 v1 +0\nEND\nEND\nEND\nRET\n' "$text" "$text" >"$room/texts.tw"
+    bound=$("$many/bound.sh" "$tw" "$room/texts.tw") && "$python" - "$bound" "$tw" "$room/texts.tw" <<'TEXT'
+import resource, subprocess, sys
+subprocess.run([sys.argv[2], "run", sys.argv[3]], check=True)
+took = sum(resource.getrusage(resource.RUSAGE_CHILDREN)[:2])
+print(took, "of", sys.argv[1])
+sys.exit(took > float(sys.argv[1]))
+TEXT
+}
+
 changed_input() {
     mkdir "$room/one" && echo 'ints:1=3' >"$room/one/n.in"
     "$many/parallel.sh" "$tw" "$program" "$room/one" "$room/changed" && grep -q 'out 1 int 9$' "$room/changed/n.out" || return
@@ -286,9 +312,10 @@ b.in"
 }
 
 scripts() {
-    installed command -v parallel || return
     check "bound.sh: a program of names, and no more than what its tasks can do" bound_is_small
+    check "bound.sh: a run of texts takes no longer" bound_of_texts
     check "bound.sh: tasks in a circle have the limit alone" bound_with_circle
+    installed command -v parallel || return
     check "parallel.sh: forty inputs" few "$room/few.out"
     check "parallel.sh: the table" few_wanted "$room/few.out"
     check "parallel.sh: a changed input runs again" changed_input

@@ -182,8 +182,8 @@ MUTANTS = (
     Mutant("inserts_write_over", "page", "page/machine.js", "    if (members?.has(key)) return true;\n", ""),
     Mutant("looks_count_no_read", "page", "page/machine.js", "    datumOf(state, id).reads++;\n    rights[to] = id;", "    rights[to] = id;"),
     Mutant("members_are_never_freed", "page", "page/machine.js", "if (member && member.reads) lessRead(state, member);", ""),
-    Mutant("the_last_of_equal_tasks", "page", "page/machine.js", "task.priority > best.priority)", "task.priority >= best.priority)"),
-    Mutant("targets_are_anybodys", "page", "page/machine.js", "(task.target ?? number) === number && ", ""),
+    Mutant("the_last_of_equal_tasks", "page", "page/machine.js", "task.number < best.number;", "task.number > best.number;"),
+    Mutant("targets_are_anybodys", "page", "page/machine.js", " && (task.target ?? number) === number)", ")"),
     Mutant("notices_of_server_0", "page", "page/machine.js", "server: datum.id % state.servers", "server: 0"),
     Mutant("waiters_of_closed_data", "page", "page/machine.js", "    if (!isClosed(datum)) datum.waiters.push(", "    datum.waiters.push("),
     Mutant("rules_cost_no_release", "page", "page/bounds.js", "BigInt(2 * waits + 1)", "BigInt(2 * waits)"),
@@ -191,7 +191,7 @@ MUTANTS = (
     Mutant("subscripts_by_length", "page", "page/values.js", "if (left[k] !== right[k]) return left[k] - right[k];", "if (left[k] !== right[k]) break;"),
     Mutant("escapes_in_capitals", "page", "page/values.js", 'toString(16).padStart(2, "0")', 'toString(16).toUpperCase().padStart(2, "0")'),
     Mutant("comments_have_words", "page", "page/source.js", "return found ? found[0] : line;", "return line;"),
-    Mutant("states_one_event_late", "page", "page/run.js", "k < count; k++) step(state", "k <= count && k < this.length; k++) step(state"),
+    Mutant("states_one_event_late", "page", "page/run.js", "this.now.count < count; this.now.count++) step(", "this.now.count <= count && this.now.count < this.length; this.now.count++) step("),
 )
 
 

@@ -126,9 +126,10 @@ run_wheel() {
 
 # A clean clone has only the release to answer by, so it is tried if that is of these sources.
 run_released() {
-    is_named released || return
+    is_named released || is_named scarce || return
     if python3 -B "$clone/tools/release.py" --fresh >"$logs/fresh.log" 2>&1; then
         harness released 1200 tools/released.sh
+        harness_with "cc taskset" scarce 1200 tools/scarce.sh "$(whole_or_quick 5 1)"
     else
         report "left out" released "" "$(tail -n 1 "$logs/fresh.log")"
     fi
@@ -174,6 +175,8 @@ run_harnesses() {
     # shellcheck disable=SC2046
     harness_with "cc c++ objcopy" callers 3600 env LIBRARY="${library%/*}" tools/callers.sh $(whole_or_quick "" --quick)
     harness python 900 embed/python/test.sh
+    # shellcheck disable=SC2046
+    harness builder 3600 env $(whole_or_quick "FILES=10000 MUTANTS=30000 FUNCTIONS=3000" "FILES=100 MUTANTS=500 FUNCTIONS=50") embed/python/test.sh test_build test_build_source
     [ -n "$quick" ] || harness_with valgrind python_calls 1800 embed/python/test.sh --valgrind
     run_wheel
     harness_with "chromium node cc" page 1800 page/test.sh "$program"
@@ -187,6 +190,7 @@ run_harnesses() {
     # shellcheck disable=SC2046
     harness_with node mutants 3600 tools/mutants.py $(whole_or_quick "--table" cases)
     [ -n "$quick" ] || harness_with rt wakes 3600 tools/wakes.py
+    [ -n "$quick" ] || harness_with rt must_fail 10800 tools/must_fail.py
     # shellcheck disable=SC2046
     harness many 2400 tools/many.sh $(whole_or_quick "" "threads")
     # shellcheck disable=SC2046

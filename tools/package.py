@@ -51,7 +51,10 @@ Description: Proved host of dataflow programs
 def installed(stage: Path, prefix: str, libdir: str) -> Path:
     """Installs below a folder by `./tw install`, and returns the prefix in it."""
     environment = {**os.environ, "DESTDIR": str(stage), "LIBDIR": libdir}
-    subprocess.run([str(ROOT / "tw"), "install", prefix], check=True, env=environment, stderr=subprocess.DEVNULL)
+    done = subprocess.run([str(ROOT / "tw"), "install", prefix], check=False, env=environment, stderr=subprocess.PIPE, text=True)
+    if done.returncode:
+        sys.stderr.write(done.stderr)
+        raise SystemExit(done.returncode)
     base = Path(f"{stage}{prefix}")
     (base / "share/yuglemit/installed").unlink()
     return base
@@ -174,7 +177,7 @@ def wheel_files(library: Path) -> dict[str, bytes]:
     if not files:
         raise SystemExit("embed/python/yuglemit has no module")
     files["yuglemit/_version.py"] = f'"""The version of the package."""\n\n__version__ = "{VERSION}"\n'.encode()
-    files["yuglemit/libyuglemit.so"] = library.read_bytes()
+    files["yuglemit/lib/libyuglemit.so"] = library.read_bytes()
     info = f"yuglemit-{VERSION}.dist-info"
     files[f"{info}/METADATA"] = wheel_metadata().encode()
     files[f"{info}/LICENSE"] = (ROOT / "LICENSE").read_bytes()
@@ -225,15 +228,41 @@ def write_crate(room: Path) -> Path:
     return crate
 
 
+USAGE = """Writes packages into dist/, all four if none is named.
+
+Usage: ./tw package [deb] [wheel] [crate] [tar]
+
+  deb    Debian package: the program, the C library, the manual
+  wheel  Python wheel, with the library in it
+  crate  Rust crate, with the library in it
+  tar    archive of what ./tw install installs, to be unpacked anywhere
+
+The version is that of the file VERSION. SOURCE_DATE_EPOCH is the time of each file in a package.
+Exit status: 0 written, 2 command line rejected, 70 there is no proved program or library.
+"""
+
 PACKAGES: dict[str, Callable[[Path], Path]] = {"deb": write_deb, "wheel": write_wheel, "crate": write_crate, "tar": write_tar}
 
 
-def main() -> None:
-    """Writes the packages that are named."""
+def print_usage() -> int:
+    """Prints the help text; status 7 if it can't be written."""
+    try:
+        print(USAGE, end="", flush=True)
+    except OSError:
+        print("tw: standard output can't be written", file=sys.stderr)
+        os._exit(7)  # what is left in the buffer can't be written at the end either
+    return 0
+
+
+def main() -> int:
+    """Writes the packages that are named, and returns the exit status."""
     names = sys.argv[1:] or list(PACKAGES)
+    if set(names) & {"--help", "-h"}:
+        return print_usage()
     unknown = [name for name in names if name not in PACKAGES]
     if unknown:
-        raise SystemExit(f"tw: ./tw package takes {', '.join(PACKAGES)}, and no {unknown[0]}")
+        print(f"tw: ./tw package takes {', '.join(PACKAGES)}, and no {unknown[0]}; ./tw help package says more", file=sys.stderr)
+        return 2
     os.umask(0o022)
     DIST.mkdir(exist_ok=True)
     with tempfile.TemporaryDirectory() as room:
@@ -241,7 +270,8 @@ def main() -> None:
             package = PACKAGES[name](Path(room))
             size = sum(path.stat().st_size for path in [package, *package.rglob("*")] if path.is_file())
             print(f"{package.relative_to(ROOT)}, {size} bytes")
+    return 0
 
 
 if __name__ == "__main__":
-    main()
+    sys.exit(main())

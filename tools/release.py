@@ -1,6 +1,6 @@
 #!/usr/bin/env python3
 # SPDX-License-Identifier: Apache-2.0
-"""Makes release/ from what `rt ci` has proved: the program, the libraries, the runner of the cases, the page, and MANIFEST.
+"""Makes release/ from what `rt ci` has proved: the program, the libraries, the runners of the cases, the page, and MANIFEST.
 
   tools/release.py               runs CI (`rt ci`) on the committed files, builds everything in two folders, compares, and writes release/
   tools/release.py --gate LOG    takes CI's last line from the log of a run of it on the same files
@@ -9,6 +9,7 @@
   tools/release.py --fresh       compares the sources with MANIFEST, and the versions with VERSION; needs no toolchain
   tools/release.py --unproved FOLDER    takes the files of a folder, such as unverified builds, to try the other tools; MANIFEST says so
 
+A release needs release/REJECTED of these sources, in which tools/must_fail.py notes that the prover rejected the mutants that CI leaves out.
 What `rt ci` proved is kept beside the toolchain. The first build takes the programs that it kept; the second, in another folder, proves
 the topmost crates again over the kept libraries and compiles them anew.
 """
@@ -31,9 +32,12 @@ from dataclasses import dataclass
 from pathlib import Path
 from typing import Any, Iterable, Mapping
 
+sys.path.insert(0, str(Path(__file__).resolve().parent))
+import must_fail  # noqa: E402
+
 ROOT = Path(__file__).resolve().parent.parent
 # The crates that something is built of, with the file in release/.
-PROGRAMS = {"tw_main": "tw", "tw_cases": "tw_cases"}
+PROGRAMS = {"tw_main": "tw", "tw_cases": "tw_cases", "tw_host_cases": "tw_host_cases"}
 LIBRARY = "tw_embed"
 LIBRARIES = ("libyuglemit.so", "libyuglemit.a")
 PAGE = "index.html"
@@ -124,7 +128,7 @@ def staleness(root: Path) -> list[str]:
     if manifest.version != version_of(root):
         faults.append(f"the release is of version {manifest.version}, and VERSION is {version_of(root)}")
     if manifest.sources["all"] != sums_of_sources(root)[0]:
-        changed = [name for name in BUILT if sums_of_sources(root, name)[0] != manifest.sources[name]]
+        changed = [name for name in BUILT if sums_of_sources(root, name)[0] != manifest.sources.get(name)]
         faults.append(f"sources have changed since the release, of what is built: {', '.join(changed) or 'nothing'}")
     return faults
 
@@ -150,6 +154,11 @@ def kit_folder() -> Path:
     if not found:
         raise SystemExit("tools/release.py needs the command rt on the PATH")
     return Path(found).resolve().parent.parent
+
+
+def kit_id(kit: Path) -> str:
+    """Returns the toolchain's version, as `rt version` prints it."""
+    return (kit / "KIT-ID").read_text(encoding="utf-8").strip()
 
 
 def copy_committed(root: Path, tree: Path, with_checks: bool) -> None:
@@ -308,8 +317,7 @@ def manifest_of(root: Path, kit: Path, gate: str, compared: str, files: Path) ->
     sums = {crate: sums_of_sources(root, crate) for crate in BUILT}
     sources = {"all": sums_of_sources(root)[0], **{crate: found[0] for crate, found in sums.items()}}
     code = {crate: found[1] for crate, found in sums.items()}
-    version = (kit / "KIT-ID").read_text(encoding="utf-8").strip()
-    return Manifest(version_of(root), version, gate, what_is_proved(root), compared, sources, code, sums_of_files(files))
+    return Manifest(version_of(root), kit_id(kit), gate, what_is_proved(root), compared, sources, code, sums_of_files(files))
 
 
 def stop_on_changes(root: Path) -> None:
@@ -320,6 +328,12 @@ def stop_on_changes(root: Path) -> None:
         raise SystemExit(f"commit first; a release is made of committed files:\n{changed}")
 
 
+def stop_on_untried_mutants(root: Path, kit: Path) -> None:
+    """Ends if a mutant that CI leaves out isn't noted as rejected on these sources."""
+    untried = must_fail.untried(root, kit_id(kit))
+    stop_on_differences(untried, "first run tools/must_fail.py, since these crates' mutants weren't rejected on these sources")
+
+
 # ---- The commands
 
 
@@ -328,6 +342,7 @@ def make(gate_log: str | None, once: bool) -> None:
     stop_on_changes(ROOT)
     stop_on_differences(version_faults(ROOT), "the version isn't one")
     kit = kit_folder()
+    stop_on_untried_mutants(ROOT, kit)
     gate = last_line(Path(gate_log)) if gate_log else None
     with tempfile.TemporaryDirectory() as name:
         room = Path(name)

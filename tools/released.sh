@@ -2,14 +2,16 @@
 # SPDX-License-Identifier: Apache-2.0
 # Tries what a user of the release meets: makes a clean clone of the committed files, and there, with nothing in the environment but
 # PATH=/usr/bin:/bin, runs commands, README's "five minutes", `./tw test`, `./tw install` and the blocks of docs/HOSTING.md.
-# Prints each check with its time, and fails if one does. It needs no toolchain.
+# Prints each check with its processor time, and fails if one does. It needs no toolchain.
 root=$(dirname "$(dirname "$(readlink -f "$0")")")
 room=$(mktemp -d)
 trap 'rm -rf "$room"' EXIT
 clone=$room/clone failed=0
 
-now() {
-    date +%s%N
+# Sets `used` to the processor milliseconds that all commands have used so far. The clock isn't read, since a machine may do other things too.
+count_used() {
+    times >"$room/times"
+    used=$(awk 'NR == 2 { for (i = 1; i <= 2; i++) { split($i, part, /[ms]/); all += 60000 * part[1] + 1000 * part[2] } printf "%d", all }' "$room/times")
 }
 
 # Reports a check: its name, whether it holds (0), and what else there is to say.
@@ -22,16 +24,18 @@ report() {
     fi
 }
 
-# Runs a command in the clone with a clean environment; its output, messages and milliseconds are left in `room`.
+# Runs a command in the clone with a clean environment; its output and messages are left in `room`, its processor milliseconds in `took`.
 clean() {
-    begun=$(now)
+    count_used
+    before=$used
     (cd "$clone" && env -i PATH=/usr/bin:/bin HOME="$room/home" "$@") >"$room/out" 2>"$room/err" </dev/null
     status=$?
-    took=$((($(now) - begun) / 1000000))
+    count_used
+    took=$((used - before))
     return "$status"
 }
 
-# Checks that a command succeeds within so many milliseconds, with this output and nothing on standard error.
+# Checks that a command succeeds within so many processor milliseconds, with this output and nothing on standard error.
 check_quick() {
     name=$1 most=$2 wanted=$3
     shift 3
@@ -89,6 +93,12 @@ check_tests() {
     [ "$status" = 0 ] || cat "$room/err"
 }
 
+check_script() {
+    clean tools/installed.sh
+    report "tools/installed.sh" "$status" "$(tail -n 1 "$room/out")"
+    [ "$status" = 0 ] || cat "$room/out" "$room/err"
+}
+
 # Installs below a prefix with a blank in its name, plays HOSTING.md with it, and uninstalls.
 check_install() {
     prefix="$room/a prefix"
@@ -98,6 +108,7 @@ check_install() {
     [ "$(head -n 1 "$room/out")" = "out 0 int 7" ] && [ ! -s "$room/err" ]
     report "the installed tw" $?
     check_hosting
+    check_first_block
     clean ./tw install "$prefix" --uninstall
     [ "$status" = 0 ] && [ -z "$(find "$prefix" -mindepth 1)" ]
     report "./tw install --uninstall" $? "$(find "$prefix" -mindepth 1 | wc -l) files are left"
@@ -118,6 +129,15 @@ check_hosting() {
     done
 }
 
+# The first block names the line of a rejected program.
+check_first_block() {
+    printf 'proc control write int\nregs int\nSTORE d0 v0\nSTORE d0 v0\nRET\n' >"$room/hosting/refused.tw"
+    sed 's|examples/[a-z_]*.twn*|refused.tw|' "$room/hosting/block01" >"$room/first"
+    (cd "$room/hosting" && env -i PATH="$prefix/bin:/usr/bin:/bin" sh "$room/first") >"$room/out" 2>"$room/err"
+    grep -qx 'at line 4: STORE d0 v0' "$room/out"
+    report "HOSTING.md, a rejected program" $? "$(sed -n 2p "$room/out")"
+}
+
 git clone -q --no-hardlinks --depth 1 "file://$root" "$clone" || exit
 if [ ! -r "$clone/release/MANIFEST" ]; then
     echo "there is no release: tools/release.py makes it"
@@ -127,6 +147,7 @@ check_first_commands
 check_changed_sources
 check_shown
 check_tests
+check_script
 check_install
 [ "$failed" = 0 ] && echo "all as it should be"
 [ "$failed" = 0 ]

@@ -17,7 +17,7 @@ import case_files
 import case_runs
 import cases
 
-# A program in place of that of crates/tw_cases: it prints what a case is given in place of its expected output, and ends at `dies`.
+# A program in place of those of crates/: it prints what a case is given in place of its expected output, and ends at `dies`.
 PROGRAM = """
 import sys
 
@@ -195,10 +195,10 @@ class Writing(unittest.TestCase):
 class Lists(unittest.TestCase):
     def test_named_bytes_come_before_their_first_case(self) -> None:
         book = read("# W.\nlet b = @a 02\nlet a = 01\nx | decode | @b | program\ny | decode | @a | program\nz | tw run | @c | 1 refused H01\n")
-        lines = [line for line in cases.stdin_of(book).split("\n") if line and not line.startswith("#")]
+        lines = [line for line in cases.stdin_of(book, "tw_cases").split("\n") if line and not line.startswith("#")]
         self.assertEqual(lines[:4], ["let a = 01", "let b = @a 02", "x | decode | @b | program", "y | decode | @a | program"])
         self.assertEqual(cases.faults_of(book), [])
-        self.assertTrue(cases.stdin_of(book).startswith(cases.HEAD))
+        self.assertTrue(cases.stdin_of(book, "tw_cases").startswith(cases.HEAD))
 
     def test_names_without_a_case_or_bytes(self) -> None:
         faults = cases.faults_of(read("# W.\nlet a = 01\nx | decode | @b | program\n"))
@@ -206,7 +206,17 @@ class Lists(unittest.TestCase):
 
     def test_the_number_of_cases_is_counted(self) -> None:
         book = read("# W.\nx | layout | 1 1 1 | y\n\ncase control\nabout It.\nkind layout\ngiven 1\noutput 2\ncomplaint wanted 2, got 1\n")
-        self.assertEqual(cases.stdout_of(book), "control: wanted 2, got 1\n1 cases as wanted\n")
+        self.assertEqual(cases.stdout_of(book, "tw_cases"), "control: wanted 2, got 1\n1 cases as wanted\n")
+        self.assertEqual(cases.stdout_of(book, "tw_host_cases"), "0 cases as wanted\n")
+
+    def test_each_crate_has_the_cases_of_its_kinds(self) -> None:
+        book = read("# W.\nlet a = 01\nx | decode | @a | program\ny | rounds 1 1 1 | @a | quiet\nz | drives | @a | quiet\n")
+        self.assertEqual(cases.stdin_of(book, "tw_cases").split("\n")[3:], ["let a = 01", "x | decode | @a | program", ""])
+        self.assertEqual(cases.stdin_of(book, "tw_host_cases").split("\n")[3:], ["let a = 01", "y | rounds 1 1 1 | @a | quiet", "z | drives | @a | quiet", ""])
+        self.assertEqual(cases.stdout_of(book, "tw_host_cases"), "2 cases as wanted\n")
+        for words, crates in (("x", "tw_cases\n"), ("y --update", "tw_host_cases\n"), ("", "tw_cases\ntw_host_cases\n")):
+            with mock.patch.object(cases, "read_book", return_value=book), contextlib.redirect_stdout(io.StringIO()) as said:
+                self.assertEqual((cases.command(["--crates", *words.split()]), said.getvalue()), (0, crates))
 
     def test_patterns(self) -> None:
         book = read("# W.\nab | layout | 1 | x\nabc | layout | 1 | x\ncd | layout | 1 | x\n")
@@ -220,11 +230,11 @@ class Lists(unittest.TestCase):
         with tempfile.TemporaryDirectory() as name, contextlib.redirect_stdout(io.StringIO()) as said:
             old = Path(name) / "old"
             old.write_text("# Words\nlet a = 01\nx | decode |  @a | program\n", encoding="utf-8")
-            self.assertEqual(cases.compare(book, old), 1)
+            self.assertEqual(cases.compare(book, [old]), 1)
             old.write_text("# Words\nlet a = 01\nx | decode | @a | program\n", encoding="utf-8")
-            self.assertEqual(cases.compare(book, old), 0)
+            self.assertEqual(cases.compare(book, [old]), 0)
             old.write_text("let a = 02\nx | decode | @a | program\nz | layout | 1 | x\n", encoding="utf-8")
-            self.assertEqual(cases.compare(book, old), 1)
+            self.assertEqual(cases.compare(book, [old]), 1)
         self.assertIn("lost: z\nchanged: let a\nadded: y\n3 lines before, 3 now: 1 lost, 1 changed, 1 added", said.getvalue())
 
 
@@ -237,24 +247,26 @@ class Running(unittest.TestCase):
         self.program.write_text(f"#!{sys.executable}\n{PROGRAM}", encoding="utf-8")
         self.program.chmod(0o755)
         (self.room / "cases").mkdir()
-        (self.room / "data").mkdir()
+        for crate in ("tw_cases/data", "tw_host_cases"):
+            (self.room / crate).mkdir(parents=True)
 
     def write(self, text: str) -> case_files.Book:
         (self.room / "cases" / "some.case").write_text(text, encoding="utf-8")
         return case_files.read_book(self.room / "cases")
 
-    def run_words(self, text: str, *words: str, ci: str = "") -> tuple[int, str]:
+    def run_words(self, text: str, kind: str, *words: str, ci: str = "") -> tuple[int, str]:
         """Runs cases as `./tw test` does, and returns the status and what was written."""
         book = self.write(text)
-        for name, made in (("stdin", cases.stdin_of(book)), ("stdout", cases.stdout_of(book))):
+        for name, made in cases.made_files(book).items():
             (self.room / name).write_text(made, encoding="utf-8")
         with (
-            mock.patch.multiple(cases, ROOT=self.room, CASES=self.room / "cases", ROWS=self.room),
+            mock.patch.multiple(cases, ROOT=self.room, CASES=self.room / "cases", ROWS=self.room, DATA=self.room / "tw_cases/data"),
             mock.patch.dict(os.environ, {"CI": ci, "COLUMNS": "100"}),
             contextlib.redirect_stdout(io.StringIO()) as said,
             contextlib.redirect_stderr(said),
         ):
-            return cases.run_command(book, [str(self.program), *words]), said.getvalue()
+            programs = [f"{crate}={kind}:{self.program}" for crate in case_files.CRATES]
+            return cases.run_command(book, [*programs, *words]), said.getvalue()
 
     def test_all_as_expected(self) -> None:
         text = "# W.\n" + "".join(f"c{number} | layout | {number} | {number}\n" for number in range(100))
@@ -265,11 +277,12 @@ class Running(unittest.TestCase):
     def test_what_ci_reads_is_made(self) -> None:
         book = self.write("# W.\na | layout | 1 | 1\n")
         with mock.patch.multiple(cases, ROWS=self.room), contextlib.redirect_stdout(io.StringIO()):
-            self.assertEqual(cases.stale_files(book), ["crates/tw_cases/stdin", "crates/tw_cases/stdout"])
+            made = ["crates/tw_cases/stdin", "crates/tw_host_cases/stdin", "crates/tw_cases/stdout", "crates/tw_host_cases/stdout"]
+            self.assertEqual(cases.stale_files(book), made)
             self.assertEqual(cases.check(book), 1)
             self.assertEqual(cases.make(book), 0)
             self.assertEqual(cases.stale_files(book), [])
-            (self.room / "stdout").write_text("2 cases as wanted\n", encoding="utf-8")
+            (self.room / "tw_cases/stdout").write_text("2 cases as wanted\n", encoding="utf-8")
             self.assertEqual(cases.check(book), 1)
 
     def test_a_failure_is_shown(self) -> None:
@@ -300,6 +313,19 @@ class Running(unittest.TestCase):
         self.assertIn("the program stopped", said)
         self.assertIn("2 passed, 1 failed", said)
 
+    def test_each_kind_has_its_program(self) -> None:
+        other = self.room / "other"
+        other.write_text(self.program.read_text(encoding="utf-8").replace("if given != wanted:", "if False:"), encoding="utf-8")
+        other.chmod(0o755)
+        book = self.write("# W.\na | layout | 1 | 1\nb | rounds | 2 | 3\nc | decode | 4 | 5\nd | woken slow 1 1 1 | 2 | 3\n")
+        programs = {"tw_cases": case_runs.Program(self.program, False), "tw_host_cases": case_runs.Program(other, False)}
+        with (
+            mock.patch.multiple(cases, ROOT=self.room, DATA=self.room),
+            contextlib.redirect_stdout(io.StringIO()) as said,
+        ):
+            self.assertEqual([result.case.name for result in cases.test(book, programs, [])], ["c"])
+        self.assertIn("3 passed, 1 failed", said.getvalue())
+
     def test_the_program_has_to_count_each_case(self) -> None:
         with self.assertRaisesRegex(RuntimeError, "1 cases as wanted.*though 2 cases"):
             self.run_words("# W.\na | layout | 1 | 1\nb | layout | uncounted | uncounted\n", "same", "[ab]")
@@ -316,6 +342,12 @@ class Running(unittest.TestCase):
         self.assertIn("1 passed, 0 failed", self.run_words(text, "unverified")[1])
         self.assertIn("2 passed, 0 failed", self.run_words(text, "built")[1])
         self.assertEqual(self.run_words(text, "unverified", "long_a"), (0, "1 passed, 0 failed\n"))
+
+    def test_long_cases_are_begun_first(self) -> None:
+        book = self.write("# W.\n" + "".join(f"{name}_{number} | layout | 1 | 1\n" for number in range(20) for name in ("short", "long")))
+        batches = case_runs.batches_of(book.cases, case_runs.Times(self.room / "times"))
+        self.assertEqual([[case.name for case in batch] for batch in batches[:20]], [[f"long_{number}"] for number in range(20)])
+        self.assertEqual([len(batch) for batch in batches[20:]], [16, 4])
 
     def test_update(self) -> None:
         text = "# W.\na | names | 1 | 2\n\ncase b\nabout It.\nkind tw run\ninput 3 x / y\nstatus 2\noutput\n    x\n    z\n\nc | layout | 5 | 5\n"

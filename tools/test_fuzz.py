@@ -449,11 +449,11 @@ class NightlyTest(unittest.TestCase):
     def test_what_crashes_or_is_slow_fails(self) -> None:
         self.tool("hostile.sh", "#!/bin/sh\nkill -SEGV $$\n")
         text = (self.root / "tools" / "nightly.sh").read_text(encoding="utf-8")
-        self.tool("nightly.sh", text.replace("harness shown 600", "harness shown 1"))
-        self.tool("shown.sh", "#!/bin/sh\necho begun\nsleep 30\n")
+        self.tool("nightly.sh", text.replace("harness shown 600", "harness shown 5"))
+        self.tool("shown.sh", "#!/bin/sh\necho begun\nsleep 90\n")
         status, lines = self.nightly("hostile", "shown")
         self.assertEqual(status, 1)
-        self.assertRegex(lines[0], r"^FAILED +shown +\d+ s, \d+ used +took longer than 1 s; begun$")
+        self.assertRegex(lines[0], r"^FAILED +shown +\d+ s, \d+ used +took longer than 5 s; begun$")
         self.assertRegex(lines[1], r"^FAILED +hostile +\d+ s, \d+ used +status (139|245)")
 
     def test_patience(self) -> None:

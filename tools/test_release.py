@@ -1,8 +1,9 @@
 # SPDX-License-Identifier: Apache-2.0
-"""Tests of tools/release.py, tools/package.py and tools/tw-sources.sh: python3 tools/test_release.py"""
+"""Tests of tools/release.py, tools/must_fail.py, tools/package.py and tools/tw-sources.sh: python3 tools/test_release.py"""
 
 from __future__ import annotations
 
+import contextlib
 import dataclasses
 import gzip
 import hashlib
@@ -16,30 +17,33 @@ from pathlib import Path
 from unittest import mock
 
 sys.path.insert(0, str(Path(__file__).resolve().parent))
+import must_fail
 import package
 import release
 
 TOOLS = Path(__file__).resolve().parent
+MUTANT = "file: src/lib.rt\nold:     1\nnew:     2\n"
 
 
 def make_repository(root: Path) -> None:
-    """Writes a repository of three crates, two of which belong to a program."""
+    """Writes a repository of six crates, four of which something is built of."""
     files = {
         "VERSION": "0.5\n",
         "CHANGELOG.md": "# Changelog\n\n## 0.5 - unreleased\n",
-        "crates.txt": "# comment\nlow: slab\ntw_main: low\ntw_embed staticlib: low\ntw_cases: low\nother:\n",
+        "crates.txt": "# comment\nlow: slab\ntw_main: low\ntw_embed staticlib: low\ntw_cases: low\ntw_host_cases: low\nother:\n",
         "crates/tw_cli/src/help.rt": 'pub(crate) const VERSION: &str = "0.5";\n',
         "crates/low/src/lib.rt": "pub fn one() -> u8 {\n    1\n}\n",
         "crates/low/proofs/Lib.antt": "mod one\n",
         "crates/tw_main/src/main.rt": "fn main() {}\n",
         "crates/tw_embed/src/lib.rt": "fn embed() {}\n",
         "crates/tw_cases/src/main.rt": "fn rows() {}\n",
+        "crates/tw_host_cases/src/main.rt": "fn host_rows() {}\n",
         "crates/other/src/lib.rt": "fn other() {}\n",
+        "tools/must-fail/low/two.edit": MUTANT,
     }
     for name, text in files.items():
         (root / name).parent.mkdir(parents=True, exist_ok=True)
         (root / name).write_text(text, encoding="utf-8")
-    (root / "tools").mkdir()
     shutil.copy(TOOLS / "tw-sources.sh", root / "tools")
 
 
@@ -85,7 +89,13 @@ class OfARepository(WithRepository):
     def test_a_changed_library_changes_all_that_is_built_on_it(self) -> None:
         self.edit("crates/low/src/lib.rt", "pub fn one() -> u8 {\n    2\n}\n")
         (fault,) = release.staleness(self.root)
-        self.assertTrue(fault.endswith("tw_main, tw_cases, tw_embed"), fault)
+        self.assertTrue(fault.endswith("tw_main, tw_cases, tw_host_cases, tw_embed"), fault)
+
+    def test_a_program_that_the_release_has_not_yet_is_named(self) -> None:
+        self.edit("release/MANIFEST", "".join(line for line in self.manifest.text().splitlines(True) if "tw_host_cases" not in line))
+        self.edit("crates/other/src/lib.rt", "fn another() {}\n")
+        (fault,) = release.staleness(self.root)
+        self.assertTrue(fault.endswith("of what is built: tw_host_cases"), fault)
 
     def test_a_changed_crate_that_nothing_is_built_on_is_named_so(self) -> None:
         self.edit("crates/other/src/lib.rt", "fn another() {}\n")
@@ -103,11 +113,11 @@ class OfARepository(WithRepository):
         self.assertNotEqual(release.sums_of_sources(self.root, "tw_main")[0], self.manifest.sources["tw_main"])
 
     def test_a_comment_of_the_list_and_another_crates_line_change_nothing(self) -> None:
-        self.edit("crates.txt", "low: slab # low\ntw_main: low\ntw_embed staticlib: low\ntw_cases: low\nother: low\n")
+        self.edit("crates.txt", "low: slab # low\ntw_main: low\ntw_embed staticlib: low\ntw_cases: low\ntw_host_cases: low\nother: low\n")
         self.assertEqual(release.sums_of_sources(self.root, "tw_main")[0], self.manifest.sources["tw_main"])
 
     def test_a_crates_own_line_changes_the_sources(self) -> None:
-        self.edit("crates.txt", "low: slab\ntw_main: low slab\ntw_embed staticlib: low\ntw_cases: low\nother:\n")
+        self.edit("crates.txt", "low: slab\ntw_main: low slab\ntw_embed staticlib: low\ntw_cases: low\ntw_host_cases: low\nother:\n")
         self.assertNotEqual(release.sums_of_sources(self.root, "tw_main")[0], self.manifest.sources["tw_main"])
 
     def test_each_place_of_the_version_is_compared(self) -> None:
@@ -119,6 +129,65 @@ class OfARepository(WithRepository):
         lines += [((self.root / name).read_text(), name) for name in ("crates/low/proofs/Lib.antt", "crates/low/src/lib.rt", "crates/tw_main/src/main.rt")]
         listed = "".join(f"{hashlib.sha256(text.encode()).hexdigest()}  {name}\n" for text, name in lines)
         self.assertEqual(release.sums_of_sources(self.root, "tw_main")[0], hashlib.sha256(listed.encode()).hexdigest())
+
+
+class OfMutants(WithRepository):
+    """Tests of which mutants are noted as rejected, with a prover that prints a line for each."""
+
+    def setUp(self) -> None:
+        super().setUp()
+        self.edit("tools/must-fail/low/three.edit", MUTANT.replace("2", "3"))
+        self.printed = "must-fail low/two.edit: refused, as it must be: src/lib.rt:2\nmust-fail low/three.edit: refused, as it must be\n"
+        for name, fake in {"copy_mutants": lambda *words: None, "run_prover": lambda *words: self.printed}.items():
+            patch = mock.patch.object(must_fail, name, fake)
+            patch.start()
+            self.addCleanup(patch.stop)
+
+    def attempt(self) -> list[str]:
+        """Tries the mutants, without what they print."""
+        with contextlib.redirect_stdout(io.StringIO()):
+            return must_fail.attempt(self.root, "kit", ["low"])
+
+    def test_rejected_mutants_are_noted(self) -> None:
+        self.assertEqual(must_fail.untried(self.root, "kit"), ["low"])
+        self.assertEqual(self.attempt(), [])
+        self.assertEqual(must_fail.untried(self.root, "kit"), [])
+        self.assertRegex((self.root / "release/REJECTED").read_text(), r"\Alow [0-9a-f]{64} 2 rejected\n\Z")
+
+    def test_a_mutant_that_is_proved_or_not_tried_is_not_noted(self) -> None:
+        for line in ("must-fail low/three.edit: NOT REFUSED: the crate is still proved with this edit\n", "must-fail low/three.edit: NOT TRIED: ..\n", ""):
+            self.printed = f"{self.printed.splitlines()[0]}\n{line}"
+            self.assertEqual(self.attempt(), ["low/three.edit"])
+            self.assertEqual(must_fail.untried(self.root, "kit"), ["low"])
+
+    def test_what_a_verdict_depends_on_makes_it_void(self) -> None:
+        self.attempt()
+        self.assertEqual(must_fail.untried(self.root, "another kit"), ["low"])
+        for name, text in (("tools/must-fail/low/two.edit", MUTANT.replace("2", "4")), ("crates/low/proofs/Lib.antt", "mod two\n"), ("crates.txt", "low: slab hex\n")):
+            old = (self.root / name).read_text()
+            self.edit(name, text)
+            self.assertEqual(must_fail.untried(self.root, "kit"), ["low"])
+            self.edit(name, old)
+        self.edit("crates/other/src/lib.rt", "fn another() {}\n")
+        self.assertEqual(must_fail.untried(self.root, "kit"), [])
+
+    def test_a_failed_trial_drops_the_note_and_keeps_others(self) -> None:
+        shutil.copytree(self.root / "tools/must-fail/low", self.root / "tools/must-fail/other")
+        must_fail.note(self.root, "kit", ["low", "other"])
+        self.edit("tools/must-fail/low/four.edit", MUTANT)
+        self.assertEqual(self.attempt(), ["low/four.edit"])
+        self.assertEqual(must_fail.untried(self.root, "kit"), ["low"])
+
+    def test_a_mutant_that_replaces_nothing_is_found(self) -> None:
+        crate = self.root / "crates/low"
+        for text, fault in ((MUTANT, None), ("", "it replaces nothing"), (MUTANT.replace("    1", "    7"), " 0 times"), (MUTANT.replace("lib", "lob"), " 0 times")):
+            self.edit("tools/must-fail/low/two.edit", text)
+            found = must_fail.fault_of(crate, self.root / "tools/must-fail/low/two.edit")
+            self.assertTrue(found == fault if fault is None else (found or "").endswith(fault), found)
+
+    def test_the_mutants_of_this_repository_replace_something(self) -> None:
+        with contextlib.redirect_stdout(io.StringIO()) as said:
+            self.assertEqual(must_fail.check(must_fail.ROOT), 0, said.getvalue())
 
 
 class OfABuild(WithRepository):
@@ -135,6 +204,7 @@ class OfABuild(WithRepository):
             patch.start()
             self.addCleanup(patch.stop)
         self.edit("KIT-ID", "kit\n")
+        must_fail.note(self.root, "kit", ["low"])
 
     def copy(self, root: Path, tree: Path, with_checks: bool) -> None:
         """Acts as the copy and what `rt ci` leaves in it."""
@@ -166,7 +236,14 @@ class OfABuild(WithRepository):
         for name, (size, digest) in made.sums.items():
             data = gzip.decompress((self.root / f"release/{name}.gz").read_bytes())
             self.assertEqual((len(data), hashlib.sha256(data).hexdigest()), (size, digest))
-        self.assertEqual(sorted(made.sums), ["index.html", "libyuglemit.a", "libyuglemit.so", "tw", "tw_cases"])
+        self.assertEqual(sorted(made.sums), ["index.html", "libyuglemit.a", "libyuglemit.so", "tw", "tw_cases", "tw_host_cases"])
+
+    def test_mutants_that_were_not_rejected_make_none(self) -> None:
+        before = release.manifest_at_hand(self.root)
+        (self.root / "release/REJECTED").unlink()
+        with self.assertRaisesRegex(SystemExit, "first run tools/must_fail.py, .*: low$"):
+            release.make(None, once=True)
+        self.assertEqual(release.manifest_at_hand(self.root), before)
 
     def test_two_builds_that_differ_make_none(self) -> None:
         before = release.manifest_at_hand(self.root)

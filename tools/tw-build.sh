@@ -4,6 +4,21 @@
 # shellcheck source=tools/tw-find.sh disable=SC2154
 . "$root/tools/tw-find.sh"
 
+build_usage() {
+    cat <<'TEXT'
+Proves everything that the program depends on, and builds it.
+
+Usage: ./tw build [--library]
+
+It needs the Rattle toolchain, and takes half an hour or more the first time. What is proved is kept, so a build that was stopped continues.
+Standard error reports each crate that is done; crates/tw_main/out/build.log has the whole output.
+
+  --library  Builds the library for programs in other languages (embed/): libyuglemit.so and libyuglemit.a in crates/tw_embed/out
+
+Exit status: 0 built, 2 command line rejected, 70 the build failed or there is no toolchain, 130 stopped.
+TEXT
+}
+
 # Lays the crate and those below it out as a repository of their own, without the mutants.
 lay_out() {
     mkdir -p "$tree/.git" "$tree/crates" && cp "$root/HANDLES" "$tree" && lines_of_crates "$crate" >"$tree/crates.txt" &&
@@ -90,9 +105,10 @@ take_turn() {
 
 build_command() {
     case $* in
+        --help | -h) printed build_usage; return ;;
         '') crate=tw_main ;;
         --library) crate=tw_embed ;;
-        *) say "./tw build takes no argument except --library"; exit 2 ;;
+        *) say "./tw build takes no argument except --library; ./tw help build says more"; exit 2 ;;
     esac
     built=$(built_file "$crate") folder=$root/crates/$crate/out
     log=$folder/build.log

@@ -22,29 +22,46 @@ has_python() {
     python3 -c 'import sys; sys.exit(sys.version_info < (3, 10))' 2>/dev/null
 }
 
+# Runs the cases of a crate as CI does. Adds to `passed`, `failed` and `differs`.
+run_crate_as_in_ci() {
+    (cd "$root/crates/tw_cases/data" && exec "$program" <"$root/crates/$1/stdin") >"$room/out"
+    diff "$root/crates/$1/stdout" "$room/out" >"$room/diff" || differs=1
+    cat "$room/diff" >&2
+    count=$(sed -n 's/ cases as wanted$//p' "$room/out")
+    passed=$((passed + ${count:-0})) failed=$((failed + $(grep -c '^>.*: wanted ' "$room/diff")))
+}
+
 # Runs all cases as CI does, which needs no Python.
 run_as_in_ci() {
     [ $# = 0 ] || { say "./tw test takes arguments only with Python 3.10 or newer"; exit 70; }
     need_room
-    (cd "$root/crates/tw_cases/data" && exec "$program" <../stdin) >"$room/out"
-    diff "$root/crates/tw_cases/stdout" "$room/out" >"$room/diff"
-    differs=$?
-    cat "$room/diff" >&2
-    echo "$(sed -n 's/ cases as wanted$//p' "$room/out") passed, $(grep -c '^>.*: wanted ' "$room/diff") failed"
+    passed=0 failed=0 differs=0
+    for crate in tw_cases tw_host_cases; do
+        pick "$crate"
+        say_kind
+        run_crate_as_in_ci "$crate"
+    done
+    echo "$passed passed, $failed failed"
     return "$differs"
 }
 
 test_command() {
     case $1 in
-        --help | -h) test_usage; return ;;
+        --help | -h) printed test_usage; return ;;
         --list) exec python3 -B "$root/tools/cases.py" "$@" ;;
         --update) ;;
         -*) say "./tw test takes --list, --update and patterns"; exit 2 ;;
     esac
-    pick tw_cases
-    say_kind
-    if has_python; then
-        exec python3 -B "$root/tools/cases.py" --run "$program" "$kind" "$@"
+    if ! has_python; then
+        run_as_in_ci "$@"
+        return
     fi
-    run_as_in_ci "$@"
+    crates=$(python3 -B "$root/tools/cases.py" --crates "$@") || exit
+    # The programs precede the patterns.
+    for crate in $crates; do
+        pick "$crate"
+        say_kind
+        set -- "$crate=$kind:$program" "$@"
+    done
+    exec python3 -B "$root/tools/cases.py" --run "$@"
 }

@@ -81,7 +81,7 @@ BREAKS = names_of(PLACES)
 def cases() -> str:
     """The lines of the cases that turn or run a host, and the names that they use."""
     kept = []
-    for line in (ROOT / "crates/tw_cases/stdin").read_text().splitlines():
+    for line in (ROOT / "crates/tw_host_cases/stdin").read_text().splitlines():
         fields = line.split("|")
         if line.startswith("let ") or (len(fields) > 2 and not line.startswith(("#", "long_")) and fields[1].strip().startswith(KINDS)):
             kept.append(line)
@@ -90,10 +90,10 @@ def cases() -> str:
 
 def played(folder: Path, made: bytes, number: int, given: str, seconds: float) -> tuple[bool, str]:
     """Runs all cases with a break. Returns whether all have the expected output, and what was said otherwise."""
-    program = folder / f"tw_cases_{number}"
+    program = folder / f"tw_host_cases_{number}"
     write_broken(program, made, number)
     try:
-        run = subprocess.run([program], cwd=ROOT / "crates/tw_cases/data", input=given.encode(), stdout=subprocess.PIPE, stderr=subprocess.STDOUT, timeout=seconds, check=False)
+        run = subprocess.run([program], cwd=folder, input=given.encode(), stdout=subprocess.PIPE, stderr=subprocess.STDOUT, timeout=seconds, check=False)
     except subprocess.TimeoutExpired:
         return False, f"longer than {seconds:.0f} s"
     finally:
@@ -129,7 +129,7 @@ def main(words: list[str]) -> int:
     if unknown:
         sys.exit(f"wakes.py: there is no break {unknown[0]}")
     with tempfile.TemporaryDirectory() as room:
-        return 1 if try_breaks(Path(room), built("tw_cases", PLACES), words or BREAKS[1:]) else 0
+        return 1 if try_breaks(Path(room), built("tw_host_cases", PLACES), words or BREAKS[1:]) else 0
 
 
 if __name__ == "__main__":

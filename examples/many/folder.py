@@ -12,7 +12,7 @@ from typing import TextIO
 
 import yuglemit
 
-STATUS = {"quiet": 0, "stuck": 3, "limit": 4}
+STATUS = {"quiet": 0, "stuck": 3, "limit": 4, "memory": 5}
 TYPES = {"int": "int", "text": "text", "ints": "cont int", "texts": "cont text", "tints": "tcont int", "ttexts": "tcont text"}
 
 
@@ -54,11 +54,24 @@ def answer(program: yuglemit.Program, file: File) -> tuple[int, str]:
     return status, report.decode()
 
 
-def table(program: yuglemit.Program, files: Iterable[File], executor: Executor | None = None, file: TextIO = sys.stdout) -> None:
+def line(program: yuglemit.Program, file: File, report: yuglemit.Report | None) -> tuple[int, str]:
+    """Returns the status and the report of a file's run."""
+    if report is None or report.end == "refused":
+        return answer(program, file)
+    return STATUS[report.end], "memory\n" if report.error else report.text
+
+
+def table(
+    program: yuglemit.Program,
+    files: Iterable[File],
+    executor: Executor | None = None,
+    file: TextIO = sys.stdout,
+    window: int | None = None,
+    on_broken: str = "raise",
+) -> None:
     """Runs a program on files, by this executor, and prints the table: a line for each file with its name, the status and the report."""
     files = list(files)
-    reports = yuglemit.map(program, [it.inputs for it in files if it.inputs is not None], executor)
+    reports = yuglemit.map(program, [it.inputs for it in files if it.inputs is not None], executor, window=window, on_broken=on_broken, text=True)
     for it in files:
-        report = None if it.inputs is None else next(reports)
-        status, text = answer(program, it) if report is None or report.error else (STATUS[report.end], report.text)
+        status, text = line(program, it, None if it.inputs is None else next(reports))
         print(it.path.stem, status, text.replace("\n", ";"), sep="\t", file=file)

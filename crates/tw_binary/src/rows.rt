@@ -1,12 +1,13 @@
 //! Decodes instructions, in one row each.
 
-ghost use Rattle.std.specs.Prelude.{[], ◌∷◌};
+ghost use Rattle.std.specs.Prelude.{[], ◌∷◌, ◌≡◌};
 ghost use Rattle.tw_code.specs.declared.form.Form.TheVariants.{Args, Callee, Number, Skip, Target, Value};
-ghost use Rattle.tw_code.specs.declared.instr.LocalInstr.TheVariants.{Compute};
 ghost use Rattle.tw_code.specs.declared.instr.Priority.TheVariants.{Computed, Constant};
+ghost use Rattle.tw_code.specs.declared.version.Version.{Version};
 ghost use Rattle.tw_code.specs.declared.version.Version.TheVariants.{One};
 ghost use Rattle.tw_binary.specs.Reading.{Gives, args_at, as_is, byte_at, contents_at, instr_at, made_at, number_at, register_at, skip_at, target_at, text_at, type_at, wide_at};
-ghost use Rattle.tw_code.specs.format.Table.{action_of, row_of};
+ghost use Rattle.tw_binary.specs.Shapes.{AreThreeAndSkip, AreTwo, AreTwoAndSkip, made_of_three_and_skip, made_of_two, made_of_two_and_skip};
+ghost use Rattle.tw_code.specs.format.Table.{action_of, forms_of, row_of};
 
 use crate::actions::{args_of, target_of};
 use crate::fault::{FaultNo, Stop};
@@ -126,20 +127,92 @@ fn three_and_skip<'a>(bytes: &mut &'a [u8]) -> Result<(u8, u8, u8, u16), Stop>
     ))
 }
 
-/// Decodes the operands of ADD to REM.
-fn compute<'a>(operation: Arithmetic, bytes: &mut &'a [u8]) -> Result<LocalInstr, Stop>
-    ensures { Gives (λ x. (x, bytes.new.now)) result
-        (as_is (λ x. Compute operation x.0 x.1.0 x.1.1.0 x.1.1.1.0) (contents_at One (Value ∷ Value ∷ Value ∷ Skip ∷ [])) bytes.old.now) }
+// ---- instructions that differ in their opcodes alone
+
+/// Returns an instruction of two registers.
+#[rattlefmt::skip]
+fn instr_of_two(opcode: Opcode, first: u8, second: u8) -> Instr
+    requires { AreTwo (forms_of opcode) }
+    ensures { result ≡ made_of_two (row_of opcode) (first, (second, tt)) }
 {
-    let (to, left, right, skip) = three_and_skip(bytes)?;
-    Ok(LocalInstr::Compute {
-        operation,
-        to,
-        left,
-        right,
-        skip,
-    })
+    match opcode {
+        Opcode::Copy => Instr::Local(LocalInstr::Copy { to: first, from: second }),
+        Opcode::Length => Instr::Local(LocalInstr::Length { to: first, from: second }),
+        Opcode::Show => Instr::Local(LocalInstr::Show { to: first, from: second }),
+        Opcode::Store => Instr::Data(DataInstr::Store { datum: first, from: second }),
+        Opcode::Get => Instr::Data(DataInstr::Get { to: first, datum: second }),
+        Opcode::Size => Instr::Data(DataInstr::Size { to: first, container: second }),
+        Opcode::CopyRead => Instr::Data(DataInstr::CopyRead { to: first, from: second }),
+        Opcode::CopyWrite => Instr::Data(DataInstr::CopyWrite { to: first, from: second }),
+        _ => unreachable!(),
+    }
 }
+
+/// Decodes two registers, and returns the instruction of them.
+fn decode_two<'a>(opcode: Opcode, bytes: &mut &'a [u8]) -> Result<Instr, Stop>
+    requires { AreTwo (forms_of opcode) }
+    ensures { (version : Version) → Gives (λ x. (x, bytes.new.now)) result (made_at version (row_of opcode) bytes.old.now) }
+{
+    let (first, second) = two(bytes)?;
+    Ok(instr_of_two(opcode, first, second))
+}
+
+/// Returns an instruction of two registers and a skip.
+#[rattlefmt::skip]
+fn instr_of_two_and_skip(opcode: Opcode, first: u8, second: u8, skip: u16) -> Instr
+    requires { AreTwoAndSkip (forms_of opcode) }
+    ensures { result ≡ made_of_two_and_skip (row_of opcode) (first, (second, (skip, tt))) }
+{
+    match opcode {
+        Opcode::ReadInt => Instr::Local(LocalInstr::ReadInt { to: first, from: second, skip }),
+        Opcode::JumpEqual => Instr::Local(LocalInstr::JumpEqual { left: first, right: second, skip }),
+        Opcode::JumpLess => Instr::Local(LocalInstr::JumpLess { left: first, right: second, skip }),
+        _ => unreachable!(),
+    }
+}
+
+/// Decodes two registers and a skip, and returns the instruction of them.
+fn decode_two_and_skip<'a>(opcode: Opcode, bytes: &mut &'a [u8]) -> Result<Instr, Stop>
+    requires { AreTwoAndSkip (forms_of opcode) }
+    ensures { (version : Version) → Gives (λ x. (x, bytes.new.now)) result (made_at version (row_of opcode) bytes.old.now) }
+{
+    let (first, second, skip) = two_and_skip(bytes)?;
+    Ok(instr_of_two_and_skip(opcode, first, second, skip))
+}
+
+/// Returns an instruction of three registers and a skip.
+#[rattlefmt::skip]
+fn instr_of_three_and_skip(opcode: Opcode, first: u8, second: u8, third: u8, skip: u16) -> Instr
+    requires { AreThreeAndSkip (forms_of opcode) }
+    ensures { result ≡ made_of_three_and_skip (row_of opcode) (first, (second, (third, (skip, tt)))) }
+{
+    match opcode {
+        Opcode::Add => Instr::Local(LocalInstr::Compute { operation: Arithmetic::Add, to: first, left: second, right: third, skip }),
+        Opcode::Subtract => Instr::Local(LocalInstr::Compute { operation: Arithmetic::Subtract, to: first, left: second, right: third, skip }),
+        Opcode::Multiply => Instr::Local(LocalInstr::Compute { operation: Arithmetic::Multiply, to: first, left: second, right: third, skip }),
+        Opcode::Divide => Instr::Local(LocalInstr::Compute { operation: Arithmetic::Divide, to: first, left: second, right: third, skip }),
+        Opcode::Remainder => Instr::Local(LocalInstr::Compute { operation: Arithmetic::Remainder, to: first, left: second, right: third, skip }),
+        Opcode::Concatenate => Instr::Local(LocalInstr::Concatenate { to: first, left: second, right: third, skip }),
+        Opcode::Insert => Instr::Data(DataInstr::Insert { by: Scalar::Int, container: first, subscript: second, member: third, skip }),
+        Opcode::Look => Instr::Data(DataInstr::Look { by: Scalar::Int, member: first, container: second, subscript: third, skip }),
+        Opcode::SubscriptAt => Instr::Data(DataInstr::SubscriptAt { by: Scalar::Int, to: first, container: second, index: third, skip }),
+        Opcode::InsertByText => Instr::Data(DataInstr::Insert { by: Scalar::Text, container: first, subscript: second, member: third, skip }),
+        Opcode::LookByText => Instr::Data(DataInstr::Look { by: Scalar::Text, member: first, container: second, subscript: third, skip }),
+        Opcode::SubscriptAtByText => Instr::Data(DataInstr::SubscriptAt { by: Scalar::Text, to: first, container: second, index: third, skip }),
+        _ => unreachable!(),
+    }
+}
+
+/// Decodes three registers and a skip, and returns the instruction of them.
+fn decode_three_and_skip<'a>(opcode: Opcode, bytes: &mut &'a [u8]) -> Result<Instr, Stop>
+    requires { AreThreeAndSkip (forms_of opcode) }
+    ensures { (version : Version) → Gives (λ x. (x, bytes.new.now)) result (made_at version (row_of opcode) bytes.old.now) }
+{
+    let (first, second, third, skip) = three_and_skip(bytes)?;
+    Ok(instr_of_three_and_skip(opcode, first, second, third, skip))
+}
+
+// ---- all instructions
 
 /// Decodes the operands of RULE or PUT.
 fn constant_action<'a>(alloc: Global, bytes: &mut &'a [u8]) -> Result<Action, Stop>
@@ -165,7 +238,7 @@ fn computed_action<'a>(alloc: Global, bytes: &mut &'a [u8]) -> Result<Action, St
     })
 }
 
-/// Decodes the operands of an instruction, in one row each.
+/// Decodes the operands of an instruction. Those with a part in common share a row.
 #[rattlefmt::skip]
 fn operands_of<'a>(alloc: Global, version: Version, opcode: Opcode, bytes: &mut &'a [u8]) -> Result<Instr, Stop>
     ensures { Gives (λ x. (x, bytes.new.now)) result (made_at version (row_of opcode) bytes.old.now) }
@@ -173,40 +246,22 @@ fn operands_of<'a>(alloc: Global, version: Version, opcode: Opcode, bytes: &mut 
     match opcode {
         Opcode::Int => Ok(Instr::Local(LocalInstr::Int { to: register(bytes)?, value: number(bytes)? })),
         Opcode::Text => Ok(Instr::Local(LocalInstr::Text { to: register(bytes)?, text: text(alloc, bytes)? })),
-        Opcode::Copy => { let (to, from) = two(bytes)?; Ok(Instr::Local(LocalInstr::Copy { to, from })) }
-        Opcode::Add => Ok(Instr::Local(compute(Arithmetic::Add, bytes)?)),
-        Opcode::Subtract => Ok(Instr::Local(compute(Arithmetic::Subtract, bytes)?)),
-        Opcode::Multiply => Ok(Instr::Local(compute(Arithmetic::Multiply, bytes)?)),
-        Opcode::Divide => Ok(Instr::Local(compute(Arithmetic::Divide, bytes)?)),
-        Opcode::Remainder => Ok(Instr::Local(compute(Arithmetic::Remainder, bytes)?)),
-        Opcode::Concatenate => { let (to, left, right, skip) = three_and_skip(bytes)?; Ok(Instr::Local(LocalInstr::Concatenate { to, left, right, skip })) }
-        Opcode::Length => { let (to, from) = two(bytes)?; Ok(Instr::Local(LocalInstr::Length { to, from })) }
-        Opcode::Show => { let (to, from) = two(bytes)?; Ok(Instr::Local(LocalInstr::Show { to, from })) }
-        Opcode::ReadInt => { let (to, from, skip) = two_and_skip(bytes)?; Ok(Instr::Local(LocalInstr::ReadInt { to, from, skip })) }
         Opcode::Jump => Ok(Instr::Local(LocalInstr::Jump { skip: skip(bytes)? })),
-        Opcode::JumpEqual => { let (left, right, skip) = two_and_skip(bytes)?; Ok(Instr::Local(LocalInstr::JumpEqual { left, right, skip })) }
-        Opcode::JumpLess => { let (left, right, skip) = two_and_skip(bytes)?; Ok(Instr::Local(LocalInstr::JumpLess { left, right, skip })) }
         Opcode::Repeat => Ok(Instr::Local(LocalInstr::Repeat { iterations: iterations(bytes)? })),
         Opcode::End => Ok(Instr::Local(LocalInstr::End)),
         Opcode::New => { let (write, read) = two(bytes)?; Ok(Instr::Data(DataInstr::New { write, read, ty: data_type(version, bytes)? })) }
-        Opcode::Store => { let (datum, from) = two(bytes)?; Ok(Instr::Data(DataInstr::Store { datum, from })) }
-        Opcode::Get => { let (to, datum) = two(bytes)?; Ok(Instr::Data(DataInstr::Get { to, datum })) }
-        Opcode::Insert => { let (container, subscript, member, skip) = three_and_skip(bytes)?; Ok(Instr::Data(DataInstr::Insert { by: Scalar::Int, container, subscript, member, skip })) }
-        Opcode::Look => { let (member, container, subscript, skip) = three_and_skip(bytes)?; Ok(Instr::Data(DataInstr::Look { by: Scalar::Int, member, container, subscript, skip })) }
-        Opcode::Size => { let (to, container) = two(bytes)?; Ok(Instr::Data(DataInstr::Size { to, container })) }
-        Opcode::SubscriptAt => { let (to, container, index, skip) = three_and_skip(bytes)?; Ok(Instr::Data(DataInstr::SubscriptAt { by: Scalar::Int, to, container, index, skip })) }
-        Opcode::CopyRead => { let (to, from) = two(bytes)?; Ok(Instr::Data(DataInstr::CopyRead { to, from })) }
-        Opcode::CopyWrite => { let (to, from) = two(bytes)?; Ok(Instr::Data(DataInstr::CopyWrite { to, from })) }
         Opcode::DropRead => Ok(Instr::Data(DataInstr::DropRead { right: register(bytes)? })),
         Opcode::DropWrite => Ok(Instr::Data(DataInstr::DropWrite { right: register(bytes)? })),
         Opcode::Rule => Ok(Instr::Rule(constant_action(alloc, bytes)?)),
         Opcode::Put => Ok(Instr::Put(constant_action(alloc, bytes)?)),
         Opcode::Ret => Ok(Instr::Ret),
-        Opcode::InsertByText => { let (container, subscript, member, skip) = three_and_skip(bytes)?; Ok(Instr::Data(DataInstr::Insert { by: Scalar::Text, container, subscript, member, skip })) }
-        Opcode::LookByText => { let (member, container, subscript, skip) = three_and_skip(bytes)?; Ok(Instr::Data(DataInstr::Look { by: Scalar::Text, member, container, subscript, skip })) }
-        Opcode::SubscriptAtByText => { let (to, container, index, skip) = three_and_skip(bytes)?; Ok(Instr::Data(DataInstr::SubscriptAt { by: Scalar::Text, to, container, index, skip })) }
         Opcode::RuleComputed => Ok(Instr::Rule(computed_action(alloc, bytes)?)),
         Opcode::PutComputed => Ok(Instr::Put(computed_action(alloc, bytes)?)),
+        Opcode::Copy | Opcode::Length | Opcode::Show | Opcode::Store | Opcode::Get | Opcode::Size | Opcode::CopyRead | Opcode::CopyWrite =>
+        decode_two(opcode, bytes),
+        Opcode::ReadInt | Opcode::JumpEqual | Opcode::JumpLess => decode_two_and_skip(opcode, bytes),
+        Opcode::Add | Opcode::Subtract | Opcode::Multiply | Opcode::Divide | Opcode::Remainder | Opcode::Concatenate | Opcode::Insert | Opcode::Look |
+        Opcode::SubscriptAt | Opcode::InsertByText | Opcode::LookByText | Opcode::SubscriptAtByText => decode_three_and_skip(opcode, bytes),
     }
 }
 

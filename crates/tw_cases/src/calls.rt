@@ -1,9 +1,9 @@
 //! The library's calls, as programs in other languages make them, compared with the crates.
 
-use crate::text::Text;
 use std::alloc::{AllocError, Global};
 use std::ops::Range;
 use tw_calls::{Verdict, session, session_text, verify};
+use tw_case_lines::Text;
 use tw_handles::{Handle, text_copy, text_length};
 
 /// The content of each byte of a buffer before a call.

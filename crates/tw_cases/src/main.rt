@@ -1,43 +1,42 @@
 //! Runs the cases of its input, one on each line. Prints each case whose output differs from the expected one, and how many passed.
 //!
-//! `README.md` has the form of a case, and `kinds` has the kinds of cases.
+//! `tw_case_lines` has the form of a case, and `kinds` has the kinds of cases.
 #![tactic(auto)]
 
-mod book;
-mod bytes;
 mod calls;
-mod case;
-mod complaint;
-mod courses;
-mod drives;
-mod events;
-mod given;
-mod hoard;
-mod hosts;
 mod kinds;
-mod layouts;
-mod machine;
 mod named;
-mod parts;
-mod play;
 mod programs;
 mod scarce;
-mod scarce_pools;
 mod sessions;
 mod shown;
-mod state;
-mod stops;
 mod streams;
-mod tables;
-mod text;
-mod threads;
-mod waiting;
-mod woken;
 mod words;
 
-use crate::book::Book;
-use crate::case::play_line;
+use crate::kinds::case_text;
+use std::alloc::AllocError;
 use std::io;
+use std::rt::Files;
+use std::sync::Wait;
+use std::thread::Threads;
+use std::time::Clock;
+use tw_case_lines::{Book, Line, read_line};
+
+/// Executes a line. Returns what is to be printed.
+fn play_line<H: AllocGlobal + Files + Threads + Wait + Clock + Sync>(
+    rt: &H,
+    book: &mut Book,
+    line: &str,
+) -> Result<Option<String>, AllocError> {
+    match read_line(rt.alloc(), book, line)? {
+        Line::Done => Ok(None),
+        Line::Faulty(printed) => Ok(Some(printed)),
+        Line::Case(case) => {
+            let came = case_text(rt, book, case.fields);
+            case.judged(rt.alloc(), book, came)
+        }
+    }
+}
 
 fn main(rt: HostRuntime) -> io::Result<()> {
     let mut book = Book::new(rt.alloc());

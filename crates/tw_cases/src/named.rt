@@ -1,12 +1,12 @@
 //! Cases of symbolic assembly.
 
-use crate::complaint::Complaint;
 use crate::words::unescaped;
 use std::alloc::Global;
 use std::fs;
 use std::rt::Files;
 use tw_asm::assemble;
 use tw_binary::encode;
+use tw_case_lines::Complaint;
 use tw_symbols::expanded_text;
 
 /// Returns the expanded text, with a slash for each line end; or `itself` if it has no names, or its first error.

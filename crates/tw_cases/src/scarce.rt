@@ -1,19 +1,14 @@
-//! Cases of sessions and of threaded runs that are short of memory or threads: a hoard takes all addresses except a few.
+//! Cases of sessions that are short of memory: a hoard takes all addresses except a few.
 
-use crate::complaint::Complaint;
-use crate::given::Given;
-use crate::hoard::Hoard;
-use crate::hosts::steps_history;
 use crate::sessions::code_of;
 use crate::streams::{Room, put_reply};
-use crate::text::Text;
-use std::alloc::Global;
+use std::alloc::AllocError;
 use std::sync::Wait;
+use std::sync::atomic::{AtomicU64, Ordering};
+use std::thread;
 use std::thread::Threads;
-use std::time::Clock;
-use tw_host::Closed;
-use tw_verify::Verified;
-use tw_workers::{NoGate, run};
+use std::time::{Clock, Duration};
+use tw_case_lines::{Complaint, Hoard, Text};
 
 /// Runs a session, which writes into a buffer without allocating.
 fn written<H: AllocGlobal + Threads + Wait + Clock + Sync>(
@@ -24,6 +19,38 @@ fn written<H: AllocGlobal + Threads + Wait + Clock + Sync>(
     let mut room = Room::new();
     let code = code_of(rt, words, &mut input, &mut room);
     (code, room)
+}
+
+/// How many threads allocate side by side before all addresses are taken: one for each of a session, and one for the thread of the cases.
+const ARENAS: u64 = 4;
+
+/// How often a thread looks whether the others have allocated. It waits for a millisecond after each look.
+const MOST_LOOKS: u64 = 10_000;
+
+/// Allocates, and waits until each of the threads has.
+fn hold_arena<H: AllocGlobal + Wait>(rt: &H, met: &AtomicU64) {
+    let piece: Result<Vec<u8>, AllocError> = Vec::with_capacity(rt.alloc(), 64);
+    met.fetch_add(1, Ordering::SeqCst);
+    let nobody = AtomicU64::new(0);
+    for _ in 0..MOST_LOOKS {
+        if met.load(Ordering::SeqCst) >= ARENAS {
+            break;
+        }
+        nobody.park_timeout(rt, 0, Duration::from_millis(1));
+    }
+    drop(piece);
+}
+
+/// Lets `malloc` make an arena for each thread of a session. While all addresses are held it can't make one, and a thread without an arena can't
+/// allocate, however much is free in another's.
+fn make_arenas<H: AllocGlobal + Threads + Wait + Sync>(rt: &H) {
+    let met = AtomicU64::new(0);
+    let met = &met;
+    thread::scope(thread::scope_env(), rt, |scope| {
+        for _ in 0..ARENAS {
+            let _ = scope.spawn(move || hold_arena(rt, met));
+        }
+    });
 }
 
 /// How much deeper the stack of a session may be if an allocation fails, in bytes.
@@ -42,97 +69,82 @@ fn written_below<H: AllocGlobal + Threads + Wait + Clock + Sync>(
     (code.wrapping_add(untouched), room)
 }
 
-/// Runs a session with more and more memory, in steps of 64 bytes, until it returns this status and this text. Returns how often it was out of memory
-/// before; None if it ever returned anything else.
+/// The result of a session that is run with more and more memory.
+#[derive(Drop)]
+enum Scarce {
+    /// It was out of memory so often, and then as with enough memory.
+    Reached(u64),
+    /// It was out of memory each time.
+    NeverEnough,
+    /// It once returned this status, and wrote this.
+    Other(u8, Room),
+}
+
+/// Up to this size, the memory for a session is increased by 64 bytes, and doubled from then on.
+const SMALL: usize = 131_072;
+
+/// How many sizes there are, up to 512 MiB: 2,049 to `SMALL`, and 12 doubled ones.
+const SIZES: usize = 2_061;
+
+/// Returns the size of memory after this one.
+fn next_size(bytes: usize) -> usize {
+    if bytes < SMALL {
+        bytes.wrapping_add(64)
+    } else {
+        bytes.saturating_mul(2)
+    }
+}
+
+/// Runs a session with more and more memory, until it returns this status and this text, or anything else than that it is out of memory.
 fn refused_before<H: AllocGlobal + Threads + Wait + Clock + Sync>(
     rt: &H,
     hoard: &mut Hoard,
     words: &[String],
     input: &[u8],
     (code, whole): (u8, &[u8]),
-) -> Option<u64> {
-    let mut refused = 0_u64;
-    for step in 0..20_000_usize {
-        if !hoard.leave(rt.alloc(), step.wrapping_mul(64)) {
-            return None;
-        }
+) -> Result<Scarce, Complaint> {
+    let mut bytes = 0;
+    for refused in 0..SIZES {
+        hoard.leave(rt.alloc(), bytes)?;
         let (came, room) = written(rt, words, input);
         hoard.relieve();
         if came == code && room.written() == whole {
-            return Some(refused);
+            return Ok(Scarce::Reached(refused as u64));
         }
         if came != 5 || room.written() != "memory\n".as_bytes() {
-            return None;
+            return Ok(Scarce::Other(came, room));
         }
-        refused = refused.wrapping_add(1);
+        bytes = next_size(bytes);
     }
-    None
+    Ok(Scarce::NeverEnough)
 }
 
-/// Returns the output of a session with enough memory; and whether, with less, it has the same output or is out of memory.
+/// Adds the result of a session with less memory.
+fn put_scarce(text: &mut Text, scarce: &Scarce) {
+    match scarce {
+        Scarce::Reached(0) => text.put("memory is never refused"),
+        Scarce::Reached(_) => text.put("or 5 memory"),
+        Scarce::NeverEnough => text.put("or 5 memory, whatever memory it has"),
+        Scarce::Other(code, room) => {
+            text.put("or ");
+            put_reply(text, *code, room.written());
+        }
+    }
+}
+
+/// Returns the output of a session with enough memory; and its output with less, which is to be that it is out of memory.
 pub fn scarce_text<H: AllocGlobal + Threads + Wait + Clock + Sync>(
     rt: &H,
     words: &[String],
     input: &[u8],
 ) -> Result<String, Complaint> {
-    let alloc = rt.alloc();
+    make_arenas(rt);
     let (code, room) = written_below(rt, words, input);
-    let mut hoard = Hoard::new(alloc)?;
-    let refused = refused_before(rt, &mut hoard, words, input, (code, room.written()));
+    let mut hoard = Hoard::new(rt.alloc())?;
+    let scarce = refused_before(rt, &mut hoard, words, input, (code, room.written()));
     drop(hoard);
-    let mut text = Text::new(alloc);
+    let mut text = Text::new(rt.alloc());
     put_reply(&mut text, code, room.written());
-    text.put(match refused {
-        Some(0) => "memory is never refused",
-        Some(_) => "or 5 memory",
-        None => "or something else",
-    });
+    put_scarce(&mut text, &scarce?);
     text.into_line()
-}
-
-/// Runs a program in threads while no free piece of memory is large enough for a stack. Returns None if the run isn't opened, or isn't out of memory.
-fn run_without_stacks<H: AllocGlobal + Threads + Wait + Clock + Sync>(
-    rt: &H,
-    verified: &Verified,
-    given: &Given,
-) -> Option<Closed> {
-    let alloc = rt.alloc();
-    let Ok(mut hoard) = Hoard::new(alloc) else {
-        return None;
-    };
-    hoard.take(alloc, 1 << 40, 1 << 22);
-    let (inputs, limit) = (given.inputs.as_slice(), given.limit);
-    let came = run(rt, alloc, verified, inputs, given.layout, limit, &NoGate);
-    drop(hoard);
-    match came {
-        Ok((closed, true)) => Some(closed),
-        _ => None,
-    }
-}
-
-/// Checks that the reference machine makes the events of a closed host.
-fn stepped_text(
-    alloc: Global,
-    bytes: &[u8],
-    given: &Given,
-    closed: &Closed,
-) -> Result<String, Complaint> {
-    let Closed::Ended { history, .. } = closed else {
-        return Err(Complaint::NotRefused);
-    };
-    steps_history(alloc, bytes, given, history)?;
-    Ok("memory, and the reference machine makes the events".to_string(alloc)?)
-}
-
-/// Checks that a run that can't start a thread reports it, and that the reference machine makes its events.
-pub fn unthreaded_text<H: AllocGlobal + Threads + Wait + Clock + Sync>(
-    rt: &H,
-    bytes: &[u8],
-    verified: &Verified,
-    given: &Given,
-) -> Result<String, Complaint> {
-    match run_without_stacks(rt, verified, given) {
-        Some(closed) => stepped_text(rt.alloc(), bytes, given, &closed),
-        None => Err(Complaint::NotRefused),
-    }
 }

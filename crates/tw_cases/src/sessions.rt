@@ -1,19 +1,15 @@
 //! Cases of whole sessions.
 
-use crate::book::Book;
-use crate::bytes::read_bytes;
 use crate::calls::{has_line_feed, is_answered, is_kept};
-use crate::complaint::Complaint;
 use crate::streams::Room;
-use crate::text::Text;
 use crate::words::{read_words, unescaped};
 use std::alloc::Global;
 use std::ops::Range;
 use std::sync::Wait;
 use std::thread::Threads;
 use std::time::Clock;
-use tw_session::{InStream, OutStream, Status, complain, session};
-use tw_workers::NoGate;
+use tw_case_lines::{Book, Complaint, Text, read_bytes};
+use tw_session::{InStream, NoGate, OutStream, Status, complain, session};
 
 /// Returns the status and the whole text of a session with these arguments and this input.
 pub fn tw_text<H: AllocGlobal + Threads + Wait + Clock + Sync>(

@@ -1,14 +1,13 @@
 //! Cases of commands in documents, with their output.
 
-use crate::complaint::Complaint;
 use crate::sessions::ended;
-use crate::text::Text;
 use crate::words::read_words;
 use std::fs;
 use std::rt::Files;
 use std::sync::Wait;
 use std::thread::Threads;
 use std::time::Clock;
+use tw_case_lines::{Complaint, Text};
 
 /// Returns how many commands of a file print what is below them; or the first that prints something else.
 pub fn shown_text<H: AllocGlobal + Files + Threads + Wait + Clock + Sync>(

@@ -1,14 +1,13 @@
 //! Cases of sessions with readers that are slow, fail, never end or never fail, with writers that fail, and without arguments.
 
-use crate::complaint::Complaint;
 use crate::sessions::code_of;
-use crate::text::Text;
 use std::alloc::Global;
 use std::io;
 use std::io::{ErrorKind, Read, Write};
 use std::sync::Wait;
 use std::thread::Threads;
 use std::time::Clock;
+use tw_case_lines::{Complaint, Text};
 use tw_session::{InStream, OutStream, without_words};
 
 /// A reader that returns at most one byte per call, and fails after `calls` calls. If it is slow, every second call is interrupted.

@@ -1,7 +1,7 @@
 //! The text of a line, with escapes for bytes that a line can't have.
 
-use crate::complaint::Complaint;
 use std::alloc::Global;
+use tw_case_lines::Complaint;
 
 /// Returns the bytes of a text, in which `\t`, `\r`, `\n` and `\xHH` are escapes.
 pub fn unescaped(alloc: Global, text: &str) -> Result<Vec<u8>, Complaint> {

@@ -8,7 +8,7 @@ use Rattle.tw_code.specs.declared.flow.Way.TheVariants.{Completed, Skipped}
 use Rattle.tw_code.specs.declared.instr.Instr.{Instr}
 use Rattle.tw_code.specs.declared.procedure.Procedure.{Procedure}
 use Rattle.tw_code.specs.accepting.Flow.{flow_of, onward}
-use Rattle.tw_code.specs.accepting.WellTyped.{Brings, LeadsTo}
+use Rattle.tw_code.specs.accepting.WellTyped.{Brings}
 use Rattle.tw_diagnostics.specs.Bringing.{BringsNothingElse}
 use Rattle.tw_diagnostics.specs.Meetings.{IsDifference}
 use Rattle.tw_diagnostics.specs.declared.meeting.Difference.{Difference}
@@ -44,15 +44,6 @@ stays_here program p typings way before place i at stays other b by =
     stays (subst (λ (w : Way). onward w before (flow_of i) ≡ Some place) by goes)
 
 -- ---- places that are passed
-
--- a place that continues here with neither outcome
-pub leads_not : (code : List Instr) (before place : ℕ) (i : Instr) → slice_get code before ≡ Some i → (onward Completed before (flow_of i) ≡ Some place → ⊥) → (onward Skipped before (flow_of i) ≡ Some place → ⊥) → LeadsTo code before place → ⊥
-leads_not code before place i at done skipped leads =
-    by leads.way (subst (λ (x : Instr). onward leads.way before (flow_of x) ≡ Some place) (same_place code before leads.instr i leads.here at) leads.goes_on)
-  where
-    by : (way : Way) → onward way before (flow_of i) ≡ Some place → ⊥
-    by Completed e = done e
-    by Skipped e = skipped e
 
 pub by_way : (P : Way → Type 0) → P Completed → P Skipped → (way : Way) → P way
 by_way P done skipped Completed = done

@@ -59,7 +59,7 @@ found_word (found.Broken broken) = []
 
 abbrev pub break_text : Break → List ℕ
 break_text Unclosed = codes "an unclosed quote"
-break_text Escape = codes "no such escape"
+break_text Escape = codes "no such escape; there are \\\", \\\\, \\n and \\x00 to \\x7f"
 break_text AfterQuote = codes "a word right after a quoted text"
 
 -- ---- what is printed of it

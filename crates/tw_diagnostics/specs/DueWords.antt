@@ -8,7 +8,7 @@ use Rattle.tw_diagnostics.specs.declared.due.Due.TheVariants as due
 abbrev pub operand_text : Form → List ℕ
 operand_text form.Value = codes "a value register"
 operand_text form.Right = codes "a right register"
-operand_text form.Number = codes "a number"
+operand_text form.Number = codes "a whole number"
 operand_text form.Iterations = codes "a number of iterations"
 operand_text form.Callee = codes "a procedure's number"
 operand_text form.Literal = codes "a quoted text"

@@ -1,8 +1,8 @@
 -- Hints: which word was meant by one that can't be where it is.
-use Rattle.std.specs.Prelude.{ℕ, ◌==◌, ◌&&◌, ◌||◌, Bool, if◌then◌else◌, List, [], ◌∷◌, ◌++◌, codes, drop, length, map, nat_lt, is_some, take, Option, Some, None}
-use Rattle.std.specs.List.{find}
+use Rattle.std.specs.Prelude.{ℕ, ◌==◌, ◌&&◌, ◌||◌, Bool, false, nat_eq, if◌then◌else◌, List, [], ◌∷◌, ◌++◌, codes, drop, length, map, nat_lt, is_some, take, Option, Some, None}
+use Rattle.std.specs.List.{find, starts_with}
 use Rattle.std.specs.Str.{bytes_eq}
-use Rattle.std.specs.Char.{to_ascii_lowercase, to_ascii_uppercase}
+use Rattle.std.specs.Char.{is_ascii_digit, to_ascii_lowercase, to_ascii_uppercase}
 use Rattle.tw_code.specs.declared.form.Form.{Form}
 use Rattle.tw_code.specs.declared.form.Form.TheVariants as form
 use Rattle.tw_code.specs.declared.opcode.Opcode.{Opcode}
@@ -39,9 +39,12 @@ is_near (a ∷ name) (b ∷ word) = if a == b then is_near name word else is_one
 abbrev pub meant_text : List ℕ → List ℕ
 meant_text name = codes "; did you mean " ++ (name ++ codes "?")
 
+abbrev pub note_text : List ℕ → List ℕ
+note_text note = codes "; " ++ note
+
 abbrev pub hint_text : Hint → List ℕ
 hint_text hint.Nothing = []
-hint_text hint.NeedsVersion = codes "; version 2 has it"
+hint_text (hint.Note note) = note_text note.now
 hint_text (hint.Meant name) = meant_text name.now
 
 -- ---- instructions
@@ -54,16 +57,28 @@ abbrev pub opcode_text : Option Opcode → List ℕ
 opcode_text None = []
 opcode_text (Some o) = meant_text (word_of o)
 
--- returns the hint where an instruction may be: the word is one of version 2, or near one of this version
+-- returns the hint for a word in upper case: the instruction that it is in other assemblies, or one of the version that it is near
+abbrev pub capitals_hint : Version → List ℕ → List ℕ
+capitals_hint version word =
+    if bytes_eq word (codes "JGT") then note_text (codes "JLT with its operands exchanged is this") else opcode_text (opcode_near version word)
+
+-- returns the hint where an instruction may be: the word is one of version 2, or like one of this version
 abbrev pub instruction_hint : Version → List ℕ → List ℕ
-instruction_hint version word = if is_some (opcode_in Two word) then codes "; version 2 has it" else opcode_text (opcode_near version (map to_ascii_uppercase word))
+instruction_hint version word = if is_some (opcode_in Two word) then note_text (codes "version 2 has it") else capitals_hint version (map to_ascii_uppercase word)
+
+-- returns whether a comment begins so in other languages
+abbrev pub is_comment_sign : List ℕ → Bool
+is_comment_sign word = starts_with nat_eq word (codes "#") || starts_with nat_eq word (codes "//")
+
+abbrev pub stage_hint : Stage → Version → List ℕ → List ℕ
+stage_hint stage.Start version word = []
+stage_hint stage.AfterVersion version word = []
+stage_hint stage.AfterHead version word = []
+stage_hint stage.InBody version word = instruction_hint version word
 
 -- returns the hint for a line's first word
 abbrev pub first_hint : Stage → Version → List ℕ → List ℕ
-first_hint stage.Start version word = []
-first_hint stage.AfterVersion version word = []
-first_hint stage.AfterHead version word = []
-first_hint stage.InBody version word = instruction_hint version word
+first_hint stage version word = if is_comment_sign word then note_text (codes "a comment begins with ;") else stage_hint stage version word
 
 -- ---- words of heads and types
 
@@ -82,10 +97,20 @@ known_hint word = scalar_hint word (container_hint word)
 
 -- returns the hint for a type; version 1 has no container by texts
 abbrev pub type_hint : List ℕ → List ℕ
-type_hint word = if bytes_eq word (codes "tcont") then codes "; version 2 has it" else known_hint word
+type_hint word = if bytes_eq word (codes "tcont") then note_text (codes "version 2 has it") else known_hint word
+
+-- returns whether a word begins like a number
+abbrev pub begins_number : List ℕ → Bool
+begins_number [] = false
+begins_number (first ∷ others) = is_ascii_digit first || (first == 45)
+
+-- returns the hint for a number in the place of a value register
+abbrev pub value_hint : List ℕ → List ℕ
+value_hint word = if begins_number word then note_text (codes "INT puts a number into a register") else []
 
 abbrev pub operand_hint : Form → List ℕ → List ℕ
 operand_hint form.TypeOf word = type_hint word
+operand_hint form.Value word = value_hint word
 operand_hint f word = []
 
 -- returns the hint for a word in lower case, by what may come there

@@ -3,7 +3,7 @@
 use Rattle.std.specs.Prelude.{◌≡◌, ◌≢◌, ℕ, ◌<◌, List, Some, slice_get}
 use Rattle.tw_code.specs.declared.instr.Instr.{Instr}
 use Rattle.tw_code.specs.declared.procedure.Procedure.{Procedure}
-use Rattle.tw_code.specs.accepting.WellTyped.{Brings, IsEndOf, LeadsTo}
+use Rattle.tw_code.specs.accepting.WellTyped.{Brings, IsEndOf}
 use Rattle.tw_code.specs.machine.Rights.{Typing, right_at}
 use Rattle.tw_diagnostics.specs.declared.meeting.Difference.{Difference}
 use Rattle.tw_diagnostics.specs.declared.meeting.Meeting.{Meeting}
@@ -16,11 +16,11 @@ pub record IsDifference (first second : Typing) (d : Difference) : Type 0 where
   pub differs : d.first ≢ d.second
   pub alike : (k : ℕ) → k < d.register → right_at first k ≡ right_at second k
 
--- two earlier places that lead to this one; the second leaves other rights than those here
+-- two earlier places that lead to this one: the first leaves the rights here, and the second others
 pub record IsMeeting (program : List Procedure) (p : Procedure) (typings : List Typing) (place : ℕ) (m : Meeting) : Type 0 where
   pub here : Typing
   pub typing : slice_get typings place ≡ Some here
-  pub first : LeadsTo p.code m.first place
+  pub first : Brings program p typings m.first place here
   pub other : Typing
   pub second : Brings program p typings m.second place other
   pub difference : IsDifference here other m.difference

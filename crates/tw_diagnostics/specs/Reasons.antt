@@ -89,10 +89,10 @@ skip_of Close = 0
 skip_of Stop = 0
 
 abbrev pub outside_text : ℕ → ℕ → List ℕ
-outside_text goal count = if nat_lt goal count then codes ", which is not in the same loop\n" else codes ", the code has " ++ (decimal count ++ codes "\n")
+outside_text goal count = if nat_lt goal count then codes ", which is not in the same loop; a skip to END ends an iteration\n" else codes ", the code has " ++ (decimal count ++ codes "\n")
 
 abbrev pub goal_line : ℕ → ℕ → List ℕ
-goal_line goal count = codes "the goal is place " ++ (decimal goal ++ outside_text goal count)
+goal_line goal count = codes "the skip leads to place " ++ (decimal goal ++ outside_text goal count)
 
 -- returns the procedure that is named, and how many arguments follow it
 abbrev pub named_by : Instr → ℕ × ℕ
@@ -160,7 +160,7 @@ AddsDiagnostic which lines program procedure place old new = (text : List ℕ) �
 -- ---- V16
 
 abbrev pub unwanted_text : Bool → List ℕ
-unwanted_text true = codes ", required: no value\n"
+unwanted_text true = codes ", required: closed, ref or write\n"
 unwanted_text false = codes ", required: a scalar or a container of scalars\n"
 
 abbrev pub param_line : ℕ → Param → List ℕ

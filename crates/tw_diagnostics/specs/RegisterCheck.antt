@@ -6,6 +6,7 @@ use Rattle.std.specs.Option.{option_and_then}
 use Rattle.tw_types.specs.Nesting.{NestedScalar}
 use Rattle.tw_types.specs.declared.data_type.Scalar.{Scalar}
 use Rattle.tw_types.specs.declared.data_type.Scalar.TheVariants as scalar
+use Rattle.tw_types.specs.declared.param.Mode.TheVariants.{Closed}
 use Rattle.tw_types.specs.declared.param.Param.{Param}
 use Rattle.tw_types.specs.DataType.{element_of, same_scalar, same_type}
 use Rattle.tw_types.specs.Mode.{is_val}
@@ -57,6 +58,10 @@ abbrev pub is_met_by : Requirement → Option RightType → Bool
 is_met_by wanted.Empty right = is_none right
 is_met_by wanted.AnyContainerWrite right = not (passes writes_scalar right)
 is_met_by want right = passes (accepts want) right
+
+-- returns whether a right would be as required if its datum were closed
+abbrev pub lacks_closing : Requirement → RightType → Bool
+lacks_closing want right = reads right && accepts want (record { mode = Closed; ty = right.ty })
 
 -- ---- value registers
 

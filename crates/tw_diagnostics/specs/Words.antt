@@ -1,5 +1,5 @@
 -- Text for a check of a register: what the register holds, and what is required of it.
-use Rattle.std.specs.Prelude.{ℕ, Bool, List, ◌++◌, codes, decimal, Option, Some, None, if◌then◌else◌}
+use Rattle.std.specs.Prelude.{ℕ, Bool, true, false, List, [], ◌++◌, codes, decimal, Option, Some, None, if◌then◌else◌}
 use Rattle.std.specs.List.{join_with_byte}
 use Rattle.tw_types.specs.Nesting.{NestedScalar}
 use Rattle.tw_types.specs.declared.data_type.Scalar.{Scalar}
@@ -8,6 +8,7 @@ use Rattle.tw_types.specs.declared.param.Mode.TheVariants.{Val, Closed, Ref, Wri
 use Rattle.tw_types.specs.declared.param.Param.{Param}
 use Rattle.tw_asm.specs.Parts.{container_word, mode_word, scalar_word, type_words}
 use Rattle.tw_code.specs.machine.Rights.{RightType}
+use Rattle.tw_diagnostics.specs.RegisterCheck.{lacks_closing}
 use Rattle.tw_diagnostics.specs.declared.register_check.RegisterCheck.{RegisterCheck}
 use Rattle.tw_diagnostics.specs.declared.register_check.RegisterState.{RegisterState}
 use Rattle.tw_diagnostics.specs.declared.register_check.RegisterState.TheVariants as held
@@ -66,6 +67,19 @@ wanted_text (wanted.ReadOf None) = codes "closed or ref"
 wanted_text (wanted.ReadOf (Some ty)) = codes "closed or ref " ++ type_text ty
 wanted_text (wanted.Param waits param) = requirement_text waits param.mode ++ (codes " " ++ type_text param.ty)
 
+abbrev pub closing_text : Bool → List ℕ
+closing_text true = codes "; RULE waits: pass it to a closed parameter"
+closing_text false = []
+
+-- returns what else can be done with a register that isn't as required
+abbrev pub way_out : Requirement → RegisterState → List ℕ
+way_out wanted.AnyContainerWrite state = codes "; STORE it, or pass it on"
+way_out want (held.Right (Some right)) = closing_text (lacks_closing want right)
+way_out want state = []
+
+abbrev pub asked_text : Requirement → RegisterState → List ℕ
+asked_text want state = codes ", required: " ++ (wanted_text want ++ (way_out want state ++ codes "\n"))
+
 -- returns the line of an unmet check
 abbrev pub asked_line : RegisterCheck → List ℕ
-asked_line a = held_text a.register a.held ++ (codes ", required: " ++ (wanted_text a.wanted ++ codes "\n"))
+asked_line a = held_text a.register a.held ++ asked_text a.wanted a.held

@@ -54,7 +54,7 @@ fn break_text(broken: Break) -> &'static str
 {
     match broken {
         Break::Unclosed => "an unclosed quote",
-        Break::Escape => "no such escape",
+        Break::Escape => "no such escape; there are \\\", \\\\, \\n and \\x00 to \\x7f",
         Break::AfterQuote => "a word right after a quoted text",
     }
 }

@@ -30,7 +30,7 @@ fn operand_text(form: Form) -> &'static str
     match form {
         Form::Value => "a value register",
         Form::Right => "a right register",
-        Form::Number => "a number",
+        Form::Number => "a whole number",
         Form::Iterations => "a number of iterations",
         Form::Callee => "a procedure's number",
         Form::Literal => "a quoted text",

@@ -1,21 +1,21 @@
 //! Hints: which word was meant by one that can't be where it is.
 
 ghost use Rattle.std.specs.Prelude.{◌≡◌, ◌++◌, IfOk, OnOk, drop, take};
-ghost use Rattle.tw_diagnostics.specs.Hints.{container_hint, due_hint, first_hint, hint_text, instruction_hint, is_near, is_one_edit, is_swapped, known_hint, meant_text, near_text, opcode_near, opcode_text, operand_hint, scalar_hint, type_hint, word_hint};
+ghost use Rattle.tw_diagnostics.specs.Hints.{begins_number, capitals_hint, container_hint, due_hint, first_hint, hint_text, instruction_hint, is_comment_sign, is_near, is_one_edit, is_swapped, known_hint, meant_text, near_text, opcode_near, opcode_text, operand_hint, scalar_hint, stage_hint, type_hint, value_hint, word_hint};
 ghost use Rattle.tw_diagnostics.specs.declared.due.Due.TheVariants as dues;
 
 use crate::due::Due;
 use crate::parser_state::{ParserState, Stage};
 use std::alloc::{AllocError, Global};
 use tw_code::{Form, OPCODES, Opcode, Version, opcode_in, word_of};
-use tw_lexer::put;
+use tw_lexer::{put, put_both};
 
 /// A hint at the word that was meant.
 #[derive(Clone, Copy)]
 pub(crate) enum Hint {
     Nothing,
-    /// The word is an instruction of version 2.
-    NeedsVersion,
+    /// This is to be known about the word.
+    Note(&'static str),
     /// The word is nearly this one.
     Meant(&'static str),
 }
@@ -91,15 +91,42 @@ fn opcode_hint(opcode: Option<Opcode>) -> Hint
     }
 }
 
+/// Returns the instruction that was meant by a word in upper case.
+fn capitals_hint(version: Version, word: &[u8]) -> Hint
+    ensures { hint_text result ≡ capitals_hint version word.now }
+{
+    if word == b"JGT".as_slice() {
+        Hint::Note("JLT with its operands exchanged is this")
+    } else {
+        opcode_hint(opcode_near(version, word))
+    }
+}
+
 /// Returns the instruction that was meant by a word.
 fn instruction_hint(alloc: Global, version: Version, word: &[u8]) -> Result<Hint, AllocError>
     ensures { IfOk result (λ hint. hint_text hint ≡ instruction_hint version word.now) }
 {
     if opcode_in(Version::Two, word).is_some() {
-        return Ok(Hint::NeedsVersion);
+        return Ok(Hint::Note("version 2 has it"));
     }
     let capitals = word.to_ascii_uppercase(alloc)?;
-    Ok(opcode_hint(opcode_near(version, &capitals)))
+    Ok(capitals_hint(version, &capitals))
+}
+
+/// Returns whether a comment begins so in other languages.
+fn is_comment_sign(word: &[u8]) -> bool
+    ensures { result ≡ is_comment_sign word.now }
+{
+    word.starts_with(b"#") || word.starts_with(b"//")
+}
+
+fn stage_hint(alloc: Global, situation: ParserState, word: &[u8]) -> Result<Hint, AllocError>
+    ensures { IfOk result (λ hint. hint_text hint ≡ stage_hint situation.stage situation.version word.now) }
+{
+    match situation.stage {
+        Stage::Start | Stage::AfterVersion | Stage::AfterHead => Ok(Hint::Nothing),
+        Stage::InBody => instruction_hint(alloc, situation.version, word),
+    }
 }
 
 /// Returns what was meant by the first word of a line.
@@ -110,9 +137,10 @@ pub(crate) fn first_hint(
 ) -> Result<Hint, AllocError>
     ensures { IfOk result (λ hint. hint_text hint ≡ first_hint situation.stage situation.version word.now) }
 {
-    match situation.stage {
-        Stage::Start | Stage::AfterVersion | Stage::AfterHead => Ok(Hint::Nothing),
-        Stage::InBody => instruction_hint(alloc, situation.version, word),
+    if is_comment_sign(word) {
+        Ok(Hint::Note("a comment begins with ;"))
+    } else {
+        stage_hint(alloc, situation, word)
     }
 }
 
@@ -148,9 +176,30 @@ fn type_hint(word: &[u8]) -> Hint
     ensures { hint_text result ≡ type_hint word.now }
 {
     if word == b"tcont".as_slice() {
-        Hint::NeedsVersion
+        Hint::Note("version 2 has it")
     } else {
         known_hint(word)
+    }
+}
+
+/// Returns whether a word begins like a number.
+fn begins_number(word: &[u8]) -> bool
+    ensures { result ≡ begins_number word.now }
+{
+    match word {
+        [] => false,
+        [first, ..] => first.is_ascii_digit() || *first == b'-',
+    }
+}
+
+/// Returns the hint for a number in the place of a value register.
+fn value_hint(word: &[u8]) -> Hint
+    ensures { hint_text result ≡ value_hint word.now }
+{
+    if begins_number(word) {
+        Hint::Note("INT puts a number into a register")
+    } else {
+        Hint::Nothing
     }
 }
 
@@ -159,6 +208,7 @@ fn operand_hint(form: Form, word: &[u8]) -> Hint
 {
     match form {
         Form::TypeOf => type_hint(word),
+        Form::Value => value_hint(word),
         _ => Hint::Nothing,
     }
 }
@@ -222,7 +272,7 @@ pub(crate) fn put_hint(out: &mut Vec<u8>, hint: Hint) -> Result<(), AllocError>
 {
     match hint {
         Hint::Nothing => Ok(()),
-        Hint::NeedsVersion => put(out, "; version 2 has it"),
+        Hint::Note(note) => put_both(out, "; ", note),
         Hint::Meant(name) => put_meant(out, name),
     }
 }

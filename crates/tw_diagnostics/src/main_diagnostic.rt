@@ -13,7 +13,7 @@ fn unwanted_text(is_val: bool) -> &'static str
     ensures { result.now ≡ unwanted_text is_val }
 {
     if is_val {
-        ", required: no value\n"
+        ", required: closed, ref or write\n"
     } else {
         ", required: a scalar or a container of scalars\n"
     }

@@ -2,7 +2,7 @@
 
 ghost use Rattle.std.specs.Prelude.{◌≡◌, ◌≢◌, ◌<◌, ◌≤◌, ◌^◌, ℕ, false, Some, IsTrue, MatchOption, length};
 ghost use Rattle.tw_code.specs.accepting.Flow.{flow_of, onward};
-ghost use Rattle.tw_code.specs.accepting.WellTyped.{Brings, LeadsTo};
+ghost use Rattle.tw_code.specs.accepting.WellTyped.{Brings};
 ghost use Rattle.tw_code.specs.format.Program.{IsInstr};
 ghost use Rattle.tw_code.specs.machine.Rights.{Typing as HeldBy, right_at};
 ghost use Rattle.std.specs.List.{AllByRecursion};
@@ -69,18 +69,63 @@ fn goes_on(way: Way, before: usize, instr: &Instr, place: usize) -> bool
     }
 }
 
-/// Returns the first place that leads to this one.
-fn first_leading(code: &[Instr], place: usize) -> Option<usize>
-    requires { length code.now ≤ 4096 }
-    ensures { MatchOption result ((before : ℕ) → LeadsTo code.now before place → ⊥) (λ before. LeadsTo code.now before place) }
+/// Returns whether a place leads to another with this outcome, and leaves these rights there.
+fn leaves(
+    procedures: &[Procedure],
+    procedure: &Procedure,
+    typings: &[Typing],
+    way: Way,
+    before: usize,
+    place: usize,
+    here: &Typing,
+) -> bool
+    requires limit { length procedure.now.code ≤ 4096 }
+    requires operands { AllByRecursion IsInstr procedure.now.code }
+    requires earlier { before < place }
+    ensures found { IsTrue result → Brings procedures.now procedure.now typings.now before place here.now }
+    ensures none { result ≡ false → (b : Brings procedures.now procedure.now typings.now before place here.now) → b.step.way ≡ way → ⊥ }
 {
-    for (before, instr) in code.iter().enumerate() {
-        if before >= place {
-            return None;
-        }
-        if goes_on(Way::Completed, before, instr, place)
-            || goes_on(Way::Skipped, before, instr, place)
-        {
+    let Some(instr) = procedure.code.as_slice().get(before) else {
+        return false;
+    };
+    let Some(from) = typings.get(before) else {
+        return false;
+    };
+    goes_on(way, before, instr, place) && from.after(procedures, way, instr).is_same(here)
+}
+
+/// Returns the first place that leads to this one and leaves these rights.
+fn first_leaving(
+    procedures: &[Procedure],
+    procedure: &Procedure,
+    typings: &[Typing],
+    place: usize,
+    here: &Typing,
+) -> Option<usize>
+    requires limit { length procedure.now.code ≤ 4096 }
+    requires operands { AllByRecursion IsInstr procedure.now.code }
+    ensures { MatchOption result
+        ((before : ℕ) → Brings procedures.now procedure.now typings.now before place here.now → ⊥)
+        (λ before. Brings procedures.now procedure.now typings.now before place here.now) }
+{
+    for before in 0..place {
+        if leaves(
+            procedures,
+            procedure,
+            typings,
+            Way::Completed,
+            before,
+            place,
+            here,
+        ) || leaves(
+            procedures,
+            procedure,
+            typings,
+            Way::Skipped,
+            before,
+            place,
+            here,
+        ) {
             return Some(before);
         }
     }
@@ -163,8 +208,7 @@ fn second_of(
     None
 }
 
-/// Returns the first place that leads to this one, the first one that leaves other rights than those here, and the first register
-/// that differs.
+/// Returns the first places that lead to this one and leave the rights here, and others, and the first register that differs.
 pub(crate) fn meeting_at(
     procedures: &[Procedure],
     procedure: &Procedure,
@@ -176,7 +220,7 @@ pub(crate) fn meeting_at(
     ensures { MatchOption result (HasNoMeeting procedures.now procedure.now typings.now place) (IsMeeting procedures.now procedure.now typings.now place) }
 {
     let here = typings.get(place)?;
-    let first = first_leading(procedure.code.as_slice(), place)?;
+    let first = first_leaving(procedures, procedure, typings, place, here)?;
     let (second, difference) = second_of(procedures, procedure, typings, place, here)?;
     Some(Meeting {
         first,

@@ -73,7 +73,10 @@ fn put_outside(
     ensures { OnOk result (out.new.items ≡ out.old.items ++ outside_text goal count) }
 {
     if is_inside(goal, count) {
-        put(out, ", which is not in the same loop\n")
+        put(
+            out,
+            ", which is not in the same loop; a skip to END ends an iteration\n",
+        )
     } else {
         put_numbered(alloc, out, ", the code has ", count)?;
         put(out, "\n")
@@ -83,7 +86,7 @@ fn put_outside(
 fn put_goal(alloc: Global, out: &mut Vec<u8>, goal: usize, count: usize) -> Result<(), AllocError>
     ensures { OnOk result (out.new.items ≡ out.old.items ++ goal_line goal count) }
 {
-    put_numbered(alloc, out, "the goal is place ", goal)?;
+    put_numbered(alloc, out, "the skip leads to place ", goal)?;
     put_outside(alloc, out, goal, count)
 }
 

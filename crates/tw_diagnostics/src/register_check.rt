@@ -2,7 +2,7 @@
 
 ghost use Rattle.std.specs.Prelude.{◌≡◌, ◌<◌, ◌++◌, OnOk, decimal, slice_get};
 ghost use Rattle.tw_diagnostics.specs.RegisterCheck.{are_two, has_type, holds, if_needed, is_declared, is_of, scalar_requirement};
-ghost use Rattle.tw_diagnostics.specs.Words.{asked_line, held_text};
+ghost use Rattle.tw_diagnostics.specs.Words.{asked_line, closing_text, held_text, way_out};
 
 use crate::requirement::{Requirement, put_required};
 use crate::rights::{put_right, scalar_word};
@@ -165,6 +165,27 @@ pub(crate) fn put_held(
     }
 }
 
+fn closing_text(lacks_closing: bool) -> &'static str
+    ensures { result.now ≡ closing_text lacks_closing }
+{
+    if lacks_closing {
+        "; RULE waits: pass it to a closed parameter"
+    } else {
+        ""
+    }
+}
+
+/// Returns what else can be done with a register that isn't as required.
+fn way_out(wanted: Requirement, held: RegisterState) -> &'static str
+    ensures { result.now ≡ way_out wanted held }
+{
+    match (wanted, held) {
+        (Requirement::AnyContainerWrite, _) => "; STORE it, or pass it on",
+        (_, RegisterState::Right(Some(right))) => closing_text(wanted.lacks_closing(right)),
+        _ => "",
+    }
+}
+
 /// Adds what a register holds and what is required of it.
 pub(crate) fn put_check(
     alloc: Global,
@@ -174,5 +195,5 @@ pub(crate) fn put_check(
     ensures { OnOk result (out.new.items ≡ out.old.items ++ asked_line check.now) }
 {
     put_held(alloc, out, check.register, check.held)?;
-    put_required(out, check.wanted)
+    put_required(out, check.wanted, way_out(check.wanted, check.held))
 }

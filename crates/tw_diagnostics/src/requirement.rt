@@ -2,7 +2,8 @@
 
 ghost use Rattle.std.specs.Prelude.{◌≡◌, ◌++◌, OnOk, codes};
 ghost use Rattle.tw_code.specs.accepting.Typing.{reads, right_fits_param, writes_scalar};
-ghost use Rattle.tw_diagnostics.specs.RegisterCheck.{accepts, is_met_by};
+ghost use Rattle.tw_types.specs.declared.param.Mode.TheVariants.{Closed};
+ghost use Rattle.tw_diagnostics.specs.RegisterCheck.{accepts, is_met_by, lacks_closing};
 ghost use Rattle.tw_diagnostics.specs.Words.{requirement_text, scalar_text, type_text, wanted_text};
 
 use crate::rights::{container_word, put_type, scalar_word};
@@ -84,6 +85,34 @@ impl Requirement {
         }
     }
 
+    /// Returns whether a right to a closed datum of a type is as required.
+    fn accepts_closed(&self, ty: DataType) -> bool
+        ensures { result ≡ accepts self.now (record { mode = Closed; ty = ty }) }
+    {
+        match self {
+            Requirement::ClosedScalar(_) => ty.is_scalar(),
+            Requirement::ClosedContainer(by) => ty.is_container_by(*by),
+            Requirement::AnyClosedContainer => !ty.is_scalar(),
+            Requirement::AnyRead => true,
+            Requirement::ReadOf(Some(of)) => ty == *of,
+            Requirement::Param(_, param) => {
+                matches!(param.mode, Mode::Closed | Mode::Ref) && ty == param.ty
+            }
+            Requirement::AnyScalar | Requirement::Scalar(_) | Requirement::ReadOf(None) => false,
+            Requirement::Empty | Requirement::TwoRegisters | Requirement::AnyContainerWrite =>
+                false,
+            Requirement::WriteScalar(_) | Requirement::WriteContainer(_) | Requirement::AnyWrite =>
+                false,
+        }
+    }
+
+    /// Returns whether a right would be as required if its datum were closed.
+    pub(crate) fn lacks_closing(&self, right: RightType) -> bool
+        ensures { result ≡ lacks_closing self.now right }
+    {
+        reads(right) && self.accepts_closed(right.ty())
+    }
+
     /// Returns whether a right register that holds this is as required.
     pub(crate) fn is_met_by(&self, held: Option<RightType>) -> bool
         ensures { result ≡ is_met_by self.now held }
@@ -153,11 +182,15 @@ fn put_requirement(out: &mut Vec<u8>, wanted: Requirement) -> Result<(), AllocEr
     }
 }
 
-/// Adds the end of a line: what is required of a register.
-pub(crate) fn put_required(out: &mut Vec<u8>, wanted: Requirement) -> Result<(), AllocError>
-    ensures { OnOk result (out.new.items ≡ out.old.items ++ (codes ", required: " ++ (wanted_text wanted ++ codes "\n"))) }
+/// Adds the end of a line: what is required of a register, and another way.
+pub(crate) fn put_required(
+    out: &mut Vec<u8>,
+    wanted: Requirement,
+    way: &str,
+) -> Result<(), AllocError>
+    ensures { OnOk result (out.new.items ≡ out.old.items ++ (codes ", required: " ++ (wanted_text wanted ++ (way.now ++ codes "\n")))) }
 {
     put(out, ", required: ")?;
     put_requirement(out, wanted)?;
-    put(out, "\n")
+    put_both(out, way, "\n")
 }

@@ -3,7 +3,6 @@
 ghost use Rattle.std.specs.Prelude.{◌≡◌, ◌<◌, IfSome, length};
 ghost use Rattle.tw_frame.specs.Jobs.{job_of};
 
-use crate::numbered::spend;
 use crate::stretches::next_program;
 use std::alloc::{AllocError, Global};
 use tw_binary::decode;
@@ -41,6 +40,16 @@ fn run_on<'a>(alloc: Global, frame: &mut Frame<'a>, job: Job<'a>) -> Option<Stre
     }
     let steps = steps.saturating_add(done.steps());
     Some(Stretch { done, steps })
+}
+
+/// Spends the task's rights.
+fn spend(task: Task) {
+    let Task {
+        no: _,
+        procedure: _,
+        args,
+    } = task;
+    args.shut();
 }
 
 /// Runs main from its first place on.

@@ -1,39 +1,27 @@
 //! Long-running tests. Each prints its first difference, if there is one, and a last line says how many agree. With a number
-//! as the argument, only whole runs of that many programs are tested. With any other argument, only the first tests run, which are
-//! short, and in which an allocation may fail. With the argument `steps` a program's main runs alone, to be measured.
+//! as the argument, only whole runs of that many programs are tested. With any other argument, only a few jobs are, in which an
+//! allocation may fail. With the argument `steps` a program's main runs alone, to be measured.
 #![tactic(auto)]
 
 mod alone;
-mod answers;
-mod calls;
 mod case;
 mod code;
 mod data;
 mod draw;
 mod inputs;
 mod jobs;
-mod letters;
-mod listed;
 mod local;
 mod long;
-mod members;
-mod numbered;
 mod prefixes;
 mod programs;
 mod put_calls;
-mod puts;
 mod replay;
 mod rights;
 mod rounds;
-mod rules;
-mod search;
 mod signature;
-mod store_checks;
-mod stores;
 mod stretches;
 mod threads;
 mod trial;
-mod walks;
 
 use crate::trial::{Change, Tally, first_changed, too_few, tried};
 use std::alloc::Global;
@@ -78,46 +66,11 @@ impl<R: Print + Threads + Wait + Clock + Sync> Verdicts<'_, R> {
         self.add(name, if agrees { None } else { Some(("its end", 0)) });
     }
 
-    /// Runs the tests in which an allocation may fail, with `calls` calls, or a tenth as many jobs.
-    fn rejection_trials(&mut self, alloc: Global, calls: u16) {
-        self.add("calls of the store", stores::calls_go(alloc));
-        self.add("puts and takes", puts::calls_are_the_searchs(alloc, calls));
-        self.add(
-            "calls of the rules",
-            rules::calls_are_the_lists(alloc, calls),
-        );
-        self.add(
-            "jobs",
-            jobs::first_stretch(alloc, u64::from(calls / 10), MOST),
-        );
-        self.whole("a control that is to differ", false);
+    /// Compares `count` jobs with the reference machine. Also makes a control.
+    fn job_trials(&mut self, alloc: Global, count: u64) {
+        self.add("jobs", jobs::first_stretch(alloc, count, MOST));
         let short = jobs::first_stretch(alloc, 10, 5);
         self.add("jobs, a control of five steps that is to differ", short);
-    }
-
-    /// Runs the tests of the host's parts in which no allocation fails.
-    fn whole_trials(&mut self, alloc: Global) {
-        self.add(
-            "10,000 puts and takes",
-            puts::calls_are_the_searchs(alloc, 10_000),
-        );
-        self.add(
-            "10,000 calls of the rules",
-            rules::calls_are_the_lists(alloc, 10_000),
-        );
-        self.add("10,000 jobs", jobs::first_stretch(alloc, 10_000, MOST));
-        self.whole(
-            "a thousand members are found",
-            members::thousand_are_found(alloc),
-        );
-        self.whole(
-            "a thousand members are freed",
-            members::thousand_are_freed(alloc),
-        );
-        self.whole("a thousand data in turn", members::thousand_in_turn(alloc));
-        self.whole("lives beside a hundred", members::lives_are_read(alloc));
-        self.whole("the order of tasks", puts::best_goes_first(alloc));
-        self.whole("worked calls of the rules", rules::worked_calls_go(alloc));
     }
 
     /// Prints how many programs ended in which way.
@@ -163,23 +116,6 @@ impl<R: Print + Threads + Wait + Clock + Sync> Verdicts<'_, R> {
             of_program(slower),
         );
     }
-
-    /// Compares the verifier with all walks.
-    fn verifier_trials(&mut self, alloc: Global) {
-        for (name, digits, count, is_structured) in [
-            ("1 instruction", 1, 11, false),
-            ("2 instructions", 2, 121, false),
-            ("3 instructions", 3, 1_331, false),
-            ("4 instructions", 4, 14_641, false),
-            ("4 instructions and RET", 4, 14_641, true),
-            ("5 instructions and RET", 5, 161_051, true),
-        ] {
-            self.add(
-                name,
-                search::first_code(alloc, digits, count, is_structured),
-            );
-        }
-    }
 }
 
 fn of_program(number: Option<u64>) -> Difference {
@@ -190,7 +126,7 @@ fn of_program(number: Option<u64>) -> Difference {
 #[derive(Clone, Copy, PartialEq, Eq)]
 enum Asked {
     All,
-    Rejections,
+    Jobs,
     Runs(u64),
 }
 
@@ -206,11 +142,9 @@ fn trials<R: AllocGlobal + Print + Threads + Wait + Clock + Sync>(
     };
     match asked {
         Asked::Runs(programs) => verdicts.run_trials(alloc, programs),
-        Asked::Rejections => verdicts.rejection_trials(alloc, 300),
+        Asked::Jobs => verdicts.job_trials(alloc, 30),
         Asked::All => {
-            verdicts.rejection_trials(alloc, 300);
-            verdicts.whole_trials(alloc);
-            verdicts.verifier_trials(alloc);
+            verdicts.job_trials(alloc, 10_000);
             verdicts.run_trials(alloc, PROGRAMS);
         }
     }
@@ -229,7 +163,7 @@ fn main(rt: HostRuntime) -> io::Result<()> {
         Some(word) if word.as_str() == "steps" => alone::print_steps(&rt),
         Some(word) => match word.as_str().parse::<u64>() {
             Ok(programs) => trials(&rt, Asked::Runs(programs)),
-            Err(_) => trials(&rt, Asked::Rejections),
+            Err(_) => trials(&rt, Asked::Jobs),
         },
     }
 }

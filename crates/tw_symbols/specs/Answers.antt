@@ -1,6 +1,7 @@
 -- The results of calls, in terms of the definitions.
 use Rattle.std.specs.Prelude.{◌≡◌, ◌==◌, ◌⊎◌, ◌<◌, ℕ, Bool, true, false, List, [], ◌∷◌, ◌++◌, decimal, Option, Some, None, Result, Ok, Err, ◌-◌, length, take, drop, IsUtf8}
 use Rattle.std.specs.Fmt.{signed_decimal}
+use Rattle.std.specs.Result.{IsErr}
 use Rattle.tw_symbols.specs.Meanings.{TokenError, lists}
 use Rattle.std.specs.Str.Lines.{lines}
 use Rattle.tw_lexer.specs.Words.{IsBlank, IsBroken}
@@ -66,9 +67,9 @@ abbrev pub Gives : {X Y : Type 0} → (X → Y) → Result X Rejection → Resul
 Gives view (Ok x) says = says ≡ Ok (view x)
 Gives view (Err e) says = Fails e says
 
--- holds if these are the names, and the text that is written now
-abbrev pub SaysAfter : Result names.Names Rejection → List ℕ → Said → Type 0
-SaysAfter result text says = Gives (λ n. (seen_names n, text)) result says
+-- holds if these are the names now, and the text that is written
+abbrev pub SaysAfter : Result (Unit {0}) Rejection → names.Names → List ℕ → Said → Type 0
+SaysAfter result n text says = Gives (λ _. (seen_names n, text)) result says
 
 -- ---- a whole text
 
@@ -84,9 +85,14 @@ IsAtLine number rejection.NoMemory f = IsMemory f
 IsAtLine number (rejection.Flawed which word) f = seen_rejection f ≡ record { line = number; no = which; word = word.now }
 
 -- holds if these are the names and the text after a line of this number, or its error, or memory ran out
-abbrev pub SaidAt : ℕ → Result names.Names NameError → List ℕ → Said → Type 0
-SaidAt number (Ok n) text says = says ≡ Ok (seen_names n, text)
-SaidAt number (Err f) text says = IsMemory f ⊎ ((f.line ≡ number) × (says ≡ Err (record { no = f.no; word = f.word.now })))
+abbrev pub SaidAt : ℕ → Result (Unit {0}) NameError → names.Names → List ℕ → Said → Type 0
+SaidAt number (Ok u) n text says = says ≡ Ok (seen_names n, text)
+SaidAt number (Err f) n text says = IsMemory f ⊎ ((f.line ≡ number) × (says ≡ Err (record { no = f.no; word = f.word.now })))
+
+-- holds if a line is rejected; or else these are the names and the text after it
+abbrev pub IsAccepted : Bool → names.Names → List ℕ → Said → Type 0
+IsAccepted true n text says = says ≡ Ok (seen_names n, text)
+IsAccepted false n text says = IsErr says
 
 -- returns whether a line has just `names`, if it has a word
 abbrev pub named_by : List (List ℕ) → Option Bool

@@ -98,6 +98,10 @@ abbrev pub IsReady : (ℕ → ℕ → List ℕ) → List (List ℕ) → ℕ → 
 IsReady names ls count None = (line register : ℕ) → count < line → names line register ≡ []
 IsReady names ls count (Some reader) = GoOn names ls count reader × AreLast (texts reader.rights.items) (seen_table reader.names.registers.entries)
 
+-- holds if a reader is ready after the line of this number, and knows the names there
+abbrev pub IsAfter : (ℕ → ℕ → List ℕ) → List (List ℕ) → ℕ → Option Reader → Type 0
+IsAfter names ls number r = IsReady names ls number r × ((register : ℕ) → register < 16 → names_of r register ≡ names number register)
+
 abbrev pub HasRead : (ℕ → ℕ → List ℕ) → List (List ℕ) → ℕ → RightNames → Type 0
 HasRead names ls count r = IsReady names ls count r.reader
 

@@ -6,7 +6,7 @@ ghost use Rattle.tw_symbols.specs.LineExpansion.{assigned, bank_of_letter, const
 ghost use Rattle.tw_symbols.specs.Seen.{now, seen_names, seen_procedures, texts};
 
 use crate::meaning::{Bank, Origin};
-use crate::names::{Names, may_name, with_constant, with_register};
+use crate::names::{Names, add_constant, add_register, may_name};
 use crate::numbers::{natural, signed};
 use crate::procedures::Procedures;
 use crate::rejection::{NameNo, Rejection};
@@ -91,36 +91,36 @@ pub fn register_of(word: &[u8]) -> Option<(Bank, usize)>
     }
 }
 
-/// Returns the names after a line `const`.
-pub fn with_const<'a>(
+/// Adds the name of a line `const`.
+pub fn add_const<'a>(
     procedures: &Procedures<'_>,
-    names: Names<'a>,
+    names: &mut Names<'a>,
     first: &'a [u8],
     words: &[&'a [u8]],
-) -> Result<Names<'a>, Rejection<'a>>
-    ensures { Gives seen_names result (constant_says (seen_procedures procedures.now) (seen_names names.entry) first.now (texts words.now)) }
+) -> Result<(), Rejection<'a>>
+    ensures { Gives (λ _. seen_names names.new) result (constant_says (seen_procedures procedures.now) (seen_names names.old) first.now (texts words.now)) }
 {
     let [name, others @ ..] = words else {
         return Err(Rejection::Flawed(NameNo::Form, first));
     };
-    may_name(procedures, &names, name)?;
+    may_name(procedures, names, name)?;
     let number = number_after(first, others)?;
-    with_constant(procedures, names, name, number)
+    add_constant(procedures, names, name, number)
 }
 
-/// Returns the names after a line `let`.
-pub fn with_let<'a>(
+/// Adds the name of a line `let`.
+pub fn add_let<'a>(
     procedures: &Procedures<'_>,
-    names: Names<'a>,
+    names: &mut Names<'a>,
     first: &'a [u8],
     words: &[&'a [u8]],
-) -> Result<Names<'a>, Rejection<'a>>
-    ensures { Gives seen_names result (let_says (seen_procedures procedures.now) (seen_names names.entry) first.now (texts words.now)) }
+) -> Result<(), Rejection<'a>>
+    ensures { Gives (λ _. seen_names names.new) result (let_says (seen_procedures procedures.now) (seen_names names.old) first.now (texts words.now)) }
 {
     let [name, others @ ..] = words else {
         return Err(Rejection::Flawed(NameNo::Form, first));
     };
-    may_name(procedures, &names, name)?;
+    may_name(procedures, names, name)?;
     let (bank, number) = register_after(first, others)?;
-    with_register(procedures, names, name, bank, number, Origin::Chosen)
+    add_register(procedures, names, name, bank, number, Origin::Chosen)
 }

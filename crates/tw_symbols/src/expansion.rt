@@ -48,37 +48,37 @@ pub fn is_named(alloc: Global, text: &str) -> Result<bool, AllocError>
     Ok(false)
 }
 
-/// Adds the expansion of a line with these words, and its line feed. Returns the names after it.
+/// Adds the expansion of a line with these words, and its line feed; and its names.
 fn put_worded<'a>(
     alloc: Global,
     procedures: &Procedures<'_>,
     number: usize,
-    names: Names<'a>,
+    names: &mut Names<'a>,
     out: &mut Vec<u8>,
     words: &[&'a [u8]],
     rest: &'a [u8],
-) -> Result<Names<'a>, Rejection<'a>>
-    ensures { SaysAfter result out.new.items (and_then (line_says (seen_procedures procedures.now) number (seen_names names.entry) out.old.items (texts words.now)) (λ said. Ok (said.0, said.1 ++ ended rest.now))) }
+) -> Result<(), Rejection<'a>>
+    ensures { SaysAfter result names.new out.new.items (and_then (line_says (seen_procedures procedures.now) number (seen_names names.old) out.old.items (texts words.now)) (λ said. Ok (said.0, said.1 ++ ended rest.now))) }
 {
     match put_line(alloc, procedures, number, names, out, words) {
-        Ok(names) => {
+        Ok(()) => {
             put_ended(out, rest)?;
-            Ok(names)
+            Ok(())
         }
         Err(rejection) => Err(rejection),
     }
 }
 
-/// Adds the expansion of a line, and its line feed. Returns the names after it.
+/// Adds the expansion of a line, and its line feed; and its names.
 fn put_taken<'a>(
     alloc: Global,
     procedures: &Procedures<'_>,
     number: usize,
-    names: Names<'a>,
+    names: &mut Names<'a>,
     out: &mut Vec<u8>,
     line: &'a str,
-) -> Result<Names<'a>, Rejection<'a>>
-    ensures { (taken : Line) → IsTaken taken line.entry.now → SaysAfter result out.new.items (taken_says (seen_procedures procedures.now) number (seen_names names.entry) out.old.items taken) }
+) -> Result<(), Rejection<'a>>
+    ensures { (taken : Line) → IsTaken taken line.entry.now → SaysAfter result names.new out.new.items (taken_says (seen_procedures procedures.now) number (seen_names names.old) out.old.items taken) }
 {
     let taken = take_line(alloc, line)?;
     put_worded(
@@ -105,19 +105,19 @@ fn at_line(number: usize, rejection: Rejection<'_>) -> NameError<'_>
     }
 }
 
-/// Adds the expansion of the line of this number. Returns the names after it; an error has this number.
+/// Adds the expansion of the line of this number, and its names. An error has this number.
 pub fn put_numbered_line<'a>(
     alloc: Global,
     procedures: &Procedures<'_>,
     number: usize,
-    names: Names<'a>,
+    names: &mut Names<'a>,
     out: &mut Vec<u8>,
     line: &'a str,
-) -> Result<Names<'a>, NameError<'a>>
-    ensures { (taken : Line) → IsTaken taken line.entry.now → SaidAt number result out.new.items (taken_says (seen_procedures procedures.now) number (seen_names names.entry) out.old.items taken) }
+) -> Result<(), NameError<'a>>
+    ensures { (taken : Line) → IsTaken taken line.entry.now → SaidAt number result names.new out.new.items (taken_says (seen_procedures procedures.now) number (seen_names names.old) out.old.items taken) }
 {
     match put_taken(alloc, procedures, number, names, out, line) {
-        Ok(names) => Ok(names),
+        Ok(()) => Ok(()),
         Err(rejection) => Err(at_line(number, rejection)),
     }
 }
@@ -136,7 +136,7 @@ fn expanded_lines<'a>(
     let mut names = Names::new(alloc, procedures.hash);
     for (index, line) in text.lines().enumerate() {
         if !put_unchanged(alloc, &mut out, line)? {
-            names = put_numbered_line(alloc, procedures, index + 1, names, &mut out, line)?;
+            put_numbered_line(alloc, procedures, index + 1, &mut names, &mut out, line)?;
         }
     }
     Ok(out)

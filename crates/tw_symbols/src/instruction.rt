@@ -11,7 +11,7 @@ ghost use Rattle.tw_symbols.specs.LineExpansion.{argument_of, asked_by, banks_at
 ghost use Rattle.tw_symbols.specs.Seen.{seen_names, seen_procedures, texts};
 
 use crate::meaning::{Bank, Binding, Expected, Origin};
-use crate::names::{Names, is_name, known, with_register};
+use crate::names::{Names, add_register, is_name, known};
 use crate::numbers::natural;
 use crate::operand_text::{count, expected_after, first_words, put_word, put_words, words_after};
 use crate::procedures::Procedures;
@@ -122,18 +122,18 @@ fn makes(opcode: Opcode) -> usize
 }
 
 /// Adds the name of the next right register, if the word is a name without a meaning.
-fn made_one<'a>(
+fn name_made<'a>(
     procedures: &Procedures<'_>,
-    names: Names<'a>,
+    names: &mut Names<'a>,
     word: &'a [u8],
-) -> Result<Names<'a>, Rejection<'a>>
-    ensures { Gives seen_names result (made_one (seen_procedures procedures.now) (seen_names names.entry) word.now) }
+) -> Result<(), Rejection<'a>>
+    ensures { Gives (λ _. seen_names names.new) result (made_one (seen_procedures procedures.now) (seen_names names.old) word.now) }
 {
-    if is_name(word) && known(procedures, &names, word).is_none() {
+    if is_name(word) && known(procedures, names, word).is_none() {
         let number = names.rights;
-        with_register(procedures, names, word, Bank::Right, number, Origin::Listed)
+        add_register(procedures, names, word, Bank::Right, number, Origin::Listed)
     } else {
-        Ok(names)
+        Ok(())
     }
 }
 
@@ -141,31 +141,31 @@ fn made_one<'a>(
 fn put_made<'a>(
     alloc: Global,
     procedures: &Procedures<'_>,
-    names: Names<'a>,
+    names: &mut Names<'a>,
     out: &mut Vec<u8>,
     word: &'a [u8],
-) -> Result<Names<'a>, Rejection<'a>>
-    ensures { SaysAfter result out.new.items (made_word (seen_procedures procedures.now) (seen_names names.entry) out.old.items word.now) }
+) -> Result<(), Rejection<'a>>
+    ensures { SaysAfter result names.new out.new.items (made_word (seen_procedures procedures.now) (seen_names names.old) out.old.items word.now) }
 {
-    let names = made_one(procedures, names, word)?;
-    put_word(alloc, procedures, &names, out, Expected::Right, word)?;
-    Ok(names)
+    name_made(procedures, names, word)?;
+    put_word(alloc, procedures, names, out, Expected::Right, word)?;
+    Ok(())
 }
 
 /// Adds the right registers that these words fill, after naming those whose word has no meaning.
 fn put_all_made<'a>(
     alloc: Global,
     procedures: &Procedures<'_>,
-    mut names: Names<'a>,
+    names: &mut Names<'a>,
     out: &mut Vec<u8>,
     words: &[&'a [u8]],
-) -> Result<Names<'a>, Rejection<'a>>
-    ensures { SaysAfter result out.new.items (made_say (seen_procedures procedures.now) (seen_names names.entry) out.old.items (texts words.now)) }
+) -> Result<(), Rejection<'a>>
+    ensures { SaysAfter result names.new out.new.items (made_say (seen_procedures procedures.now) (seen_names names.old) out.old.items (texts words.now)) }
 {
     for word in words {
-        names = put_made(alloc, procedures, names, out, word)?;
+        put_made(alloc, procedures, names, out, word)?;
     }
-    Ok(names)
+    Ok(())
 }
 
 /// Adds the expansion of the operands after those that the instruction fills.
@@ -193,24 +193,24 @@ fn put_others<'a>(
     )
 }
 
-/// Adds the expansion of an instruction's operands. Returns the names after it.
+/// Adds the expansion of an instruction's operands, and the names of the registers that it fills.
 pub fn put_instruction<'a>(
     alloc: Global,
     procedures: &Procedures<'_>,
-    names: Names<'a>,
+    names: &mut Names<'a>,
     out: &mut Vec<u8>,
     opcode: Opcode,
     words: &[&'a [u8]],
-) -> Result<Names<'a>, Rejection<'a>>
-    ensures { SaysAfter result out.new.items (instruction_says (seen_procedures procedures.now) (seen_names names.entry) opcode out.old.items (texts words.now)) }
+) -> Result<(), Rejection<'a>>
+    ensures { SaysAfter result names.new out.new.items (instruction_says (seen_procedures procedures.now) (seen_names names.old) opcode out.old.items (texts words.now)) }
 {
-    let names = put_all_made(
+    put_all_made(
         alloc,
         procedures,
         names,
         out,
         first_words(words, makes(opcode)),
     )?;
-    put_others(alloc, procedures, &names, out, opcode, words)?;
-    Ok(names)
+    put_others(alloc, procedures, names, out, opcode, words)?;
+    Ok(())
 }

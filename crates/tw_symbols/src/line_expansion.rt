@@ -9,7 +9,7 @@ ghost use Rattle.tw_symbols.specs.Lines.{pieces};
 ghost use Rattle.tw_symbols.specs.LineExpansion.{body_says, head_says, is_names_line, line_says, registers_say};
 ghost use Rattle.tw_symbols.specs.Seen.{seen_names, seen_procedures, texts};
 
-use crate::assigned::{with_const, with_let};
+use crate::assigned::{add_const, add_let};
 use crate::instruction::put_instruction;
 use crate::listed::{put_head, put_registers};
 use crate::names::Names;
@@ -31,12 +31,12 @@ pub fn is_names_line(first: &[u8], words: &[&[u8]]) -> bool
 fn put_body<'a>(
     alloc: Global,
     procedures: &Procedures<'_>,
-    names: Names<'a>,
+    names: &mut Names<'a>,
     out: &mut Vec<u8>,
     first: &'a [u8],
     words: &[&'a [u8]],
-) -> Result<Names<'a>, Rejection<'a>>
-    ensures { SaysAfter result out.new.items (body_says (seen_procedures procedures.now) (seen_names names.entry) (opcode_in Two first.now) (out.old.items ++ first.now) (texts words.now)) }
+) -> Result<(), Rejection<'a>>
+    ensures { SaysAfter result names.new out.new.items (body_says (seen_procedures procedures.now) (seen_names names.old) (opcode_in Two first.now) (out.old.items ++ first.now) (texts words.now)) }
 {
     out.extend_from_slice(first)?;
     match opcode_in(Version::Two, first) {
@@ -46,7 +46,7 @@ fn put_body<'a>(
         }
         None => {
             put_all(out, words)?;
-            Ok(names)
+            Ok(())
         }
     }
 }
@@ -56,12 +56,12 @@ fn put_proc<'a>(
     alloc: Global,
     procedures: &Procedures<'_>,
     number: usize,
-    names: Names<'a>,
+    names: &mut Names<'a>,
     out: &mut Vec<u8>,
     first: &'a [u8],
     words: &[&'a [u8]],
-) -> Result<Names<'a>, Rejection<'a>>
-    ensures { SaysAfter result out.new.items (head_says (seen_procedures procedures.now) number (seen_names names.entry) (out.old.items ++ first.now) (flat_map pieces (texts words.now))) }
+) -> Result<(), Rejection<'a>>
+    ensures { SaysAfter result names.new out.new.items (head_says (seen_procedures procedures.now) number (seen_names names.old) (out.old.items ++ first.now) (flat_map pieces (texts words.now))) }
 {
     out.extend_from_slice(first)?;
     let pieces = pieces_of(alloc, words)?;
@@ -72,39 +72,39 @@ fn put_proc<'a>(
 fn put_regs<'a>(
     alloc: Global,
     procedures: &Procedures<'_>,
-    names: Names<'a>,
+    names: &mut Names<'a>,
     out: &mut Vec<u8>,
     first: &'a [u8],
     words: &[&'a [u8]],
-) -> Result<Names<'a>, Rejection<'a>>
-    ensures { SaysAfter result out.new.items (registers_say (seen_procedures procedures.now) (seen_names names.entry) (out.old.items ++ first.now) (flat_map pieces (texts words.now))) }
+) -> Result<(), Rejection<'a>>
+    ensures { SaysAfter result names.new out.new.items (registers_say (seen_procedures procedures.now) (seen_names names.old) (out.old.items ++ first.now) (flat_map pieces (texts words.now))) }
 {
     out.extend_from_slice(first)?;
     let pieces = pieces_of(alloc, words)?;
     put_registers(procedures, names, out, &pieces)
 }
 
-/// Adds the expansion of the words of the line of this number. Returns the names after it.
+/// Adds the expansion of the words of the line of this number, and its names.
 #[tactic(auto, unfolding(crate::specs::LineExpansion::line_says))]
 pub fn put_line<'a>(
     alloc: Global,
     procedures: &Procedures<'_>,
     number: usize,
-    names: Names<'a>,
+    names: &mut Names<'a>,
     out: &mut Vec<u8>,
     words: &[&'a [u8]],
-) -> Result<Names<'a>, Rejection<'a>>
-    ensures { SaysAfter result out.new.items (line_says (seen_procedures procedures.now) number (seen_names names.entry) out.old.items (texts words.now)) }
+) -> Result<(), Rejection<'a>>
+    ensures { SaysAfter result names.new out.new.items (line_says (seen_procedures procedures.now) number (seen_names names.old) out.old.items (texts words.now)) }
 {
     let [first, others @ ..] = words else {
-        return Ok(names);
+        return Ok(());
     };
     if is_names_line(first, others) {
-        Ok(names)
+        Ok(())
     } else if *first == b"const".as_slice() {
-        with_const(procedures, names, first, others)
+        add_const(procedures, names, first, others)
     } else if *first == b"let".as_slice() {
-        with_let(procedures, names, first, others)
+        add_let(procedures, names, first, others)
     } else if *first == b"proc".as_slice() {
         put_proc(alloc, procedures, number, names, out, first, others)
     } else if *first == b"regs".as_slice() {

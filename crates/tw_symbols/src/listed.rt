@@ -5,16 +5,16 @@ ghost use Rattle.std.specs.Option.{option_map};
 ghost use Rattle.tw_symbols.specs.Answers.{Gives, SaysAfter};
 ghost use Rattle.tw_lexer.specs.Names.{before_colon};
 ghost use Rattle.tw_symbols.specs.LineExpansion.{at_head, begins, followed_by, begins_at, begins_first, has_colon, head_says, is_listed_word, is_unnamed, list_name, list_says, name_before, name_says, number_in, registers_say, unnamed_says};
+ghost use Rattle.tw_symbols.specs.Meanings.{Names as Known};
 ghost use Rattle.tw_symbols.specs.Seen.{now, seen_names, seen_procedures, texts};
 
 use crate::heads::{bank_of_mode, parameters, procedure_name, value_types};
 use crate::meaning::{Bank, Binding, Listed};
-use crate::names::{Names, is_name, meaning, with_listed};
+use crate::names::{Names, add_listed, is_name, meaning};
 use crate::operand_text::{count, first_words, put_all, put_plain};
 use crate::pieces::begins_quoted;
 use crate::procedures::Procedures;
 use crate::rejection::{NameNo, Rejection};
-use indexmap::IndexMap;
 use std::alloc::{AllocError, Global};
 use tw_lexer::before_colon;
 
@@ -70,49 +70,49 @@ fn has_colon(word: &[u8]) -> bool
     !begins_quoted(word) && word.contains(&b':')
 }
 
-/// Returns the names after a word that isn't a name and `:`.
-fn unnamed<'a>(names: Names<'a>, word: &'a [u8]) -> Result<Names<'a>, Rejection<'a>>
-    ensures { Gives seen_names result (unnamed_says (seen_names names.entry) word.now) }
+/// Checks a word that isn't a name and `:`.
+fn check_unnamed<'a>(word: &'a [u8]) -> Result<(), Rejection<'a>>
+    ensures { (known : Known) → Gives (λ _. known) result (unnamed_says known word.now) }
 {
     if is_name(word) && !is_listed_word(word) {
         Err(Rejection::Flawed(NameNo::Unknown, word))
     } else if has_colon(word) {
         Err(Rejection::Flawed(NameNo::Form, word))
     } else {
-        Ok(names)
+        Ok(())
     }
 }
 
-/// Returns the names with that of a register which begins after it.
+/// Adds the name of a register which begins after it.
 fn name_begun<'a>(
     procedures: &Procedures<'_>,
-    names: Names<'a>,
+    names: &mut Names<'a>,
     begun: (usize, usize),
     word: &'a [u8],
     name: &'a [u8],
     bank: Option<Bank>,
-) -> Result<Names<'a>, Rejection<'a>>
-    ensures { Gives seen_names result (list_name (seen_procedures procedures.now) (seen_names names.entry) begun.0 begun.1 word.now name.now bank) }
+) -> Result<(), Rejection<'a>>
+    ensures { Gives (λ _. seen_names names.new) result (list_name (seen_procedures procedures.now) (seen_names names.old) begun.0 begun.1 word.now name.now bank) }
 {
     match bank {
         Some(bank) if !name.is_empty() => {
             let number = number_in(bank, begun.0, begun.1);
-            with_listed(procedures, names, name, bank, number)
+            add_listed(procedures, names, name, bank, number)
         }
         _ => Err(Rejection::Flawed(NameNo::Form, word)),
     }
 }
 
-/// Returns the names with that of a register which begins after this word, if it is a name and `:`.
+/// Adds the name of a register which begins after this word, if it is a name and `:`.
 fn name_listed<'a>(
     procedures: &Procedures<'_>,
     listed: Listed,
-    names: Names<'a>,
+    names: &mut Names<'a>,
     begun: (usize, usize),
     word: &'a [u8],
     others: &[&'a [u8]],
-) -> Result<Names<'a>, Rejection<'a>>
-    ensures { Gives seen_names result (name_before (seen_procedures procedures.now) listed (seen_names names.entry) begun.0 begun.1 word.now (texts others.now) (before_colon word.now)) }
+) -> Result<(), Rejection<'a>>
+    ensures { Gives (λ _. seen_names names.new) result (name_before (seen_procedures procedures.now) listed (seen_names names.old) begun.0 begun.1 word.now (texts others.now) (before_colon word.now)) }
 {
     match before_colon(word) {
         Some(name) => name_begun(
@@ -123,26 +123,26 @@ fn name_listed<'a>(
             name,
             begins_first(listed, others),
         ),
-        None => unnamed(names, word),
+        None => check_unnamed(word),
     }
 }
 
-/// Returns the names with those of listed registers, if so many value registers are listed before these words.
+/// Adds the names of listed registers, if so many value registers are listed before these words.
 fn list<'a>(
     procedures: &Procedures<'_>,
     listed: Listed,
-    mut names: Names<'a>,
+    names: &mut Names<'a>,
     first: usize,
     words: &[&'a [u8]],
-) -> Result<Names<'a>, Rejection<'a>>
+) -> Result<(), Rejection<'a>>
     requires { first ≤ 2 ^ 63 }
-    ensures { Gives seen_names result (list_says (seen_procedures procedures.now) listed (seen_names names.entry) first 0 (texts words.now)) }
+    ensures { Gives (λ _. seen_names names.new) result (list_says (seen_procedures procedures.now) listed (seen_names names.old) first 0 (texts words.now)) }
 {
     let mut values = first;
     let mut rights = 0;
     let mut rest = words;
     while let [word, others @ ..] = rest {
-        names = name_listed(procedures, listed, names, (values, rights), word, others)?;
+        name_listed(procedures, listed, names, (values, rights), word, others)?;
         match begins(listed, word) {
             Some(Bank::Value) => values += 1,
             Some(Bank::Right) => rights += 1,
@@ -150,7 +150,7 @@ fn list<'a>(
         }
         rest = others;
     }
-    Ok(names)
+    Ok(())
 }
 
 /// Adds all words except each name with `:`.
@@ -197,61 +197,56 @@ fn check_name<'a>(
     }
 }
 
-/// Returns the names at a head, with no registers yet.
-fn at_head<'a>(
+/// Forgets the registers of the procedure before a head, and keeps the types of its own `val` parameters.
+fn begin_head<'a>(
     alloc: Global,
-    procedures: &Procedures<'_>,
-    names: Names<'a>,
+    names: &mut Names<'a>,
     words: &[&'a [u8]],
-) -> Result<Names<'a>, AllocError>
-    ensures { IfOk result (λ after. seen_names after ≡ at_head (seen_names names.entry) (texts words.now)) }
+) -> Result<(), AllocError>
+    ensures { OnOk result (seen_names names.new ≡ at_head (seen_names names.old) (texts words.now)) }
 {
-    let types = if procedure_name(words).is_some() {
+    names.types = if procedure_name(words).is_some() {
         value_types(alloc, parameters(words))?
     } else {
         Vec::new(alloc)
     };
-    let Names { constants, .. } = names;
-    Ok(Names {
-        constants,
-        registers: IndexMap::with_hasher(alloc, procedures.hash),
-        types,
-        rights: 0,
-    })
+    names.registers.clear();
+    names.rights = 0;
+    Ok(())
 }
 
-/// Adds the expansion of the words after `proc`. Returns the names after it.
+/// Adds the expansion of the words after `proc`, and its names.
 pub fn put_head<'a>(
     alloc: Global,
     procedures: &Procedures<'_>,
     number: usize,
-    names: Names<'a>,
+    names: &mut Names<'a>,
     out: &mut Vec<u8>,
     words: &[&'a [u8]],
-) -> Result<Names<'a>, Rejection<'a>>
-    ensures { SaysAfter result out.new.items (head_says (seen_procedures procedures.now) number (seen_names names.entry) out.old.items (texts words.now)) }
+) -> Result<(), Rejection<'a>>
+    ensures { SaysAfter result names.new out.new.items (head_says (seen_procedures procedures.now) number (seen_names names.old) out.old.items (texts words.now)) }
 {
     check_name(procedures, number, procedure_name(words))?;
-    let names = at_head(alloc, procedures, names, words)?;
+    begin_head(alloc, names, words)?;
     let params = parameters(words);
-    let names = list(procedures, Listed::Parameters, names, 0, params)?;
+    list(procedures, Listed::Parameters, names, 0, params)?;
     put_all(out, first_words(words, 1))?;
     put_unnamed(out, params)?;
-    Ok(names)
+    Ok(())
 }
 
-/// Adds the expansion of the words after `regs`. Returns the names after it.
+/// Adds the expansion of the words after `regs`, and its names.
 pub fn put_registers<'a>(
     procedures: &Procedures<'_>,
-    names: Names<'a>,
+    names: &mut Names<'a>,
     out: &mut Vec<u8>,
     words: &[&'a [u8]],
-) -> Result<Names<'a>, Rejection<'a>>
-    ensures { SaysAfter result out.new.items (registers_say (seen_procedures procedures.now) (seen_names names.entry) out.old.items (texts words.now)) }
+) -> Result<(), Rejection<'a>>
+    ensures { SaysAfter result names.new out.new.items (registers_say (seen_procedures procedures.now) (seen_names names.old) out.old.items (texts words.now)) }
 {
     let first = count(&names.types);
-    let names = list(procedures, Listed::Registers, names, first, words)?;
+    list(procedures, Listed::Registers, names, first, words)?;
     put_all(out, &names.types)?;
     put_unnamed(out, words)?;
-    Ok(names)
+    Ok(())
 }

@@ -163,18 +163,18 @@ pub fn put_name<'a>(
     Ok(())
 }
 
-/// Returns the names with one more constant.
-pub fn with_constant<'a>(
+/// Adds a constant.
+pub fn add_constant<'a>(
     procedures: &Procedures<'_>,
-    mut names: Names<'a>,
+    names: &mut Names<'a>,
     name: &'a [u8],
     number: i64,
-) -> Result<Names<'a>, Rejection<'a>>
-    ensures { Gives seen_names result (with_constant (seen_procedures procedures.now) (seen_names names.entry) name.now (Constant number)) }
+) -> Result<(), Rejection<'a>>
+    ensures { Gives (λ _. seen_names names.new) result (with_constant (seen_procedures procedures.now) (seen_names names.old) name.now (Constant number)) }
 {
-    may_name(procedures, &names, name)?;
+    may_name(procedures, names, name)?;
     put_name(&mut names.constants, name, Binding::Constant(number))?;
-    Ok(names)
+    Ok(())
 }
 
 /// Returns the count of right registers after this register got a name: at least one more than its number.
@@ -188,18 +188,18 @@ fn above(bank: Bank, number: usize, rights: usize) -> usize
     }
 }
 
-/// Returns the names with one more register.
-pub fn with_register<'a>(
+/// Adds the name of a register.
+pub fn add_register<'a>(
     procedures: &Procedures<'_>,
-    mut names: Names<'a>,
+    names: &mut Names<'a>,
     name: &'a [u8],
     bank: Bank,
     number: usize,
     origin: Origin,
-) -> Result<Names<'a>, Rejection<'a>>
-    ensures { Gives seen_names result (with_register (seen_procedures procedures.now) (seen_names names.entry) name.now bank number origin) }
+) -> Result<(), Rejection<'a>>
+    ensures { Gives (λ _. seen_names names.new) result (with_register (seen_procedures procedures.now) (seen_names names.old) name.now bank number origin) }
 {
-    may_name(procedures, &names, name)?;
+    may_name(procedures, names, name)?;
     if number >= REGISTERS {
         return Err(Rejection::Flawed(NameNo::Limit, name));
     }
@@ -209,7 +209,7 @@ pub fn with_register<'a>(
         Binding::Register(bank, number, origin),
     )?;
     names.rights = above(bank, number, names.rights);
-    Ok(names)
+    Ok(())
 }
 
 /// Returns whether a name with this meaning is that by which the register was listed or made.
@@ -246,18 +246,18 @@ fn is_listed(table: &Table<'_>, bank: Bank, number: usize) -> bool
     false
 }
 
-/// Returns the names with one more register, unless it has been listed or made by another name.
-pub fn with_listed<'a>(
+/// Adds the name of a register, unless it has been listed or made by another name.
+pub fn add_listed<'a>(
     procedures: &Procedures<'_>,
-    names: Names<'a>,
+    names: &mut Names<'a>,
     name: &'a [u8],
     bank: Bank,
     number: usize,
-) -> Result<Names<'a>, Rejection<'a>>
-    ensures { Gives seen_names result (with_listed (seen_procedures procedures.now) (seen_names names.entry) name.now bank number) }
+) -> Result<(), Rejection<'a>>
+    ensures { Gives (λ _. seen_names names.new) result (with_listed (seen_procedures procedures.now) (seen_names names.old) name.now bank number) }
 {
     if is_listed(&names.registers, bank, number) {
         return Err(Rejection::Flawed(NameNo::Listed, name));
     }
-    with_register(procedures, names, name, bank, number, Origin::Listed)
+    add_register(procedures, names, name, bank, number, Origin::Listed)
 }

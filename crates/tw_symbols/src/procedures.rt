@@ -48,14 +48,14 @@ fn name_procedure<'a>(
     Ok(())
 }
 
-/// Returns the procedures with one more.
-fn with_head<'a>(
+/// Adds a procedure.
+fn add_head<'a>(
     alloc: Global,
-    mut procedures: Procedures<'a>,
+    procedures: &mut Procedures<'a>,
     number: usize,
     words: &[&'a [u8]],
-) -> Result<Procedures<'a>, AllocError>
-    ensures { IfOk result (λ after. seen_procedures after ≡ with_head (seen_procedures procedures.entry) number (texts words.now)) }
+) -> Result<(), AllocError>
+    ensures { OnOk result (seen_procedures procedures.new ≡ with_head (seen_procedures procedures.old) number (texts words.now)) }
 {
     let count = procedures.heads.len();
     name_procedure(&mut procedures.table, procedure_name(words), count)?;
@@ -64,37 +64,38 @@ fn with_head<'a>(
         banks,
         line: number,
     })?;
-    Ok(procedures)
+    Ok(())
 }
 
-fn with_words<'a>(
+/// Adds the procedure that begins with these words of a line, if one does.
+fn add_words<'a>(
     alloc: Global,
-    procedures: Procedures<'a>,
+    procedures: &mut Procedures<'a>,
     number: usize,
     words: &[&'a [u8]],
-) -> Result<Procedures<'a>, AllocError>
-    ensures { IfOk result (λ after. seen_procedures after ≡ with_words (seen_procedures procedures.entry) number (texts words.now)) }
+) -> Result<(), AllocError>
+    ensures { OnOk result (seen_procedures procedures.new ≡ with_words (seen_procedures procedures.old) number (texts words.now)) }
 {
     match words {
         [first, others @ ..] if *first == b"proc".as_slice() => {
             let pieces = pieces_of(alloc, others)?;
-            with_head(alloc, procedures, number, &pieces)
+            add_head(alloc, procedures, number, &pieces)
         }
-        _ => Ok(procedures),
+        _ => Ok(()),
     }
 }
 
-/// Returns the procedures after the line of this number.
-fn with_line<'a>(
+/// Adds the procedure of the line of this number, if one begins there.
+fn add_line<'a>(
     alloc: Global,
-    procedures: Procedures<'a>,
+    procedures: &mut Procedures<'a>,
     number: usize,
     line: &'a str,
-) -> Result<Procedures<'a>, AllocError>
-    ensures { IfOk result (λ after. (taken : Line) × IsTaken taken line.entry.now × (seen_procedures after ≡ with_line (seen_procedures procedures.entry) number taken)) }
+) -> Result<(), AllocError>
+    ensures { OnOk result ((taken : Line) × IsTaken taken line.entry.now × (seen_procedures procedures.new ≡ with_line (seen_procedures procedures.old) number taken)) }
 {
     let taken = take_line(alloc, line)?;
-    with_words(alloc, procedures, number, &taken.words)
+    add_words(alloc, procedures, number, &taken.words)
 }
 
 /// Returns the procedures of a text.
@@ -109,7 +110,7 @@ pub fn procedures_of(alloc: Global, text: &str) -> Result<Procedures<'_>, AllocE
     };
     for (index, line) in text.lines().enumerate() {
         if may_begin_procedure(line) {
-            procedures = with_line(alloc, procedures, index + 1, line)?;
+            add_line(alloc, &mut procedures, index + 1, line)?;
         }
     }
     Ok(procedures)

@@ -1,8 +1,8 @@
 //! The names of registers, for messages that print their numbers.
 
-ghost use Rattle.std.specs.Prelude.{◌≡◌, ◌==◌, ◌++◌, [], ℕ, List, None, IfOk, OnOk, MatchOption, Ok, drop, length, option_map, slice_get};
-ghost use Rattle.std.specs.Result.{IsErr};
+ghost use Rattle.std.specs.Prelude.{◌≡◌, ◌==◌, ◌++◌, [], ℕ, List, None, IfOk, OnOk, drop, length, option_map, slice_get};
 ghost use Rattle.std.specs.Str.Lines.{lines};
+ghost use Rattle.tw_symbols.specs.Answers.{IsAccepted};
 ghost use Rattle.tw_symbols.specs.Lines.{AreTaken, IsTaken, Line};
 ghost use Rattle.tw_symbols.specs.Meanings.{no_names};
 ghost use Rattle.tw_symbols.specs.Registers.{IsWithName, entry_name, first_part, is_register, last_name, name_of, name_text, names_after_line, registers_at};
@@ -18,24 +18,23 @@ use crate::procedures::{Procedures, procedures_of};
 use crate::rejection::NameNo;
 use std::alloc::{AllocError, Global};
 
-/// Returns the names after a line; `None` if the line has an error.
-pub fn names_after<'a>(
+/// Adds the names of a line. Returns whether it has no error.
+pub fn add_names<'a>(
     alloc: Global,
     procedures: &Procedures<'_>,
     number: usize,
-    names: Names<'a>,
+    names: &mut Names<'a>,
     out: &mut Vec<u8>,
     line: &'a str,
-) -> Result<Option<Names<'a>>, AllocError>
-    ensures { (taken : Line) → IsTaken taken line.entry.now → IfOk result (λ after. MatchOption after
-        (IsErr (taken_says (seen_procedures procedures.now) number (seen_names names.entry) out.old.items taken))
-        (λ n. taken_says (seen_procedures procedures.now) number (seen_names names.entry) out.old.items taken ≡ Ok (seen_names n, out.new.items))) }
+) -> Result<bool, AllocError>
+    ensures { (taken : Line) → IsTaken taken line.entry.now → IfOk result (λ accepted.
+        IsAccepted accepted names.new out.new.items (taken_says (seen_procedures procedures.now) number (seen_names names.old) out.old.items taken)) }
 {
     match put_numbered_line(alloc, procedures, number, names, out, line) {
-        Ok(after) => Ok(Some(after)),
+        Ok(()) => Ok(true),
         Err(rejection) => match rejection.no {
             NameNo::NoMemory => Err(AllocError),
-            _ => Ok(None),
+            _ => Ok(false),
         },
     }
 }
@@ -53,10 +52,11 @@ fn names_after_line<'a>(
     let mut names = Names::new(alloc, procedures.hash);
     let mut out = Vec::new(alloc);
     for (index, line) in text.lines().enumerate() {
-        match names_after(alloc, procedures, index + 1, names, &mut out, line)? {
-            Some(after) if index + 1 == last => return Ok(Some(after)),
-            Some(after) => names = after,
-            None => return Ok(None),
+        if !add_names(alloc, procedures, index + 1, &mut names, &mut out, line)? {
+            return Ok(None);
+        }
+        if index + 1 == last {
+            return Ok(Some(names));
         }
     }
     Ok(None)

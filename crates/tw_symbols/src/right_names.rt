@@ -1,9 +1,9 @@
 //! The names of right registers, line by line.
 
-ghost use Rattle.std.specs.Prelude.{◌≡◌, ◌+◌, ◌<◌, ◌++◌, ◌∷◌, [], ℕ, List, IfOk, OnOk, Some, get_or, length, slice_get, slice_set, take};
+ghost use Rattle.std.specs.Prelude.{◌≡◌, ◌+◌, ◌<◌, ◌++◌, ◌∷◌, [], ℕ, List, IfOk, None, OnOk, Some, get_or, if◌then◌else◌, length, slice_get, slice_set, take};
 ghost use Rattle.std.specs.Str.Lines.{lines};
 ghost use Rattle.tw_symbols.specs.Lines.{IsTaken, Line, line_words};
-ghost use Rattle.tw_symbols.specs.RightNames.{AreLast, AreRightNames, HasRead, IsReady, Knows, begins_procedure, kept_entries, known_names, named_text, names_of, noted, right_number, unnamed, with_right};
+ghost use Rattle.tw_symbols.specs.RightNames.{AreLast, AreRightNames, HasRead, IsAfter, IsReady, Knows, begins_procedure, kept_entries, known_names, named_text, noted, right_number, unnamed, with_right};
 ghost use Rattle.tw_symbols.specs.Seen.{seen_table, texts};
 ghost use Rattle.tw_symbols.specs.Unchanged.{IsPassed};
 
@@ -12,7 +12,7 @@ use crate::line::take_line;
 use crate::meaning::{Bank, Binding};
 use crate::names::{Names, Table};
 use crate::procedures::{Procedures, procedures_of};
-use crate::registers::{cut, names_after};
+use crate::registers::{add_names, cut};
 use crate::symbols::put_bracketed;
 use crate::unchanged::put_unchanged;
 use std::alloc::{AllocError, Global};
@@ -100,14 +100,13 @@ fn note<'a>(rights: &mut Vec<&'a [u8]>, table: &Table<'a>, index: usize)
     }
 }
 
-/// Returns the last names of a table, from those of its first entries.
-fn noted_from<'a>(mut rights: Vec<&'a [u8]>, table: &Table<'a>, first: usize) -> Vec<&'a [u8]>
-    ensures { AreLast (texts rights.entry.items) (take first (seen_table table.now.entries)) → AreLast (texts result.items) (seen_table table.now.entries) }
+/// Keeps the last names of a table, from those of its first entries.
+fn note_from<'a>(rights: &mut Vec<&'a [u8]>, table: &Table<'a>, first: usize)
+    ensures { AreLast (texts rights.old.items) (take first (seen_table table.now.entries)) → AreLast (texts rights.new.items) (seen_table table.now.entries) }
 {
     for index in first..table.len() {
-        note(&mut rights, table, index);
+        note(rights, table, index);
     }
-    rights
 }
 
 /// Returns the name of a register, or nothing if it has none.
@@ -120,68 +119,66 @@ fn name_at<'a>(rights: &[&'a [u8]], register: usize) -> &'a [u8]
     }
 }
 
-/// Returns how many entries stay at a line, and their last names: none if it begins a procedure.
+/// Forgets all last names at a line that begins a procedure. Returns how many entries stay.
 fn kept_names<'a>(
     alloc: Global,
-    rights: Vec<&'a [u8]>,
+    rights: &mut Vec<&'a [u8]>,
     table: &Table<'_>,
     line: &str,
-) -> Result<(usize, Vec<&'a [u8]>), AllocError>
-    ensures { (taken : Line) → IsTaken taken line.now → AreLast (texts rights.entry.items) (seen_table table.now.entries)
-        → IfOk result (λ kept. (kept.0 ≡ length (kept_entries (begins_procedure (line_words taken)) (seen_table table.now.entries)))
-        × AreLast (texts kept.1.items) (kept_entries (begins_procedure (line_words taken)) (seen_table table.now.entries))) }
+) -> Result<usize, AllocError>
+    ensures { (taken : Line) → IsTaken taken line.now → AreLast (texts rights.old.items) (seen_table table.now.entries)
+        → IfOk result (λ kept. (kept ≡ length (kept_entries (begins_procedure (line_words taken)) (seen_table table.now.entries)))
+        × AreLast (texts rights.new.items) (kept_entries (begins_procedure (line_words taken)) (seen_table table.now.entries))) }
 {
     if begins_procedure(alloc, line)? {
-        return Ok((0, no_names(alloc)?));
+        *rights = no_names(alloc)?;
+        return Ok(0);
     }
-    Ok((table.len(), rights))
+    Ok(table.len())
 }
 
-/// Keeps what a line adds. Returns `None` if the line is rejected.
+/// Keeps what a line adds. Returns whether the line is accepted.
 fn read_line<'a>(
     alloc: Global,
-    reader: Reader<'a>,
+    reader: &mut Reader<'a>,
     number: usize,
     line: &'a str,
-) -> Result<Option<Reader<'a>>, AllocError>
-    ensures { (names : ℕ → ℕ → List ℕ) (ls before others : List (List ℕ)) → IsReady names ls (length before) (Some reader.entry) → ls ≡ before ++ line.entry.now ∷ others → number ≡ length before + 1
-        → IfOk result (λ after. IsReady names ls number after × ((register : ℕ) → register < 16 → names_of after register ≡ names number register)) }
+) -> Result<bool, AllocError>
+    ensures { (names : ℕ → ℕ → List ℕ) (ls before others : List (List ℕ)) → IsReady names ls (length before) (Some reader.old) → ls ≡ before ++ line.entry.now ∷ others → number ≡ length before + 1
+        → IfOk result (λ accepted. IsAfter names ls number (if accepted then Some reader.new else None)) }
 {
     let Reader {
         procedures,
         names,
-        mut plain,
+        plain,
         rights,
     } = reader;
-    let (first, rights) = kept_names(alloc, rights, &names.registers, line)?;
-    match names_after(alloc, &procedures, number, names, &mut plain, line)? {
-        Some(names) => {
-            let rights = noted_from(rights, &names.registers, first);
-            Ok(Some(Reader {
-                procedures,
-                names,
-                plain,
-                rights,
-            }))
-        }
-        None => Ok(None),
+    let first = kept_names(alloc, rights, &names.registers, line)?;
+    if !add_names(alloc, procedures, number, names, plain, line)? {
+        return Ok(false);
     }
+    note_from(rights, &names.registers, first);
+    Ok(true)
 }
 
-/// Like `read_line`, if there is more to read.
+/// Like `read_line`, if there is more to read. A rejected line leaves no reader.
 fn read_next<'a>(
     alloc: Global,
-    reader: Option<Reader<'a>>,
+    reader: &mut Option<Reader<'a>>,
     number: usize,
     line: &'a str,
-) -> Result<Option<Reader<'a>>, AllocError>
-    ensures { (names : ℕ → ℕ → List ℕ) (ls before others : List (List ℕ)) → IsReady names ls (length before) reader.entry → ls ≡ before ++ line.entry.now ∷ others → number ≡ length before + 1
-        → IfOk result (λ after. IsReady names ls number after × ((register : ℕ) → register < 16 → names_of after register ≡ names number register)) }
+) -> Result<(), AllocError>
+    ensures { (names : ℕ → ℕ → List ℕ) (ls before others : List (List ℕ)) → IsReady names ls (length before) reader.old → ls ≡ before ++ line.entry.now ∷ others → number ≡ length before + 1
+        → OnOk result (IsAfter names ls number reader.new) }
 {
-    match reader {
-        Some(reader) => read_line(alloc, reader, number, line),
-        None => Ok(None),
+    let accepted = match reader {
+        Some(open) => read_line(alloc, open, number, line)?,
+        None => return Ok(()),
+    };
+    if !accepted {
+        *reader = None;
     }
+    Ok(())
 }
 
 /// Reads a line that has at most a label. Returns whether it is one; the names stay in their place.
@@ -229,18 +226,8 @@ impl<'a> RightNames<'a> {
         if self.pass(alloc, line)? {
             Ok(())
         } else {
-            self.read_moving(alloc, number, line)
+            read_next(alloc, &mut self.reader, number, line)
         }
-    }
-
-    /// Reads a line that changes names, which moves all that is known. A function of its own, so that lines which are passed don't pay for that.
-    #[inline(never)]
-    fn read_moving(&mut self, alloc: Global, number: usize, line: &'a str) -> Result<(), AllocError>
-        ensures { (names : ℕ → ℕ → List ℕ) (ls before others : List (List ℕ)) → IsReady names ls (length before) self.old.reader → ls ≡ before ++ line.entry.now ∷ others → number ≡ length before + 1
-            → OnOk result (HasRead names ls number self.new × Knows (names number) self.new) }
-    {
-        self.reader = read_next(alloc, self.reader.take(), number, line)?;
-        Ok(())
     }
 
     /// Like `pass_line`. Without names there is nothing to read.

@@ -19,7 +19,9 @@ import unittest
 from pathlib import Path
 from typing import Any, Dict, List, Tuple
 
+import random_files
 import random_programs
+import reference
 import yuglemit
 from common import EXAMPLES, TESTS, example
 from yuglemit.build import BuildError, build_file, build_text
@@ -27,6 +29,7 @@ from yuglemit.build import BuildError, build_file, build_text
 HEAD = "from yuglemit.build import Array, Int, Out, Table, Text, byte_length, check, control, each, insert, leaf, nth, out\n"
 REFUSED = (-77, "refused")
 FUNCTIONS = int(os.environ.get("FUNCTIONS", "1000"))
+FILES, SEED = int(os.environ.get("FILES", "300")), int(os.environ.get("SEED", "0"))
 
 
 def sessions(name: str) -> List[Tuple[List[Any], Dict[str, int]]]:
@@ -140,6 +143,33 @@ class RandomFunctions(unittest.TestCase):
                 end = "stuck" if out.total is None else "quiet"
                 self.assertEqual((report.end, report.outputs), (end, [out.total, out.kept]), f"{seed} {a} {b} {xs}\n{text}")
         self.assertGreaterEqual(taken, FUNCTIONS * 29 // 100)
+
+
+class RandomFiles(unittest.TestCase):
+    """300 random files, as wholes, answer as Python does: outputs, and whether the run ends stuck."""
+
+    not_taken = "more than 16 |never reached|64 bits|can't be returned in a loop|nothing in check.* can be refused|set on one way|V17"
+
+    def test_files(self) -> None:
+        taken, stuck, number = 0, 0, SEED
+        while taken < FILES:
+            number += 1
+            text = random_files.file(number)
+            try:
+                program = build_text(text).program
+            except BuildError as why:
+                self.assertRegex(why.message, self.not_taken, f"{number}\n{text}")
+                continue
+            taken += 1
+            chance = random.Random(number)
+            for _ in range(3):
+                inputs = random_files.inputs(chance)
+                report = program.run(*inputs, limit=1_000_000)
+                stuck += report.end == "stuck"
+                self.assertEqual((report.end, report.outputs), reference.Machine(text).run(inputs), f"{number} {inputs}\n{text}")
+        print(f"{taken} random files, {3 * taken} runs, {stuck} of them stuck, 0 differ", file=sys.stderr)
+        self.assertLess(number - SEED, 2 * FILES + 20)
+        self.assertTrue(FILES < 100 or FILES // 20 < stuck < FILES, stuck)
 
 
 LEAVES = """@leaf(otherwise=0)
@@ -375,7 +405,7 @@ ERRORS: List[Tuple[str, int, int, str]] = [
     ("@leaf(often=1)\ndef f():\n    pass\n" + MAIN + "    out.y = 1\n", 2, 2, "otherwise"),
     ("@leaf(otherwise=x)\ndef f() -> Int:\n    return 1\n" + MAIN + "    out.y = 1\n", 2, 17, "expected a constant"),
     ("@leaf(otherwise='x')\ndef f() -> Int:\n    return 1\n" + MAIN + "    out.y = 1\n", 3, 1, "otherwise: expected Int"),
-    ("@leaf\ndef f():\n    pass\n@leaf\ndef f():\n    pass\n" + MAIN + "    out.y = 1\n", 6, 1, "two functions f"),
+    ("@leaf\ndef f():\n    pass\n@leaf\ndef f():\n    pass\n" + MAIN + "    out.y = 1\n", 6, 1, "f is set already, by line 3"),
     ("@leaf\ndef check():\n    pass\n" + MAIN + "    out.y = 1\n", 3, 1, "word of the language"),
     (MAIN + "    out.y = 1 +\n", 4, 16, "invalid syntax"),
     (MAIN + "    out.y = z\n", 4, 13, "z isn't known"),
@@ -432,8 +462,8 @@ ERRORS: List[Tuple[str, int, int, str]] = [
     ("@leaf\ndef f(n: Int) -> tuple[Int, Int]:\n    return n, n\n" + MAIN + "    out.y = f(x)\n", 7, 13, "2 results: one is needed|has 2 results"),
     ("@leaf\ndef f(n: Int) -> Int:\n    return n\n" + MAIN + "    a, b = f(x)\n", 7, 12, "1 results, 2 are asked"),
     ("@leaf\ndef f(n: Int) -> Int:\n    return n\n@control\ndef g(n: Int) -> Int:\n    for i in range(3):\n        if i == n:\n            return f(n)\n    return n\n" + MAIN + "    out.y = g(x)\n", 9, 13, "a result that is known later.* can't be returned in a loop: .* return that after the loop"),
-    ("@leaf\ndef f(n: Int) -> tuple[Int, Int]:\n    return n, n\n@control\ndef g(ns: Array[Int]) -> tuple[Int, Int]:\n    for s, n in ns:\n        return f(n)\n    return 1, 2\n" + MAIN + "    y, z = g(xs)\n    out.y = y\n", 8, 9, "a result that is known later"),
-    ("@control\ndef g(ns: Array[Int]) -> tuple[Int, Int]:\n    for s, n in ns:\n        return 1, n\n    return 1, 2\n" + MAIN + "    y, z = g(xs)\n    out.y = y\n", 5, 9, "a result that is known later"),
+    ("@leaf\ndef f(n: Int) -> tuple[Int, Int]:\n    return n, n\n@control\ndef g(ns: Array[Int]) -> tuple[Int, Int]:\n    for s, n in ns:\n        return f(n)\n    return 1, 2\n" + MAIN + "    v, z = g(xs)\n    out.y = v\n", 8, 9, "a result that is known later"),
+    ("@control\ndef g(ns: Array[Int]) -> tuple[Int, Int]:\n    for s, n in ns:\n        return 1, n\n    return 1, 2\n" + MAIN + "    v, z = g(xs)\n    out.y = v\n", 5, 9, "a result that is known later"),
     ("@leaf\ndef f(n: Int) -> Int:\n    return 'a'\n" + MAIN + "    out.y = f(x)\n", 4, 12, "the result of f is Int, and can't be set to Text"),
     ("@leaf\ndef f(n: Int) -> tuple[Int, Text]:\n    return n, n\n" + MAIN + "    out.y, z = f(x)\n", 4, 15, "result 2 of f is Text, and can't be set to Int"),
     (MAIN + "    main(x, xs, out.y)\n", 4, 5, "called by the run alone"),

@@ -9,7 +9,7 @@ from unittest import mock
 
 import yuglemit
 from yuglemit import Refused
-from yuglemit._program import ask
+from yuglemit._commands import ask
 from yuglemit._report import read_end, read_outputs
 
 FORGED = "; at line 3, in procedure 9 at place 77, input 5, event 8, byte 9"

@@ -94,6 +94,7 @@ class Values(unittest.TestCase):
 
     def test_what_is_no_member(self) -> None:
         program = yuglemit.load(sized("cont int"))
+        value: Any
         for value in ({1: 1.9}, {1: True}, {True: 1}, {"a": 1}, {1: "a"}, {1: 2, 2: "a"}, {1: 2, "a": 2}, {1: None}, 7):
             with self.subTest(value), self.assertRaisesRegex(TypeError, "input 1.*expected"):
                 program.run(value)
@@ -211,7 +212,7 @@ class Options(unittest.TestCase):
             yuglemit.load(DOUBLE.encode())
         with self.assertRaisesRegex(TypeError, "assemble"):
             yuglemit.verify(DOUBLE)  # type: ignore[arg-type]
-        with self.assertRaisesRegex(ValueError, "pathlib"):
+        with self.assertRaisesRegex(yuglemit.Refused, "pathlib"):
             yuglemit.load("examples/pipeline.twn")
         with self.assertRaisesRegex(TypeError, "int"):
             yuglemit.load(7)  # type: ignore[arg-type]

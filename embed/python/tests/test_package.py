@@ -18,7 +18,7 @@ from common import ROOT
 def load_tests(loader: unittest.TestLoader, tests: unittest.TestSuite, pattern: str) -> unittest.TestSuite:
     """Adds the examples of docstrings and of README.md."""
     for it in pkgutil.walk_packages(yuglemit.__path__, "yuglemit."):
-        if not it.name.endswith(("__main__", "libyuglemit")):  # the library lies beside the modules of a wheel
+        if not it.name.endswith("__main__"):
             tests.addTests(doctest.DocTestSuite(importlib.import_module(it.name)))
     tests.addTests(doctest.DocFileSuite(str(ROOT / "embed" / "python" / "README.md"), module_relative=False, setUp=lambda _: os.chdir(ROOT)))
     return tests

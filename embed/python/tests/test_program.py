@@ -4,6 +4,7 @@
 from __future__ import annotations
 
 import _thread
+import asyncio
 import json
 import os
 import pickle
@@ -17,11 +18,11 @@ import time
 import unittest
 from concurrent.futures import ThreadPoolExecutor
 from pathlib import Path
-from typing import Any
+from typing import Any, List
 from unittest import mock
 
 import yuglemit
-from common import DOUBLE, EXAMPLES, example
+from common import DOUBLE, ENDLESS, EXAMPLES, example
 
 LONG = """names
 proc control main(texts: write cont text)
@@ -42,20 +43,6 @@ next:
 ADD number number one +0
 END
 DROPW texts
-RET
-"""
-
-# Each task takes 300,000 instructions, and the limit allows 200,000 tasks: a run that nothing stops takes longer than any test waits.
-ENDLESS = """proc control
-regs int int
-INT v1 1
-REPEAT 100
-REPEAT 1000
-ADD v0 v0 v1 no
-no:
-END
-END
-PUT 0 0 any
 RET
 """
 
@@ -176,7 +163,7 @@ class Programs(unittest.TestCase):
             yuglemit.load("proc control\nregs\nPUT 0 0 any\nRET\n").run(most_tasks=9_999)
         self.assertEqual(refused.exception.text, "refused O07\ntasks: bound 10000, at most 9999\n")
         report = program.run(39, **exact)
-        self.assertEqual((report.made is not None, report.text), (True, "out 0 int 42\nquiet\n"))
+        self.assertEqual((report.again().outputs, report.text), ([42], "out 0 int 42\nquiet\n"))
         self.assertEqual(len(report.timeline()) > 1000, True)
         for wrong in (-1, 0, 1 << 64):
             for name in exact:
@@ -259,7 +246,8 @@ class Reports(unittest.TestCase):
     def test_stuck(self) -> None:
         report = yuglemit.load(example("stuck_on_itself.twn")).run()
         self.assertEqual((report.end, report.outputs, report.circle), ("stuck", [], [(1, 1, 1)]))
-        self.assertIn("rule 1 runs procedure 1", report.text)
+        self.assertEqual(report.text, "stuck 1\nwaits 1 1 1\n")
+        self.assertEqual(report.rules(), "stuck 1\nwaits 1 1 1\nrule 1 runs procedure 1 (store), made at line 6: RULE store 0 any datum datum_out\n")
         self.assertEqual(json.loads(report.json)["circle"], [{"rule": 1, "datum": 1, "writer": 1}])
 
     def test_unset_and_open_outputs(self) -> None:
@@ -300,8 +288,13 @@ class Reports(unittest.TestCase):
     def test_reports_travel(self) -> None:
         report = yuglemit.load(DOUBLE).run(4)
         again = pickle.loads(pickle.dumps(report))
-        self.assertEqual((again.outputs, again.events, again.line), ([8], report.events, None))
-        self.assertEqual((again.text, again.trace, again.instructions), (report.text, report.trace, report.instructions))
+        self.assertEqual((again.outputs, again.events, again.instructions), ([8], report.events, report.instructions))
+        with self.assertRaisesRegex(ValueError, "another process"):
+            _ = again.text
+        made = again.again()
+        self.assertEqual((made.text, made.trace, made.line), (report.text, report.trace, report.line))
+        whole = pickle.loads(pickle.dumps(yuglemit.load(DOUBLE).run(4, text=True, trace=True, line=True)))
+        self.assertEqual((whole.text, whole.trace, whole.line), (report.text, report.trace, report.line))
         of_four_tasks = pickle.loads(pickle.dumps(yuglemit.load(EXAMPLES / "pipeline.twn").run(39)))
         self.assertEqual(of_four_tasks.instructions, 24)
 
@@ -312,6 +305,31 @@ class Reports(unittest.TestCase):
         self.assertGreater(len(report.text), 400_000)
         again = yuglemit.load(EXAMPLES / "texts.twn")
         self.assertEqual(again.run({1: "x" * 4096}).outputs[0], "x" * 4096)
+
+
+class Seconds(unittest.TestCase):
+    """Bounds of the time of runs, which valgrind would break."""
+
+    def test_seconds_of_texts(self) -> None:
+        """A run of texts takes no more processor time than `seconds`, and about what `usual_seconds` says."""
+        text = f'TEXT v0 "{"a" * 2000}"\nTEXT v1 "{"b" * 2000}"\nREPEAT 1000\nREPEAT 1000\nREPEAT 2\nCAT v2 v0 v1 +0\nEND\nEND\nEND\n'
+        program = yuglemit.load(f"proc control\nregs text text text\n{text}RET\n")
+        begun = time.process_time()
+        program.run()
+        took = time.process_time() - begun
+        self.assertLessEqual(took, program.bounds.seconds())
+        self.assertLess(took, 9 * program.bounds.usual_seconds())
+        self.assertEqual((program.bounds.work, yuglemit.load(DOUBLE).bounds.work, yuglemit.load(yuglemit.assemble(DOUBLE)).bounds.work), ("texts", "ints", "ints"))
+        self.assertEqual(yuglemit.load(yuglemit.assemble(example("texts.twn"))).bounds.work, yuglemit.load(example("texts.twn")).bounds.work)
+
+    def test_seconds_of_numbers_in_texts(self) -> None:
+        """READI of the longest text is the dearest instruction; it takes more than a hundred of ints."""
+        text = f'TEXT v0 "{"0" * 4096}"\nREPEAT 1000\nREPEAT 20\nREADI v1 v0 +0\nEND\nEND\n'
+        program = yuglemit.load(f"proc control\nregs text int\n{text}RET\n")
+        begun = time.process_time()
+        program.run()
+        self.assertLessEqual(time.process_time() - begun, program.bounds.seconds())
+        self.assertEqual(program.bounds.work, "numbers")
 
 
 class Threads(unittest.TestCase):
@@ -413,11 +431,56 @@ class Stops(unittest.TestCase):
         for _ in range(2):
             report = program.run(4, stop=stop)
             self.assertEqual((report.end, report.events, report.outputs, report.unfinished), ("stopped", 0, [None], [0]))
+        self.assertEqual((report.text, report.trace, report.line), ("out 0 unset\nrunning\n", "events\nend\n", None))
         with self.assertRaisesRegex(ValueError, "before its first event"):
-            _ = report.trace
+            report.again()
         self.assertTrue(stop.is_set())
         stop.clear()
         self.assertEqual(program.run(4, stop=stop).outputs, [8])
+
+    def test_a_timeout_stops_a_run(self) -> None:
+        program = yuglemit.load(ENDLESS)
+        begun = time.perf_counter()
+        report = program.run(limit=1_000_000, timeout=0.3)
+        self.assertGreaterEqual(time.perf_counter() - begun, 0.3)
+        self.assertLess(time.perf_counter() - begun, 20)
+        self.assertEqual((report.end, report.outputs), ("stopped", []))
+        self.assertEqual(program.run(limit=20, timeout=100).end, "limit")
+        self.assertEqual(program.run(limit=1_000_000, timeout=0).end, "stopped")
+        again = report.again(timeout=100)
+        self.assertEqual((again.end, again.events), ("limit", report.events))
+        stop = yuglemit.Stop()
+        self.assertEqual(program.run(limit=1_000_000, timeout=0.1, stop=stop).end, "stopped")
+        self.assertFalse(stop.is_set())
+        for wrong, error in ((-1, ValueError), (float("nan"), ValueError), ("1", TypeError), (True, TypeError)):
+            with self.assertRaisesRegex(error, "timeout: expected"):
+                program.run(timeout=wrong)  # type: ignore[arg-type]
+        for endless in (float("inf"), 10**400, 1e30, None):
+            self.assertEqual(program.run(limit=20, timeout=endless).end, "limit")
+
+    def test_brief_runs_begin_no_thread_for_a_timeout(self) -> None:
+        with mock.patch("threading.Timer", side_effect=AssertionError):
+            self.assertEqual(yuglemit.load(DOUBLE).run(4, timeout=1).outputs, [8])
+
+    def test_runs_of_an_event_loop(self) -> None:
+        program, double = yuglemit.load(ENDLESS), yuglemit.load(DOUBLE)
+
+        async def several() -> List[Any]:
+            runs = [double.run_async(number) for number in range(20)]
+            return [it.outputs for it in await asyncio.gather(*runs)]
+
+        async def late() -> float:
+            begun = time.perf_counter()
+            with self.assertRaises(asyncio.TimeoutError):
+                await asyncio.wait_for(program.run_async(limit=1_000_000), 0.2)
+            report = await program.run_async(limit=1_000_000, timeout=0.2)
+            self.assertEqual(report.end, "stopped")
+            return time.perf_counter() - begun
+
+        self.assertEqual(asyncio.run(several()), [[2 * number] for number in range(20)])
+        self.assertLess(asyncio.run(late()), 20)  # asyncio.run waits for the threads, so the cancelled run has ended
+        with self.assertRaisesRegex(TypeError, "input 1"):
+            asyncio.run(double.run_async("x"))
 
     def test_one_stop_for_runs_in_several_threads(self) -> None:
         program, stop = yuglemit.load(ENDLESS), yuglemit.Stop()
@@ -451,6 +514,54 @@ class Stops(unittest.TestCase):
     def test_a_stop_stays_in_its_process(self) -> None:
         with self.assertRaisesRegex(TypeError, "own process"):
             pickle.dumps(yuglemit.Stop())
+
+
+class WrongCalls(unittest.TestCase):
+    """Wrong arguments are a TypeError or a ValueError that names them."""
+
+    def check(self, error: type[Exception], text: str, call: Any, *words: Any, **options: Any) -> None:
+        with self.assertRaisesRegex(error, text):
+            call(*words, **options)
+
+    def test_classes(self) -> None:
+        program = yuglemit.load(EXAMPLES / "pipeline.twn")
+        report = program.run(39)
+        self.check(TypeError, "stop: expected a yuglemit.Stop, got bool True", program.run, 39, stop=True)
+        self.check(TypeError, "expected a program's text", yuglemit.assemble, 7)
+        self.check(TypeError, "trace: expected a str, got bytes", program.replay, b"", 39)
+        self.check(TypeError, "trace: expected a str, got bytes", program.picture, b"", 39)
+        self.check(yuglemit.Refused, "H03", program.replay, "\ud800", 39)
+        self.check(TypeError, "expected a str, got int 7", yuglemit.read_input, 7)
+        self.check(TypeError, "data: expected bytes, got str", yuglemit.session, ["check"], "abc")
+        self.check(TypeError, "words: expected a list of str", yuglemit.session, "check", b"")
+        self.check(TypeError, "words: expected a list of str", yuglemit.session, [7], b"")
+        self.check(ValueError, "first: expected 1 to 4294967295, got -1", report.timeline, first=-1)
+        self.check(TypeError, "first: expected an int, got str 'x'", report.timeline, "x")
+        self.check(ValueError, "last: expected", program.picture, report.trace, 39, last=0)
+        self.check(ValueError, "no code V99", yuglemit.explain, "V99")
+        self.check(ValueError, "expected a code", yuglemit.explain, 7)
+
+    def test_huge_ints(self) -> None:
+        program = yuglemit.load(DOUBLE)
+        self.check(ValueError, "input 1: a number of 16610 bits doesn't fit in 64 bits", program.run, 10**5000)
+        self.check(ValueError, "limit: expected 1 to 1000000, got a number of", program.run, 1, limit=10**5000)
+        of_members = yuglemit.load(EXAMPLES / "mapreduce.twn")
+        self.check(ValueError, "input 1 .numbers., member at 1: a number of 16610 bits", of_members.run, {1: 10**5000})
+        self.check(ValueError, "input 1 .numbers., subscript a number of 16610 bits", of_members.run, {10**5000: 1})
+        self.check(TypeError, "input 1: expected an int, got Odd .its repr raises", program.run, Odd())
+
+    def test_numbers_of_other_kinds(self) -> None:
+        self.assertEqual(yuglemit.load(DOUBLE).run(Index()).outputs, [14])
+
+
+class Index:
+    def __index__(self) -> int:
+        return 7
+
+
+class Odd:
+    def __repr__(self) -> str:
+        raise RuntimeError("no repr")
 
 
 class Handles(unittest.TestCase):

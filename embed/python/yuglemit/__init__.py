@@ -8,12 +8,14 @@
 `load` makes a `Program`, `Program.run` a `Report`, `map` many reports over any executor; `yuglemit.build` compiles programs from Python.
 """
 
+from ._commands import assemble, explain, session, verify
 from ._errors import Refused, Trap
-from ._inputs import Value, read_input
+from ._inputs import Input, Value, read_input
 from ._listing import Bounds, Needs, Parameter, Procedure
+from ._load import load, load_bytes, load_text
 from ._map import map
 from ._native import Output
-from ._program import Program, assemble, explain, load, session, verify
+from ._program import Program
 from ._report import Report, Wait
 from ._stop import Stop
 from ._version import __version__
@@ -23,6 +25,7 @@ for _public in (Refused, Trap, Bounds, Needs, Parameter, Procedure, Program, Rep
 
 __all__ = [
     "Bounds",
+    "Input",
     "Needs",
     "Output",
     "Parameter",
@@ -38,6 +41,8 @@ __all__ = [
     "assemble",
     "explain",
     "load",
+    "load_bytes",
+    "load_text",
     "map",
     "read_input",
     "session",

@@ -13,9 +13,10 @@ from .build import BuildError, build_file
 
 
 def _write(text: str, output: Optional[str]) -> None:
-    """Writes a text into a file, or to standard output if there is none."""
+    """Writes a text into a file, or to standard output if there is none, as UTF-8."""
     if output is None:
-        sys.stdout.write(text)
+        sys.stdout.buffer.write(text.encode())
+        sys.stdout.buffer.flush()
     else:
         Path(output).write_text(text, encoding="utf-8")
 
@@ -31,13 +32,13 @@ def _build(file: str, output: Optional[str]) -> int:
     except ImportError as why:
         print(f"{file} isn't verified: {why}", file=sys.stderr)
         return 70
-    except (OSError, UnicodeDecodeError) as why:
+    except OSError as why:
         print(f"{file}: {why}", file=sys.stderr)
         return 66
     try:
         _write(built.text, output)
     except OSError as why:
-        print(f"{output}: {why}", file=sys.stderr)
+        print(f"{output or 'standard output'}: {why}", file=sys.stderr)
         return 73
     return 0
 

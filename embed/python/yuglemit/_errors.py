@@ -6,6 +6,8 @@ from __future__ import annotations
 import re
 from typing import Dict, Optional
 
+from ._shown import Shown
+
 # The lines that only the library writes. Each begins an answer, or follows a check's listing. The first such line counts, since later
 # lines may quote the program. A listing has none: each of its lines is a statement or begins with `;`.
 _HEADS = (
@@ -58,7 +60,7 @@ def _read_details(code: str, rest: list[str]) -> Dict[str, str]:
     return {}
 
 
-class Refused(Exception):
+class Refused(Exception, metaclass=Shown):
     """Says that a program, an input or a trace is rejected.
 
     `text` is what the library wrote, `code` as "V04" (`explain` says more), and the numbers say where; each of them is None if the

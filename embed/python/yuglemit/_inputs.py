@@ -5,11 +5,14 @@ from __future__ import annotations
 
 import operator
 import re
-from typing import Dict, List, Mapping, Optional, Tuple, Union
+from typing import Any, Dict, List, Mapping, Optional, SupportsIndex, Tuple, Union
 
 from ._native import Given, Scalar
 
 Value = Union[int, str, Mapping[int, int], Mapping[int, str], Mapping[str, int], Mapping[str, str]]
+
+# Outputs may be inputs, so a value or a member may be None for a type checker; `given` rejects it.
+Input = Union[None, SupportsIndex, str, Mapping[Any, Union[SupportsIndex, str, None]]]
 
 TYPES = ("int", "text", "cont int", "cont text", "tcont int", "tcont text")
 _PREFIXES = {"cont int": "ints:", "cont text": "texts:", "tcont int": "tints:", "tcont text": "ttexts:"}
@@ -52,13 +55,21 @@ def _advice(value: object) -> str:
     return ""
 
 
-def _shown(value: object) -> str:
-    text = repr(value)
-    return f"{type(value).__name__} {text if len(text) <= 60 else text[:57] + '...'}"
+def shown(value: object, with_type: bool = True) -> str:
+    """Writes a value for a message: at most 60 characters, whatever it is."""
+    if isinstance(value, int) and value.bit_length() > 200:
+        text = f"of {value.bit_length()} bits"
+        return f"{type(value).__name__} {text}" if with_type else f"a number {text}"
+    try:
+        text = repr(value)
+    except Exception as why:  # whoever made the value wrote its repr
+        text = f"(its repr raises {type(why).__name__})"
+    cut = text if len(text) <= 60 else text[:57] + "..."
+    return f"{type(value).__name__} {cut}" if with_type else cut
 
 
 def _wrong(where: str, asked: str, value: object) -> TypeError:
-    return TypeError(f"{where}: expected {asked}, got {_shown(value)}{_advice(value)}")
+    return TypeError(f"{where}: expected {asked}, got {shown(value)}{_advice(value)}")
 
 
 def _is_bool(value: object) -> bool:
@@ -74,7 +85,7 @@ def _int(value: object, where: str) -> int:
         raise _wrong(where, "an int", value)
     number = operator.index(value)  # type: ignore[arg-type]
     if not -(2**63) <= number < 2**63:
-        raise ValueError(f"{where}: {number} doesn't fit in 64 bits")
+        raise ValueError(f"{where}: {shown(number, with_type=False)} doesn't fit in 64 bits")
     return number
 
 
@@ -114,8 +125,8 @@ def _members(value: Mapping[object, object], kind: str, where: str) -> List[Tupl
         raise ValueError(f"{where}: {len(value)} members, and at most {_MOST_MEMBERS} are taken")
     pairs = []
     for key, member in value.items():
-        subscript = _scalar(key, keyed, f"{where}, subscript {key!r:.60}")
-        pairs.append((subscript, _scalar(member, inner, f"{where}, member at {key!r:.60}")))
+        subscript = _scalar(key, keyed, f"{where}, subscript {shown(key, with_type=False)}")
+        pairs.append((subscript, _scalar(member, inner, f"{where}, member at {shown(key, with_type=False)}")))
     pairs.sort(key=lambda pair: pair[0].encode() if isinstance(pair[0], str) else pair[0])
     return pairs
 
@@ -173,6 +184,8 @@ def read_input(word: str) -> Value:
     >>> read_input("ints:1=7,5=-3"), read_input("text:a b"), read_input("int:-4")
     ({1: 7, 5: -3}, 'a b', -4)
     """
+    if not isinstance(word, str):
+        raise TypeError(f"expected a str, got {shown(word)}")
     kind, colon, rest = word.partition(":")
     try:
         word.encode()

@@ -9,6 +9,8 @@ from functools import lru_cache
 from pathlib import Path
 from typing import Any, Callable, Dict, Sequence, Tuple
 
+from ._released import released_library
+
 
 class Handle(ctypes.Structure):
     """A pointer to memory of the library."""
@@ -86,13 +88,39 @@ class Member(ctypes.Structure):
     _fields_ = [("subscript", Item), ("value", Item)]
 
 
-def _places() -> list[str]:
-    """Lists where the library may be: in the package, at YUGLEMIT_LIBRARY, in the repository's build."""
+class RawProcedure(ctypes.Structure):
+    """A procedure of a program."""
+
+    _fields_ = [("parameters", ctypes.c_size_t), ("kind", ctypes.c_uint8)]
+
+
+class RawParameter(ctypes.Structure):
+    """A parameter of a procedure."""
+
+    _fields_ = [
+        ("mode", ctypes.c_uint8),
+        ("depth", ctypes.c_uint8),
+        ("scalar", ctypes.c_uint8),
+        ("by", ctypes.c_uint8),
+        ("by_second", ctypes.c_uint8),
+        ("by_third", ctypes.c_uint8),
+    ]
+
+
+def _place() -> str:
+    """Returns where the library is: in the package, at YUGLEMIT_LIBRARY, in the repository's build, in its release, where the system looks."""
     here = Path(__file__).resolve().parent
     named = os.environ.get("YUGLEMIT_LIBRARY")
-    built = here.parents[2] / "crates" / "tw_embed" / "out" / "libyuglemit.so" if len(here.parents) > 2 else None
-    places = [str(here / "libyuglemit.so"), *([named] if named else []), *([str(built)] if built else [])]
-    return [place for place in places if os.path.exists(place)] or [named or "libyuglemit.so"]
+    for place in (str(here / "lib" / "libyuglemit.so"), named):
+        if place and os.path.exists(place):
+            return place
+    if named is None and here.parent.name == "python" and here.parent.parent.name == "embed":
+        root = here.parents[2]
+        built = root / "crates" / "tw_embed" / "out" / "libyuglemit.so"
+        found = str(built) if built.exists() else released_library(root)
+        if found:
+            return found
+    return named or "libyuglemit.so"
 
 
 _AT = ctypes.POINTER(Handle)
@@ -113,6 +141,10 @@ _LONG_CALLS: Dict[str, Tuple[Any, Sequence[Any]]] = {
 }
 _SHORT_CALLS: Dict[str, Sequence[Any]] = {
     "program_share": (_AT, _AT),
+    "program_procedures": (_AT, ctypes.POINTER(ctypes.c_size_t)),
+    "program_procedure": (_AT, ctypes.c_size_t, ctypes.POINTER(RawProcedure)),
+    "program_parameter": (_AT, ctypes.c_size_t, ctypes.c_size_t, ctypes.POINTER(RawParameter)),
+    "program_budget": (_AT, ctypes.c_size_t, ctypes.POINTER(ctypes.c_uint64)),
     "program_bounds": (_AT, ctypes.c_size_t, ctypes.POINTER(RawBounds)),
     "input_int": (_AT, ctypes.c_int64),
     "input_text": (_AT, *_BYTES),
@@ -149,9 +181,9 @@ def _typed(library: ctypes.CDLL, name: str, returned: Any, types: Sequence[Any])
 
 def _opened(kind: Callable[[str], ctypes.CDLL]) -> ctypes.CDLL:
     try:
-        return kind(_places()[0])
+        return kind(_place())
     except OSError as why:
-        raise ImportError(f"{why}; the wheel of ./tw package has it, ./tw install installs it, and YUGLEMIT_LIBRARY may say where it is") from None
+        raise ImportError(f"{why}; the wheel of ./tw package has it, ./tw install installs it, a clone has the release's, and YUGLEMIT_LIBRARY may say where it is") from None
 
 
 @lru_cache(maxsize=1)

@@ -5,27 +5,35 @@ from __future__ import annotations
 
 import re
 from dataclasses import dataclass
-from typing import Iterator, List, NamedTuple, Optional, Tuple
+from typing import Iterator, List, NamedTuple, Optional, Sequence, Tuple
 
-from ._native import NO_BOUND, OVER
+from ._native import NO_BOUND, OVER, Head
+from ._shown import Shown
 
-# Instructions and events a second, as a run is priced; examples/many/bound.sh has the same numbers.
-INSTRUCTIONS_A_SECOND = 50_000_000
-EVENTS_A_SECOND = 100_000
+# The most seconds that an instruction and an event take, by the work of the program. No register holds a text, or one does, or texts are read as
+# numbers, too. tools/prices.py measures the dearest ones; examples/many/bound.sh has the same prices.
+PRICES = {"ints": (1 / 50_000_000, 1 / 100_000), "texts": (1 / 2_000_000, 1 / 10_000), "numbers": (1 / 50_000, 1 / 10_000)}
+# Likewise what they usually take on one core of a common machine.
+_USUAL = {"ints": (2.5e-9, 3.3e-7), "texts": (2.5e-8, 1e-6), "numbers": (2.5e-8, 1e-6)}
+_BEGIN = 1e-4
 DEFAULT_LIMIT = 10_000
 
 _MODES = ("val", "closed", "ref", "write")
 
 
-class Needs(NamedTuple):
-    """How many engines and workers the targets of a program need."""
-
+class _Needs(NamedTuple):
     engines: int
     workers: int
 
 
+class Needs(_Needs, metaclass=Shown):  # type: ignore[misc]  # of a tuple, in typeshed only
+    """How many engines and workers the targets of a program need."""
+
+    __slots__ = ()
+
+
 @dataclass(frozen=True)
-class Parameter:
+class Parameter(metaclass=Shown):
     """A parameter of a procedure: its mode ("val", "closed", "ref" or "write"), its type as "cont int", and its name if the text has one."""
 
     mode: str
@@ -37,7 +45,7 @@ class Parameter:
 
 
 @dataclass(frozen=True)
-class Procedure:
+class Procedure(metaclass=Shown):
     """A procedure: its number, kind ("control" or "leaf"), parameters, budget (the most instructions of a task), and its name if it has one."""
 
     number: int
@@ -48,10 +56,14 @@ class Procedure:
 
 
 @dataclass(frozen=True)
-class Bounds:
-    """Bounds of a run, whatever its inputs are, as they are proved; `greatest` is the greatest budget. Another is None past 1,000,000,000,000,
-    or if a procedure starts itself, directly or through others (`is_endless`): then only the limit of events bounds a run. `members` and `bytes`
-    are what the store holds at any time beyond those of the inputs, and of outputs that are texts; a text counts 4,096 bytes."""
+class Bounds(metaclass=Shown):
+    """Bounds of a run, whatever its inputs are, as they are proved: the greatest budget, `greatest`, and the most `tasks`, `instructions`, `data`,
+    `members`, `rules`, `bytes` and `events`.
+
+    All but the first are None past 1,000,000,000,000, or if a procedure starts itself, directly or through others (`is_endless`): then only the
+    limit of events bounds a run. `members` and `bytes` are what the store holds at any time beyond those of the inputs, and of outputs that are
+    texts; a text counts 4,096 bytes. `work` is "ints" if no register can hold a text, "numbers" if READI may read one, else "texts".
+    """
 
     greatest: int
     tasks: Optional[int]
@@ -62,6 +74,7 @@ class Bounds:
     bytes: Optional[int]
     events: Optional[int]
     is_endless: bool = False
+    work: str = "ints"
 
     def events_within(self, limit: int = DEFAULT_LIMIT) -> int:
         """Returns how many events a run with this limit has at most."""
@@ -73,13 +86,15 @@ class Bounds:
         return within if self.instructions is None else min(within, self.instructions)
 
     def usual_seconds(self, limit: int = DEFAULT_LIMIT) -> float:
-        """Estimates what a run of as many events takes on one core of a common machine: 400,000,000 instructions and 3,000,000 events a
-        second, and a tenth of a millisecond to begin."""
-        return 1e-4 + self.instructions_within(limit) / 400_000_000 + self.events_within(limit) / 3_000_000
+        """Estimates what a run of as many events takes on one core of a common machine."""
+        return _BEGIN + self._priced(_USUAL[self.work], limit)
 
     def seconds(self, limit: int = DEFAULT_LIMIT) -> float:
-        """Estimates how long a run takes at most, at 50,000,000 instructions and 100,000 events a second."""
-        return self.instructions_within(limit) / INSTRUCTIONS_A_SECOND + self.events_within(limit) / EVENTS_A_SECOND
+        """Returns the seconds of processor time that a run takes at most, if all its instructions and events are the dearest of its kind."""
+        return _BEGIN + self._priced(PRICES[self.work], limit)
+
+    def _priced(self, prices: Tuple[float, float], limit: int) -> float:
+        return self.instructions_within(limit) * prices[0] + self.events_within(limit) * prices[1]
 
 
 def _parameters_of(words: List[str]) -> Tuple[Parameter, ...]:
@@ -98,31 +113,37 @@ def _parameters_of(words: List[str]) -> Tuple[Parameter, ...]:
     return tuple(found)
 
 
-def _heads(text: str) -> Iterator[Tuple[str, Optional[str], Tuple[Parameter, ...]]]:
-    """Lists kind, name and parameters of each line `proc`."""
-    for line in text.split("\n"):
-        words = re.sub(r"[(),]", " ", line.split(";")[0]).split()
-        if words[:1] == ["proc"] and len(words) > 1:
-            named = len(words) > 2 and words[2] not in _MODES and not words[2].endswith(":")
-            yield words[1], words[2] if named else None, _parameters_of(words[3:] if named else words[2:])
+# A line `proc`. In symbolic assembly its brackets and commas are blanks.
+_PROC = re.compile(r"^[ \t\r]*proc[ \t\r][^\n;]*", re.M)
 
 
-def procedures_of(listing: str, source: str, check: str) -> Tuple[Procedure, ...]:
-    """Reads the procedures off a disassembly; names come from the source's lines, budgets from what `check` answers."""
-    budgets = {int(number): int(budget) for number, budget in re.findall(r"^proc (\d+) \w+ budget (\d+)", check, re.M)}
-    named = list(_heads(source))
+def _names_of(source: str) -> Iterator[Tuple[Optional[str], List[Optional[str]]]]:
+    """Yields the name of each procedure of an accepted text, and those of its parameters; None if it has none."""
+    for line in _PROC.findall(source):
+        words = re.sub(r"[(),]", " ", line).split()
+        named = len(words) > 2 and words[2] not in _MODES and not words[2].endswith(":")
+        yield words[2] if named else None, [it.name for it in _parameters_of(words[3:] if named else words[2:])]
+
+
+def procedures_of(heads: Sequence[Head], source: str) -> Tuple[Procedure, ...]:
+    """Returns the procedures that the library counts, with the names that the source's lines give them."""
+    names = list(_names_of(source))
     found = []
-    for number, (kind, _, parameters) in enumerate(_heads(listing)):
-        name: Optional[str] = None
-        if number < len(named) and len(named[number][2]) == len(parameters):
-            name = named[number][1]
-            parameters = tuple(Parameter(it.mode, it.type, its.name) for it, its in zip(parameters, named[number][2]))
-        found.append(Procedure(number, kind, parameters, budgets[number], name))
+    for number, head in enumerate(heads):
+        name, its = names[number] if number < len(names) else (None, [])
+        its = its if len(its) == len(head.parameters) else [None] * len(head.parameters)
+        parameters = tuple(Parameter(mode, type_, it) for (mode, type_), it in zip(head.parameters, its))
+        found.append(Procedure(number, head.kind, parameters, head.budget, name))
     return tuple(found)
 
 
-def bounds_of(found: List[int], procedures: Tuple[Procedure, ...]) -> Bounds:
+def work_of(text: str) -> str:
+    """Returns which work a program may do, by its text: one without these words does none of it."""
+    return "ints" if "text" not in text else "numbers" if "READI" in text else "texts"
+
+
+def bounds_of(found: List[int], procedures: Tuple[Procedure, ...], work: str) -> Bounds:
     """Reads the bounds that the library finds."""
     greatest = max(it.budget for it in procedures)
     tasks, instructions, data, members, rules, texts, events = (None if it in (OVER, NO_BOUND) else it for it in found)
-    return Bounds(greatest, tasks, instructions, data, members, rules, texts, events, NO_BOUND in found)
+    return Bounds(greatest, tasks, instructions, data, members, rules, texts, events, NO_BOUND in found, work)

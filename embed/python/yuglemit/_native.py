@@ -12,7 +12,20 @@ import ctypes
 import threading
 from typing import Any, Callable, Dict, List, NamedTuple, Optional, Sequence, Tuple, TypeVar, Union
 
-from ._library import Ending, Handle, Item, Member, Options, RawBounds, RawVerdict, SourceVerdict, library, short
+from ._library import (
+    Ending,
+    Handle,
+    Item,
+    Member,
+    Options,
+    RawBounds,
+    RawParameter,
+    RawProcedure,
+    RawVerdict,
+    SourceVerdict,
+    library,
+    short,
+)
 
 Answer = Tuple[int, bytes]
 Result = TypeVar("Result")
@@ -34,6 +47,14 @@ class Verdict(NamedTuple):
     procedure: int
     place: int
     column: int = 0  # in the line of a text, from 1; 0 if the error has none
+
+
+class Head(NamedTuple):
+    """A procedure as the library counts it: its kind, its parameters' modes and types, and its budget."""
+
+    kind: str
+    parameters: List[Tuple[str, str]]
+    budget: int
 
 
 class Given(NamedTuple):
@@ -60,10 +81,12 @@ class Layout(NamedTuple):
 
 
 class Ran(NamedTuple):
-    """A report: the end, the events, the outputs, the numbers of outputs that are unset or open, and what the library keeps of it."""
+    """A report: the end, the events, the instructions, the outputs, the numbers of outputs that are unset or open, and what the library keeps of
+    it."""
 
     end: str
     events: int
+    instructions: int
     outputs: List[Output]
     unfinished: List[int]
     kept: "Kept"
@@ -140,6 +163,30 @@ class Loaded:
             _done(short().yuglemit_program_bounds(self._root.at, limit, ctypes.byref(found)))
         return [found.tasks, found.instructions, found.data, found.members, found.rules, found.bytes, found.events]
 
+    def heads(self) -> List[Head]:
+        """Returns its procedures, main first."""
+        count = ctypes.c_size_t()
+        with _shared:
+            _done(short().yuglemit_program_procedures(self._root.at, ctypes.byref(count)))
+            return [self._head(number) for number in range(count.value)]
+
+    def _head(self, number: int) -> Head:
+        found, budget = RawProcedure(), ctypes.c_uint64()
+        _done(short().yuglemit_program_procedure(self._root.at, number, ctypes.byref(found)))
+        _done(short().yuglemit_program_budget(self._root.at, number, ctypes.byref(budget)))
+        parameters = [self._parameter(number, index) for index in range(found.parameters)]
+        return Head("control" if found.kind == ord("c") else "leaf", parameters, budget.value)
+
+    def _parameter(self, number: int, index: int) -> Tuple[str, str]:
+        found = RawParameter()
+        _done(short().yuglemit_program_parameter(self._root.at, number, index, ctypes.byref(found)))
+        around = (found.by, found.by_second, found.by_third)[: found.depth]
+        outer = "".join("tcont " if by == ord("t") else "cont " for by in around)
+        return _MODES[found.mode], outer + ("text" if found.scalar == ord("t") else "int")
+
+
+_MODES = {ord("v"): "val", ord("c"): "closed", ord("r"): "ref", ord("w"): "write"}
+
 
 def _no_report() -> None:
     """Returns what another process gets of a kept report: nothing."""
@@ -166,13 +213,6 @@ class Kept:
         _done(code)
         return _read_text(text).decode()
 
-    def instructions(self) -> int:
-        """Returns how many instructions the run executed."""
-        count = ctypes.c_uint64()
-        with self._lock:
-            _done(short().yuglemit_report_instructions(self._report.at, ctypes.byref(count)))
-        return count.value
-
 
 def _read_text(text: _Owner) -> bytes:
     length = ctypes.c_size_t()
@@ -197,11 +237,24 @@ class Flag:
 
 
 def load(source: bytes, format_: str) -> Tuple[Verdict, Optional[Loaded]]:
-    """Verifies a program, and keeps it if it is accepted. The format is "b" for bytes, "h" for hex text, "t" for assembly text."""
+    """Verifies a program, and keeps it if it is accepted. The format is "b" for bytes, "h" for hex text, "t" for assembly text. A long one gives
+    way to Ctrl-C, and continues in its thread."""
     root, verdict = _owner("program"), SourceVerdict()
-    library().yuglemit_load_source(source, len(source), ord(format_), root.at, ctypes.byref(verdict))
+
+    def call() -> None:
+        library().yuglemit_load_source(source, len(source), ord(format_), root.at, ctypes.byref(verdict))
+
+    if is_long_source(source) and threading.current_thread() is threading.main_thread():
+        _aside(call)
+    else:
+        call()
     answer = _verdict_of(verdict.verdict)._replace(column=verdict.column)
     return answer, None if answer.letter else Loaded(root)
+
+
+def is_long_source(source: bytes) -> bool:
+    """Returns whether reading a source takes so long that one waits for it."""
+    return len(source) > 500_000
 
 
 def _verdict_of(raw: RawVerdict) -> Verdict:
@@ -213,7 +266,7 @@ def _verdict_of(raw: RawVerdict) -> Verdict:
 OVER, NO_BOUND = (1 << 64) - 2, (1 << 64) - 1
 NO_CAP = (1 << 64) - 1
 LONG_SECONDS = 0.03  # a run that may take longer is made so that Ctrl-C can stop it
-_BRIEF_SECONDS = 0.001
+BRIEF_SECONDS = 0.001  # one that takes less keeps the GIL
 
 
 def _add_container(inputs: _Owner, kind: str, members: List[Tuple[Scalar, Scalar]]) -> None:
@@ -277,7 +330,7 @@ def run(program: Loaded, given: Sequence[Given], layout: Layout, stop: Optional[
     main thread gets: its flag is raised, so that it ends at its next event.
     """
     inputs = _inputs_of(given)
-    calls = short() if seconds < _BRIEF_SECONDS else library()
+    calls = short() if seconds < BRIEF_SECONDS else library()
     if seconds > LONG_SECONDS and threading.current_thread() is threading.main_thread():
         flag = stop if stop is not None else Flag()
         return _ran(_aside(lambda: _call_run(calls, program, inputs, layout, flag), flag.set))
@@ -286,8 +339,9 @@ def run(program: Loaded, given: Sequence[Given], layout: Layout, stop: Optional[
 
 def _ran(report: _Owner) -> Ran:
     """Reads a report."""
-    ending = Ending()
+    ending, instructions = Ending(), ctypes.c_uint64()
     _done(short().yuglemit_report_ending(report.at, ctypes.byref(ending)))
+    _done(short().yuglemit_report_instructions(report.at, ctypes.byref(instructions)))
     outputs: List[Output] = []
     unfinished: List[int] = []
     for number in range(ending.outputs):
@@ -296,7 +350,7 @@ def _ran(report: _Owner) -> Ran:
         outputs.append(_output(report, number, item))
         if item.kind not in b"it" and not (item.kind == ord("c") and item.closed):
             unfinished.append(number)
-    return Ran(ENDS[ending.status], ending.events, outputs, unfinished, Kept(report))
+    return Ran(ENDS[ending.status], ending.events, instructions.value, outputs, unfinished, Kept(report))
 
 
 def _output(report: _Owner, number: int, item: Item) -> Output:

@@ -6,12 +6,14 @@ from __future__ import annotations
 import json
 import re
 from dataclasses import dataclass, field, replace
-from functools import cached_property
 from typing import TYPE_CHECKING, Dict, List, NamedTuple, Optional, Tuple
 
 from ._errors import Refused
 from ._inputs import read_scalar
 from ._native import Kept, Layout, Output, Ran
+from ._options import RunOptions, options_of, within
+from ._shown import Shown
+from ._stop import Stop
 
 if TYPE_CHECKING:
     from ._program import Program
@@ -22,12 +24,16 @@ _MEMBER = re.compile(rf"  at {_SCALAR} (?:(?:int|text) {_SCALAR})?", re.S)
 _ENDS = ("quiet", "stuck", "limit", "running", "stopped")
 
 
-class Wait(NamedTuple):
-    """A rule of a circle, the datum for which it waits, and the rule that would write it."""
-
+class _Wait(NamedTuple):
     rule: int
     datum: int
     writer: int
+
+
+class Wait(_Wait, metaclass=Shown):  # type: ignore[misc]  # of a tuple, in typeshed only
+    """A rule of a circle, the datum for which it waits, and the rule that would write it."""
+
+    __slots__ = ()
 
 
 def read_outputs(text: str) -> Tuple[List[Output], List[int]]:
@@ -67,18 +73,6 @@ def read_circle(text: str) -> List[Wait]:
     return [Wait(int(a), int(b), int(c)) for a, b, c in re.findall(r"^waits (\d+) (\d+) (\d+)$", text, re.M)]
 
 
-class _Numbers(NamedTuple):
-    events: int
-    instructions: int
-
-
-def read_numbers(text: str) -> _Numbers:
-    """Reads the statistics after a report: its events, and the instructions of all its tasks."""
-    events = re.findall(r"^events (\d+)$", text, re.M)
-    done = re.findall(r"^procedure \d+ tasks \d+ instructions (\d+) ", text, re.M)
-    return _Numbers(int(events[-1]) if events else 0, sum(map(int, done)))
-
-
 def _caps(layout: Layout) -> Tuple[str, ...]:
     """Returns the options of `tw run` for the caps, which has none for members and rules."""
     given = ((name, most) for name, most in zip(layout._fields[4:9], layout[4:9]) if most is not None)
@@ -102,98 +96,121 @@ class Made:
         """Returns the options of `tw run`."""
         return (*actors(self.layout), "--limit", str(self.layout.limit), *_caps(self.layout))
 
-    def until(self, report: "Report") -> "Made":
-        """Returns the causes of a report: a run that was stopped is made again by a limit of as many events."""
-        if report.end != "stopped":
-            return self
-        return replace(self, layout=self.layout._replace(limit=report.kept_events or 0))
+    def until(self, end: str, events: int) -> "Made":
+        """Returns the causes of a run with this end: one that was stopped is made again by a limit of as many events."""
+        return self if end != "stopped" else replace(self, layout=self.layout._replace(limit=events))
+
+
+LAST_EVENT = (1 << 32) - 1
+
+
+def range_of(first: object, last: object) -> Tuple[str, ...]:
+    """Returns the options of a command that draws the events from one number to another."""
+    return ("--from", str(within("first", first, LAST_EVENT)), "--to", str(within("last", last, LAST_EVENT)))
 
 
 @dataclass(frozen=True)
-class Report:
+class Report(metaclass=Shown):
     """The report of a run.
 
-    `end` is "quiet", "stuck" (rules wait for one another), "limit" (as many events as allowed), "stopped" (by a `Stop`) or "refused" (only
-    in what `map` returns: then `error` says why). `outputs` has an int, a str or a dict for each output of main, None for one that is
-    unset; `unfinished` the numbers of those that are unset or still open.
+    `end` is "quiet", "stuck" (rules wait for one another), "limit" (as many events as allowed) or "stopped" (by a `Stop` or a timeout). A report
+    of `map` may have no run: then `end` is "refused" or "memory", and `error` says why. `outputs` has an int, a str or a dict for each output
+    of main, None for one that is unset; `unfinished` the numbers of those that are unset or still open.
+
+    The library keeps the run, so `text`, `trace` and `line` only print. A report that comes from another process has what `run` or `map` was
+    asked to send along, by `text=True` and so on. No property makes a run again; `again`, `rules` and `timeline` do.
     """
 
     end: str
     outputs: List[Output] = field(default_factory=list)
     unfinished: List[int] = field(default_factory=list)
     error: Optional[Exception] = None
-    made: Optional[Made] = field(default=None, repr=False, compare=False)
-    kept_events: Optional[int] = field(default=None, repr=False, compare=False)
-    kept_text: Optional[str] = field(default=None, repr=False, compare=False)
-    kept_trace: Optional[str] = field(default=None, repr=False, compare=False)
-    kept: Optional[Kept] = field(default=None, repr=False, compare=False)
+    _made: Optional[Made] = field(default=None, repr=False, compare=False)
+    _events: Optional[int] = field(default=None, repr=False, compare=False)
+    _instructions: Optional[int] = field(default=None, repr=False, compare=False)
+    _printed: Dict[str, Optional[str]] = field(default_factory=dict, repr=False, compare=False)
+    _kept: Optional[Kept] = field(default=None, repr=False, compare=False)
 
-    @cached_property
+    def __getstate__(self) -> Dict[str, object]:
+        if self.end == "stuck":
+            self._print("report")  # for `circle`
+        return {**self.__dict__, "_kept": None}
+
+    def _print(self, what: str) -> Optional[str]:
+        """Returns the "report", the "trace" or the "json" line, and keeps it."""
+        if what not in self._printed:
+            if self._kept is None:
+                raise ValueError(f"the report has no {_ASKED[what]}: {self._why_not(what)}")
+            self._printed[what] = self._kept.printed(what)
+        return self._printed[what]
+
+    def _why_not(self, what: str) -> str:
+        if self._made is None:
+            return _NO_RUN
+        return f"it comes from another process; {_ASKED[what]}=True sends it along, and again() makes the run again"
+
+    @property
     def text(self) -> str:
-        """The report as `tw run` writes it. That of a run that was stopped ends with `limit`; if it had no event, it is a ValueError."""
-        if self.kept_text is not None:
-            return self.kept_text
-        made = self._cause()
-        return made.program.report_text(made, self._printed("report"))
+        """The report as `tw run` writes it for a program's bytes. That of a run that was stopped ends with `running`."""
+        return self._print("report") or ""
+
+    @property
+    def trace(self) -> str:
+        """The events of the run, which `Program.replay` takes."""
+        return self._print("trace") or ""
+
+    @property
+    def line(self) -> Optional[str]:
+        """The line of `tw run --json`; None of a run that was stopped."""
+        return self._print("json")
 
     @property
     def circle(self) -> List[Wait]:
         """The rules that wait for one another in a circle, if the run is stuck."""
         return read_circle(self.text) if self.end == "stuck" else []
 
-    @cached_property
-    def _numbers(self) -> _Numbers:
-        return read_numbers(self._again("--stats"))
-
     @property
     def events(self) -> int:
         """How many events the run had."""
-        return self.kept_events if self.kept_events is not None else self._numbers.events
+        return self._counted(self._events)
 
     @property
     def instructions(self) -> int:
         """How many instructions its tasks did."""
-        return self.kept.instructions() if self.kept is not None else self._numbers.instructions
+        return self._counted(self._instructions)
 
-    @cached_property
-    def trace(self) -> str:
-        """The events of the run, which `Program.replay` takes."""
-        if self.kept_trace is not None:
-            return self.kept_trace
-        self._cause()
-        printed = self._printed("trace")
-        return printed if printed is not None else split_trace(self._again("--trace"))[0]
+    def _counted(self, number: Optional[int]) -> int:
+        if number is None:
+            raise ValueError(_NO_RUN)
+        return number
 
-    def _printed(self, what: str) -> Optional[str]:
-        """Returns what the library prints of the run, if it keeps the report; `map` and pickled reports make the run again."""
-        return None if self.kept is None or (what == "report" and self.end == "stopped") else self.kept.printed(what)
+    def again(self, *, stop: Optional[Stop] = None, timeout: Optional[float] = None) -> "Report":
+        """Makes the run again, with the same events, and returns its report. One that was stopped ends with "limit" then."""
+        made = self._cause()
+        return made.program._run(made.inputs, options_of(made.layout, stop=stop, timeout=timeout))
 
-    def timeline(self, first: int = 1, last: int = 4294967295) -> str:
-        """Draws the events of the run, from one number to another, as an SVG timeline; it makes the run again."""
-        return self._again("--picture", "--from", str(first), "--to", str(last))
+    def rules(self) -> str:
+        """Returns the report of a run that is stuck with a line for each rule of the circle, which has the line of the program's text. It makes
+        the run again."""
+        made = self._cause()
+        return made.program._answer(made, as_text=True)
+
+    def timeline(self, first: int = 1, last: int = LAST_EVENT) -> str:
+        """Draws the events of the run, from one number to another, as an SVG timeline. It makes the run again."""
+        made = self._cause()
+        return made.program._answer(made, "--picture", *range_of(first, last))
 
     def _repr_svg_(self) -> Optional[str]:
-        return None if self.made is None else self.timeline()
+        """Draws the timeline for a notebook, if the run is brief."""
+        made = self._made
+        return None if made is None or made.layout.limit == 0 or made.program.is_long(made.layout.limit) else self.timeline()
 
     def _cause(self) -> Made:
-        if self.made is None:
-            raise ValueError("there was no run: the report is of a refused input or a replay")
-        if self.made.layout.limit == 0:
+        if self._made is None:
+            raise ValueError(_NO_RUN)
+        if self._made.layout.limit == 0:
             raise ValueError("the run was stopped before its first event")
-        return self.made
-
-    def _again(self, *options: str) -> str:
-        made = self._cause()
-        return made.program.answer(made, *options)
-
-    def with_trace(self) -> "Report":
-        """Returns the report with the trace of its run, unless it had no event."""
-        return self if self.kept_events == 0 else replace(self, kept_trace=self.trace)
-
-    @property
-    def line(self) -> Optional[str]:
-        """The line of `tw run --json`; None of a run that was stopped, or if the library doesn't keep the report."""
-        return self._printed("json")
+        return self._made
 
     @property
     def json(self) -> str:
@@ -207,23 +224,36 @@ class Report:
         return json.dumps(fields, ensure_ascii=False)
 
 
-def split_trace(answer: str) -> Tuple[str, str]:
-    """Parts what `tw run --trace` writes into the trace and the report."""
-    trace, _, report = answer.partition("\nend\n")
-    return trace + "\nend\n", report
+_NO_RUN = "there was no run, since it is of a rejected input or of a replay"
+_ASKED = {"report": "text", "trace": "trace", "json": "line"}
 
 
-def report_of(ran: Ran, made: Made) -> Report:
-    """Makes the report of a run."""
-    return with_cause(Report(ran.end, ran.outputs, ran.unfinished, kept_events=ran.events, kept=ran.kept), made)
+def report_of(ran: Ran, made: Made, options: RunOptions) -> Report:
+    """Makes the report of a run, and prints what its options say."""
+    cause = made.until(ran.end, ran.events)
+    report = Report(ran.end, ran.outputs, ran.unfinished, None, cause, ran.events, ran.instructions, {}, ran.kept)
+    for what, asked in (("trace", options.trace), ("report", options.text), ("json", options.line)):
+        if asked:
+            report._print(what)
+    return report
 
 
-def with_cause(report: Report, made: Made) -> Report:
-    """Returns a report with the causes of its run, by which it is made again."""
-    return replace(report, made=made.until(report))
+def failed_report(why: Exception) -> Report:
+    """Makes the report of a run that couldn't be made. Its error keeps no traceback, and so nothing of the run."""
+    return Report("memory" if isinstance(why, MemoryError) else "refused", error=why.with_traceback(None))
+
+
+def sent(report: Report) -> Report:
+    """Returns a report without the causes of its run, which whoever receives it has."""
+    return replace(report, _made=None)
+
+
+def received(report: Report, made: Made) -> Report:
+    """Returns a report with the causes of its run."""
+    return report if report.error is not None else replace(report, _made=made.until(report.end, report.events))
 
 
 def report_of_text(text: str) -> Report:
     """Reads a report that a command wrote."""
     outputs, unfinished = read_outputs(text)
-    return Report(read_end(text), outputs, unfinished, kept_text=text)
+    return Report(read_end(text), outputs, unfinished, _printed={"report": text})

@@ -8,9 +8,10 @@ from typing import NoReturn
 from weakref import WeakSet
 
 from . import _native
+from ._shown import Shown
 
 
-class Stop:
+class Stop(metaclass=Shown):
     """Stops runs. Give it to `Program.run` as `stop`; `set` ends all its runs before their next events, from any thread or signal handler.
 
     A run that was stopped has the end "stopped", and the events and outputs so far. A `Stop` that is set stays so until `clear`; runs that
@@ -51,10 +52,13 @@ class Stop:
     def __reduce__(self) -> NoReturn:
         raise TypeError("a Stop stops runs of its own process; it can't be sent to another")
 
-    def flag(self) -> _native.Flag:
-        """Makes the flag of one run."""
-        flag = _native.Flag()
+    def _attach(self, flag: _native.Flag) -> None:
+        """Stops the run that has this flag, too."""
         self._flags.add(flag)  # first, so that no set() is missed
         if self._event.is_set():
             flag.set()
-        return flag
+
+
+def attach(stop: Stop, flag: _native.Flag) -> None:
+    """Lets a stop end the run that has this flag."""
+    stop._attach(flag)

@@ -1,9 +1,10 @@
-from yuglemit.build import Array, Int, Out, control, leaf, out
+from yuglemit.build import Array, Int, Out, check, control, insert, leaf, out
 
 
 @leaf
-def work(number: Int, barrier: Out[Array[Int]]):
-    out.barrier[number] = number
+def work(number: Int, barrier: Out[Array[Int]]) -> None:
+    if check(insert(out.barrier, number, number)):
+        pass
 
 
 @leaf
@@ -12,7 +13,7 @@ def count(arrived: Array[Int]) -> Int:
 
 
 @control
-def main(came: Out[Int]):
+def main(came: Out[Int]) -> None:
     barrier = Array[Int]()
     for number in range(8):
         work(number, barrier)

@@ -9,7 +9,7 @@ def add(member: Int, total: Int) -> Int:
 
 
 @control
-def main(members: Array[Int], total: Out[Int]):
+def main(members: Array[Int], total: Out[Int]) -> None:
     so_far = 0
     for _, member in each(members, 10):
         so_far = add(member, so_far)

@@ -2,7 +2,7 @@ from yuglemit.build import Int, Out, check, control, out
 
 
 @control
-def main(result: Out[Int]):
+def main(result: Out[Int]) -> None:
     zero = 0
     if check(7 // zero):
         out.result = 9

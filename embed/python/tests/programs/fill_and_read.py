@@ -10,7 +10,7 @@ def read(squares: Array[Int]) -> tuple[Int, Int]:
 
 
 @control
-def main(size: Out[Int], greatest: Out[Int]):
+def main(size: Out[Int], greatest: Out[Int]) -> None:
     squares = Array[Int]()
     for number in range(11, 14):
         squares[number] = number * number

@@ -7,5 +7,5 @@ def store() -> Int:
 
 
 @control
-def main(result: Out[Int]):
+def main(result: Out[Int]) -> None:
     out.result = store(worker=1)

@@ -7,7 +7,7 @@ def count(container: Array[Int]) -> Int:
 
 
 @control
-def main(given: Out[Array[Int]], size: Out[Int]):
+def main(given: Out[Array[Int]], size: Out[Int]) -> None:
     own = Array[Int]()
     for number in range(1, 4):
         out.given[number] = number

@@ -4,8 +4,9 @@ LEAST = -(2**63)
 
 
 @control
-def main(result: Out[Int]):
-    out.result = 5
+def main(result: Out[Int]) -> None:
     least = LEAST
     if check(least // -1):
         out.result = 9
+    else:
+        out.result = 5

@@ -2,7 +2,7 @@ from yuglemit.build import control
 
 
 @control
-def main():
+def main() -> None:
     number = 0
     for _ in range(10):
         number = number + 0

@@ -24,7 +24,7 @@ def reduce(members: Array[Int]) -> Int:
 
 
 @control
-def main(numbers: Array[Int], squares: Out[Array[Int]], total: Out[Int]):
+def main(numbers: Array[Int], squares: Out[Array[Int]], total: Out[Int]) -> None:
     kept = Array[Int]()
     for subscript, number in each(numbers, MOST):
         result = square(number, priority=10)

@@ -35,7 +35,7 @@ def fold_rows(matrix: Array[Array[Int]]) -> Int:
 
 
 @control
-def main(widths: Array[Int], total: Out[Int]):
+def main(widths: Array[Int], total: Out[Int]) -> None:
     matrix = Array[Array[Int]]()
     for subscript, width in each(widths, 20):
         matrix[subscript] = fill_row(width)

@@ -9,5 +9,5 @@ def add_one(number: Int) -> Int:
 
 
 @control
-def main(start: Int, to: Out[Int]):
+def main(start: Int, to: Out[Int]) -> None:
     out.to = add_one(add_one(add_one(start)))

@@ -2,7 +2,7 @@ from yuglemit.build import Array, Int, Out, check, control, out
 
 
 @control
-def main(container: Array[Int], result: Out[Int]):
+def main(container: Array[Int], result: Out[Int]) -> None:
     if check(member := container[3]):
         out.result = member
     else:

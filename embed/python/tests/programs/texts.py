@@ -16,7 +16,7 @@ def take_one(word: Text, joined: Text, total: Int, others: Int) -> tuple[Text, I
 
 
 @control
-def main(words: Array[Text], joined: Out[Text], total: Out[Int], others: Out[Int]):
+def main(words: Array[Text], joined: Out[Text], total: Out[Int], others: Out[Int]) -> None:
     all_joined, so_far, left = "", 0, 0
     for _, word in each(words, 100):
         all_joined, so_far, left = take_one(word, all_joined, so_far, left)

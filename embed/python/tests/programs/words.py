@@ -4,14 +4,14 @@ MOST = 8
 
 
 @leaf
-def count(word: Text, tally: Out[Table[Int]]):
+def count(word: Text, tally: Out[Table[Int]]) -> None:
     for number in range(1, MOST + 1):
         if check(insert(out.tally, f"{number} {word}", number)):
             break
 
 
-@leaf
-def tell(word: Text, tally: Table[Int], counts: Out[Table[Int]]):
+@leaf(otherwise=())
+def tell(word: Text, tally: Table[Int], counts: Out[Table[Int]]) -> None:
     known = 0
     for number in range(1, MOST + 1):
         if f"{number} {word}" in tally:
@@ -21,7 +21,7 @@ def tell(word: Text, tally: Table[Int], counts: Out[Table[Int]]):
 
 
 @control
-def main(words: Array[Text], counts: Out[Table[Int]]):
+def main(words: Array[Text], counts: Out[Table[Int]]) -> None:
     tally = Table[Int]()
     for _, word in each(words, MOST):
         count(word, tally)

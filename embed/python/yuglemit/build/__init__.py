@@ -15,7 +15,7 @@ checkers, and lets a leaf function be called as plain Python.
 
 from __future__ import annotations
 
-from typing import Any, Callable, Dict, Generic, Iterator, Optional, Tuple, TypeVar, Union
+from typing import TYPE_CHECKING, Annotated, Any, Callable, Dict, Iterator, Optional, Protocol, Tuple, TypeVar, Union, overload
 
 from .compiler import Built, build_file, build_text
 from .errors import BuildError
@@ -24,7 +24,49 @@ Int = int
 Text = str
 Member = TypeVar("Member")
 Subscript = TypeVar("Subscript", int, str)
+Result = TypeVar("Result", covariant=True)
 Function = TypeVar("Function", bound=Callable[..., Any])
+Otherwise = Union[int, str, Tuple[Union[int, str], ...]]
+
+Out = Annotated[Member, "written by the task, as out.NAME"]
+"""The type of a parameter that the task writes, as `out.NAME`."""
+
+if TYPE_CHECKING:
+    from typing_extensions import ParamSpec
+
+    Parameters = ParamSpec("Parameters")
+
+    class Task(Protocol[Parameters, Result]):
+        """A decorated function, as type checkers see it: a call of it may also say priority, worker or engine."""
+
+        @overload
+        def __call__(self, *arguments: Parameters.args, **keywords: Parameters.kwargs) -> Result: ...
+        @overload
+        def __call__(self, *arguments: Any, priority: int, worker: int = ..., engine: int = ...) -> Result: ...
+        @overload
+        def __call__(self, *arguments: Any, worker: int) -> Result: ...
+        @overload
+        def __call__(self, *arguments: Any, engine: int) -> Result: ...
+
+    @overload
+    def leaf(function: Callable[Parameters, Result]) -> Task[Parameters, Result]: ...
+    @overload
+    def leaf(*, otherwise: Otherwise) -> Callable[[Callable[Parameters, Result]], Task[Parameters, Result]]: ...
+    def leaf(function: Any = None, *, otherwise: Any = None) -> Any:
+        """Marks a function that computes; it runs on a worker. `otherwise` is its result if an instruction is refused."""
+
+    def control(function: Callable[Parameters, Result]) -> Task[Parameters, Result]:
+        """Marks a function that calls others; it runs on an engine."""
+
+else:
+
+    def leaf(function: Optional[Function] = None, *, otherwise: Optional[Otherwise] = None) -> Any:
+        """Marks a function that computes; it runs on a worker. `otherwise` is its result if an instruction is refused."""
+        return (lambda it: it) if function is None else function
+
+    def control(function: Function) -> Function:
+        """Marks a function that calls others; it runs on an engine."""
+        return function
 
 
 class Array(Dict[int, Member]):
@@ -41,10 +83,6 @@ class Table(Dict[str, Member]):
         return iter(self.items())
 
 
-class Out(Generic[Member]):
-    """The type of a parameter that the task writes, as `out.NAME`."""
-
-
 class _Outputs:
     def __getattr__(self, name: str) -> Any:
         raise AttributeError(f"out.{name}: out is for functions that are compiled")
@@ -56,29 +94,21 @@ class _Outputs:
 out: Any = _Outputs()
 
 
-def leaf(function: Optional[Function] = None, *, otherwise: Union[None, int, str, Tuple[Union[int, str], ...]] = None) -> Any:
-    """Marks a function that computes; it runs on a worker. `otherwise` is its result if an instruction is refused."""
-    return (lambda it: it) if function is None else function
-
-
-def control(function: Function) -> Function:
-    """Marks a function that calls others; it runs on an engine."""
-    return function
-
-
 def check(*values: object) -> bool:
     """As the condition of an `if`: evaluates its arguments; if an instruction in them is refused, the else is taken."""
-    return all(not isinstance(it, int) or -(2**63) <= it < 2**63 for it in values)
+    return all(it is not False and (not isinstance(it, int) or -(2**63) <= it < 2**63) for it in values)
 
 
-def each(container: Dict[Subscript, Member], most: int = 1000) -> Iterator[Tuple[Subscript, Member]]:
-    """Gives subscripts and members to a `for`, at most so many."""
+def each(container: Dict[Subscript, Any], most: int = 1000) -> Iterator[Any]:
+    """Gives to a `for` the subscripts, or with two names the subscripts and the members, at most so many."""
     return iter(sorted(container.items())[:most])
 
 
-def insert(container: Dict[Subscript, Member], subscript: Subscript, member: Member) -> None:
-    """Puts a member into a container; it is refused if the subscript has one."""
-    container[subscript] = member
+def insert(container: Dict[Subscript, Member], subscript: Subscript, member: Member) -> bool:
+    """Puts a member into a container; it is refused if the subscript has one. As plain Python it says whether it has put it there."""
+    is_free = subscript not in container.keys()
+    container.setdefault(subscript, member)
+    return is_free
 
 
 def nth(container: Dict[Subscript, Any], index: int) -> Subscript:

@@ -5,13 +5,14 @@ from __future__ import annotations
 
 import ast
 from dataclasses import dataclass, field
-from typing import Dict, FrozenSet, Iterable, List, NoReturn, Optional, Set, Tuple
+from typing import Dict, FrozenSet, Iterable, List, NoReturn, Optional, Set, Tuple, Union
 
 from .code import Code, Place
 from .kinds import Kinds
 from .registers import Names, Rights, Values, name_in_text
 from .source import Function, Source
-from .types import DataType
+from .types import SCALARS, DataType
+from .uses import Uses
 
 
 @dataclass(frozen=True)
@@ -30,14 +31,25 @@ class Right:
 
 @dataclass
 class State:
-    """State on one way through the code: which variables are set, and which rights are held, by their keys."""
+    """State on one way through the code: which variables are set, which rights are held, by their keys, and where an output that is a value may
+    have been set."""
 
     assigned: Set[str] = field(default_factory=set)
     rights: Dict[str, Right] = field(default_factory=dict)
+    outputs: Dict[str, ast.AST] = field(default_factory=dict)
 
     def copy(self) -> "State":
         """Returns a state of its own."""
-        return State(set(self.assigned), dict(self.rights))
+        return State(set(self.assigned), dict(self.rights), dict(self.outputs))
+
+
+@dataclass(frozen=True)
+class Cause:
+    """Why an instruction may be refused, where it is, and what avoids that."""
+
+    reason: str
+    place: Place
+    advice: str = "put it into a check(..)"
 
 
 @dataclass
@@ -46,7 +58,7 @@ class Failing:
 
     home: State
     pads: Dict[FrozenSet[Tuple[str, Right]], Tuple[str, State]] = field(default_factory=dict)
-    first: Place = (1, 0)
+    first: Optional[Cause] = None
 
 
 @dataclass
@@ -59,11 +71,14 @@ class Loop:
     flag: str
     is_ended: bool = False
     return_sets: List[Set[str]] = field(default_factory=list)
-    has_failed: bool = False
+    outputs: Dict[str, ast.AST] = field(default_factory=dict)
+    failed: Optional[Cause] = None
 
 
 BREAK, RETURN, FAILED = 1, 2, 3
-HELPERS = ("copy_int", "copy_text", "never_int", "never_text")
+_CONTAINERS = [("cont",), ("tcont",)]
+_AROUND = [(), *_CONTAINERS, *((*a, *b) for a in _CONTAINERS for b in _CONTAINERS), *((*a, *b, *c) for a in _CONTAINERS for b in _CONTAINERS for c in _CONTAINERS)]
+HELPERS = frozenset("_".join((*what, *around, *scalar.words)) for what in (("copy",), ("never",)) for around in _AROUND for scalar in SCALARS.values())
 
 
 @dataclass(frozen=True)
@@ -83,19 +98,44 @@ class Unit:
     queue: List[Variant] = field(default_factory=list)
     helpers: Dict[str, List[str]] = field(default_factory=dict)
     version_2: bool = False
+    procedures: FrozenSet[str] = frozenset()
+    _kinds: Dict[str, Kinds] = field(default_factory=dict)
+    _uses: Dict[str, Uses] = field(default_factory=dict)
+    _taken: Set[str] = field(default_factory=lambda: set(HELPERS))
+
+    @classmethod
+    def of(cls, source: Source) -> "Unit":
+        """Returns the unit of a file, of which nothing is compiled yet."""
+        return cls(source, procedures=frozenset((*map(name_in_text, source.functions), *HELPERS)))
+
+    def apart(self) -> "Unit":
+        """Returns another unit of the same file, whose procedures aren't this one's."""
+        return Unit(self.source, procedures=self.procedures)
 
     def name_of(self, variant: Variant) -> str:
         """Returns the procedure's name of a variant, which is compiled once."""
         if variant not in self.names:
-            taken = {*self.names.values(), *HELPERS}
             base, number = name_in_text(variant.function.name), 1
             name = base
-            while name in taken or name in self.source.functions and name != variant.function.name:
+            while name in self._taken or name in self.source.functions and name != variant.function.name:
                 number += 1
                 name = f"{base}_{number}"
             self.names[variant] = name
+            self._taken.add(name)
             self.queue.append(variant)
         return self.names[variant]
+
+    def kinds_of(self, function: Function) -> Kinds:
+        """Returns the kinds of a function's variables, which all its variants share."""
+        if function.name not in self._kinds:
+            self._kinds[function.name] = Kinds(self.source, function)
+        return self._kinds[function.name]
+
+    def uses_of(self, function: Function) -> Uses:
+        """Returns where a function uses its variables."""
+        if function.name not in self._uses:
+            self._uses[function.name] = Uses(function.node)
+        return self._uses[function.name]
 
 
 class Body:
@@ -104,9 +144,9 @@ class Body:
     def __init__(self, unit: Unit, variant: Variant) -> None:
         self.unit, self.source, self.function = unit, unit.source, variant.function
         self.variant = variant
-        self.kinds = Kinds(unit.source, variant.function)
+        self.kinds, self.uses = unit.kinds_of(variant.function), unit.uses_of(variant.function)
         self.code = Code()
-        names = Names([*map(name_in_text, unit.source.functions), *HELPERS])
+        names = Names(unit.procedures)
         self.values, self.rights = Values(names), Rights(names)
         self.state: Optional[State] = State()
         self.failing: List[Failing] = []
@@ -186,14 +226,14 @@ class Body:
 
     # --- refused instructions
 
-    def refused(self) -> str:
-        """Returns the label to which an instruction skips if it is refused here."""
+    def refused(self, cause: Union[str, Cause], advice: str = Cause.advice) -> str:
+        """Returns the label to which an instruction skips if it is refused here, for this reason."""
         failing = self.failing[-1]
         rights = frozenset(self.now.rights.items())
-        if not failing.pads:
-            failing.first = self.code.place
+        if failing.first is None:
+            failing.first = cause if isinstance(cause, Cause) else Cause(cause, self.code.place, advice)
         if rights not in failing.pads:
-            failing.pads[rights] = (self.new_label("refused"), self.now.copy())
+            failing.pads[rights] = (self.new_label("refused"), State(rights=dict(self.now.rights)))
         return failing.pads[rights][0]
 
     def begin_failing(self) -> Failing:

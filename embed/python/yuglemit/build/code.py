@@ -5,7 +5,7 @@ from __future__ import annotations
 
 import ast
 from dataclasses import dataclass, field
-from typing import Dict, List, Tuple
+from typing import Dict, List, Optional, Tuple
 
 _SKIPS = frozenset("JMP JEQ JLT ADD SUB MUL DIV REM CAT READI INS LOOK SUBAT TINS TLOOK TSUBAT".split())
 Place = Tuple[int, int]  # line, from 1, and offset in bytes, from 0, as ast has them
@@ -35,6 +35,7 @@ class Code:
 
     lines: List[Line] = field(default_factory=list)
     place: Place = (1, 0)
+    _comment: Optional[str] = None
 
     def put(self, *words: object) -> None:
         """Adds an instruction."""
@@ -51,8 +52,8 @@ class Code:
     def comment(self, text: str) -> None:
         """Adds a comment, once for a line of the Python file."""
         line = f"; {self.place[0]}: {text}"
-        last = next((it.text for it in reversed(self.lines) if it.is_comment), None)
-        if last != line:
+        if self._comment != line:
+            self._comment = line
             self.lines.append(Line(line, self.place))
 
 
@@ -69,11 +70,13 @@ def tidy(lines: List[Line]) -> List[Line]:
 
 def _threaded(lines: List[Line]) -> List[Line]:
     """Redirects each jump whose target is itself a jump to that one's target."""
-    goals = {}
-    for number, line in enumerate(lines):
-        after = next((it for it in lines[number + 1 :] if not it.is_label and not it.is_comment), None)
+    goals: Dict[str, str] = {}
+    after: Optional[Line] = None
+    for line in reversed(lines):
         if line.is_label and after is not None and after.text.startswith("JMP "):
-            goals[line.text[:-1]] = after.text[4:]
+            goals[line.text[:-1]] = goals.get(after.text[4:], after.text[4:])  # jumps lead down, so that label is known
+        elif not line.is_label and not line.is_comment:
+            after = line
     return [it if it.is_label or it.is_comment else Line(_renamed(it.text, goals), it.place) for it in lines]
 
 
@@ -105,9 +108,9 @@ def _is_idle_jump(lines: List[Line], number: int) -> bool:
     if not lines[number].text.startswith("JMP "):
         return False
     goal = lines[number].text[4:] + ":"
-    for line in lines[number + 1 :]:
-        if line.text == goal:
+    for at in range(number + 1, len(lines)):
+        if lines[at].text == goal:
             return True
-        if not line.is_label and not line.is_comment:
+        if not lines[at].is_label and not lines[at].is_comment:
             return False
     return False

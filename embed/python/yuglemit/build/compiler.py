@@ -4,16 +4,19 @@
 from __future__ import annotations
 
 import ast
+import os
 from dataclasses import dataclass
 from functools import cached_property
 from pathlib import Path
 from typing import TYPE_CHECKING, List, Tuple, Union
 
-from .body import Body, Right, Unit, Variant
+from .body import Body, Cause, Right, Unit, Variant
 from .code import Line, Place, tidy
 from .errors import BuildError
-from .source import Parameter, Source, read_source
+from .reading import MOST_BYTES, decoded, lines_of
+from .source import Function, Parameter, Source
 from .statements import block, ends, fails
+from .toplevel import read_source
 from .types import DataType
 
 if TYPE_CHECKING:
@@ -21,6 +24,7 @@ if TYPE_CHECKING:
 
 MOST_INSTRUCTIONS = 4096
 MOST_PROCEDURES = 64
+MOST_LINES = 262_144
 
 
 @dataclass(frozen=True)
@@ -101,15 +105,18 @@ def _find_aliases(body: Body) -> None:
 
 def _put_failures(body: Body) -> None:
     failing = body.failing.pop()
-    scalars = any(it.type.is_scalar for it in body.function.outputs)
-    if failing.pads and body.function.kind == "leaf" and scalars and body.function.otherwise is None:
-        node = ast.Pass(lineno=failing.first[0], col_offset=failing.first[1])
-        body.fail("this may be refused, as by a result past 64 bits, and a leaf has to give one: put it into a check(..), or say what the result is then, "
-                  "@leaf(otherwise=..)", node)
+    if failing.first is not None and body.function.kind == "leaf" and body.function.outputs and body.function.otherwise is None:
+        _fail_without_otherwise(body, failing.first)
     for label, state in failing.pads.values():
         body.state = state.copy()
         body.code.label(label)
         fails(body)
+
+
+def _fail_without_otherwise(body: Body, cause: Cause) -> None:
+    scalars = [str(it.type) for it in body.function.outputs if it.type.is_scalar]
+    ending = f"say what the result is then, @leaf(otherwise=..) with {', '.join(scalars)}" if scalars else "let its containers then stay as they are, @leaf(otherwise=())"
+    body.fail(f"{cause.reason}, and a leaf function can't end without a result: {cause.advice}, or {ending}", ast.Pass(lineno=cause.place[0], col_offset=cause.place[1]))
 
 
 def _compile(unit: Unit, variant: Variant) -> List[Line]:
@@ -134,10 +141,7 @@ def _compile(unit: Unit, variant: Variant) -> List[Line]:
     return [*(Line(it, place) for it in head), *lines]
 
 
-def _check_main(source: Source) -> Variant:
-    main = source.functions.get("main")
-    if main is None:
-        raise BuildError(source.file, 1, 1, "there is no function main: @control def main(..) begins the program")
+def _check_main(source: Source, main: Function) -> Variant:
     if main.kind != "control":
         source.fail(main.node, "main is a control function: @control")
     for it in (*main.parameters, *(Parameter("result", kind, True) for kind in main.results)):
@@ -146,8 +150,47 @@ def _check_main(source: Source) -> Variant:
     return Variant(main, tuple("write" if it.is_out else "closed" for it in main.parameters))
 
 
+def _program(unit: Unit, main: Function) -> List[List[Line]]:
+    """Compiles all that main leads to."""
+    unit.name_of(_check_main(unit.source, main))
+    procedures: List[List[Line]] = []
+    while unit.queue:
+        procedures.append(_compile(unit, unit.queue.pop(0)))
+        if len(procedures) + len(unit.helpers) > MOST_PROCEDURES:
+            unit.source.fail(main.node, f"the program has more than {MOST_PROCEDURES} procedures")
+        if sum(map(len, procedures)) > MOST_LINES:
+            unit.source.fail(main.node, f"the program has more than {MOST_LINES} lines of assembly")
+    return [*procedures, *([Line(it, (1, 0)) for it in lines] for lines in unit.helpers.values())]
+
+
+def _check_others(unit: Unit) -> None:
+    """Checks the functions that main doesn't lead to."""
+    reached = {it.function.name for it in unit.names}
+    for function in unit.source.functions.values():
+        if function.name not in reached:
+            alone = unit.apart()
+            modes = ("write" if it.is_out else "val" if it.type.is_scalar else "closed" for it in function.parameters)
+            variant = Variant(function, tuple(modes))
+            alone.name_of(variant)
+            _compile(alone, variant)
+
+
+def _build(source: Source) -> Built:
+    unit, main = Unit.of(source), source.functions.get("main")
+    procedures = _program(unit, main) if main is not None else []
+    _check_others(unit)
+    if main is None:
+        raise BuildError(source.file, 1, 1, "there is no function main: @control def main(..) begins the program")
+    name = ascii(os.path.basename(source.file))[1:-1]
+    first = ["names", f"; Compiled from {name} by yuglemit.build."] + (["version 2"] if unit.version_2 else [])
+    lines = [Line(it, (1, 0)) for it in first]
+    for procedure in procedures:
+        lines.extend([Line("", (1, 0)), *procedure])
+    return Built("\n".join(it.text for it in lines) + "\n", source.file, tuple(it.place for it in lines), source)
+
+
 def build_text(text: str, file: str = "<text>") -> Built:
-    """Compiles a Python file's text.
+    """Compiles a Python file's text. Nothing of it is run, and whatever is wrong with it is a BuildError, so it may be a stranger's.
 
     >>> built = build_text('''
     ... @control
@@ -157,25 +200,18 @@ def build_text(text: str, file: str = "<text>") -> Built:
     >>> built.text.split()[0]
     'names'
     """
-    source = read_source(text, file)
-    unit = Unit(source)
-    unit.name_of(_check_main(source))
-    procedures: List[List[Line]] = []
-    while unit.queue:
-        procedures.append(_compile(unit, unit.queue.pop(0)))
-        if len(procedures) + len(unit.helpers) > MOST_PROCEDURES:
-            source.fail(source.functions["main"].node, f"the program has more than {MOST_PROCEDURES} procedures")
-    procedures.extend([Line(it, (1, 0)) for it in lines] for lines in unit.helpers.values())
-    first = ["names", f"; Compiled from {Path(file).name} by yuglemit.build."] + (["version 2"] if unit.version_2 else [])
-    lines = [Line(it, (1, 0)) for it in first]
-    for procedure in procedures:
-        lines.extend([Line("", (1, 0)), *procedure])
-    return Built("\n".join(it.text for it in lines) + "\n", file, tuple(it.place for it in lines), source)
+    source = Source(file, lines_of(text))
+    try:
+        read_source(source, text)
+        return _build(source)
+    except RecursionError:
+        source.fail(source.reached or ast.Pass(), "this is nested too deeply for what is left of Python's stack")
+    except MemoryError:
+        source.fail(source.reached or ast.Pass(), "there isn't enough memory to compile this")
 
 
 def build_file(path: Union[str, Path]) -> Built:
-    """Compiles a Python file. Nothing of it is run."""
-    with open(path, encoding="utf-8") as file:
-        return build_text(file.read(), str(path))
-
-
+    """Compiles a Python file, as `build_text` does."""
+    with open(path, "rb") as file:
+        data = file.read(MOST_BYTES + 1)
+    return build_text(decoded(data, str(path)), str(path))

@@ -23,7 +23,7 @@ def branch(body: Body, node: ast.expr, yes: str, no: str) -> None:
     elif called(node) == "check":
         body.fail("check(..) is the whole condition of an if, or none of it", node)
     else:
-        body.fail(f"expected a comparison, found {ast.unparse(node)}", node)
+        body.fail(f"expected a comparison, found {body.source.shown(node)}", node)
 
 
 def _joined(body: Body, node: ast.BoolOp, yes: str, no: str) -> None:
@@ -65,7 +65,7 @@ def _compare(body: Body, operator: ast.cmpop, operands: List[ast.expr], yes: str
         body.code.put("JLT", *ordered, yes if strict else no)
         body.code.put("JMP", no if strict else yes)
     else:
-        body.fail(f"expected == != < <= > >= in, found {ast.unparse(ast.Compare(left, [operator], [right]))}", left)
+        body.fail("expected == != < <= > >= in, found another comparison", left)
     for it in (first, second):
         body.values.release(it)
 

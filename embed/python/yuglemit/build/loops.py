@@ -7,10 +7,9 @@ import ast
 from dataclasses import dataclass
 from typing import Callable, List, Optional, Sequence, Tuple
 
-from .body import FAILED, RETURN, Body, Failing, Loop
+from .body import BREAK, FAILED, RETURN, Body, Failing, Loop
 from .code import Line
-from .kinds import called
-from .source import constant_of
+from .kinds import called, iterated
 from .types import INT
 from .values import closed_container, kind_of
 
@@ -50,6 +49,7 @@ def loop(body: Body, node: ast.For, block: Block, ends: Ends) -> None:
     body.now.assigned.update(shape.targets)
     block(body, node.body)
     if body.state is not None:
+        _check_outputs(body, turns)
         body.come_home(turns.home)
         body.code.put("JMP", turns.next)
     body.failing.pop()
@@ -65,7 +65,7 @@ def _with_pads(body: Body, turns: Loop, failing: Failing, shape: _Shape, lines: 
     kept = body.code.lines
     body.code.lines = list(lines)
     if failing.pads:
-        turns.has_failed = turns.is_ended = True
+        turns.failed, turns.is_ended = failing.first, True
         failed = body.new_label("failed")
         body.put_pads(failing, failed)
         body.code.label(failed)
@@ -104,12 +104,13 @@ def _after(body: Body, turns: Loop, shape: _Shape, ends: Ends) -> None:
     """Continues after the loop, as its flag says."""
     body.state = turns.home.copy()
     body.state.assigned.difference_update(shape.targets)
+    body.state.outputs.update(turns.outputs)
     if turns.return_sets:
         _returns(body, turns, ends)
-    if turns.has_failed:
+    if turns.failed is not None:
         failed = body.temporary(INT)
         body.code.put("INT", failed, FAILED)
-        body.code.put("JEQ", turns.flag, failed, body.refused())
+        body.code.put("JEQ", turns.flag, failed, body.refused(turns.failed))
         body.values.release(failed)
     if turns.flag:
         body.values.release(turns.flag)
@@ -141,6 +142,10 @@ def turn_ends(body: Body, flag: int) -> None:
     if not body.loops:
         body.fail("this is for loops")
     turns = body.loops[-1]
+    if flag == BREAK:
+        turns.outputs.update(body.now.outputs)
+    if not flag:
+        _check_outputs(body, turns)
     body.come_home(turns.home)
     if flag:
         turns.is_ended = True
@@ -149,12 +154,19 @@ def turn_ends(body: Body, flag: int) -> None:
     body.state = None
 
 
+def _check_outputs(body: Body, turns: Loop) -> None:
+    """Raises the error of an output that this iteration may have set, since another iteration follows."""
+    for key, node in body.now.outputs.items():
+        if key not in turns.home.outputs:
+            body.fail(f"{key} may be set again by the next iteration: set a variable here, and {key} to it after the loop", node)
+
+
 # --- range
 
 
 def _counted(body: Body, node: ast.For) -> _Shape:
     assert isinstance(node.iter, ast.Call)
-    numbers = [constant_of(it, body.source.constants) for it in node.iter.args]
+    numbers = [body.source.constants.of(it) for it in node.iter.args]
     if not 1 <= len(numbers) <= 3 or node.iter.keywords or not all(isinstance(it, int) for it in numbers):
         body.fail("range takes one to three constants; `if i == most: break` ends a loop before", node.iter)
     known = [it for it in numbers if isinstance(it, int)]
@@ -176,8 +188,12 @@ def _counted(body: Body, node: ast.For) -> _Shape:
 
 
 def _check_kept(body: Body, node: ast.For, name: str) -> None:
-    if any(it.name == name for it in body.function.parameters) or name in body.source.constants:
-        body.fail(f"{name} is a parameter or a constant: take another name", node.target)
+    if any(it.name == name for it in body.function.parameters):
+        body.fail(f"{name} is a parameter: take another name", node.target)
+    if name in body.source.functions or name in body.source.constants.named or name in ("out", "check"):
+        body.fail(f"{name} is a function, a constant or a word of the language: take another name", node.target)
+    if not name.isascii():
+        body.fail(f"{name}: names are ASCII letters, digits and _", node.target)
     for statement in node.body:
         for it in ast.walk(statement):
             if isinstance(it, ast.Name) and it.id == name and isinstance(it.ctx, ast.Store) and name != "_":
@@ -200,7 +216,7 @@ def _container(body: Body, node: ast.For) -> _Over:
     over, most = node.iter, MOST_TURNS
     if called(node.iter) == "each" and isinstance(node.iter, ast.Call):
         arguments = [*node.iter.args, *(it.value for it in node.iter.keywords if it.arg == "most")]
-        found = constant_of(arguments[1], body.source.constants) if len(arguments) == 2 else None
+        found = body.source.constants.of(arguments[1]) if len(arguments) == 2 else None
         if not isinstance(found, int) or not 1 <= found <= MOST_TURNS:
             body.fail(f"each takes a container and the most members, a constant from 1 to {MOST_TURNS}", node.iter)
         over, most = arguments[0], found
@@ -226,7 +242,7 @@ def _begun(body: Body, over: _Over) -> _Shape:
 
 def _member(body: Body, node: ast.For, over: _Over, shape: _Shape, turns: Loop) -> None:
     """Writes the beginning of a turn: nothing is left to do after the last member; else its subscript, and the member."""
-    kind = kind_of(body, node.iter.args[0] if called(node.iter) == "each" and isinstance(node.iter, ast.Call) else node.iter).type
+    kind = kind_of(body, iterated(node)).type
     by_text = kind.subscript != INT
     subscript, member = over.names
     if subscript == "_" and member == "_":

@@ -5,7 +5,7 @@ from __future__ import annotations
 
 import re
 from dataclasses import dataclass, field
-from typing import Callable, Dict, Iterable, List, Set, Tuple
+from typing import Callable, Dict, FrozenSet, List, Set, Tuple
 
 from .types import DataType
 
@@ -24,19 +24,21 @@ def name_in_text(wanted: str) -> str:
 class Names:
     """Names of a procedure's registers, each used once, none of them a procedure's: these are called as functions, or so and a number."""
 
-    def __init__(self, functions: Iterable[str]) -> None:
+    def __init__(self, procedures: FrozenSet[str]) -> None:
         self._taken: Set[str] = set()
-        self._procedures = re.compile(rf"({'|'.join(map(re.escape, functions))})(_\d+)?")
+        self._numbers: Dict[str, int] = {}
+        self._procedures = procedures
 
     def new(self, wanted: str) -> str:
         """Returns this name, or one like it that isn't taken."""
         base = name_in_text(wanted)
-        if self._procedures.fullmatch(base):
+        if base in self._procedures or re.sub(r"_\d+$", "", base) in self._procedures:
             base = f"the_{base}"
-        name, number = base, 1
+        name, number = base, self._numbers.get(base, 1)
         while name in self._taken:
             number += 1
             name = f"{base}_{number}"
+        self._numbers[base] = number
         self._taken.add(name)
         return name
 
@@ -85,6 +87,7 @@ class Rights:
     taken: Names
     numbers: Dict[str, int] = field(default_factory=dict)
     parameters: int = 0
+    _named: Dict[Tuple[str, int], str] = field(default_factory=dict)
 
     @property
     def names(self) -> List[Tuple[str, int]]:
@@ -106,9 +109,7 @@ class Rights:
             named = dict.fromkeys(it.rstrip(">") for it in held if not it.startswith("#"))
             others = sum(it.startswith("#") for it in held)
             fail(f"more than {MOST} data at once; held here are {', '.join(named)}, and {others} of this line: make two tasks of it, or fewer variables")
-        for name, it in self.names:
-            if it == number and re.fullmatch(rf"{re.escape(wanted)}(_\d+)?", name):
-                return name
-        name = self.taken.new(wanted)
-        self.numbers[name] = number
-        return name
+        if (wanted, number) not in self._named:
+            name = self._named[wanted, number] = self.taken.new(wanted)
+            self.numbers[name] = number
+        return self._named[wanted, number]

@@ -1,18 +1,20 @@
 # SPDX-License-Identifier: Apache-2.0
-"""Reads a Python file: its constants, and its functions with their signatures. Nothing of it is run."""
+"""The contents of a file: its constants, and its functions with their signatures. Nothing of it is run."""
 
 from __future__ import annotations
 
 import ast
 from dataclasses import dataclass, field
-from typing import Dict, List, NoReturn, Optional, Tuple, Union
+from typing import Dict, List, NoReturn, Optional, Tuple
 
+from .constants import Constant, Constants
 from .errors import BuildError
+from .reading import checked, column_of
 from .types import CONTAINERS, DEEPEST, SCALARS, DataType
 
-Constant = Union[int, str]
 MOST_ARGUMENTS = 8
-BUILTINS = frozenset("check each insert nth len byte_length str int abs min max out Array Table Int Text Out range".split())
+MOST_SHOWN = 60
+BUILTINS = frozenset("check each insert nth len byte_length str int abs min max out Array Table Int Text Out range leaf control tuple".split())
 
 
 @dataclass(frozen=True)
@@ -51,62 +53,34 @@ class Function:
 
 @dataclass
 class Source:
-    """The contents of a file."""
+    """The contents of a file; `reached` is the node that is being compiled."""
 
     file: str
     lines: List[str]
-    constants: Dict[str, Constant] = field(default_factory=dict)
     functions: Dict[str, Function] = field(default_factory=dict)
+    reached: Optional[ast.AST] = None
+
+    def __post_init__(self) -> None:
+        self.constants = Constants(self.fail)
 
     def fail(self, node: ast.AST, message: str) -> NoReturn:
         """Raises the error at a node."""
         line = getattr(node, "lineno", 1)
         text = self.lines[line - 1] if line <= len(self.lines) else ""
-        column = len(text.encode()[: getattr(node, "col_offset", 0)].decode(errors="ignore")) + 1
-        raise BuildError(self.file, line, column, message)
+        raise BuildError(self.file, line, column_of(text, getattr(node, "col_offset", 0)), message)
 
-
-def constant_of(node: ast.expr, constants: Dict[str, Constant]) -> Optional[Constant]:
-    """Returns the value of an expression of constants, or None if it is none."""
-    if isinstance(node, ast.Constant) and isinstance(node.value, (int, str)) and not isinstance(node.value, bool):
-        return node.value
-    if isinstance(node, ast.Name):
-        return constants.get(node.id)
-    if isinstance(node, ast.UnaryOp) and isinstance(node.op, ast.USub):
-        inner = constant_of(node.operand, constants)
-        return -inner if isinstance(inner, int) else None
-    if isinstance(node, ast.BinOp):
-        return _joined(node.op, constant_of(node.left, constants), constant_of(node.right, constants))
-    return None
-
-
-def _joined(operator: ast.operator, left: Optional[Constant], right: Optional[Constant]) -> Optional[Constant]:
-    if isinstance(left, str) and isinstance(right, str) and isinstance(operator, ast.Add):
-        return left + right
-    if not isinstance(left, int) or not isinstance(right, int):
-        return None
-    if isinstance(operator, ast.Add):
-        return left + right
-    if isinstance(operator, ast.Sub):
-        return left - right
-    if isinstance(operator, ast.Mult):
-        return left * right
-    if isinstance(operator, ast.Pow) and 0 <= right <= 64 and abs(left) < 2**64:
-        return int(left**right)
-    if isinstance(operator, ast.FloorDiv) and right:
-        return left // right
-    if isinstance(operator, ast.Mod) and right:
-        return left % right
-    return None
+    def shown(self, node: ast.AST) -> str:
+        """Returns the beginning of a node's text, for an error."""
+        first, last = getattr(node, "lineno", 1), getattr(node, "end_lineno", 1)
+        line = self.lines[first - 1].encode()
+        end = getattr(node, "end_col_offset", None) if last == first else None
+        text = line[getattr(node, "col_offset", 0) : end].decode(errors="replace").strip()
+        return text[:MOST_SHOWN] + ".." if len(text) > MOST_SHOWN or last > first else text
 
 
 def _type_of(source: Source, node: Optional[ast.expr], where: ast.AST) -> DataType:
     if isinstance(node, ast.Constant) and isinstance(node.value, str):
-        try:
-            inner = ast.parse(node.value, mode="eval").body
-        except SyntaxError:
-            source.fail(node, f"{node.value!r} is no type")
-        return _type_of(source, ast.copy_location(inner, node), where)
+        return _type_of(source, _in_quotes(source, node, node.value), where)
     if isinstance(node, ast.Name) and node.id in SCALARS:
         return SCALARS[node.id]
     if isinstance(node, ast.Subscript) and isinstance(node.value, ast.Name) and node.value.id in CONTAINERS:
@@ -114,8 +88,22 @@ def _type_of(source: Source, node: Optional[ast.expr], where: ast.AST) -> DataTy
         if len(inner_type.words) > DEEPEST:
             source.fail(node, f"at most {DEEPEST} of Array and Table in one another")
         return DataType((CONTAINERS[node.value.id], *inner_type.words))
-    named = ast.unparse(node) if node is not None else "nothing"
-    source.fail(node or where, f"expected a type: Int, Text, Array[..] or Table[..], found {named}")
+    named = source.shown(node) if node is not None else "nothing"
+    advice = {"int": "; Int is that of ints", "str": "; Text is that of texts", "list": "; Array[..] is like a list", "dict": "; Table[..] is like a dict"}
+    source.fail(node or where, f"expected a type: Int, Text, Array[..] or Table[..], found {named}{advice.get(named.partition('[')[0], '')}")
+
+
+def _in_quotes(source: Source, node: ast.expr, text: str) -> ast.expr:
+    """Returns the type that a text says, as parts of the node that is the text."""
+    try:
+        statements = checked(text, source.file).body
+    except BuildError:
+        statements = []
+    if len(statements) != 1 or not isinstance(statements[0], ast.Expr) or isinstance(statements[0].value, ast.Constant):
+        source.fail(node, f"{source.shown(node)} is no type")
+    for it in ast.walk(statements[0]):
+        ast.copy_location(it, node)
+    return statements[0].value
 
 
 def container_type(source: Source, node: ast.expr) -> Optional[DataType]:
@@ -147,74 +135,54 @@ def _results(source: Source, node: ast.FunctionDef) -> Tuple[DataType, ...]:
     return (_type_of(source, returned, node),)
 
 
-def _decorator(source: Source, node: ast.FunctionDef) -> Optional[Tuple[str, Optional[Tuple[Constant, ...]]]]:
-    """Returns the kind of a decorated function and its `otherwise`, or None for another function."""
-    for it in node.decorator_list:
-        called = it.func if isinstance(it, ast.Call) else it
-        name = called.attr if isinstance(called, ast.Attribute) else called.id if isinstance(called, ast.Name) else ""
-        if name in ("leaf", "control"):
-            return name, _otherwise(source, it) if isinstance(it, ast.Call) else None
-    return None
-
-
-def _otherwise(source: Source, call: ast.Call) -> Optional[Tuple[Constant, ...]]:
-    if call.args or any(it.arg != "otherwise" for it in call.keywords):
-        source.fail(call, "a decorator takes `otherwise` alone, the result if an instruction is refused")
-    for it in call.keywords:
+def otherwise_of(source: Source, decorator: ast.expr) -> Optional[Tuple[Constant, ...]]:
+    """Returns what a decorator says as `otherwise`, or None if it says nothing."""
+    if not isinstance(decorator, ast.Call):
+        return None
+    if decorator.args or any(it.arg != "otherwise" for it in decorator.keywords):
+        source.fail(decorator, "a decorator takes `otherwise` alone, the result if an instruction is refused")
+    for it in decorator.keywords:
         items = it.value.elts if isinstance(it.value, ast.Tuple) else [it.value]
-        found = [constant_of(item, source.constants) for item in items]
+        found = [source.constants.of(item) for item in items]
         if any(item is None for item in found):
             source.fail(it.value, "otherwise: expected a constant, or a tuple of constants")
         return tuple(item for item in found if item is not None)
     return None
 
 
-def _function(source: Source, node: ast.FunctionDef, kind: str, otherwise: Optional[Tuple[Constant, ...]]) -> Function:
+def function_of(source: Source, node: ast.FunctionDef, kind: str, otherwise: Optional[Tuple[Constant, ...]]) -> Function:
+    """Reads the signature of a function."""
     arguments = node.args
     if arguments.vararg or arguments.kwarg or arguments.kwonlyargs or arguments.defaults or arguments.posonlyargs:
         source.fail(node, "parameters have a name and a type, no defaults and no *")
+    if getattr(node, "type_params", None):
+        source.fail(node, "a function has no type parameters")
     parameters = tuple(_parameter(source, it) for it in arguments.args)
     made = Function(node.name, kind, parameters, _results(source, node), otherwise, node)
     if len(parameters) + len(made.results) > MOST_ARGUMENTS:
         source.fail(node, f"{len(parameters)} parameters and {len(made.results)} results: together at most {MOST_ARGUMENTS}")
     names = [*(it.name for it in parameters), *made.result_names]
     for number, it in enumerate(arguments.args):
+        check_name(source, it, it.arg, words=("out", "check"))
         if it.arg in names[number + 1 :]:
             source.fail(it, f"{it.arg} is another parameter or what is returned: take another name")
-    if kind == "control" and otherwise is not None:
-        source.fail(node, "otherwise is for leaf functions; what a control function doesn't set stays unset")
-    scalars = [it for it in made.outputs if it.type.is_scalar]
-    if otherwise is not None:
-        fits = len(otherwise) == len(scalars) and all(isinstance(it, int) == (to.type.words == ("int",)) for it, to in zip(otherwise, scalars))
-        if not fits:
-            source.fail(node, f"otherwise: expected {', '.join(str(it.type) for it in scalars) or 'nothing'}, one for each scalar that it writes")
+    _check_otherwise(source, made)
     return made
 
 
-def _check_name(source: Source, node: ast.AST, name: str) -> None:
-    if name in BUILTINS:
+def _check_otherwise(source: Source, function: Function) -> None:
+    scalars = [it for it in function.outputs if it.type.is_scalar]
+    if function.otherwise is None:
+        return
+    fits = len(function.otherwise) == len(scalars)
+    if not fits or not all(isinstance(it, int) == (to.type.words == ("int",)) for it, to in zip(function.otherwise, scalars)):
+        wanted = ", ".join(str(it.type) for it in scalars) or "(), no constant"
+        source.fail(function.node, f"otherwise: expected {wanted}, one for each scalar that it writes")
+
+
+def check_name(source: Source, node: ast.AST, name: str, words: Tuple[str, ...] = tuple(BUILTINS)) -> None:
+    """Raises the error of a name that can't be given to anything here."""
+    if name in words:
         source.fail(node, f"{name} is a word of the language: take another name")
     if not name.isascii():
-        source.fail(node, f"{name}: names are ASCII letters, digits and _")
-
-
-def read_source(text: str, file: str) -> Source:
-    """Reads a file's text."""
-    source = Source(file, text.split("\n"))
-    try:
-        tree = ast.parse(text, file)
-    except SyntaxError as why:
-        raise BuildError(file, why.lineno or 1, why.offset or 1, why.msg) from None
-    for node in tree.body:
-        if isinstance(node, ast.Assign) and len(node.targets) == 1 and isinstance(node.targets[0], ast.Name):
-            found = constant_of(node.value, source.constants)
-            if found is not None:
-                source.constants[node.targets[0].id] = found
-        elif isinstance(node, ast.FunctionDef):
-            decorated = _decorator(source, node)
-            if decorated:
-                _check_name(source, node, node.name)
-                if node.name in source.functions:
-                    source.fail(node, f"there are two functions {node.name}")
-                source.functions[node.name] = _function(source, node, *decorated)
-    return source
+        source.fail(node, f"{name[:MOST_SHOWN]}: names are ASCII letters, digits and _")

@@ -4,16 +4,22 @@
 from __future__ import annotations
 
 import ast
+from dataclasses import dataclass
 from typing import Callable, Dict, List, Optional, Sequence, Type
 
 from .body import BREAK, RETURN, Body, State
 from .conditions import branch
+from .constants import Constant
 from .kinds import called, name_of
 from .loops import loop, turn_ends
-from .source import Constant, container_type
+from .reading import is_elif
+from .source import container_type
 from .tasks import call_task, copied_to, left_unset, look, move, new_datum, read_right, stored, write_key
 from .types import INT, DataType
 from .values import kind_of, put_constant, value
+
+
+MOST_LINES = 32_768
 
 
 def block(body: Body, statements: Sequence[ast.stmt]) -> None:
@@ -24,11 +30,17 @@ def block(body: Body, statements: Sequence[ast.stmt]) -> None:
             body.fail("this line is never reached")
         if statements is body.function.node.body:
             body.forget([it for it in body.places if it not in body.now.rights])
-        body.node = statement
-        body.code.at(statement)
-        line = body.source.lines[statement.lineno - 1].strip()
-        body.code.comment(line[:120])
+        _begin(body, statement)
         _statement(body, statement)
+        if len(body.code.lines) > MOST_LINES:
+            body.fail(f"{body.function.name} is too long: up to here it has {MOST_LINES} lines of assembly, and 4096 instructions are allowed")
+
+
+def _begin(body: Body, statement: ast.stmt) -> None:
+    body.node = body.source.reached = statement
+    body.code.at(statement)
+    line = body.source.lines[statement.lineno - 1][:400].strip()
+    body.code.comment("".join(it if it.isprintable() else " " for it in line[:120]))
 
 
 def _statement(body: Body, node: ast.stmt) -> None:
@@ -36,7 +48,8 @@ def _statement(body: Body, node: ast.stmt) -> None:
         if isinstance(node, kind):
             compile_one(body, node)
             return
-    body.fail(f"{type(node).__name__.lower()} is not of the language: assignments, if, for, return, break, continue and calls are")
+    word = body.source.shown(node).split(maxsplit=1)[0]
+    body.fail(f"{word} is not of the language: assignments, if, for, return, break, continue and calls are")
 
 
 def _assign(body: Body, node: ast.Assign) -> None:
@@ -67,9 +80,10 @@ def assign_to(body: Body, target: ast.expr, node: ast.expr) -> None:
     elif isinstance(target, ast.Name):
         _set_variable(body, target, node)
     elif name_of(target):
+        _check_output(body, name_of(target) or "", target)
         set_output(body, name_of(target) or "", target, node)
     else:
-        body.fail(f"{ast.unparse(target)} can't be set: a name, out.NAME or a member can", target)
+        body.fail(f"{body.source.shown(target)} can't be set: a name, out.NAME or a member can", target)
 
 
 def _several(body: Body, target: ast.Tuple, node: ast.expr) -> None:
@@ -83,6 +97,10 @@ def _several(body: Body, target: ast.Tuple, node: ast.expr) -> None:
         key = name_of(it)
         if key is None:
             body.fail("expected a name", it)
+        if isinstance(it, ast.Name):
+            _check_settable(body, it)
+        else:
+            _check_output(body, key, it)
         keys.append(None if key == "_" else key)
     call_task(body, node, keys)
 
@@ -134,7 +152,7 @@ def _set_variable(body: Body, target: ast.Name, node: ast.expr) -> None:
 
 def _check_settable(body: Body, target: ast.Name) -> None:
     key = target.id
-    if key in body.source.functions or key in body.source.constants or key in ("out", "check"):
+    if key in body.source.functions or key in body.source.constants.named or key in ("out", "check"):
         body.fail(f"{key} is a function, a constant or a word of the language: take another name", target)
     if any(it.name == key and (it.is_out or not it.type.is_scalar) for it in body.function.parameters):
         advice = f"out.{key} = .. sets the output" if any(it.name == key and it.is_out for it in body.function.parameters) else "take another name"
@@ -161,7 +179,7 @@ def set_future(body: Body, key: str, node: ast.expr) -> None:
     kind = body.kinds.found[key].type
     found = kind_of(body, node)
     if found.type != kind:
-        body.fail(f"{key} is {kind}, and {ast.unparse(node)} is {found.type}", node)
+        body.fail(f"{key} is {kind}, and {body.source.shown(node)} is {found.type}", node)
     if found.form == "value":
         stored(body, node, key, kind, key)
     elif called(node) in body.source.functions and isinstance(node, ast.Call):
@@ -178,19 +196,20 @@ def set_future(body: Body, key: str, node: ast.expr) -> None:
 
 def set_output(body: Body, key: str, target: ast.AST, node: ast.expr) -> None:
     """Sets a scalar output, or hands a container output to the task that fills it."""
-    kind = body.kinds.found.get(key)
-    if kind is None:
-        outputs = ", ".join(f"out.{it.name}" for it in body.function.outputs) or "none"
-        body.fail(f"{key} is no output of {body.function.name}; its outputs: {outputs}", target)
+    kind = body.kinds.found[key]
     if kind.form == "value":
+        if key in body.now.outputs:
+            line = getattr(body.now.outputs[key], "lineno", 1)
+            body.fail(f"{key} may be set already, by line {line}: an output is set once; set a variable on each way, and {key} to it at the end", target)
         value(body, node, kind.type, body.variable(key))
         body.now.assigned.add(key)
+        body.now.outputs[key] = target
         return
     if key not in body.now.rights:
         body.fail(f"{key} is set already", target)
     found = kind_of(body, node)
     if found.type != kind.type:
-        body.fail(f"{key} is {kind.type}, and {ast.unparse(node)} is {found.type}", node)
+        body.fail(f"{key} is {kind.type}, and {body.source.shown(node)} is {found.type}", node)
     if called(node) in body.source.functions and isinstance(node, ast.Call):
         call_task(body, node, [key])
     elif not kind.type.is_scalar:
@@ -203,15 +222,22 @@ def set_output(body: Body, key: str, target: ast.AST, node: ast.expr) -> None:
         copied_to(body, read_right(body, node), key)
 
 
+def _check_output(body: Body, key: str, target: ast.AST) -> None:
+    """Raises the error of an output that this function doesn't have."""
+    outputs = [f"out.{it.name}" for it in body.function.parameters if it.is_out]
+    if key not in outputs:
+        body.fail(f"{key} is no output of {body.function.name}; its outputs: {', '.join(outputs) or 'none'}", target)
+
+
 def insert(body: Body, over: ast.expr, subscript: ast.expr, member: ast.expr) -> None:
     """Sets a member of a container; it is refused if the subscript has one."""
     key = write_key(body, over)
     kind = body.now.rights[key].type
     if kind.is_scalar:
-        body.fail(f"{ast.unparse(over)} is no container", over)
+        body.fail(f"{body.source.shown(over)} is no container", over)
     at = value(body, subscript, kind.subscript)
     source = _member_right(body, member, kind.member)
-    label = body.refused()
+    label = body.refused(f"the subscript {body.source.shown(subscript)} may be taken", _as_check(body, over, subscript, member))
     name = "INS" if kind.subscript == INT else "TINS"
     body.unit.version_2 = body.unit.version_2 or name == "TINS"
     body.code.put(name, body.now.rights[key].register, at, body.now.rights[source].register, label)
@@ -219,10 +245,16 @@ def insert(body: Body, over: ast.expr, subscript: ast.expr, member: ast.expr) ->
     body.values.release(at)
 
 
+def _as_check(body: Body, over: ast.expr, subscript: ast.expr, member: ast.expr) -> str:
+    """Returns the advice to set a member in a condition."""
+    words = ", ".join(map(body.source.shown, (over, subscript, member)))
+    return f"write `if check(insert({words})):`"
+
+
 def _member_right(body: Body, node: ast.expr, kind: DataType) -> str:
     found = kind_of(body, node)
     if found.type != kind:
-        body.fail(f"the members are {kind}, and {ast.unparse(node)} is {found.type}", node)
+        body.fail(f"the members are {kind}, and {body.source.shown(node)} is {found.type}", node)
     if found.form == "value":
         key = body.new_key()
         stored(body, node, key, kind, "member")
@@ -239,7 +271,7 @@ def _expression(body: Body, node: ast.Expr) -> None:
     elif called(node.value) == "insert":
         _insert_call(body, node.value)
     else:
-        body.fail(f"{ast.unparse(node.value)} does nothing here", node.value)
+        body.fail(f"{body.source.shown(node.value)} does nothing here", node.value)
 
 
 def _insert_call(body: Body, node: ast.expr) -> None:
@@ -248,7 +280,29 @@ def _insert_call(body: Body, node: ast.expr) -> None:
     insert(body, *node.args)
 
 
+@dataclass
+class _Way:
+    """The first way of an `if`: its state at the end, after how many lines that is, and the label after both ways."""
+
+    node: ast.If
+    state: Optional[State]
+    at: int
+    done: str
+
+
 def _if(body: Body, node: ast.If) -> None:
+    """Compiles `if .. elif .. else` from the top, and joins the ways from the bottom."""
+    ways = [_first_way(body, node)]
+    while node.orelse and isinstance(node.orelse[0], ast.If) and is_elif(node, node.orelse[0]):
+        node = node.orelse[0]
+        _begin(body, node)
+        ways.append(_first_way(body, node))
+    block(body, node.orelse)
+    for way in reversed(ways):
+        _join(body, way)
+
+
+def _first_way(body: Body, node: ast.If) -> _Way:
     yes, no, done = body.new_label("then"), body.new_label("else"), body.new_label("end_if")
     if called(node.test) == "check":
         otherwise = _check(body, node.test, yes, no)
@@ -257,24 +311,24 @@ def _if(body: Body, node: ast.If) -> None:
         otherwise = body.now.copy()
     body.code.label(yes)
     block(body, node.body)
-    then, at_then = body.state, len(body.code.lines)
+    way = _Way(node, body.state, len(body.code.lines), done)
     body.state = otherwise
     body.code.label(no)
-    block(body, node.orelse)
-    _join(body, node, then, at_then, done)
+    return way
 
 
-def _join(body: Body, node: ast.If, then: Optional[State], at_then: int, done: str) -> None:
+def _join(body: Body, way: "_Way") -> None:
     """Makes both ways of an `if` hold the same rights: each drops what the other doesn't hold."""
-    body.node = node
-    other = body.state
+    body.node = way.node
+    then, at_then, done, other = way.state, way.at, way.done, body.state
     if then is None or other is None:
         if then is not None:
             _put_at(body, at_then, then, then, done)
             body.state = then
             body.code.label(done)
         return
-    common = State(then.assigned & other.assigned, {key: it for key, it in then.rights.items() if key in other.rights})
+    rights = {key: it for key, it in then.rights.items() if key in other.rights}
+    common = State(then.assigned & other.assigned, rights, {**then.outputs, **other.outputs})
     body.come_home(common)
     _put_at(body, at_then, then, common, done)
     body.code.label(done)
@@ -307,7 +361,7 @@ def _check(body: Body, node: ast.expr, yes: str, no: str) -> State:
         _attempt(body, it)
     body.failing.pop()
     if not failing.pads:
-        body.fail(f"nothing in {ast.unparse(node)} can be refused", node)
+        body.fail(f"nothing in {body.source.shown(node)} can be refused", node)
     body.code.put("JMP", yes)
     otherwise = body.shrink_home(failing)
     body.put_pads(failing, no)
@@ -379,11 +433,12 @@ def ends(body: Body, given: Optional[Dict[str, str]] = None) -> None:
 
 
 def fails(body: Body) -> None:
-    """Writes the end of a task in which an instruction is refused outside of check(..)."""
+    """Writes the end of a task in which an instruction is refused outside of check(..). What a control function could still write is held for ever;
+    a leaf function stores what `otherwise` says."""
     scalars = [f"out.{it.name}" for it in body.function.outputs if it.type.is_scalar]
     body.places.clear()
     if body.function.kind == "control":
-        for key in [it for it in body.now.rights if it not in scalars]:
+        for key in [it for it in body.now.rights if not _is_kept(body, it)]:
             body.drop(key)
         for key in list(body.now.rights):
             left_unset(body, key)
@@ -393,6 +448,11 @@ def fails(body: Body) -> None:
         for key, constant in zip(scalars, otherwise):
             _store_constant(body, key, constant)
     _let_go(body)
+
+
+def _is_kept(body: Body, key: str) -> bool:
+    """Says whether a right is to write an output or a container; one without a name is a copy of such a right."""
+    return body.now.rights[key].mode == "write" and not key.startswith("#")
 
 
 def _store_constant(body: Body, key: str, constant: Constant) -> None:

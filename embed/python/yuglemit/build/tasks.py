@@ -8,9 +8,11 @@ from dataclasses import dataclass, field
 from typing import List, Optional, Sequence, Tuple
 
 from .body import Body, Variant
+from .constants import fits
 from .kinds import called, name_of
-from .source import Function, Parameter, constant_of
-from .types import INT, DataType
+from .source import Function, Parameter
+from .types import INT, TEXT, DataType
+from .uses import is_set_by
 from .values import closed_container, kind_of, value
 
 _TARGETS = {"worker": "leaf", "engine": "control"}
@@ -92,7 +94,7 @@ def _add(gathered: _Call, operand: str, mode: str) -> None:
 def _give_read(body: Body, parameter: Parameter, argument: ast.expr, gathered: _Call) -> None:
     kind = kind_of(body, argument)
     if kind.type != parameter.type:
-        body.fail(f"{parameter.name} is {parameter.type}, and {ast.unparse(argument)} is {kind.type}", argument)
+        body.fail(f"{parameter.name} is {parameter.type}, and {body.source.shown(argument)} is {kind.type}", argument)
     key = read_right(body, argument)
     right = body.now.rights[key]
     if key in gathered.spent:
@@ -115,8 +117,8 @@ def read_right(body: Body, node: ast.expr) -> str:
         look(body, node, key)
         return key
     if name_of(node):
-        body.fail(f"{ast.unparse(node)} can only be written here", node)
-    body.fail(f"{ast.unparse(node)} can't be given to a task: give it a name before", node)
+        body.fail(f"{body.source.shown(node)} can only be written here", node)
+    body.fail(f"{body.source.shown(node)} can't be given to a task: give it a name before", node)
 
 
 def look(body: Body, node: ast.Subscript, key: str, wanted: str = "member") -> None:
@@ -126,7 +128,7 @@ def look(body: Body, node: ast.Subscript, key: str, wanted: str = "member") -> N
     over = closed_container(body, node.value)
     kind = kind_of(body, node.value).type
     subscript = value(body, node.slice, kind.subscript)
-    label = body.refused()
+    label = body.refused(f"{body.source.shown(node)} may not be there")
     right = body.hold(key, wanted, "ref", kind.member)
     body.unit.version_2 = body.unit.version_2 or kind.subscript != INT
     body.code.put("LOOK" if kind.subscript == INT else "TLOOK", right.register, over, subscript, label)
@@ -151,28 +153,24 @@ def _right_of_variable(body: Body, node: ast.Name) -> str:
 def is_last_use(body: Body, node: ast.Name) -> bool:
     """Whether nothing needs a variable's right after this use: then the right itself is given, and else a copy."""
     statement, name = body.node, node.id
-    uses = [it for it in ast.walk(statement) if isinstance(it, ast.Name) and it.id == name and isinstance(it.ctx, ast.Load)]
+    uses = body.uses.count(statement, name)
     is_kept = bool(body.loops) and name in body.loops[-1].home.rights
-    if isinstance(statement, ast.Assign) and any(name_of(it) == name for it in statement.targets):
-        return len(uses) == 1 and (not is_kept or node is statement.value or node in getattr(statement.value, "args", ()))
-    if len(uses) > 1 or is_kept:
-        return False
-    here = (node.lineno, node.col_offset)
-    names = (it for it in ast.walk(body.function.node) if isinstance(it, ast.Name) and it.id == name and isinstance(it.ctx, ast.Load))
-    return all((it.lineno, it.col_offset) <= here for it in names)
+    if isinstance(statement, ast.Assign) and is_set_by(statement, name):
+        return uses == 1 and (not is_kept or node is statement.value or node in getattr(statement.value, "args", ()))
+    return uses <= 1 and not is_kept and body.uses.is_last(node)
 
 
 def write_key(body: Body, node: ast.expr) -> str:
     """Returns the key of the right to write to `out.NAME`, or to a container that this function made."""
     key = name_of(node)
     if key is None:
-        body.fail(f"expected out.NAME or a container made here, found {ast.unparse(node)}", node)
+        body.fail(f"expected out.NAME or a container made here, found {body.source.shown(node)}", node)
     if not key.startswith("out."):
         key = body.aliases.get(key, f"{key}>")
     if key not in body.now.rights:
         if key in body.kinds.found:
             body.fail(f"{key} is set already", node)
-        body.fail(f"{ast.unparse(node)} can't be written here: expected out.NAME or a container made here", node)
+        body.fail(f"{body.source.shown(node)} can't be written here: expected out.NAME or a container made here", node)
     return key
 
 
@@ -180,7 +178,7 @@ def _give_write(body: Body, parameter: Parameter, argument: ast.expr, gathered: 
     key = write_key(body, argument)
     right = body.now.rights[key]
     if right.type != parameter.type:
-        body.fail(f"{parameter.name} is Out[{parameter.type}], and {ast.unparse(argument)} is {right.type}", argument)
+        body.fail(f"{parameter.name} is Out[{parameter.type}], and {body.source.shown(argument)} is {right.type}", argument)
     if not right.type.is_scalar:
         copy = body.new_key()
         held = body.hold(copy, f"{parameter.name}_given", "write", right.type)
@@ -193,9 +191,9 @@ def _give_write(body: Body, parameter: Parameter, argument: ast.expr, gathered: 
 def _options(body: Body, function: Function, node: ast.Call, gathered: _Call) -> Tuple[str, str]:
     priority, target = "0", "any"
     for it in node.keywords:
-        constant = constant_of(it.value, body.source.constants)
+        constant = body.source.constants.of(it.value)
         if it.arg == "priority":
-            if isinstance(constant, int) and -(2**63) <= constant < 2**63:
+            if isinstance(constant, int) and fits(constant):
                 priority = str(constant)
             else:
                 priority = value(body, it.value, INT)
@@ -284,17 +282,17 @@ def copied_to(body: Body, key: str, output: str) -> None:
 
 
 def left_unset(body: Body, output: str) -> None:
-    """Writes the rule that holds a scalar output for ever, so that it stays unset: the run then ends stuck."""
+    """Writes the rule that holds the right to write an output or a container for ever, so that it stays unset or open: the run then ends stuck."""
     kind = body.now.rights[output].type
-    name = f"never_{kind.spelling}"
-    register = "number" if kind == INT else "words"
+    name = f"never_{kind.spelling}".replace(" ", "_")
+    body.unit.version_2 = body.unit.version_2 or kind.needs_version_2
     body.unit.helpers[name] = [
-        "; Waits for what it would store itself, so its task never comes, and `unset` stays unset.",
+        "; Waits for what it would store itself, so its task never comes, and `unset` stays as it is.",
         f"proc leaf {name}(waits: closed int, own: write int, unset: write {kind.spelling})",
-        f"regs {register}: {kind.spelling}" + ("" if kind == INT else ", number: int"),
+        "regs number: int" + (", words: text" if kind == TEXT else ""),
         "DROPR waits",
         "STORE own number",
-        f"STORE unset {register}",
+        f"STORE unset {'number' if kind == INT else 'words'}" if kind.is_scalar else "DROPW unset",
         "RET",
     ]
     key = body.new_key()

@@ -7,12 +7,13 @@ import ast
 from typing import List, Optional
 
 from .body import Body
+from .constants import Constant, fits
 from .kinds import called
-from .source import Constant, constant_of
 from .types import INT, TEXT, DataType, Kind
 
 _PLAIN = {ast.Add: "ADD", ast.Sub: "SUB", ast.Mult: "MUL"}
-_MOST_TEXT = 4096
+_LEAVES = "the result may leave 64 bits"
+_LONG = "the text may have more than 4096 bytes"
 
 
 def spelled(value: Constant) -> str:
@@ -25,19 +26,24 @@ def spelled(value: Constant) -> str:
 
 def value(body: Body, node: ast.expr, asked: Optional[DataType] = None, into: Optional[str] = None) -> str:
     """Writes code that evaluates an expression, and returns the register that has the value: `into` if it is given."""
-    kind = kind_of(body, node)
-    if kind.form != "value":
-        what = "is known only when its task has run" if kind.form == "future" else "is a container"
-        body.fail(f"{ast.unparse(node)} {what}: give it to a task as an argument", node)
-    if asked is not None and kind.type != asked:
-        body.fail(f"expected {asked}, found {ast.unparse(node)}, which is {kind.type}", node)
-    constant = constant_of(node, body.source.constants)
-    if constant is not None and not (isinstance(node, ast.Name) and node.id in body.kinds.found):
+    kind = _value_kind(body, node, asked)
+    constant = body.source.constants.of(node)
+    if constant is not None:
         return put_constant(body, constant, node, into)
     if isinstance(node, ast.Name):
         return _copied(body, _variable(body, node), into)
-    register = _computed(body, node, kind, into)
-    return register
+    return _computed(body, node, kind, into)
+
+
+def _value_kind(body: Body, node: ast.expr, asked: Optional[DataType]) -> Kind:
+    """Returns the kind of an expression, which is a value, and of the type that is asked for, if one is."""
+    kind = kind_of(body, node)
+    if kind.form != "value":
+        what = "is known only when its task has run" if kind.form == "future" else "is a container"
+        body.fail(f"{body.source.shown(node)} {what}: give it to a task as an argument", node)
+    if asked is not None and kind.type != asked:
+        body.fail(f"expected {asked}, found {body.source.shown(node)}, which is {kind.type}", node)
+    return kind
 
 
 def kind_of(body: Body, node: ast.expr) -> Kind:
@@ -45,31 +51,26 @@ def kind_of(body: Body, node: ast.expr) -> Kind:
     kind = body.kinds.kind_of(node)
     if kind is not None:
         return kind
+    functions = {it.func for it in ast.walk(node) if isinstance(it, ast.Call)}
     for it in ast.walk(node):
-        if isinstance(it, ast.Name) and body.kinds.kind_of(it) is None and not _is_called(node, it):
+        if isinstance(it, ast.Name) and body.kinds.kind_of(it) is None and it not in functions:
             body.fail(f"{it.id} isn't known here: it is no variable, parameter, constant or function", it)
     name = called(node)
     if name is not None and name in body.source.functions:
         body.fail(f"{name} has {len(body.source.functions[name].results) or 'no'} results: one is needed here", node)
     if name is not None:
         body.fail(f"{name} is no function of this file, and not of the language", node)
-    body.fail(f"{ast.unparse(node)} is not of the language here", node)
-
-
-def _is_called(root: ast.expr, name: ast.Name) -> bool:
-    return any(isinstance(it, ast.Call) and it.func is name for it in ast.walk(root))
+    body.fail(f"{body.source.shown(node)} is not of the language here", node)
 
 
 def put_constant(body: Body, constant: Constant, node: ast.AST, into: Optional[str] = None) -> str:
     """Writes a constant into a register."""
     if isinstance(constant, int):
-        if not -(2**63) <= constant < 2**63:
-            body.fail(f"{constant} doesn't fit in 64 bits", node)
+        if not fits(constant):
+            body.fail("the number doesn't fit in 64 bits", node)
         register = into or body.temporary(INT)
         body.code.put("INT", register, constant)
         return register
-    if len(constant.encode()) > _MOST_TEXT:
-        body.fail(f"the text has more than {_MOST_TEXT} bytes", node)
     register = into or body.temporary(TEXT)
     body.code.put("TEXT", register, spelled(constant))
     return register
@@ -90,7 +91,7 @@ def _copied(body: Body, register: str, into: Optional[str]) -> str:
 
 def _computed(body: Body, node: ast.expr, kind: Kind, into: Optional[str]) -> str:
     if isinstance(node, ast.BinOp):
-        return _binary(body, node, kind, into)
+        return _operations(body, node, into)
     if isinstance(node, ast.UnaryOp):
         return _unary(body, node, into)
     if isinstance(node, ast.IfExp):
@@ -101,28 +102,42 @@ def _computed(body: Body, node: ast.expr, kind: Kind, into: Optional[str]) -> st
         return _called(body, node, into)
     if isinstance(node, ast.NamedExpr):
         body.fail(":= is for the argument of check(..)", node)
-    body.fail(f"{ast.unparse(node)} is not of the language", node)
+    body.fail(f"{body.source.shown(node)} is not of the language", node)
 
 
-def _binary(body: Body, node: ast.BinOp, kind: Kind, into: Optional[str]) -> str:
-    if kind.type == TEXT:
-        left, right = value(body, node.left, TEXT), value(body, node.right, TEXT)
-        body.code.at(node)
-        return _put(body, "CAT", TEXT, into, left, right)
-    plain = _PLAIN.get(type(node.op))
-    if plain is None and not isinstance(node.op, (ast.FloorDiv, ast.Mod)):
+def _operations(body: Body, node: ast.BinOp, into: Optional[str]) -> str:
+    """Evaluates `a + b - c`, or another chain of operations each of which is the left operand of the next."""
+    chain, first = [node], node.left
+    while isinstance(first, ast.BinOp) and body.source.constants.of(first) is None:
+        _value_kind(body, first, _operands(body, chain[-1]))
+        chain.append(first)
+        first = first.left
+    register = value(body, first, _operands(body, chain[-1]))
+    for it in reversed(chain):
+        register = _operated(body, it, register, into if it is node else None)
+    return register
+
+
+def _operands(body: Body, node: ast.BinOp) -> DataType:
+    """Returns the type of an operation's operands, which its result has too."""
+    kind = kind_of(body, node)
+    if kind.type == INT and not isinstance(node.op, (ast.Add, ast.Sub, ast.Mult, ast.FloorDiv, ast.Mod)):
         advice = "; // divides ints" if isinstance(node.op, ast.Div) else ""
-        body.fail(f"the operator of {ast.unparse(node)} is not of the language: + - * // % are{advice}", node)
-    left = value(body, node.left, INT)
-    if plain is not None:
-        right = value(body, node.right, INT)
-        body.code.at(node)
-        return _put(body, plain, INT, into, left, right)
-    divisor = constant_of(node.right, body.source.constants)
-    if isinstance(node.right, ast.Name) and node.right.id in body.kinds.found:
-        divisor = None
-    right = value(body, node.right, INT)
+        body.fail(f"the operator of {body.source.shown(node)} is not of the language: + - * // % are{advice}", node)
+    return kind.type
+
+
+def _operated(body: Body, node: ast.BinOp, left: str, into: Optional[str]) -> str:
+    """Writes one operation, whose left operand is in a register."""
+    operands = _operands(body, node)
+    right = value(body, node.right, operands)
     body.code.at(node)
+    if operands == TEXT:
+        return _put(body, "CAT", TEXT, into, left, right, cause=_LONG)
+    plain = _PLAIN.get(type(node.op))
+    if plain is not None:
+        return _put(body, plain, INT, into, left, right)
+    divisor = body.source.constants.of(node.right)
     divide = _floored if isinstance(node.op, ast.FloorDiv) else _remainder
     result = divide(body, left, right, divisor if isinstance(divisor, int) else None)
     for it in (left, right):
@@ -139,14 +154,14 @@ def _moved(body: Body, register: str, into: Optional[str]) -> str:
     return into
 
 
-def _put(body: Body, name: str, kind: DataType, into: Optional[str], *operands: str) -> str:
+def _put(body: Body, name: str, kind: DataType, into: Optional[str], *operands: str, cause: str = _LEAVES) -> str:
     """Writes an instruction that may be refused; its operands are returned, and its result may be in one of them."""
     register = into
     if register is None:
         for it in operands:
             body.values.release(it)
         register = body.temporary(kind)
-    body.code.put(name, register, *operands, body.refused())
+    body.code.put(name, register, *operands, body.refused(cause))
     for it in operands:
         if it != register:
             body.values.release(it)
@@ -172,15 +187,21 @@ def _signs(body: Body, remainder: str, right: str, divisor: Optional[int], adjus
     body.code.label(adjust)
 
 
+def _division(divisor: Optional[int]) -> str:
+    """Says why a division may be refused."""
+    return "the divisor may be 0" if not divisor else _LEAVES
+
+
 def _floored(body: Body, left: str, right: str, divisor: Optional[int]) -> str:
     """Python's //: the quotient towards zero, and one less if what is left has another sign than the divisor."""
     adjust, done = body.new_label("floor"), body.new_label("divided")
     quotient, remainder = body.temporary(INT), body.temporary(INT)
-    body.code.put("DIV", quotient, left, right, body.refused())
-    body.code.put("REM", remainder, left, right, body.refused())
+    cause = _division(divisor)
+    body.code.put("DIV", quotient, left, right, body.refused(cause))
+    body.code.put("REM", remainder, left, right, body.refused(cause))
     _signs(body, remainder, right, divisor, adjust, done)
     body.code.put("INT", remainder, 1)
-    body.code.put("SUB", quotient, quotient, remainder, body.refused())
+    body.code.put("SUB", quotient, quotient, remainder, body.refused(cause))
     body.code.label(done)
     body.values.release(remainder)
     return quotient
@@ -193,9 +214,10 @@ def _remainder(body: Body, left: str, right: str, divisor: Optional[int]) -> str
     if divisor is None or divisor == -1:
         body.code.put("INT", result, -1)
         body.code.put("JEQ", right, result, none)
-    body.code.put("REM", result, left, right, body.refused())
+    cause = _division(divisor)
+    body.code.put("REM", result, left, right, body.refused(cause))
     _signs(body, result, right, divisor, adjust, done)
-    body.code.put("ADD", result, result, right, body.refused())
+    body.code.put("ADD", result, result, right, body.refused(cause))
     body.code.put("JMP", done)
     if divisor is None or divisor == -1:
         body.code.label(none)
@@ -208,7 +230,7 @@ def _unary(body: Body, node: ast.UnaryOp, into: Optional[str]) -> str:
     if isinstance(node.op, ast.UAdd):
         return value(body, node.operand, INT, into)
     if not isinstance(node.op, ast.USub):
-        body.fail(f"{ast.unparse(node)} is no int or text", node)
+        body.fail(f"{body.source.shown(node)} is no int or text", node)
     zero = put_constant(body, 0, node)
     return _put(body, "SUB", INT, into, zero, value(body, node.operand, INT))
 
@@ -237,7 +259,7 @@ def _formatted(body: Body, node: ast.JoinedStr, into: Optional[str]) -> str:
             text = _as_text(body, part.value)
         else:
             text = value(body, part, TEXT)
-        result = text if result is None else _put(body, "CAT", TEXT, None, result, text)
+        result = text if result is None else _put(body, "CAT", TEXT, None, result, text, cause=_LONG)
     if result is None:
         return put_constant(body, "", node, into)
     return _copied_back(body, result, into)
@@ -266,7 +288,7 @@ def _called(body: Body, node: ast.Call, into: Optional[str]) -> str:
         body.fail(f"{name} takes no keywords", node)
     counts = {"str": 1, "int": 1, "len": 1, "byte_length": 1, "abs": 1, "min": 2, "max": 2, "nth": 2}
     if name not in counts:
-        body.fail(f"{ast.unparse(node)} is not of the language here", node)
+        body.fail(f"{body.source.shown(node)} is not of the language here", node)
     if len(node.args) != counts[name]:
         body.fail(f"{name} takes {counts[name]} argument{'s' if counts[name] > 1 else ''}", node)
     if name == "str":
@@ -274,7 +296,7 @@ def _called(body: Body, node: ast.Call, into: Optional[str]) -> str:
     if name == "int":
         text = value(body, node.args[0], TEXT)
         body.code.at(node)
-        return _put(body, "READI", INT, into, text)
+        return _put(body, "READI", INT, into, text, cause="the text may be no number")
     if name == "byte_length":
         text = value(body, node.args[0], TEXT)
         register = into or body.temporary(INT)
@@ -301,7 +323,7 @@ def _nth(body: Body, node: ast.Call, into: Optional[str]) -> str:
     kind = kind_of(body, node.args[0]).type
     index = value(body, node.args[1], INT)
     register = into or body.temporary(kind.subscript)
-    body.code.put("SUBAT" if kind.subscript == INT else "TSUBAT", register, over, index, body.refused())
+    body.code.put("SUBAT" if kind.subscript == INT else "TSUBAT", register, over, index, body.refused(f"{body.source.shown(node)} may not be there"))
     body.unit.version_2 = body.unit.version_2 or kind.subscript == TEXT
     body.values.release(index)
     return register
@@ -315,8 +337,8 @@ def closed_container(body: Body, node: ast.expr) -> str:
             return right.register
     kind = kind_of(body, node)
     if kind.type.is_scalar:
-        body.fail(f"{ast.unparse(node)} is no container", node)
-    body.fail(f"{ast.unparse(node)} isn't complete here: give it to a task, whose parameter it is", node)
+        body.fail(f"{body.source.shown(node)} is no container", node)
+    body.fail(f"{body.source.shown(node)} isn't complete here: give it to a task, whose parameter it is", node)
 
 
 def _least(body: Body, name: str, arguments: List[ast.expr], into: Optional[str]) -> str:
@@ -327,7 +349,7 @@ def _least(body: Body, name: str, arguments: List[ast.expr], into: Optional[str]
         result, done = body.temporary(INT), body.new_label("chosen")
         body.code.put("COPY", result, first)
         body.code.put("JLT", zero, first, done)
-        body.code.put("SUB", result, zero, first, body.refused())
+        body.code.put("SUB", result, zero, first, body.refused(_LEAVES))
         others = [first, zero]
     else:
         second = value(body, arguments[1], INT)

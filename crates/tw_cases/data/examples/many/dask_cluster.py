@@ -11,4 +11,5 @@ from dask.distributed import Client
 if __name__ == "__main__":
     program = yuglemit.load(pathlib.Path(sys.argv[1]))
     with Client(sys.argv[3]) as client:
-        folder.table(program, folder.read(program, sys.argv[2]), client.get_executor(pure=False))
+        window = 4 * sum(client.ncores().values())
+        folder.table(program, folder.read(program, sys.argv[2]), client.get_executor(pure=False), window=window)

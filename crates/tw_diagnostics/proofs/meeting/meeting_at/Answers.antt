@@ -1,7 +1,6 @@
-use Rattle.std.proofs.Common.{List, refl, subst, sym, ◌∙◌}
+use Rattle.std.proofs.Common.{refl, subst, sym, ◌∙◌}
 use Rattle.std.proofs.lemmas.Option.{same_Some}
-use Rattle.tw_code.specs.declared.instr.Instr.{Instr}
-use Rattle.tw_code.specs.accepting.WellTyped.{LeadsTo}
+use Rattle.tw_code.specs.accepting.WellTyped.{Brings}
 use Rattle.tw_diagnostics.specs.Meetings.{IsDifference, IsMeeting}
 use Rattle.tw_diagnostics.proofs.ReasonNames.{Typing}
 use Rattle.tw_diagnostics.proofs.Getting.{here}
@@ -10,8 +9,9 @@ use Rattle.tw_diagnostics.proofs.meeting.meeting_at.Goals as goal
 
 pub returns-in_err-first : goal.returns-in_err-first
 returns-in_err-first c =
+    let typing = here c.args.typings.now c.args.place c.in_ok-here.here.now c.in_ok-here.ensures.lookup.3.0 c.in_ok-here.ensures.lookup.1 in
     none_there (IsMeeting c.args.procedures.now c.args.procedure.now c.args.typings.now c.args.place) c.from_residual-in_err-first.result c.from_residual-in_err-first.ensures
-    (λ m is. c.in_err-first.ensures m.first (subst (λ (code : List Instr). LeadsTo code m.first c.args.place) (sym c.as_slice.ensures) is.first))
+    (λ m is. c.in_err-first.ensures m.first (subst (λ (t : Typing). Brings c.args.procedures.now c.args.procedure.now c.args.typings.now m.first c.args.place t) (same_Some is.here c.in_ok-here.here.now (sym is.typing ∙ typing)) is.first))
 
 pub returns-in_err-second : goal.returns-in_err-second
 returns-in_err-second c =
@@ -26,7 +26,7 @@ returns c =
     record {
       here = c.in_ok-here.here.now;
       typing = here c.args.typings.now c.args.place c.in_ok-here.here.now c.in_ok-here.ensures.lookup.3.0 c.in_ok-here.ensures.lookup.1;
-      first = subst (λ (code : List Instr). LeadsTo code c.in_ok-first.first c.args.place) c.as_slice.ensures (c.in_ok-first.ensures);
+      first = c.in_ok-first.ensures;
       other = found.0;
       second = found.1;
       difference = found.2;

@@ -15,18 +15,18 @@ returns c = λ taken are.
     let all : lines_in c.loop-index.yielded ≡ lines c.args.text.now = all_lines (lines c.args.text.now) c.loop-index.yielded t.0 in
     come_end (seen_procedures c.args.procedures.now) (lines c.args.text.now) (length (lines_in c.loop-index.yielded)) (seen_names c.loop-index.names) c.loop-index.out.items c.loop-index.invariant.come (ap length all) taken are
 
-pub returns-in_err-names : goal.returns-in_err-names
-returns-in_err-names c = λ all are.
+pub returns-in_err-put_numbered_line : goal.returns-in_err-put_numbered_line
+returns-in_err-put_numbered_line c = λ all are.
     let road = YieldsList-at c.into_iter-index-iterator.ensures.into_iter_gives (YieldsList-from_enumerate (YieldsList-at c.enumerate-index-items.ensures.source (YieldsList-from_lines c.args.text.now c.lines.ensures.rest)) c.enumerate-index-items.ensures.count) in
     let t = YieldsList-turn road c.loop-index.yielded _ c.loop-index.yielded_by _ _ (c.in-Some.index, c.in-Some.line) c.in-Some.is c.next.ensures.steps in
     let at = line_turn (lines c.args.text.now) c.loop-index.yielded c.in-Some.index c.in-Some.line.now (YieldsList-so_far road c.loop-index.yielded _ c.loop-index.yielded_by) t.0 t.1 in
-    let p = err_from_is_err_and c.from_residual-in_err-names.result c.from_residual-in_err-names.ensures.1 in
+    let p = err_from_is_err_and c.from_residual-in_err-put_numbered_line.result c.from_residual-in_err-put_numbered_line.ensures.1 in
     let same = not_added c.in-Some.line.now c.loop-index.out.items c.put_unchanged.new.out.items c.in_ok-put_unchanged.field-0 c.in_ok-put_unchanged.ensures c.if-not-branch.true in
     let come = subst (λ (out : List ℕ). HasCome (seen_procedures c.args.procedures.now) (lines c.args.text.now) (length (lines_in c.loop-index.yielded)) (seen_names c.loop-index.names) out) same c.loop-index.invariant.come in
-    rw (p.1, p.2) (stopped (seen_procedures c.args.procedures.now) (lines c.args.text.now) (lines_in c.loop-index.yielded) at.others c.in-Some.line.now c.in-Some.index (seen_names c.loop-index.names) c.put_unchanged.new.out.items c.in_err-names.field-0.0 at.parts at.index_is come c.in_err-names.ensures all are)
+    rw (p.1, p.2) (stopped (seen_procedures c.args.procedures.now) (lines c.args.text.now) (lines_in c.loop-index.yielded) at.others c.in-Some.line.now c.in-Some.index (seen_names c.loop-index.names) c.put_unchanged.new.out.items c.in_err-put_numbered_line.field-0.0 at.parts at.index_is come c.in_err-put_numbered_line.ensures all are)
 
-pub loop-index-preserved-then-not-branch : goal.loop-index-preserved-then-not-branch
-loop-index-preserved-then-not-branch c =
+pub loop-index-preserved-in_ok-put_numbered_line : goal.loop-index-preserved-in_ok-put_numbered_line
+loop-index-preserved-in_ok-put_numbered_line c =
     let road = YieldsList-at c.into_iter-index-iterator.ensures.into_iter_gives (YieldsList-from_enumerate (YieldsList-at c.enumerate-index-items.ensures.source (YieldsList-from_lines c.args.text.now c.lines.ensures.rest)) c.enumerate-index-items.ensures.count) in
     let t = YieldsList-turn road c.loop-index.yielded _ c.loop-index.yielded_by _ _ (c.in-Some.index, c.in-Some.line) c.in-Some.is c.next.ensures.steps in
     let at = line_turn (lines c.args.text.now) c.loop-index.yielded c.in-Some.index c.in-Some.line.now (YieldsList-so_far road c.loop-index.yielded _ c.loop-index.yielded_by) t.0 t.1 in
@@ -35,8 +35,8 @@ loop-index-preserved-then-not-branch c =
     record {
       next = search rules;
       finite = search rules;
-      come = subst (λ (n : ℕ). HasCome (seen_procedures c.args.procedures.now) (lines c.args.text.now) n (seen_names c.in_ok-names.names) c.put_numbered_line.new.out.items) (one_more_length c.loop-index.yielded (c.in-Some.index, c.in-Some.line))
-          (come_more (seen_procedures c.args.procedures.now) (lines c.args.text.now) (lines_in c.loop-index.yielded) at.others c.in-Some.line.now c.in-Some.index (seen_names c.loop-index.names) (seen_names c.in_ok-names.names) c.put_unchanged.new.out.items c.put_numbered_line.new.out.items at.parts at.index_is come c.in_ok-names.ensures);
+      come = subst (λ (n : ℕ). HasCome (seen_procedures c.args.procedures.now) (lines c.args.text.now) n (seen_names c.put_numbered_line.new.names) c.put_numbered_line.new.out.items) (one_more_length c.loop-index.yielded (c.in-Some.index, c.in-Some.line))
+          (come_more (seen_procedures c.args.procedures.now) (lines c.args.text.now) (lines_in c.loop-index.yielded) at.others c.in-Some.line.now c.in-Some.index (seen_names c.loop-index.names) (seen_names c.put_numbered_line.new.names) c.put_unchanged.new.out.items c.put_numbered_line.new.out.items at.parts at.index_is come c.in_ok-put_numbered_line.ensures);
     }
 
 pub loop-index-preserved : goal.loop-index-preserved

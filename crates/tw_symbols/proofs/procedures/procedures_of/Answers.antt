@@ -8,16 +8,16 @@ use Rattle.tw_symbols.proofs.NoHeads.{no_procedure}
 use Rattle.tw_symbols.specs.RightNames.{HasNoHead}
 use Rattle.tw_symbols.proofs.procedures.procedures_of.Goals as goal
 
-pub loop-index-preserved-then-may_begin_procedure : goal.loop-index-preserved-then-may_begin_procedure
-loop-index-preserved-then-may_begin_procedure c =
+pub loop-index-preserved-in-Continue-1 : goal.loop-index-preserved-in-Continue-1
+loop-index-preserved-in-Continue-1 c =
     let road = YieldsList-at c.into_iter-index-iterator.ensures.into_iter_gives (YieldsList-from_enumerate (YieldsList-at c.enumerate-index-items.ensures.source (YieldsList-from_lines c.args.text.now c.lines.ensures.rest)) c.enumerate-index-items.ensures.count) in
     let t = YieldsList-turn road c.loop-index.yielded _ c.loop-index.yielded_by _ _ (c.in-Some.index, c.in-Some.line) c.in-Some.is c.next.ensures.steps in
     let at = line_turn (lines c.args.text.now) c.loop-index.yielded c.in-Some.index c.in-Some.line.now (YieldsList-so_far road c.loop-index.yielded _ c.loop-index.yielded_by) t.0 t.1 in
     record {
       next = search rules;
       finite = search rules;
-      gathered = subst (λ (ls : List (List ℕ)). AreGathered ls (seen_procedures c.in_ok-procedures.procedures)) (sym (one_line_in c.loop-index.yielded (c.in-Some.index, c.in-Some.line)))
-          (gather_more (lines_in c.loop-index.yielded) c.in-Some.line.now c.in-Some.index (seen_procedures c.loop-index.procedures) (seen_procedures c.in_ok-procedures.procedures) at.index_is c.loop-index.invariant.gathered c.in_ok-procedures.ensures);
+      gathered = subst (λ (ls : List (List ℕ)). AreGathered ls (seen_procedures c.add_line.new.procedures)) (sym (one_line_in c.loop-index.yielded (c.in-Some.index, c.in-Some.line)))
+          (gather_more (lines_in c.loop-index.yielded) c.in-Some.line.now c.in-Some.index (seen_procedures c.loop-index.procedures) (seen_procedures c.add_line.new.procedures) at.index_is c.loop-index.invariant.gathered c.in_ok-add_line.ensures);
     }
 
 pub loop-index-preserved : goal.loop-index-preserved

@@ -1,0 +1,7 @@
+use Rattle.std.proofs.Common.{◌<◌, ℕ}
+use Rattle.tw_copies.specs.Marks.{IsMarkedInsertion}
+use Rattle.tw_copies.proofs.insertions.first_insertion.Given as goal
+
+-- no procedure so far has such a place
+abbrev pub invariant-loop-procedure : goal.invariant-loop-procedure
+invariant-loop-procedure l = (number place : ℕ) → number < l.procedure → IsMarkedInsertion l.program l.marks number place → ⊥

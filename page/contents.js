@@ -1,0 +1,177 @@
+// @ts-check
+// SPDX-License-Identifier: Apache-2.0
+// What is on the page: a program with its inputs and layout. Undo, Redo, the list of programs, the address and the storage keep it, so that nothing is lost.
+import {$, h} from "./dom.js";
+import {keepOwn, owns, ownTitle} from "./own.js";
+import {keep} from "./share.js";
+
+/** @typedef {import("./share.js").Kept} Kept */
+/** @typedef {import("./editor.js").Editor} Editor */
+/** @typedef {import("./fields.js").Fields} Fields */
+/** An example: its texts by their syntax, with its title, inputs and layout; its source in Python, if it has one.
+ * @typedef {{name: string, title: string, inputs?: string[], engines?: number, servers?: number, workers?: number, ends: string, texts: Record<string, string>, python?: string}} Example */
+/** @typedef {{title: string, examples: Example[]}} Group */
+/** Contents with the number of the own program that they are; 0 if they are none.
+ * @typedef {Kept & {own: number}} Page */
+
+const MOST = 30, SOON = 250;
+
+export class Contents {
+    /** @param {Editor} editor @param {Fields} fields @param {Group[]} groups @param {() => number} event the event that is shown */
+    constructor(editor, fields, groups, event) {
+        this.editor = editor;
+        this.fields = fields;
+        this.groups = groups;
+        this.examples = new Map(groups.flatMap(group => group.examples).map(it => [it.name, it]));
+        this.event = event;
+        this.example = "";
+        this.own = 0;
+        /** Contents that Undo and Redo restore.
+         * @type {Page[]} */
+        this.before = [];
+        /** @type {Page[]} */
+        this.after = [];
+        /** The contents before the reader's own edits.
+         * @type {Page | null} */
+        this.shown = null;
+        this.saving = 0;
+        this.pick = /** @type {HTMLSelectElement} */ ($("pick"));
+        this.spelling = /** @type {HTMLSelectElement} */ ($("spelling"));
+        addEventListener("pagehide", () => this.keepOwn());
+    }
+
+    /** @returns {Page} */
+    get current() {
+        return {text: this.editor.text, inputs: this.fields.words(), layout: this.fields.layout, event: this.event(), example: this.example, own: this.own};
+    }
+
+    /** Returns the text of contents: that of their example if they have none of their own.
+     * @param {Kept} what */
+    textOf(what) {
+        const [name, form] = what.example.split(" ");
+        return what.text || this.examples.get(name)?.texts[form] || "";
+    }
+
+    /** Returns an example's contents.
+     * @param {string} name @param {string} form @returns {Page | null} */
+    ofExample(name, form) {
+        const it = this.examples.get(name);
+        if (!it) return null;
+        const known = it.texts[form] ? form : Object.keys(it.texts)[0];
+        return {text: "", inputs: it.inputs ?? [], layout: [it.engines ?? 1, it.servers ?? 1, it.workers ?? 1, 10000], event: 0, example: `${name} ${known}`, own: 0};
+    }
+
+    /** Returns the contents of a link. A text that is an own program is that one.
+     * @param {Kept} linked @returns {Page} */
+    ofLink(linked) {
+        const text = this.textOf(linked), honest = linked.example && text === this.textOf({...linked, text: ""});
+        return {...linked, example: honest ? linked.example : "", own: honest ? 0 : owns().find(it => it.text === text)?.id ?? 0};
+    }
+
+    /** Puts contents on the page.
+     * @param {Page} what @param {boolean} undoable */
+    put(what, undoable) {
+        this.example = what.example;
+        this.own = what.own;
+        this.editor.set(this.textOf(what), undoable);
+        this.fields.set(what.inputs);
+        this.fields.layout = what.layout;
+        this.shown = {...what, text: this.textOf(what)};
+        this.list();
+    }
+
+    /** Remembers the current contents for Undo. */
+    remember() { this.push(this.current); }
+
+    /** @param {Page} page */
+    push(page) {
+        this.before.push(page);
+        if (this.before.length > MOST) this.before.shift();
+        this.after = [];
+        this.buttons();
+    }
+
+    /** Takes the contents to restore from one list, and puts the current ones into the other.
+     * @param {Page[]} from @param {Page[]} to */
+    restored(from, to) {
+        const what = from.pop();
+        if (what) { to.push(this.current); this.put(what, true); }
+        this.buttons();
+        return what ?? null;
+    }
+
+    /** Returns the own programs as contents, the last edited first.
+     * @returns {Page[]} */
+    mine() { return owns().map(it => ({text: it.text, inputs: it.inputs, layout: it.layout, event: it.event, example: "", own: it.id})); }
+
+    undo() { return this.restored(this.before, this.after); }
+    redo() { return this.restored(this.after, this.before); }
+
+    buttons() {
+        /** @type {HTMLButtonElement} */ ($("undo")).disabled = !this.before.length;
+        /** @type {HTMLButtonElement} */ ($("redo")).disabled = !this.after.length;
+    }
+
+    /** Notices that the reader has edited the text: what was there is kept for Undo, and the program becomes an own one.
+     * @param {boolean} back whether the browser's own undo or redo did it */
+    edited(back) {
+        const {text} = this.editor, known = back && [...this.before, ...this.after].find(it => this.textOf(it) === text);
+        if (known) { this.adopt(known); return; }
+        if (this.own || this.shown && text === this.shown.text) return;
+        if (this.shown) this.push({...this.shown, inputs: this.fields.words(), layout: this.fields.layout, event: this.event()});
+        this.example = "";
+        this.own = Date.now();
+        this.keepOwn();
+        this.list();
+    }
+
+    /** Takes over what the browser's undo brought back.
+     * @param {Page} known */
+    adopt(known) {
+        this.example = known.example;
+        this.own = known.own;
+        this.fields.set(known.inputs);
+        this.fields.layout = known.layout;
+        this.shown = {...known, text: this.textOf(known)};
+        this.list();
+    }
+
+    /** Saves an own program at once. */
+    keepOwn() {
+        if (this.own && !keepOwn({...this.current, id: this.own, when: Date.now()})) $("said").textContent = "The program is too long for this browser's storage. Download its text below.";
+    }
+
+    /** Saves after a short delay. */
+    save() {
+        clearTimeout(this.saving);
+        this.saving = setTimeout(() => this.saveNow(), SOON);
+    }
+
+    /** Saves in the storage and the address. Returns whether the address has it. */
+    async saveNow() {
+        clearTimeout(this.saving);
+        this.keepOwn();
+        const linked = await keep(this.current);
+        $("share").setAttribute("aria-disabled", String(!linked));
+        return linked;
+    }
+
+    /** Fills the list of programs, and shows which one is on the page, and in which syntaxes there is it. */
+    list() {
+        const [name, form] = this.example.split(" "), texts = this.examples.get(name)?.texts ?? {}, mine = owns();
+        const foreign = !this.own && !this.example;
+        this.pick.replaceChildren(h("option", {value: "", hidden: !foreign}, "a program from elsewhere"),
+            ...mine.length ? [h("optgroup", {label: "Your own programs"}, ...mine.map(it => h("option", {value: `own ${it.id}`}, ownTitle(it))))] : [],
+            ...this.groups.map(({title, examples}) => h("optgroup", {label: title}, ...examples.map(it => h("option", {value: it.name}, it.title)))));
+        this.pick.value = this.own ? `own ${this.own}` : name;
+        $("spelled").hidden = Object.keys(texts).length < 2;
+        this.spelling.value = form ?? "names";
+    }
+
+    /** Returns the contents that the list has under a name.
+     * @param {string} value @param {string} form @returns {Page | null} */
+    listed(value, form) {
+        const [kind, id] = value.split(" ");
+        return kind === "own" ? this.mine().find(it => it.own === +id) ?? null : this.ofExample(value, form);
+    }
+}
