@@ -16,7 +16,9 @@ use std::sync::Wait;
 use std::thread::Threads;
 use std::time::Clock;
 use tw_cli::rejects;
-use tw_files::{NoInput, SessionInput, reads_program, session_input, words_without_files};
+use tw_files::{
+    InputFiles, NoInput, SessionInput, reads_program, session_input, words_without_files,
+};
 use tw_session::{InStream, Status, complain, is_quiet, session, without_words};
 
 /// The standard streams.
@@ -35,6 +37,13 @@ fn words_of(alloc: Global, command: &str, others: &[String]) -> Result<Vec<Strin
         words.push(word.clone()?)?;
     }
     Ok(words)
+}
+
+/// Puts lines of inputs after a program.
+fn with_lines(mut program: Vec<u8>, lines: &[u8]) -> Result<Vec<u8>, AllocError> {
+    program.extend_from_slice(b"\ninputs\n")?;
+    program.extend_from_slice(lines)?;
+    Ok(program)
 }
 
 /// Returns whether a word may be meant as an input: the command takes inputs, none has a file, and the word looks like no file's name.
@@ -95,16 +104,44 @@ impl<'a, H: AllocGlobal + Files + Threads + Wait + Clock + Sync> Tool<'a, H> {
         self.hold(words, &mut stdin, None, true)
     }
 
-    /// Holds a session over what `session_input` returned for the arguments after a command.
-    fn hold_over(&self, others: &[String], made: SessionInput) -> Status {
-        let words = made.words;
-        match made.bytes {
-            None => self.hold_over_input(&words),
-            Some(bytes) => {
-                let mut reader = bytes.as_slice();
-                let unnamed = unnamed_path(others, &bytes);
-                self.hold(&words, &mut reader, unnamed, false)
+    /// Holds a session over what was read of files.
+    fn hold_over_bytes(&self, others: &[String], words: &[String], bytes: &[u8]) -> Status {
+        let mut reader = bytes;
+        let unnamed = unnamed_path(others, bytes);
+        self.hold(words, &mut reader, unnamed, false)
+    }
+
+    /// Holds a session over a program and the lines of `--each`, which have a file of their own.
+    fn hold_over_lines(
+        &self,
+        others: &[String],
+        words: &[String],
+        program: Vec<u8>,
+        path: &str,
+    ) -> Exit {
+        let files = SystemFiles::new(self.rt, self.streams.stdin, self.streams.stderr);
+        match files.read_file(self.rt.alloc(), path) {
+            Ok(lines) => match with_lines(program, &lines) {
+                Ok(bytes) => Exit::Session(self.hold_over_bytes(others, words, &bytes)),
+                Err(_) => {
+                    let mut stdout = self.streams.stdout;
+                    Exit::Session(without_words(ErrorKind::OutOfMemory, &mut stdout))
+                }
+            },
+            Err(error) => {
+                let _printed = complain_unread(&self.streams.stderr, path, &error);
+                Exit::Unread
             }
+        }
+    }
+
+    /// Holds a session over what `session_input` returned for the arguments after a command.
+    fn hold_over(&self, others: &[String], made: SessionInput<'_>) -> Exit {
+        let words = made.words;
+        match (made.bytes, made.lines) {
+            (None, _) => Exit::Session(self.hold_over_input(&words)),
+            (Some(program), Some(path)) => self.hold_over_lines(others, &words, program, path),
+            (Some(bytes), None) => Exit::Session(self.hold_over_bytes(others, &words, &bytes)),
         }
     }
 
@@ -134,7 +171,7 @@ impl<'a, H: AllocGlobal + Files + Threads + Wait + Clock + Sync> Tool<'a, H> {
         let mut stdout = self.streams.stdout;
         let files = SystemFiles::new(self.rt, self.streams.stdin, self.streams.stderr);
         match session_input(&files, self.rt.alloc(), command, others) {
-            Ok(made) => Exit::Session(self.hold_over(others, made)),
+            Ok(made) => self.hold_over(others, made),
             Err(NoInput::Unread(path, error)) => self.answer_unread(command, others, path, &error),
             Err(NoInput::Misfit(path, why)) => {
                 let _printed = complain_misfit(&self.streams.stderr, path, why);
