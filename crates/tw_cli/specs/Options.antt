@@ -144,6 +144,10 @@ event_order = codes "order"
 abbrev pub inputs : Text
 inputs = codes "inputs"
 
+-- the flag of `replay` and `picture`: the trace, which is part of what is read, is in a file of its own
+abbrev pub events : Text
+events = codes "events"
+
 -- the flag of `run`: the inputs are part of what is read, as JSON
 abbrev pub inputs_json : Text
 inputs_json = codes "inputs-json"

@@ -98,6 +98,8 @@ pub fn commands_are_taken()
         × (asked_by_words (codes "run" ∷ codes "--inputs" ∷ codes "--text" ∷ []) ≡ Runs Assembly written.Report (actors 1 1 1) uncapped 10000 false false None) }
     ensures replay_stats { (word_faults (codes "replay" ∷ codes "--stats" ∷ []) ≡ [])
         × (asked_by_words (codes "replay" ∷ codes "--stats" ∷ []) ≡ Replays Hex Numbers (actors 1 1 1) (Some [])) }
+    ensures replay_events { (word_faults (codes "replay" ∷ codes "--events" ∷ []) ≡ [])
+        × (asked_by_words (codes "replay" ∷ codes "--events" ∷ []) ≡ Replays Hex Report (actors 1 1 1) (Some [])) }
     ensures replay_inputs { (word_faults (codes "replay" ∷ codes "--inputs" ∷ []) ≡ [])
         × (asked_by_words (codes "replay" ∷ codes "--inputs" ∷ []) ≡ Replays Hex Report (actors 1 1 1) None) }
     ensures explain { (word_faults (codes "explain" ∷ codes "V04" ∷ []) ≡ [])
@@ -150,6 +152,7 @@ pub fn strangers_are_refused()
     ensures places { word_faults (codes "run" ∷ codes "--places" ∷ []) ≡ UnknownArgument ∷ [] }
     ensures bounds_of { word_faults (codes "check" ∷ codes "--bounds=main.1" ∷ []) ≡ ValueValidation ∷ [] }
     ensures no_cap { word_faults (codes "run" ∷ codes "--most-data" ∷ codes "0" ∷ []) ≡ ValueValidation ∷ [] }
+    ensures run_events { word_faults (codes "run" ∷ codes "--events" ∷ []) ≡ UnknownArgument ∷ [] }
     ensures replay_caps { word_faults (codes "replay" ∷ codes "--most-data" ∷ codes "1" ∷ []) ≡ UnknownArgument ∷ [] }
     ensures bounds { word_faults (codes "disasm" ∷ codes "--bounds" ∷ []) ≡ UnknownArgument ∷ [] }
     ensures traces { word_faults (codes "run" ∷ codes "--trace" ∷ codes "--trace" ∷ []) ≡ ArgumentConflict ∷ [] }
