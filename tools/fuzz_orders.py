@@ -1,10 +1,11 @@
 """Fuzz tests of orders: a program whose insertions go by no copied right has one result in each order of events and each layout.
 
-The oracle has the rule of crates/tw_copies, and the machine of fuzz_machine.py, which makes events in random orders.
+The oracle has the rule of docs/FORMAT.md, `check --order`, and the machine of fuzz_machine.py, which makes events in random orders.
 """
 
 from __future__ import annotations
 
+import json
 import random
 from dataclasses import dataclass
 from typing import Iterator
@@ -124,7 +125,18 @@ class OrdersTest(RunTest):
     def fault(self, library: Library) -> str | None:
         if not self.is_accepted(library) or not has_targets(self.program, self.layout):
             return None
-        return self.orders_fault(library)
+        return self.check_fault(library) or self.orders_fault(library)
+
+    def check_fault(self, library: Library) -> str | None:
+        """Compares the last line of the check, as text and as JSON."""
+        _, text = library.session(["check", "--order"], self.hex)
+        return difference("check --order", order_line(self.program), text.splitlines()[-1]) or self.json_fault(library)
+
+    def json_fault(self, library: Library) -> str | None:
+        at = first_copy_insertion(self.program)
+        expected = "same" if at is None else {"procedure": at[0], "place": at[1]}
+        found = json.loads(library.session(["check", "--order", "--json"], self.hex)[1])["order"]
+        return None if found == expected else f"check --order --json: expected {expected}, got {found}"
 
     def runs(self) -> list[Machine]:
         """Makes a run in turn, and one in a random order for each layout."""

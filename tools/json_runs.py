@@ -113,6 +113,10 @@ def put_check_line(found: dict[str, Any], line: str) -> None:
         found["needs"] = {"engines": int(words[2]), "workers": int(words[4])}
     elif circle := re.fullmatch(r"bound none: procedure (\d+) at place (\d+) leads back to itself", line):
         found["circle"] = {"procedure": int(circle[1]), "place": int(circle[2])}
+    elif line == "order same":
+        found["order"] = "same"
+    elif shown := re.fullmatch(r"order may show in procedure (\d+) at place (\d+)", line):
+        found["order"] = {"procedure": int(shown[1]), "place": int(shown[2])}
     elif words[0] == "bounds":
         found["procedures"][int(words[1])]["bounds"] = bounds_of(words[2:16])
         if words[1] == "0":
@@ -237,7 +241,7 @@ def sessions_of_examples() -> Iterator[Session]:
         text = path.read_bytes()
         if path.suffix == ".tw":
             yield Session(path.name, "run", ("--text",), text)
-        for options in ((), ("--places",), ("--bounds", "--limit", "9"), ("--bounds=all",)):
+        for options in ((), ("--places",), ("--bounds", "--limit", "9"), ("--bounds=all",), ("--order",)):
             yield Session(path.name, "check", ("--text", *options), text)
         for options in ((), ("--places",)):
             yield Session(path.name, "disasm", ("--text", *options), text)

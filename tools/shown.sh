@@ -1,6 +1,6 @@
 #!/bin/sh
 # SPDX-License-Identifier: Apache-2.0
-# Runs each command `$ ./tw ..` that README.md, docs/ and examples/sessions.txt show, and those of tools/scripted.txt, which open files
+# Runs each command `$ ./tw ..` that README.md, docs/, examples/sessions.txt and orders.txt there show, and those of tools/scripted.txt, which open files
 # or use the shell, and compares its standard output with what is shown below it. After an error, standard error has to name its explanation. Also
 # compares the commands that `./tw --help` and the program list, and checks that the files for editors and shells are up to date. Prints each
 # difference, and fails if there is one.
@@ -11,7 +11,7 @@ trap 'rm -rf "$room"' EXIT
 awk -f "$root/tools/shown.awk" -v folder="$room" "$root/README.md" "$root"/docs/*.md
 ln -s "$root/examples" "$root/bench" "$root/CHANGELOG.md" "$root/tw" "$room"
 # The marker ends the last command.
-{ cat "$room/shown.txt" "$root/examples/sessions.txt" "$root/tools/scripted.txt"; echo '$ '; } >"$room/all"
+{ cat "$room/shown.txt" "$root/examples/sessions.txt" "$root/examples/orders.txt" "$root/tools/scripted.txt"; echo '$ '; } >"$room/all"
 program=$("$root/tools/tw-pick.sh" tw_main) || exit
 cd "$room" || exit
 

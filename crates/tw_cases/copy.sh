@@ -20,4 +20,5 @@ mkdir "$data" && cp -R examples "$data/examples" || exit 1
 awk -f tools/shown.awk -v folder="$data" README.md docs/*.md
 as_input "$data/shown.txt"
 as_input "$data/examples/sessions.txt"
+as_input "$data/examples/orders.txt"
 printf '$ ./tw check < examples/store_seven.hex\nnonsense\n' > "$data/control.txt"

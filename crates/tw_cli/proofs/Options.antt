@@ -23,7 +23,7 @@ use Rattle.tw_lexer.specs.Number.{IsRead, SpellsDigits}
 use Rattle.tw_lexer.specs.declared.numbers.TokenError.{TokenError}
 use Rattle.tw_lexer.specs.declared.numbers.TokenError.TheVariants.{Form, Limit}
 use Rattle.tw_types.specs.Layout.{ActorCounts}
-use Rattle.tw_cli.specs.Options.{HasActors, HasCaps, HasStretch, bounds_faults, cap_options, check_options, each, given_bounds, given_check, given_form, given_places, named_limit, NumberOption, actor_options, engines, first_shown, inputs, inputs_json, is_given, jobs, last_shown, limit, number_in, number_of, number_options, option_faults, servers, stretch_options, workers}
+use Rattle.tw_cli.specs.Options.{HasActors, HasCaps, HasStretch, bounds_faults, cap_options, check_options, each, given_bounds, given_check, given_event_order, given_form, given_places, named_limit, NumberOption, actor_options, engines, first_shown, inputs, inputs_json, is_given, jobs, last_shown, limit, number_in, number_of, number_options, option_faults, servers, stretch_options, workers}
 use Rattle.tw_cli.specs.Order.{HasReason, IsRequest}
 use Rattle.tw_cli.specs.CommandLine.{Asked, check_faults, drawing_faults, each_excludes, given_faults, given_words, input_faults, is_json_with_more, json_excludes, picture_faults, replay_faults, report_faults, run_faults, stretch_faults}
 use Rattle.tw_cli.specs.declared.command.NoOrder.TheVariants.{Refused}
@@ -174,7 +174,7 @@ pub only_bounds : (rows : List Row) (most : ℕ) (caps : Caps) → Some most ≡
 only_bounds rows most caps is capped = ap (λ (k : Kinds). or_else k (bounds_faults rows)) (check_fits rows most caps is capped)
 
 pub given_check_is : (rows : List Row) (most : ℕ) (caps : Caps) (whose : BoundsOf) → HasCaps rows caps → Some whose ≡ given_bounds rows
-    → record { places = given_places rows; bounds = whose; limit = named_limit rows; caps = caps; form = given_form rows } ≡ given_check rows
+    → record { places = given_places rows; bounds = whose; limit = named_limit rows; event_order = given_event_order rows; caps = caps; form = given_form rows } ≡ given_check rows
 given_check_is rows most caps whose capped is = rw (sym is, capped.0, capped.1, capped.2, capped.3, capped.4) refl
 
 pub wrong_bounds : (rows : List Row) → None ≡ given_bounds rows → bounds_faults rows ≡ ValueValidation ∷ []

@@ -8,8 +8,9 @@ use Rattle.tw_order.specs.declared.runs.Answer.{Answer}
 use Rattle.tw_cli.specs.Options.{inputs, is_given}
 use Rattle.tw_cli.specs.Order.{HasReason, IsWordReason}
 use Rattle.tw_cli.specs.declared.command.NoOrder.{NoOrder}
+use Rattle.tw_cli.specs.declared.form.Explained.{Explained}
 use Rattle.tw_cli.specs.declared.command.NoOrder.TheVariants.{Help, Refused, InputWord, Explanation, NoMemory}
-use Rattle.tw_cli.specs.CommandLine.{given_words, input_faults, replay_asked, single_asked, Asked, Assembles, Disassembles, Checks, Explains, Runs, RunsJson, RunsEach, Replays, IsAsked, IsRefusedInput}
+use Rattle.tw_cli.specs.CommandLine.{given_words, input_faults, replay_asked, single_asked, Asked, Assembles, Disassembles, Checks, Explains, Runs, RunsJson, RunsEach, Replays, IsAsked, IsExplained, IsRefusedInput}
 
 -- a request has no rejected word, and one word alone is rejected
 pub never_refused : (asked : Asked) (order : Order) (number : RefusedWord) → IsAsked asked order → IsRefusedInput asked number → ⊥
@@ -50,3 +51,14 @@ replay_word answer rows (Help text) words h = absurd h
 replay_word answer rows Refused words h = absurd h
 replay_word answer rows (InputWord number reason) words h = rw words (refl, h)
 replay_word answer rows (Explanation text) words h = absurd h
+
+-- if an explanation is requested, no input word is rejected
+pub not_refused : (asked : Asked) (text : Explained) (number : RefusedWord) → IsExplained asked text → IsRefusedInput asked number → ⊥
+not_refused (Assembles what) text number e r = e
+not_refused (Disassembles source listed) text number e r = e
+not_refused (Checks source requested) text number e r = e
+not_refused (Runs source answer layout caps most traced turns words) text number e r = e
+not_refused (RunsJson source answer layout caps most traced turns) text number e r = e
+not_refused (RunsEach source layout caps most threads) text number e r = e
+not_refused (Replays source answer layout words) text number e r = e
+not_refused (Explains explained) text number e r = r

@@ -7,7 +7,7 @@ use Rattle.clap.specs.Words.{App, Kinds, Row, Rule, Text, all_of, fault_of, firs
 use Rattle.clap.specs.declared.error.ErrorKind.TheVariants.{ArgumentConflict}
 use Rattle.tw_types.specs.Layout.{ActorCounts}
 use Rattle.tw_inputs.specs.InputWords.{AreSpelled, IsRefusedWord, RefusedWord}
-use Rattle.tw_cli.specs.Options.{NumberOption, actor_options, ExplainOrder, explaining, given_actors, given_assembly, given_disassembly, given_form, each, first_shown, flag_rule, in_turn, inputs, inputs_json, bounds, bounds_faults, cap_options, check_options, given_caps, given_check, checking, is_given, jobs, json, last_shown, limit, main_rule, names, number_options, option_faults, option_rule, picture, picture_options, places, plain, quiet, given_source, stats, stretch_options, given_range, text, requested, trace}
+use Rattle.tw_cli.specs.Options.{NumberOption, actor_options, event_order, ExplainOrder, explaining, given_actors, given_assembly, given_disassembly, given_form, each, events, first_shown, flag_rule, in_turn, inputs, inputs_json, bounds, bounds_faults, cap_options, check_options, given_caps, given_check, checking, is_given, jobs, json, last_shown, limit, main_rule, names, number_options, option_faults, option_rule, picture, picture_options, places, plain, quiet, given_source, stats, stretch_options, given_range, text, requested, trace}
 use Rattle.tw_cli.specs.Explanations.{IsMeaningOf, number_faults, number_rule, number_word}
 use Rattle.tw_order.specs.declared.runs.Answer.{Answer}
 use Rattle.tw_order.specs.declared.runs.Answer.TheVariants.{Json, Numbers, Picture, Report}
@@ -51,7 +51,7 @@ program_line name = flags_line (new_app name) (text ∷ places ∷ json ∷ [])
 
 -- the command that verifies
 abbrev pub check_line : App
-check_line = capped_line (with_rule (with_rule (program_line (codes "check")) (main_rule bounds)) (option_rule limit.name))
+check_line = capped_line (with_rule (with_rule (with_rule (program_line (codes "check")) (flag_rule event_order)) (main_rule bounds)) (option_rule limit.name))
 
 abbrev pub explain_line : App
 explain_line = with_rule (with_rule (new_app (codes "explain")) number_rule) (flag_rule json)
@@ -80,10 +80,10 @@ run_line = reading_line (flags_line (capped_line written_line) (in_turn ∷ quie
 
 -- the commands that are given a trace
 abbrev pub replay_line : App
-replay_line = reading_line (flags_line (numbers_line (codes "replay") actor_options) (stats ∷ json ∷ []))
+replay_line = reading_line (flags_line (numbers_line (codes "replay") actor_options) (stats ∷ json ∷ events ∷ []))
 
 abbrev pub picture_line : App
-picture_line = reading_line (numbers_line (codes "picture") picture_options)
+picture_line = reading_line (flags_line (numbers_line (codes "picture") picture_options) (events ∷ []))
 
 -- the program without its commands: the arguments come without its own name, and must name a command, or request help or the version
 abbrev pub bare_line : App

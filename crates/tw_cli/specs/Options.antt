@@ -13,6 +13,8 @@ use Rattle.tw_order.specs.declared.caps.Caps.{Caps}
 use Rattle.tw_order.specs.declared.check.BoundsOf.{BoundsOf}
 use Rattle.tw_order.specs.declared.check.BoundsOf.TheVariants.{NoBounds, OfMain, OfEach}
 use Rattle.tw_order.specs.declared.check.CheckOrder.{CheckOrder}
+use Rattle.tw_order.specs.declared.check.EventOrder.{EventOrder}
+use Rattle.tw_order.specs.declared.check.EventOrder.TheVariants.{Checked, Ignored}
 use Rattle.tw_order.specs.declared.form.Places.{Places}
 use Rattle.tw_order.specs.declared.form.AssembleOrder.{AssembleOrder}
 use Rattle.tw_order.specs.declared.form.DisassembleOrder.{DisassembleOrder}
@@ -135,9 +137,16 @@ plain = codes "plain"
 abbrev pub places : Text
 places = codes "places"
 
+abbrev pub event_order : Text
+event_order = codes "order"
+
 -- the flag of `run`, `replay` and `picture`: the inputs are part of what is read
 abbrev pub inputs : Text
 inputs = codes "inputs"
+
+-- the flag of `replay` and `picture`: the trace, which is part of what is read, is in a file of its own
+abbrev pub events : Text
+events = codes "events"
 
 -- the flag of `run`: the inputs are part of what is read, as JSON
 abbrev pub inputs_json : Text
@@ -267,12 +276,16 @@ given_bounds rows = option_map_or bounds_in (first_of bounds rows) (Some NoBound
 abbrev pub named_limit : List Row → Option ℕ
 named_limit rows = if is_some (first_of limit.name rows) then Some (requested limit rows) else None
 
+-- returns whether a check says if the order of events may show
+abbrev pub given_event_order : List Row → EventOrder
+given_event_order rows = if is_given event_order rows then Checked else Ignored
+
 -- return what a check prints in addition to the budgets, and which programs it admits
 abbrev pub checking : Places → BoundsOf → CheckOrder
-checking listed bounded = record { places = listed; bounds = bounded; limit = None; caps = uncapped; form = form.Text }
+checking listed bounded = record { places = listed; bounds = bounded; limit = None; event_order = Ignored; caps = uncapped; form = form.Text }
 
 abbrev pub given_check : List Row → CheckOrder
-given_check rows = record { places = given_places rows; bounds = unwrap_or (given_bounds rows) NoBounds; limit = named_limit rows; caps = given_caps rows; form = given_form rows }
+given_check rows = record { places = given_places rows; bounds = unwrap_or (given_bounds rows) NoBounds; limit = named_limit rows; event_order = given_event_order rows; caps = given_caps rows; form = given_form rows }
 
 -- the options of `check` that take numbers
 abbrev pub check_options : List NumberOption

@@ -34,6 +34,7 @@ pub(crate) fn command_of<'a>(alloc: Global, row: &CommandRow<'a>) -> Result<Comm
 {
     let mut command = Command::new(alloc, row.name)
         .about(row.help.about)
+        .override_usage(row.help.usage)
         .after_help(row.help.whole);
     for argument_row in row.arguments {
         command = command.arg(argument(alloc, argument_row))?;

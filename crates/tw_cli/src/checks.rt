@@ -9,10 +9,10 @@ ghost use Rattle.tw_order.specs.declared.check.BoundsOf.TheVariants as bounds_of
 
 use crate::caps::caps_given;
 use crate::form::form_given;
-use crate::found::{limit_given, places_given};
+use crate::found::{event_order_given, limit_given, places_given};
 use crate::shown::is_named;
 use clap::ArgMatches;
-use tw_order::{BoundsOf, Caps, CheckOrder, EventLimit, Form, Places};
+use tw_order::{BoundsOf, Caps, CheckOrder, EventLimit, EventOrder, Form, Places};
 
 fn bounds_in(word: &str) -> Option<BoundsOf>
     ensures { result ≡ bounds_in word.now }
@@ -58,6 +58,7 @@ pub(crate) fn check_given(matches: &ArgMatches<'_>) -> Option<CheckOrder>
         places: places_given(matches),
         bounds,
         limit: limit_named(matches, most),
+        event_order: event_order_given(matches),
         caps,
         form: form_given(matches),
     })
@@ -71,6 +72,7 @@ pub(crate) fn bare_check() -> CheckOrder
         places: Places::Hidden,
         bounds: BoundsOf::NoBounds,
         limit: None,
+        event_order: EventOrder::Ignored,
         caps: Caps::NONE,
         form: Form::Text,
     }

@@ -1,11 +1,12 @@
 //! The commands of `tw`, and the arguments of each.
 
 use crate::help::{
-    ASM, BOUNDS_HELP, CHECK, CommandHelp, DISASM, EACH_HELP, ENGINES_HELP, EXPLAIN, FROM_HELP,
-    IN_TURN_HELP, INPUT_HELP, INPUTS_HELP, INPUTS_JSON_HELP, JOBS_HELP, JSON_HELP, LIMIT_HELP,
-    MOST_BUDGET_HELP, MOST_BYTES_HELP, MOST_DATA_HELP, MOST_INSTRUCTIONS_HELP, MOST_TASKS_HELP,
-    NAMES_HELP, NUMBER_HELP, PICTURE, PICTURE_HELP, PLACES_HELP, PLAIN_HELP, QUIET_HELP, REPLAY,
-    RUN, SERVERS_HELP, STATS_HELP, TEXT_HELP, TO_HELP, TRACE_HELP, WORKERS_HELP,
+    ASM, BOUNDS_HELP, CHECK, CommandHelp, DISASM, EACH_HELP, ENGINES_HELP, EVENTS_HELP, EXPLAIN,
+    FROM_HELP, IN_TURN_HELP, INPUT_HELP, INPUTS_HELP, INPUTS_JSON_HELP, JOBS_HELP, JSON_HELP,
+    LIMIT_HELP, MOST_BUDGET_HELP, MOST_BYTES_HELP, MOST_DATA_HELP, MOST_INSTRUCTIONS_HELP,
+    MOST_TASKS_HELP, NAMES_HELP, NUMBER_HELP, ORDER_HELP, PICTURE, PICTURE_HELP, PLACES_HELP,
+    PLAIN_HELP, QUIET_HELP, REPLAY, RUN, SERVERS_HELP, STATS_HELP, TEXT_HELP, TO_HELP, TRACE_HELP,
+    WORKERS_HELP,
 };
 
 /// How an argument is given.
@@ -54,6 +55,7 @@ pub(crate) const COMMANDS: [CommandRow<'static>; 7] = [
         ArgumentRow { form: ArgumentForm::Flag, name: "text", help: TEXT_HELP },
         ArgumentRow { form: ArgumentForm::Flag, name: "places", help: PLACES_HELP },
         ArgumentRow { form: ArgumentForm::Flag, name: "json", help: JSON_HELP },
+        ArgumentRow { form: ArgumentForm::Flag, name: "order", help: ORDER_HELP },
         ArgumentRow { form: ArgumentForm::ValueOrMain, name: "bounds", help: BOUNDS_HELP },
         ArgumentRow { form: ArgumentForm::Value, name: "limit", help: LIMIT_HELP },
         ArgumentRow { form: ArgumentForm::Value, name: "most-tasks", help: MOST_TASKS_HELP },
@@ -93,6 +95,7 @@ pub(crate) const COMMANDS: [CommandRow<'static>; 7] = [
         ArgumentRow { form: ArgumentForm::Value, name: "workers", help: WORKERS_HELP },
         ArgumentRow { form: ArgumentForm::Flag, name: "stats", help: STATS_HELP },
         ArgumentRow { form: ArgumentForm::Flag, name: "json", help: JSON_HELP },
+        ArgumentRow { form: ArgumentForm::Flag, name: "events", help: EVENTS_HELP },
         ArgumentRow { form: ArgumentForm::Flag, name: "text", help: TEXT_HELP },
         ArgumentRow { form: ArgumentForm::Flag, name: "inputs", help: INPUTS_HELP },
         ArgumentRow { form: ArgumentForm::Positions, name: "input", help: INPUT_HELP },
@@ -103,6 +106,7 @@ pub(crate) const COMMANDS: [CommandRow<'static>; 7] = [
         ArgumentRow { form: ArgumentForm::Value, name: "workers", help: WORKERS_HELP },
         ArgumentRow { form: ArgumentForm::Value, name: "from", help: FROM_HELP },
         ArgumentRow { form: ArgumentForm::Value, name: "to", help: TO_HELP },
+        ArgumentRow { form: ArgumentForm::Flag, name: "events", help: EVENTS_HELP },
         ArgumentRow { form: ArgumentForm::Flag, name: "text", help: TEXT_HELP },
         ArgumentRow { form: ArgumentForm::Flag, name: "inputs", help: INPUTS_HELP },
         ArgumentRow { form: ArgumentForm::Positions, name: "input", help: INPUT_HELP },

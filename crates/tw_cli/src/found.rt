@@ -8,7 +8,7 @@ ghost use Rattle.tw_cli.specs.CommandLine.{given_answer, given_words, input_faul
 ghost use Rattle.tw_order.specs.declared.runs.Answer.{Answer as Answers};
 ghost use Rattle.tw_inputs.specs.InputWords.{AreSpelled};
 ghost use Rattle.tw_cli.specs.reading.Inputs.{HasInputs};
-ghost use Rattle.tw_cli.specs.Options.{HasActors, actor_options, given_assembling, is_given, limit, number_of, option_faults, given_places, given_source};
+ghost use Rattle.tw_cli.specs.Options.{HasActors, actor_options, given_assembling, given_event_order, is_given, limit, number_of, option_faults, given_places, given_source};
 ghost use Rattle.std.specs.Int.{IsInRange};
 ghost use Rattle.tw_cli.specs.Order.{HasReason, IsWordReason};
 ghost use Rattle.tw_inputs.specs.WordErrors.{IsInputReason};
@@ -18,7 +18,7 @@ use clap::ArgMatches;
 use std::alloc::Global;
 use tw_inputs::{WordError, inputs_of};
 use tw_lexer::digits;
-use tw_order::{Answer, Assembling, EventLimit, Places, Source};
+use tw_order::{Answer, Assembling, EventLimit, EventOrder, Places, Source};
 use tw_types::{Input, Items, Layout};
 
 /// Returns the number from 1 to `most` of an option, or `default` if it isn't given. Returns none if its value is no number in this range.
@@ -85,6 +85,17 @@ pub(crate) fn places_given(matches: &ArgMatches<'_>) -> Places
         Places::Shown
     } else {
         Places::Hidden
+    }
+}
+
+/// Returns whether a check says if the order of events may show.
+pub(crate) fn event_order_given(matches: &ArgMatches<'_>) -> EventOrder
+    ensures { result ≡ given_event_order (rows_of (found_of matches.now)) }
+{
+    if flag_given(matches, "order") {
+        EventOrder::Checked
+    } else {
+        EventOrder::Ignored
     }
 }
 

@@ -4,6 +4,8 @@
 pub(crate) struct CommandHelp<'a> {
     /// One line, which is also in the list of commands.
     pub about: &'a str,
+    /// The usage line: what the user writes, also files, which the program opens before.
+    pub usage: &'a str,
     /// The text after the options in the command's own help.
     pub whole: &'a str,
 }
@@ -15,6 +17,7 @@ pub(crate) const ABOUT: &str = "Assembles, checks and runs dataflow programs of 
 
 pub(crate) const ASM: CommandHelp<'static> = CommandHelp {
     about: "Turns assembly text into hex text of a program",
+    usage: "tw asm [FILE] [OPTIONS]",
     whole: "Reads assembly text from a FILE or from standard input and writes its program as hex text, two digits a byte, in one line,
 which the other commands read. A text that is no program is rejected with the code and the line of its first error.
 With --names the text may be symbolic assembly: its first line with a word is `names` then. An error is followed by a diagnostic.
@@ -25,6 +28,7 @@ Exit status: 0 assembled, 1 rejected, 2 command line rejected, 5 out of memory, 
 
 pub(crate) const DISASM: CommandHelp<'static> = CommandHelp {
     about: "Writes a program as assembly text",
+    usage: "tw disasm [FILE] [OPTIONS]",
     whole: "Reads a program from a FILE, which is an argument, or from standard input as hex text: two digits a byte; spaces, tabs
 and line ends are skipped. A FILE may also hold assembly text.
 With --text it reads assembly text, or symbolic assembly as `tw asm --names` does.
@@ -36,6 +40,7 @@ Exit status: 0 written, 1 rejected, 2 command line rejected, 5 out of memory, 7 
 
 pub(crate) const CHECK: CommandHelp<'static> = CommandHelp {
     about: "Verifies a program and prints its budgets",
+    usage: "tw check [FILE] [OPTIONS]",
     whole: "Reads a program from a FILE, which is an argument, or from standard input as hex text: two digits a byte; spaces, tabs
 and line ends are skipped. A FILE may also hold assembly text.
 With --text it reads assembly text, or symbolic assembly as `tw asm --names` does. An error is then followed by the rejected
@@ -52,6 +57,8 @@ that number of events does; they also hold if there are no other bounds.
 With --most-tasks, --most-instructions, --most-data, --most-bytes or --most-budget, a program is rejected as O07 if its bound is
 larger, or that by --limit if it is smaller; a line for each names the bound. No bound, or `over`, is larger than any number but
 the last.
+With --order a last line is `order same` if the text rules out that outputs depend on the order of events, or else names the
+first insertion that may show the order, such as `order may show in procedure 1 at place 3`.
 With --places a listing of the program precedes these lines. It is that of `tw disasm --places`, or for text input has the
 text's own lines. After each instruction it has what the right registers hold before it, such as `d0 write int`; in a rejected
 program, up to the rejected place.
@@ -60,6 +67,7 @@ Exit status: 0 accepted, 1 rejected, 2 command line rejected, 5 out of memory, 7
 
 pub(crate) const RUN: CommandHelp<'static> = CommandHelp {
     about: "Runs a program and reports its outputs",
+    usage: "tw run [FILE] [OPTIONS] [input]...",
     whole: "Reads a program from a FILE, which is an argument, or from standard input as hex text: two digits a byte; spaces, tabs
 and line ends are skipped. A FILE may also hold assembly text.
 With --text it reads assembly text, or symbolic assembly as `tw asm --names` does. An error is then followed by the rejected
@@ -100,10 +108,12 @@ Exit status: 0 quiet, 1 rejected, 2 command line or input rejected, 3 stuck, 4 e
 
 pub(crate) const REPLAY: CommandHelp<'static> = CommandHelp {
     about: "Executes the events of a trace and reports the state",
+    usage: "tw replay [FILE] [OPTIONS] [input]...",
     whole: "Executes the events of a trace on the reference machine and reports the resulting state.
 A FILE, which is an argument, or standard input has a program as hex text, or with --text as assembly text, a line `events`,
 a line for each event, and a line `end` or the end. Without a line `events` there are no events; anything after `end` is ignored,
-except that it must be UTF-8.
+except that it must be UTF-8. With --events TRACE the trace is in a file of its own; - is standard input, where it is also read
+from if the FILE has none.
 A trace is what `tw run --trace` writes, or any other events: take w0, local w0 3, call w0, end w0, ask e0 1 0,
 deliver s0 2 1 0, release e0 1.
 The program isn't verified first. Its inputs are arguments, like those of `tw run`, or with --inputs lines after the program,
@@ -118,6 +128,7 @@ Exit status: 0 quiet or still running, 1 rejected or an event that isn't enabled
 
 pub(crate) const PICTURE: CommandHelp<'static> = CommandHelp {
     about: "Draws the events of a trace as an SVG timeline",
+    usage: "tw picture [FILE] [OPTIONS] [input]...",
     whole: "Executes the events of a trace on the reference machine and draws them as one SVG timeline.
 It takes what `tw replay` takes except --stats and --json, and rejects what that rejects, with the same line and status. Otherwise its
 output can be opened in a browser. Each actor has a row, with its events from left to right by their numbers. An event has a
@@ -133,6 +144,7 @@ Exit status: 0 quiet or still running, 1 rejected or an event that isn't enabled
 
 pub(crate) const EXPLAIN: CommandHelp<'static> = CommandHelp {
     about: "Explains the code of an error or a trap",
+    usage: "tw explain [OPTIONS] [number]",
     whole: "A code is what an error line of another command names: H01 to H03, A01 to A07, N01 to N07, F01 to F09, V01 to V18, O01 to O07,
 E01, X01 or C1 to C15. Small letters are accepted, and V4 for V04. The output says what the code means, what is required, the
 usual mistake and its correction. Without a code all are listed, each with what it means.
@@ -184,6 +196,9 @@ pub(crate) const JOBS_HELP: &str =
 pub(crate) const EACH_HELP: &str =
     "Run each line of inputs after the program, a JSON array, and write a JSON line for each";
 
+pub(crate) const EVENTS_HELP: &str =
+    "Read the trace from a file of its own: the line `events` and those after it";
+
 pub(crate) const STATS_HELP: &str =
     "Write statistics after the report: events by kind, procedure and actor, and the longest chain";
 
@@ -209,6 +224,9 @@ pub(crate) const PLAIN_HELP: &str =
 
 pub(crate) const BOUNDS_HELP: &str =
     "Print bounds of whole runs: tasks, instructions, data, members, rules, bytes and events; with =all, of each procedure";
+
+pub(crate) const ORDER_HELP: &str =
+    "Say whether outputs are the same in every order of events, or which insertion may show it";
 
 pub(crate) const PLACES_HELP: &str = "List the instructions, each with its place";
 

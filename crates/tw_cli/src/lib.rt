@@ -22,6 +22,6 @@ mod wrong_words;
 
 pub use command::NoOrder;
 pub use form::Explained;
-pub use orders::read_order;
+pub use orders::{read_order, rejects};
 pub use theorems::{commands_are_taken, strangers_are_refused};
 pub use wrong_words::complaint;

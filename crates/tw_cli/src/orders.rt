@@ -1,6 +1,6 @@
 //! Makes the order of the arguments.
 
-ghost use Rattle.std.specs.Prelude.{◌≡◌, true, false, [], map, IfOk, IfErr, MatchOption, string_bytes};
+ghost use Rattle.std.specs.Prelude.{◌≡◌, true, false, [], map, IfOk, IfErr, MatchBool, MatchOption, string_bytes};
 ghost use Rattle.clap.specs.Words.{found_of, kind_of, rows_of, subcommand_rows_of};
 ghost use Rattle.tw_cli.specs.CommandLine.{Checks, Explains, IsAsked, asked_by_words, asked_of, check_faults, drawing_faults, explain_asked, faults_after, given_answer, replay_asked, report_faults, replay_faults, run_asked, run_faults, word_faults};
 ghost use Rattle.tw_order.specs.declared.runs.Answer.{Answer as Answers};
@@ -9,6 +9,7 @@ ghost use Rattle.tw_order.specs.declared.order.ProgramOrder.TheVariants.{Verifie
 ghost use Rattle.tw_cli.specs.reading.Runs.{IsRunBy};
 ghost use Rattle.tw_cli.specs.Options.{each, explaining, given_check, given_range, given_source, inputs_json, is_given};
 ghost use Rattle.tw_cli.specs.Explanations.{number_faults, number_word};
+ghost use Rattle.tw_cli.specs.Complaint.{AreAccepted, AreRejected};
 ghost use Rattle.tw_cli.specs.Order.{HasReason, IsReason};
 ghost use Rattle.tw_cli.specs.declared.command.NoOrder.TheVariants.{Refused};
 
@@ -24,7 +25,7 @@ use crate::found::{
 use crate::shown::{event_range_given, is_json_with_more, run_answer};
 use clap::error::ErrorKind;
 use clap::{ArgMatches, Error};
-use std::alloc::Global;
+use std::alloc::{AllocError, Global};
 use tw_order::{
     Answer, EachOrder, Form, InputsOrder, Order, ProgramOrder, ReplayOptions, RunOptions, Source,
     VerifiedOrder,
@@ -285,4 +286,20 @@ pub fn read_order(alloc: Global, words: &[String]) -> Result<Order, NoOrder>
         Err(error) => return Err(reason_of(alloc, &error)),
     };
     order_of(alloc, &matches)
+}
+
+/// Returns whether arguments are rejected: by a fault, or since one of them encodes no input.
+pub fn rejects(alloc: Global, words: &[String]) -> Result<bool, AllocError>
+    ensures { IfOk result (λ rejected. MatchBool rejected
+        (AreRejected (word_faults (map string_bytes words.now)) (asked_by_words (map string_bytes words.now)))
+        (AreAccepted (word_faults (map string_bytes words.now)) (asked_by_words (map string_bytes words.now)))) }
+{
+    match read_order(alloc, words) {
+        Ok(_order) => Ok(false),
+        Err(NoOrder::Refused) => Ok(true),
+        Err(NoOrder::InputWord(_number, _line)) => Ok(true),
+        Err(NoOrder::Help(_text)) => Ok(false),
+        Err(NoOrder::Explanation(_explained)) => Ok(false),
+        Err(NoOrder::NoMemory) => Err(AllocError),
+    }
 }

@@ -7,6 +7,7 @@ ghost use Rattle.tw_order.specs.declared.runs.Answer.TheVariants.{Json, Numbers,
 ghost use Rattle.tw_order.specs.declared.runs.RunAnswer.TheVariants as written;
 ghost use Rattle.tw_order.specs.declared.form.Assembling.TheVariants.{Names, Plain, Text};
 ghost use Rattle.tw_order.specs.declared.check.BoundsOf.TheVariants.{NoBounds, OfEach, OfMain};
+ghost use Rattle.tw_order.specs.declared.check.EventOrder.TheVariants.{Checked};
 ghost use Rattle.tw_order.specs.declared.form.Places.TheVariants.{Hidden, Shown};
 ghost use Rattle.tw_order.specs.declared.form.Form.TheVariants as form;
 ghost use Rattle.tw_order.specs.declared.order.Source.TheVariants.{Assembly, Hex};
@@ -84,6 +85,8 @@ pub fn commands_are_taken()
         × (asked_by_words (codes "check" ∷ codes "--text" ∷ []) ≡ Checks Assembly (checking Hidden NoBounds)) }
     ensures places { (word_faults (codes "check" ∷ codes "--places" ∷ codes "--text" ∷ []) ≡ [])
         × (asked_by_words (codes "check" ∷ codes "--places" ∷ codes "--text" ∷ []) ≡ Checks Assembly (checking Shown NoBounds)) }
+    ensures order { (word_faults (codes "check" ∷ codes "--order" ∷ []) ≡ [])
+        × (asked_by_words (codes "check" ∷ codes "--order" ∷ []) ≡ Checks Hex (record (checking Hidden NoBounds) { event_order = Checked })) }
     ensures disasm_places { (word_faults (codes "disasm" ∷ codes "--places" ∷ []) ≡ [])
         × (asked_by_words (codes "disasm" ∷ codes "--places" ∷ []) ≡ Disassembles Hex (disassembling Shown form.Text)) }
     ensures run_text { (word_faults (codes "run" ∷ codes "int:7" ∷ codes "--text" ∷ []) ≡ [])
@@ -95,6 +98,8 @@ pub fn commands_are_taken()
         × (asked_by_words (codes "run" ∷ codes "--inputs" ∷ codes "--text" ∷ []) ≡ Runs Assembly written.Report (actors 1 1 1) uncapped 10000 false false None) }
     ensures replay_stats { (word_faults (codes "replay" ∷ codes "--stats" ∷ []) ≡ [])
         × (asked_by_words (codes "replay" ∷ codes "--stats" ∷ []) ≡ Replays Hex Numbers (actors 1 1 1) (Some [])) }
+    ensures replay_events { (word_faults (codes "replay" ∷ codes "--events" ∷ []) ≡ [])
+        × (asked_by_words (codes "replay" ∷ codes "--events" ∷ []) ≡ Replays Hex Report (actors 1 1 1) (Some [])) }
     ensures replay_inputs { (word_faults (codes "replay" ∷ codes "--inputs" ∷ []) ≡ [])
         × (asked_by_words (codes "replay" ∷ codes "--inputs" ∷ []) ≡ Replays Hex Report (actors 1 1 1) None) }
     ensures explain { (word_faults (codes "explain" ∷ codes "V04" ∷ []) ≡ [])
@@ -147,6 +152,7 @@ pub fn strangers_are_refused()
     ensures places { word_faults (codes "run" ∷ codes "--places" ∷ []) ≡ UnknownArgument ∷ [] }
     ensures bounds_of { word_faults (codes "check" ∷ codes "--bounds=main.1" ∷ []) ≡ ValueValidation ∷ [] }
     ensures no_cap { word_faults (codes "run" ∷ codes "--most-data" ∷ codes "0" ∷ []) ≡ ValueValidation ∷ [] }
+    ensures run_events { word_faults (codes "run" ∷ codes "--events" ∷ []) ≡ UnknownArgument ∷ [] }
     ensures replay_caps { word_faults (codes "replay" ∷ codes "--most-data" ∷ codes "1" ∷ []) ≡ UnknownArgument ∷ [] }
     ensures bounds { word_faults (codes "disasm" ∷ codes "--bounds" ∷ []) ≡ UnknownArgument ∷ [] }
     ensures traces { word_faults (codes "run" ∷ codes "--trace" ∷ codes "--trace" ∷ []) ≡ ArgumentConflict ∷ [] }

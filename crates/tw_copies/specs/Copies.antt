@@ -1,5 +1,5 @@
 -- Right registers that may hold a copy of a write right, or a write right that was copied. The text of the program decides.
-use Rattle.std.specs.Prelude.{◌≡◌, ◌⊎◌, ◌≤◌, ◌<◌, ℕ, ◌+◌, false, if◌then◌else◌, List, [], ◌∷◌, Some, slice_get}
+use Rattle.std.specs.Prelude.{◌≡◌, ◌⊎◌, ◌≤◌, ◌<◌, ℕ, ◌+◌, false, if◌then◌else◌, List, [], ◌∷◌, MatchOption, Option, Some, slice_get}
 use Rattle.tw_types.specs.declared.param.Param.{Param}
 use Rattle.tw_types.specs.Mode.{is_val}
 use Rattle.tw_code.specs.declared.instr.Action.{Action}
@@ -8,6 +8,7 @@ use Rattle.tw_code.specs.declared.instr.Instr.{Instr}
 use Rattle.tw_code.specs.declared.instr.Instr.TheVariants as instr
 use Rattle.tw_code.specs.declared.procedure.Procedure.{Procedure}
 use Rattle.tw_code.specs.machine.Arguments.{params_of}
+use Rattle.tw_copies.specs.declared.check.CopyInsertion.{CopyInsertion}
 
 -- holds if the procedure of this number has the instruction at the place
 abbrev pub IsAt : List Procedure → ℕ → ℕ → Instr → Type 0
@@ -62,3 +63,7 @@ pub record IsFirst (P : ℕ → ℕ → Type 0) (number place : ℕ) : Type 0 wh
 -- holds if there is no place with P
 abbrev pub Nowhere : (ℕ → ℕ → Type 0) → Type 0
 Nowhere P = (number place : ℕ) → P number place → ⊥
+
+-- holds for the first insertion by a right that may be a copy; for none if there is none
+abbrev pub IsFirstCopyInsertion : List Procedure → Option CopyInsertion → Type 0
+IsFirstCopyInsertion program found = MatchOption found (Nowhere (IsCopyInsertion program)) (λ at. IsFirst (IsCopyInsertion program) at.procedure at.place)

@@ -1,8 +1,8 @@
 //! The check.
 
-ghost use Rattle.std.specs.Prelude.{◌≡◌, IfOk, MatchOption, None};
+ghost use Rattle.std.specs.Prelude.{◌≡◌, IfOk, None};
 ghost use Rattle.tw_determinism.specs.OneResult.{IsDeterministic, NeverContests};
-ghost use Rattle.tw_copies.specs.Copies.{IsCopyInsertion, IsFirst, Nowhere};
+ghost use Rattle.tw_copies.specs.Copies.{IsFirstCopyInsertion};
 
 use crate::insertions::first_insertion;
 use crate::marks::marked;
@@ -25,8 +25,7 @@ pub fn first_copy_insertion(
     alloc: Global,
     verified: &Verified,
 ) -> Result<Option<CopyInsertion>, AllocError>
-    ensures first { IfOk result (λ found. MatchOption found (Nowhere (IsCopyInsertion verified.now.program))
-        (λ at. IsFirst (IsCopyInsertion verified.now.program) at.procedure at.place)) }
+    ensures first { IfOk result (IsFirstCopyInsertion verified.now.program) }
     ensures never { IfOk result (λ found. found ≡ None → NeverContests verified.now.program) }
     ensures same { IfOk result (λ found. found ≡ None → IsDeterministic verified.now.program) }
 {

@@ -1,10 +1,13 @@
 -- The input of a session and its arguments, if files are named.
-use Rattle.std.specs.Prelude.{◌≡◌, ◌==◌, ◌++◌, ◌||◌, ◌&&◌, ℕ, Bool, true, false, not, List, [], ◌∷◌, Option, Some, None, codes, is_some, length, unwrap_or, if◌then◌else◌}
+use Rattle.std.specs.Prelude.{◌≡◌, ◌≢◌, ◌⊎◌, ◌==◌, ◌++◌, ◌||◌, ◌&&◌, ℕ, Bool, true, false, not, List, [], ◌∷◌, Option, Some, None, codes, is_some, length, unwrap_or, if◌then◌else◌}
 use Rattle.std.specs.List.{list_any}
+use Rattle.std.specs.Option.{option_map_or}
 use Rattle.std.specs.Str.{bytes_eq}
 use Rattle.tw_report.specs.History.{AreParts, lines_in}
 use Rattle.tw_files.specs.Format.{is_text}
 use Rattle.tw_files.specs.Naming.{Naming}
+use Rattle.tw_files.specs.declared.opening.Misfit.{Misfit}
+use Rattle.tw_files.specs.declared.opening.Misfit.TheVariants.{EventsTwice, InputsTwice, NoEvents}
 
 -- ---- the bytes
 
@@ -24,7 +27,7 @@ reads_trace command = bytes_eq command (codes "replay") || bytes_eq command (cod
 abbrev pub with_inputs : List ℕ → List ℕ → List ℕ
 with_inputs program inputs = program ++ (codes "\ninputs\n" ++ inputs)
 
--- returns whether a file has no trace for a command, by the part of it before the trace
+-- returns whether a program's file has no trace for a command, by the part of it before the trace
 abbrev pub is_untraced : List ℕ → List ℕ → List ℕ → Bool
 is_untraced command program before = not (reads_trace command) || length before == length program
 
@@ -59,50 +62,141 @@ says_format words = has_word (codes "--text") words || has_word (codes "--names"
 abbrev pub asks_help : List (List ℕ) → Bool
 asks_help words = has_word (codes "--help") words || has_word (codes "-h") words
 
--- returns whether a run is drawn in place of a trace
-abbrev pub draws_run : List ℕ → Bool → Bool
-draws_run command untraced = bytes_eq command (codes "picture") && untraced
+-- returns whether a run is drawn in place of a trace, which is neither in the program's file nor in one of its own
+abbrev pub draws_run : List ℕ → Bool → Option (List ℕ) → Bool
+draws_run command untraced events = bytes_eq command (codes "picture") && (untraced && not (is_some events))
 
--- holds for the arguments of a session whose program is in a file, or in standard input
-abbrev pub AreWords : List ℕ → Option (List ℕ) → List ℕ → List (List ℕ) → List (List ℕ) → Type 0
-AreWords command None program others words = words ≡ command ∷ others
-AreWords command (Some path) program others words =
-    (before after : List ℕ) × AreParts program before after
-    × (words ≡ command_words command (draws_run command (is_untraced command program before))
-    ++ (option_words (option_of command (is_text path program && not (says_format others))) ++ others))
+-- returns the arguments of a session whose program is in a file, or in standard input; `drawn` is whether a run is drawn
+abbrev pub session_words : List ℕ → Option (List ℕ) → Bool → List ℕ → List (List ℕ) → List (List ℕ)
+session_words command None drawn program others = command ∷ others
+session_words command (Some path) drawn program others =
+    command_words command drawn ++ (option_words (option_of command (is_text path program && not (says_format others))) ++ others)
 
--- ---- both
+-- ---- files of their own
 
 abbrev pub standard_input : List ℕ
 standard_input = codes "-"
 
--- returns the file of inputs, unless it is standard input and the program is there too
+-- returns the file of the program
+abbrev pub program_path : Naming → List ℕ
+program_path n = unwrap_or n.program standard_input
+
+-- returns a file, unless it is standard input, and something else is there too
+abbrev pub file_beside : Bool → Option (List ℕ) → Option (List ℕ)
+file_beside taken None = None
+file_beside taken (Some path) = if bytes_eq path standard_input && taken then None else Some path
+
+-- returns whether standard input has the program
+abbrev pub takes_program : Naming → Bool
+takes_program n = bytes_eq (program_path n) standard_input
+
+-- returns whether standard input has the program or the inputs
+abbrev pub takes_input : Naming → Bool
+takes_input n = takes_program n || option_map_or (λ path. bytes_eq path standard_input) n.inputs false
+
+-- returns the file of inputs, unless they follow the program
 abbrev pub separate_inputs : Naming → Option (List ℕ)
-separate_inputs n = inputs_beside (unwrap_or n.program standard_input) n.inputs
-  where
-    inputs_beside : List ℕ → Option (List ℕ) → Option (List ℕ)
-    inputs_beside program None = None
-    inputs_beside program (Some path) = if bytes_eq path standard_input && bytes_eq program standard_input then None else Some path
+separate_inputs n = file_beside (takes_program n) n.inputs
+
+-- returns whether the inputs are lines of `--each`
+abbrev pub has_lines : Naming → Bool
+has_lines n = has_word (codes "--each") n.others
+
+-- return the file of inputs if a session reads it with the program, and if it reads it line by line
+abbrev pub joined_inputs : Naming → Option (List ℕ)
+joined_inputs n = if has_lines n then None else separate_inputs n
+
+abbrev pub separate_lines : Naming → Option (List ℕ)
+separate_lines n = if has_lines n then separate_inputs n else None
+
+-- returns whether a trace is expected in standard input, if the program's file has none and none is named
+abbrev pub expects_trace : List ℕ → Naming → Bool
+expects_trace command n = bytes_eq command (codes "replay") || has_word (codes "--events") n.others
+
+-- returns the name of the trace's file, by whether the program's file has no trace
+abbrev pub events_name : List ℕ → Bool → Naming → Option (List ℕ)
+events_name command untraced n =
+    if not (reads_trace command) then None else
+    if is_some n.events then n.events else
+    if untraced && expects_trace command n then Some standard_input else None
+
+-- returns the file of the trace, unless it follows the program or the inputs
+abbrev pub separate_events : List ℕ → Bool → Naming → Option (List ℕ)
+separate_events command untraced n = file_beside (takes_input n) (events_name command untraced n)
 
 -- returns whether any file is to be opened; for help, none is
-abbrev pub opens_files : Naming → Bool
-opens_files n = (is_some n.program || is_some (separate_inputs n)) && not (asks_help n.others)
+abbrev pub opens_files : List ℕ → Naming → Bool
+opens_files command n = (is_some n.program || (is_some (separate_inputs n) || is_some (separate_events command false n))) && not (asks_help n.others)
 
--- holds for the input of a session: the program, and the inputs if they are in a file of their own; then the program's file has none
+-- ---- what a session gets
+
+-- holds for a program, and the inputs if they are in a file of their own
 abbrev pub IsInput : (List ℕ → List ℕ → Type 0) → List ℕ → Option (List ℕ) → List ℕ → List ℕ → Type 0
 IsInput Holds command None program input = input ≡ program
-IsInput Holds command (Some path) program input =
-    (has_inputs program ≡ false) × ((inputs : List ℕ) × Holds path inputs × IsJoined command program inputs input)
+IsInput Holds command (Some path) program input = (inputs : List ℕ) × Holds path inputs × IsJoined command program inputs input
+
+-- holds for what the lines after a line `events` are, if a file has one; an empty file has none, and no events
+abbrev pub HasEvents : List ℕ → List ℕ → Type 0
+HasEvents trace events = (before : List ℕ) × AreParts trace before events × ((length before ≡ length trace → ⊥) ⊎ (trace ≡ []))
+
+-- holds for a file that isn't empty and has no line `events`
+abbrev pub HasNoEvents : List ℕ → Type 0
+HasNoEvents trace = (after : List ℕ) × (before : List ℕ) × AreParts trace before after × (length before ≡ length trace) × (trace ≢ [])
+
+-- holds for a session's input before the trace, and with it, if it is in a file of its own
+abbrev pub IsTraced : (List ℕ → List ℕ → Type 0) → Option (List ℕ) → List ℕ → List ℕ → Type 0
+IsTraced Holds None whole input = input ≡ whole
+IsTraced Holds (Some path) whole input =
+    (trace : List ℕ) × (events : List ℕ) × Holds path trace × HasEvents trace events × (input ≡ whole ++ (codes "\nevents\n" ++ events))
 
 -- holds if inputs are in a file of their own, and the program's file has some, too
-abbrev pub HasInputsTwice : (List ℕ → List ℕ → Type 0) → Naming → Type 0
-HasInputsTwice Holds n = (is_some (separate_inputs n) ≡ true) × ((program : List ℕ) × Holds (unwrap_or n.program standard_input) program × (has_inputs program ≡ true))
+abbrev pub HasInputsTwice : Naming → List ℕ → Type 0
+HasInputsTwice n program = (is_some (separate_inputs n) ≡ true) × (has_inputs program ≡ true)
+
+-- holds if a trace is in a file of its own, and the program's file has one, too
+abbrev pub HasEventsTwice : List ℕ → Bool → Naming → Type 0
+HasEventsTwice command untraced n = (is_some (separate_events command untraced n) ≡ true) × (untraced ≡ false)
+
+-- holds if the program's file doesn't fit another, for this reason
+abbrev pub IsTwice : List ℕ → Bool → Naming → List ℕ → Misfit → Type 0
+IsTwice command untraced n program InputsTwice = HasInputsTwice n program
+IsTwice command untraced n program EventsTwice = HasEventsTwice command untraced n
+IsTwice command untraced n program NoEvents = ⊥
+
+-- holds if the trace's file isn't empty and has no line `events`
+abbrev pub IsTraceless : (List ℕ → List ℕ → Type 0) → Option (List ℕ) → Misfit → Type 0
+IsTraceless Holds trace InputsTwice = ⊥
+IsTraceless Holds trace EventsTwice = ⊥
+IsTraceless Holds trace NoEvents = (path : List ℕ) × (bytes : List ℕ) × (trace ≡ Some path) × Holds path bytes × HasNoEvents bytes
+
+-- holds for the bytes that a session reads, by the program and the files of its inputs and of the trace
+abbrev pub IsWhole : (List ℕ → List ℕ → Type 0) → List ℕ → Option (List ℕ) → Option (List ℕ) → List ℕ → List ℕ → Type 0
+IsWhole Holds command inputs trace program input =
+    (whole : List ℕ) × IsInput Holds command inputs program whole × IsTraced Holds trace whole input
+
+-- holds for the arguments and the bytes of a session, by the program and whether its file has no trace
+abbrev pub IsRead : (List ℕ → List ℕ → Type 0) → List ℕ → Bool → Naming → List ℕ → List (List ℕ) → Option (List ℕ) → Type 0
+IsRead Holds command untraced n program words None = ⊥
+IsRead Holds command untraced n program words (Some input) =
+    (words ≡ session_words command n.program (draws_run command untraced (separate_events command untraced n)) program n.others)
+    × IsWhole Holds command (joined_inputs n) (separate_events command untraced n) program input
+
+-- holds for a program in its file, and whether that has no trace for the command
+abbrev pub IsProgram : (List ℕ → List ℕ → Type 0) → List ℕ → Naming → List ℕ → Bool → Type 0
+IsProgram Holds command n program untraced =
+    Holds (program_path n) program × ((before after : List ℕ) × AreParts program before after × (untraced ≡ is_untraced command program before))
 
 -- Holds for what a session gets, by what the arguments after the command name: its arguments, and its input, if that isn't standard input. `Holds` says
 -- what is in a file.
 abbrev pub IsSessionInput : (List ℕ → List ℕ → Type 0) → List ℕ → Naming → List (List ℕ) → Option (List ℕ) → Type 0
-IsSessionInput Holds command n words None = (opens_files n ≡ Bool.false) × (words ≡ command ∷ n.others)
+IsSessionInput Holds command n words None = (opens_files command n ≡ Bool.false) × (words ≡ command ∷ n.others)
 IsSessionInput Holds command n words (Some input) =
-    (opens_files n ≡ Bool.true)
-    × ((program : List ℕ) × Holds (unwrap_or n.program standard_input) program × AreWords command n.program program n.others words
-    × IsInput Holds command (separate_inputs n) program input)
+    (opens_files command n ≡ Bool.true)
+    × ((program : List ℕ) × (untraced : Bool) × IsProgram Holds command n program untraced
+    × (HasInputsTwice n program → ⊥) × (HasEventsTwice command untraced n → ⊥) × IsRead Holds command untraced n program words (Some input))
+
+-- holds if the files that the arguments name don't fit each other, for this reason
+abbrev pub AreMisfits : (List ℕ → List ℕ → Type 0) → List ℕ → Naming → Misfit → Type 0
+AreMisfits Holds command n why =
+    (program : List ℕ) × (untraced : Bool) × IsProgram Holds command n program untraced
+    × (IsTwice command untraced n program why ⊎ IsTraceless Holds (separate_events command untraced n) why)

@@ -4,11 +4,10 @@ ghost use Rattle.std.specs.Prelude.{◌≡◌, ◌++◌, ◌∷◌, [], Some, If
 ghost use Rattle.std.specs.Str.{bytes_eq};
 ghost use Rattle.std.specs.List.{list_any};
 ghost use Rattle.std.specs.Option.{option_map};
-ghost use Rattle.tw_files.specs.Input.{AreWords, asks_help as asks_help_is, command_words as command_words_is, draws_run as draws_run_is, has_word as has_word_is, is_untraced as is_untraced_is, option_of as option_of_is, option_words, reads_trace as reads_trace_is, says_format as says_format_is};
+ghost use Rattle.tw_files.specs.Input.{asks_help as asks_help_is, command_words as command_words_is, has_word as has_word_is, is_untraced as is_untraced_is, option_of as option_of_is, option_words, reads_trace as reads_trace_is, says_format as says_format_is, session_words as session_words_is};
 
 use crate::format::is_text;
 use std::alloc::{AllocError, Global};
-use tw_report::cut_history;
 
 fn is_word(word: &str, other: &String) -> bool
     ensures { result ≡ bytes_eq (string_bytes other.now) word.now }
@@ -22,19 +21,21 @@ fn is_among(word: &str, words: &[String]) -> bool
     words.iter().any(|other| is_word(word, other))
 }
 
-fn has_word(word: &str, words: &[String]) -> bool
+/// Returns whether a word is an argument.
+pub fn has_word(word: &str, words: &[String]) -> bool
     ensures { result ≡ has_word_is word.now (map string_bytes words.now) }
 {
     is_among(word, words)
 }
 
-fn reads_trace(command: &str) -> bool
+/// Returns whether a command reads a trace after the program.
+pub fn reads_trace(command: &str) -> bool
     ensures { result ≡ reads_trace_is command.now }
 {
     command == "replay" || command == "picture"
 }
 
-/// Returns whether a file has no trace for a command, by the part of it before the trace.
+/// Returns whether a program's file has no trace for a command, by the part of it before the trace.
 pub fn is_untraced(command: &str, program: &[u8], before: &[u8]) -> bool
     ensures { result ≡ is_untraced_is command.now program.now before.now }
 {
@@ -66,12 +67,6 @@ pub fn asks_help(words: &[String]) -> bool
     has_word("--help", words) || has_word("-h", words)
 }
 
-fn draws_run(command: &str, is_untraced: bool) -> bool
-    ensures { result ≡ draws_run_is command.now is_untraced }
-{
-    command == "picture" && is_untraced
-}
-
 fn put_word(words: &mut Vec<String>, alloc: Global, word: &str) -> Result<(), AllocError>
     ensures { OnOk result (map string_bytes words.new.items ≡ map string_bytes words.old.items ++ word.now ∷ []) }
 {
@@ -80,6 +75,7 @@ fn put_word(words: &mut Vec<String>, alloc: Global, word: &str) -> Result<(), Al
     Ok(())
 }
 
+/// Returns the command, or what draws a run.
 fn command_words(alloc: Global, command: &str, draws_run: bool) -> Result<Vec<String>, AllocError>
     ensures { IfOk result (λ words. map string_bytes words.items ≡ command_words_is command.now draws_run) }
 {
@@ -113,43 +109,44 @@ fn with_others(
 fn file_words(
     alloc: Global,
     command: &str,
+    draws_run: bool,
     path: &str,
     program: &[u8],
     others: Vec<String>,
 ) -> Result<Vec<String>, AllocError>
-    ensures { IfOk result (λ words. AreWords command.now (Some path.now) program.now (map string_bytes others.items) (map string_bytes words.items)) }
+    ensures { IfOk result (λ words. map string_bytes words.items ≡ session_words_is command.now (Some path.now) draws_run program.now (map string_bytes others.items)) }
 {
-    let (before, _events) = cut_history(program);
-    let draws = draws_run(command, is_untraced(command, program, before));
     let is_text = is_text(alloc, path, program)? && !says_format(&others);
-    let first = command_words(alloc, command, draws)?;
+    let first = command_words(alloc, command, draws_run)?;
     with_others(alloc, first, option_of(command, is_text), others)
 }
 
-/// Returns the arguments of a command without a file: the others.
-pub fn bare_words(
+/// Returns the arguments of a command without a file: the others. `draws_run` is whether a run is drawn.
+pub fn plain_words(
     alloc: Global,
     command: &str,
+    draws_run: bool,
     others: Vec<String>,
 ) -> Result<Vec<String>, AllocError>
-    ensures { IfOk result (λ words. map string_bytes words.items ≡ command.now ∷ map string_bytes others.items) }
+    ensures { IfOk result (λ words. map string_bytes words.items ≡ command_words_is command.now draws_run ++ map string_bytes others.items) }
 {
-    let first = command_words(alloc, command, false)?;
+    let first = command_words(alloc, command, draws_run)?;
     with_others(alloc, first, None, others)
 }
 
-/// Returns the arguments of a session whose program was read, from a file or from standard input.
+/// Returns the arguments of a session whose program was read, from a file or from standard input. `draws_run` is whether a run is drawn.
 pub fn session_words(
     alloc: Global,
     command: &str,
+    draws_run: bool,
     path: Option<&str>,
     program: &[u8],
     others: Vec<String>,
 ) -> Result<Vec<String>, AllocError>
-    ensures { IfOk result (λ words. AreWords command.now (option_map (λ p. p.now) path.entry) program.now (map string_bytes others.items) (map string_bytes words.items)) }
+    ensures { IfOk result (λ words. map string_bytes words.items ≡ session_words_is command.now (option_map (λ p. p.now) path.entry) draws_run program.now (map string_bytes others.items)) }
 {
     match path {
-        Some(path) => file_words(alloc, command, path, program, others),
-        None => bare_words(alloc, command, others),
+        Some(path) => file_words(alloc, command, draws_run, path, program, others),
+        None => plain_words(alloc, command, false, others),
     }
 }

@@ -4,9 +4,11 @@
 
 mod arguments;
 mod format;
+mod joining;
+mod named_files;
 mod naming;
 mod opening;
 
 pub use arguments::asks_help;
 pub use naming::reads_program;
-pub use opening::{InputFiles, NoInput, SessionInput, session_input};
+pub use opening::{InputFiles, Misfit, NoInput, SessionInput, session_input, words_without_files};

@@ -14,6 +14,8 @@ pub enum Role {
     Program,
     /// It names the file of inputs.
     Inputs,
+    /// It names the file of the trace.
+    Events,
     /// It names no file.
     Other,
 }
@@ -29,6 +31,8 @@ pub struct Naming<'a> {
     pub program: Option<&'a str>,
     /// The file of inputs.
     pub inputs: Option<&'a str>,
+    /// The file of the trace.
+    pub events: Option<&'a str>,
 }
 
 /// Returns whether a command reads a program.
@@ -101,6 +105,8 @@ impl<'a> Naming<'a> {
             Role::Other
         } else if takes_inputs(self.before) && self.inputs.is_none() {
             Role::Inputs
+        } else if self.before == "--events" && self.events.is_none() {
+            Role::Events
         } else if self.program.is_some() || is_value(self.before, word) {
             Role::Other
         } else {
@@ -117,6 +123,7 @@ fn take_word<'a>(mut named: Naming<'a>, word: &'a String) -> Result<Naming<'a>, 
     match role {
         Role::Program => named.program = Some(word.as_str()),
         Role::Inputs => named.inputs = Some(word.as_str()),
+        Role::Events => named.events = Some(word.as_str()),
         Role::Other => {
             let copy = word.clone()?;
             named.others.push(copy)?;
@@ -134,6 +141,7 @@ pub fn naming_of<'a>(alloc: Global, words: &'a [String]) -> Result<Naming<'a>, A
         others: Vec::new(alloc),
         program: None,
         inputs: None,
+        events: None,
     };
     for word in words {
         named = take_word(named, word)?;

@@ -1,22 +1,19 @@
 //! Opens the files of a command.
 
-ghost use Rattle.std.specs.Prelude.{◌≡◌, ◌++◌, ℕ, List, Some, ⊤, true, IfOk, IfErr, OnErr, codes, is_some, map, string_bytes, unwrap_or};
+ghost use Rattle.std.specs.Prelude.{◌≡◌, ◌++◌, ℕ, List, ⊤, true, IfOk, IfErr, IfSome, OnErr, map, string_bytes};
 ghost use Rattle.std.specs.Option.{option_map};
-ghost use Rattle.tw_files.specs.Input.{HasInputsTwice, IsInput, IsJoined, IsSessionInput, begins_inputs as begins_inputs_is, has_inputs as has_inputs_is, opens_files as opens_files_is, separate_inputs as separate_inputs_is, standard_input, with_inputs as with_inputs_is};
+ghost use Rattle.tw_files.specs.Input.{AreMisfits, IsInput, IsRead, IsSessionInput, IsTraced, IsTraceless, IsWhole, command_words, opens_files as opens_files_is, separate_events as separate_events_is, separate_lines as separate_lines_is};
 ghost use Rattle.tw_files.specs.Naming.{naming_of as naming_of_is};
 ghost use Rattle.tw_files.specs.Opening.{IsReason};
 ghost use Rattle.tw_files.specs.Seen.{seen};
 ghost use Rattle.tw_files.specs.declared.opening.NoInput.TheVariants.{NoMemory};
 
-use crate::arguments::{asks_help, bare_words, is_untraced, session_words};
+use crate::arguments::{plain_words, session_words};
+use crate::joining::{events_in, has_no_trace, joined, with_events};
 use crate::naming::{Naming, naming_of};
 use std::alloc::{AllocError, Global};
 use std::io;
 use std::io::ErrorKind;
-use tw_report::cut_history;
-
-/// The name of standard input.
-const STANDARD_INPUT: &str = "-";
 
 /// Files that can be read by their names.
 pub trait InputFiles {
@@ -34,11 +31,24 @@ pub trait InputFiles {
 
 /// The arguments and the input of a session.
 #[derive(Drop)]
-pub struct SessionInput {
+pub struct SessionInput<'a> {
     /// Its arguments.
     pub words: Vec<String>,
     /// Its input; none is standard input.
     pub bytes: Option<Vec<u8>>,
+    /// The file of the lines of `--each`, which isn't read.
+    pub lines: Option<&'a str>,
+}
+
+/// The reason why files don't fit each other.
+#[derive(Clone, Copy, PartialEq, Eq)]
+pub enum Misfit {
+    /// A file has inputs, but the program's file has some, too.
+    InputsTwice,
+    /// A file has a trace, but the program's file has one, too.
+    EventsTwice,
+    /// A file has no line `events`.
+    NoEvents,
 }
 
 /// The reason why a session gets nothing.
@@ -46,8 +56,8 @@ pub struct SessionInput {
 pub enum NoInput<'a> {
     /// The file of this name can't be read.
     Unread(&'a str, io::Error),
-    /// The file of this name would give inputs, but the program's file has some, too.
-    InputsTwice(&'a str),
+    /// The file of this name doesn't fit the others.
+    Misfit(&'a str, Misfit),
     /// An allocation failed.
     NoMemory,
 }
@@ -60,76 +70,9 @@ impl<'a> From<AllocError> for NoInput<'a> {
     }
 }
 
-impl<'a> Naming<'a> {
-    fn program_path(&self) -> &'a str
-        ensures { result.now ≡ unwrap_or (seen self.now).program standard_input }
-    {
-        match self.program {
-            Some(path) => path,
-            None => STANDARD_INPUT,
-        }
-    }
-
-    fn separate_inputs(&self) -> Option<&'a str>
-        ensures { option_map (λ path. path.now) result ≡ separate_inputs_is (seen self.now) }
-    {
-        match self.inputs {
-            Some(path) if path == STANDARD_INPUT && self.program_path() == STANDARD_INPUT => None,
-            inputs => inputs,
-        }
-    }
-
-    fn opens_files(&self) -> bool
-        ensures { result ≡ opens_files_is (seen self.now) }
-    {
-        (self.program.is_some() || self.separate_inputs().is_some()) && !asks_help(&self.others)
-    }
-}
-
-fn with_inputs(alloc: Global, program: &[u8], inputs: &[u8]) -> Result<Vec<u8>, AllocError>
-    ensures { IfOk result (λ whole. whole.items ≡ with_inputs_is program.now inputs.now) }
-{
-    let mut whole = Vec::from_slice(alloc, program)?;
-    whole.extend_from_slice(b"\ninputs\n")?;
-    whole.extend_from_slice(inputs)?;
-    Ok(whole)
-}
-
-/// Puts inputs after a program, and before its trace.
-fn joined(
-    alloc: Global,
-    command: &str,
-    program: &[u8],
-    inputs: &[u8],
-) -> Result<Vec<u8>, AllocError>
-    ensures { IfOk result (λ whole. IsJoined command.now program.now inputs.now whole.items) }
-{
-    let (before, events) = cut_history(program);
-    if is_untraced(command, program, before) {
-        return with_inputs(alloc, program, inputs);
-    }
-    let mut whole = with_inputs(alloc, before, inputs)?;
-    whole.extend_from_slice(b"\nevents\n")?;
-    whole.extend_from_slice(events)?;
-    Ok(whole)
-}
-
-fn begins_inputs(line: &[u8]) -> bool
-    ensures { result ≡ begins_inputs_is line.now }
-{
-    line == b"inputs".as_slice() || line == b"inputs\r".as_slice()
-}
-
-/// Returns whether a program's file has inputs, too.
-fn has_inputs(program: &[u8]) -> bool
-    ensures { result ≡ has_inputs_is program.now }
-{
-    program.split(|byte| *byte == b'\n').any(begins_inputs)
-}
-
 fn read<'a, F: InputFiles>(files: &F, alloc: Global, path: &'a str) -> Result<Vec<u8>, NoInput<'a>>
     ensures bytes { IfOk result (λ bytes. F.Holds files.now path.entry.now bytes.items) }
-    ensures failed { IfErr result (IsReason (F.Fails files.now) ⊥) }
+    ensures failed { IfErr result (IsReason (F.Fails files.now) (λ why. ⊥)) }
 {
     match files.read_file(alloc, path) {
         Ok(bytes) => Ok(bytes),
@@ -138,27 +81,8 @@ fn read<'a, F: InputFiles>(files: &F, alloc: Global, path: &'a str) -> Result<Ve
     }
 }
 
-/// Reads inputs, and joins them to a program, which must have none.
-fn joined_input<'a, F: InputFiles>(
-    files: &F,
-    alloc: Global,
-    command: &str,
-    path: &'a str,
-    program: &[u8],
-) -> Result<Vec<u8>, NoInput<'a>>
-    ensures bytes { IfOk result (λ input. IsInput (F.Holds files.now) command.now (Some path.entry.now) program.now input.items) }
-    ensures failed { IfErr result (IsReason (F.Fails files.now) (has_inputs_is program.now ≡ true)) }
-{
-    if has_inputs(program) {
-        return Err(NoInput::InputsTwice(path));
-    }
-    let given = read(files, alloc, path)?;
-    let whole = joined(alloc, command, program, &given)?;
-    Ok(whole)
-}
-
-/// Returns the input of a session whose program was read.
-fn whole_input<'a, F: InputFiles>(
+/// Reads inputs, if they are in a file of their own, and joins them to a program.
+fn with_inputs_of<'a, F: InputFiles>(
     files: &F,
     alloc: Global,
     command: &str,
@@ -166,12 +90,88 @@ fn whole_input<'a, F: InputFiles>(
     program: Vec<u8>,
 ) -> Result<Vec<u8>, NoInput<'a>>
     ensures bytes { IfOk result (λ input. IsInput (F.Holds files.now) command.now (option_map (λ path. path.now) inputs.entry) program.items input.items) }
-    ensures failed { IfErr result (IsReason (F.Fails files.now) ((is_some inputs.entry ≡ true) × (has_inputs_is program.items ≡ true))) }
+    ensures failed { IfErr result (IsReason (F.Fails files.now) (λ why. ⊥)) }
 {
     match inputs {
-        Some(path) => joined_input(files, alloc, command, path, &program),
+        Some(path) => {
+            let given = read(files, alloc, path)?;
+            let whole = joined(alloc, command, &program, &given)?;
+            Ok(whole)
+        }
         None => Ok(program),
     }
+}
+
+/// Reads a trace, if it is in a file of its own, and adds it.
+fn with_trace_of<'a, F: InputFiles>(
+    files: &F,
+    alloc: Global,
+    trace: Option<&'a str>,
+    whole: Vec<u8>,
+) -> Result<Vec<u8>, NoInput<'a>>
+    ensures bytes { IfOk result (λ input. IsTraced (F.Holds files.now) (option_map (λ path. path.now) trace.entry) whole.items input.items) }
+    ensures failed { IfErr result (IsReason (F.Fails files.now) (IsTraceless (F.Holds files.now) (option_map (λ path. path.now) trace.entry))) }
+{
+    let Some(path) = trace else {
+        return Ok(whole);
+    };
+    let trace = read(files, alloc, path)?;
+    match events_in(&trace) {
+        Some(events) => {
+            let all = with_events(whole, events)?;
+            Ok(all)
+        }
+        None => Err(NoInput::Misfit(path, Misfit::NoEvents)),
+    }
+}
+
+/// Returns the bytes that a session reads, by the files of the inputs and of the trace.
+fn whole_input<'a, F: InputFiles>(
+    files: &F,
+    alloc: Global,
+    command: &str,
+    inputs: Option<&'a str>,
+    trace: Option<&'a str>,
+    program: Vec<u8>,
+) -> Result<Vec<u8>, NoInput<'a>>
+    ensures bytes { IfOk result (λ input. IsWhole (F.Holds files.now) command.now (option_map (λ path. path.now) inputs.entry) (option_map (λ path. path.now) trace.entry) program.items input.items) }
+    ensures failed { IfErr result (IsReason (F.Fails files.now) (IsTraceless (F.Holds files.now) (option_map (λ path. path.now) trace.entry))) }
+{
+    let whole = with_inputs_of(files, alloc, command, inputs, program)?;
+    with_trace_of(files, alloc, trace, whole)
+}
+
+/// Returns what a session gets if the program's file, which is read, fits the others.
+fn fitting_input<'a, F: InputFiles>(
+    files: &F,
+    alloc: Global,
+    command: &str,
+    is_untraced: bool,
+    named: Naming<'a>,
+    program: Vec<u8>,
+) -> Result<SessionInput<'a>, NoInput<'a>>
+    ensures made { IfOk result (λ made. IsRead (F.Holds files.now) command.now is_untraced (seen named.entry) program.items (map string_bytes made.words.items) (option_map (λ bytes. bytes.items) made.bytes)) }
+    ensures lines { IfOk result (λ made. option_map (λ path. path.now) made.lines ≡ separate_lines_is (seen named.entry)) }
+    ensures failed { IfErr result (IsReason (F.Fails files.now) (IsTraceless (F.Holds files.now) (separate_events_is command.now is_untraced (seen named.entry)))) }
+{
+    let draws_run = named.draws_run(command, is_untraced);
+    let inputs = named.joined_inputs();
+    let trace = named.separate_events(command, is_untraced);
+    let lines = named.separate_lines();
+    let words = session_words(
+        alloc,
+        command,
+        draws_run,
+        named.program,
+        &program,
+        named.others,
+    )?;
+    let bytes = whole_input(files, alloc, command, inputs, trace, program)?;
+    Ok(SessionInput {
+        words,
+        bytes: Some(bytes),
+        lines,
+    })
 }
 
 /// Returns what a session gets if a file is to be opened.
@@ -180,19 +180,31 @@ fn opened<'a, F: InputFiles>(
     alloc: Global,
     command: &str,
     named: Naming<'a>,
-) -> Result<SessionInput, NoInput<'a>>
-    requires { opens_files_is (seen named) ≡ true }
+) -> Result<SessionInput<'a>, NoInput<'a>>
+    requires { opens_files_is command.now (seen named) ≡ true }
     ensures made { IfOk result (λ made. IsSessionInput (F.Holds files.now) command.now (seen named.entry) (map string_bytes made.words.items) (option_map (λ bytes. bytes.items) made.bytes)) }
-    ensures failed { IfErr result (IsReason (F.Fails files.now) (HasInputsTwice (F.Holds files.now) (seen named.entry))) }
+    ensures lines { IfOk result (λ made. option_map (λ path. path.now) made.lines ≡ separate_lines_is (seen named.entry)) }
+    ensures failed { IfErr result (IsReason (F.Fails files.now) (AreMisfits (F.Holds files.now) command.now (seen named.entry))) }
 {
-    let inputs = named.separate_inputs();
     let program = read(files, alloc, named.program_path())?;
-    let words = session_words(alloc, command, named.program, &program, named.others)?;
-    let bytes = whole_input(files, alloc, command, inputs, program)?;
-    Ok(SessionInput {
-        words,
-        bytes: Some(bytes),
-    })
+    let is_untraced = has_no_trace(command, &program);
+    match named.misfit(command, is_untraced, &program) {
+        Some((path, why)) => Err(NoInput::Misfit(path, why)),
+        None => fitting_input(files, alloc, command, is_untraced, named, program),
+    }
+}
+
+/// Returns the arguments of a command without the files that they name, to be judged before any is opened. `draws_run` is whether a run is drawn.
+pub fn words_without_files(
+    alloc: Global,
+    command: &str,
+    draws_run: bool,
+    words: &[String],
+) -> Result<Vec<String>, AllocError>
+    ensures { IfOk result (λ made. map string_bytes made.items ≡ command_words command.now draws_run ++ (naming_of_is (map string_bytes words.now)).others) }
+{
+    let named = naming_of(alloc, words)?;
+    plain_words(alloc, command, draws_run, named.others)
 }
 
 /// Opens the files that the arguments of a command name, and returns what a session gets. Nothing is read if they name none, or request help.
@@ -201,15 +213,20 @@ pub fn session_input<'a, F: InputFiles>(
     alloc: Global,
     command: &str,
     words: &'a [String],
-) -> Result<SessionInput, NoInput<'a>>
+) -> Result<SessionInput<'a>, NoInput<'a>>
     ensures made { IfOk result (λ made. IsSessionInput (F.Holds files.now) command.now (naming_of_is (map string_bytes words.entry.now)) (map string_bytes made.words.items) (option_map (λ bytes. bytes.items) made.bytes)) }
-    // It fails only if an allocation fails, a file can't be read, or there are inputs twice.
-    ensures failed { IfErr result (IsReason (F.Fails files.now) (HasInputsTwice (F.Holds files.now) (naming_of_is (map string_bytes words.entry.now)))) }
+    ensures lines { IfOk result (λ made. IfSome made.bytes (λ bytes. option_map (λ path. path.now) made.lines ≡ separate_lines_is (naming_of_is (map string_bytes words.entry.now)))) }
+    // It fails only if an allocation fails, a file can't be read, or files don't fit each other.
+    ensures failed { IfErr result (IsReason (F.Fails files.now) (AreMisfits (F.Holds files.now) command.now (naming_of_is (map string_bytes words.entry.now)))) }
 {
     let named = naming_of(alloc, words)?;
-    if named.opens_files() {
+    if named.opens_files(command) {
         return opened(files, alloc, command, named);
     }
-    let words = bare_words(alloc, command, named.others)?;
-    Ok(SessionInput { words, bytes: None })
+    let words = plain_words(alloc, command, false, named.others)?;
+    Ok(SessionInput {
+        words,
+        bytes: None,
+        lines: None,
+    })
 }

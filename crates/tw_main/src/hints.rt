@@ -3,12 +3,14 @@
 use std::io;
 use std::io::ErrorKind;
 use std::rt::Stderr;
-use tw_files::asks_help;
+use tw_files::{Misfit, asks_help};
 use tw_session::{Close, Status};
 
 /// An answer to a command, as far as hints are about it.
 #[derive(Drop)]
 pub struct Answered<'a> {
+    /// Hints name the command so.
+    pub name: &'a str,
     pub status: Status,
     /// The line that may report an error, as far as it is kept.
     pub line: &'a [u8],
@@ -37,11 +39,29 @@ pub fn complain_unread(stderr: &Stderr, path: &str, error: &io::Error) -> io::Re
     }
 }
 
-/// Prints that a file of inputs isn't read, since the program's file has some, too.
-pub fn complain_twice(stderr: &Stderr, path: &str) -> io::Result<()> {
-    eprintln!(stderr;
-        "tw: {path} isn't read: the program's file has a line `inputs`, too; remove it, or don't name {path}"
-    )
+/// Prints why a file doesn't fit the program's.
+pub fn complain_misfit(stderr: &Stderr, path: &str, why: Misfit) -> io::Result<()> {
+    match why {
+        Misfit::InputsTwice => eprintln!(stderr;
+            "tw: {path} isn't read: the program's file has a line `inputs`, too; remove it, or don't name {path}"
+        ),
+        Misfit::EventsTwice => eprintln!(stderr;
+            "tw: {path} isn't read: the program's file has a line `events`, too; remove it, or don't name {path}"
+        ),
+        Misfit::NoEvents => eprintln!(stderr;
+            "tw: {path} holds no trace: it has no line `events`, as `tw run --trace` writes"
+        ),
+    }
+}
+
+/// Prints that a word that is no input names no file, either.
+pub fn complain_missing(stderr: &Stderr, word: &str) -> io::Result<()> {
+    eprintln!(stderr; "tw: there is no file {word}, either")
+}
+
+/// Prints that a terminal is read for a file's content.
+pub fn print_reading(stderr: &Stderr) -> io::Result<()> {
+    eprintln!(stderr; "tw: reading standard input, which Ctrl-D ends")
 }
 
 /// Prints that a terminal is read, unless help is requested.
@@ -82,15 +102,19 @@ fn print_error_hint(stderr: &Stderr, answered: &Answered<'_>) -> io::Result<()> 
             "tw: standard input holds no program as hex text; --text reads assembly text, and a command before a | may have failed"
         )?;
     }
-    eprintln!(stderr; "tw: tw explain {code} says more")
+    let name = answered.name;
+    eprintln!(stderr; "tw: {name} explain {code} says more")
 }
 
-fn print_command_hint(stderr: &Stderr, words: &[String]) -> io::Result<()> {
+fn print_command_hint(stderr: &Stderr, name: &str, words: &[String]) -> io::Result<()> {
     match words {
-        [command, ..] if tw_files::reads_program(command.as_str()) => {
-            eprintln!(stderr; "tw: tw {command} --help lists its arguments")
+        [command, ..] if command.as_str() == "explain" => {
+            eprintln!(stderr; "tw: {name} explain lists the codes")
         }
-        _ => eprintln!(stderr; "tw: tw --help lists the commands"),
+        [command, ..] if tw_files::reads_program(command.as_str()) => {
+            eprintln!(stderr; "tw: {name} {command} --help lists its arguments")
+        }
+        _ => eprintln!(stderr; "tw: {name} --help lists the commands"),
     }
 }
 
@@ -98,12 +122,16 @@ fn print_command_hint(stderr: &Stderr, words: &[String]) -> io::Result<()> {
 pub fn print_hints(stderr: &Stderr, answered: &Answered<'_>) -> io::Result<()> {
     match answered.status {
         Status::Ended(Close::Refused | Close::Trapped) => print_error_hint(stderr, answered),
-        Status::Ended(Close::CommandLine) => print_command_hint(stderr, answered.words),
+        Status::Ended(Close::CommandLine) => {
+            print_command_hint(stderr, answered.name, answered.words)
+        }
         Status::Ended(Close::Limit) if answered.line.starts_with(b"<svg") => {
             eprintln!(stderr;
                 "tw: the run reached its limit of events; --limit takes up to 1000000"
             )
         }
+        Status::ReadFailed => eprintln!(stderr; "tw: standard input can't be read"),
+        Status::WriteFailed => eprintln!(stderr; "tw: standard output can't be written"),
         _ => Ok(()),
     }
 }

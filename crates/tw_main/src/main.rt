@@ -19,6 +19,11 @@ fn own_words(rt: &(impl Env + AllocGlobal)) -> io::Result<Vec<String>> {
     Ok(env::args(rt)?.skip(1).collect(rt.alloc())?)
 }
 
+/// Returns how messages name the command: as the script `tw`, which sets this variable, was called.
+fn own_name(rt: &(impl Env + AllocGlobal)) -> Option<String> {
+    env::var(rt, "TW_NAME").ok()
+}
+
 fn main(rt: HostRuntime) -> Exit {
     let streams = Streams {
         stdin: rt.stdin(),
@@ -26,7 +31,10 @@ fn main(rt: HostRuntime) -> Exit {
         stderr: rt.stderr(),
     };
     match own_words(&rt) {
-        Ok(words) => Tool::new(&rt, streams).answer(&words),
+        Ok(words) => match own_name(&rt) {
+            Some(name) => Tool::new(&rt, streams, name.as_str()).answer(&words),
+            None => Tool::new(&rt, streams, "tw").answer(&words),
+        },
         Err(error) => Exit::Session(without_words(error.kind(), &mut rt.stdout())),
     }
 }

@@ -1,22 +1,24 @@
 //! The files of the system.
 
+use crate::hints::print_reading;
 use std::alloc::Global;
-use std::io::Read;
-use std::rt::{Files, Stdin};
+use std::io::{IsTerminal, Read};
+use std::rt::{Files, Stderr, Stdin};
 use std::{fs, io};
 use tw_files::InputFiles;
 use tw_session::MOST_BYTES;
 
-/// The files of the system, and standard input under the name `-`.
+/// The files of the system, and standard input under the name `-`. If that is a terminal, standard error says that it is read.
 #[derive(Drop)]
 pub struct SystemFiles<'a, R> {
     rt: &'a R,
     stdin: Stdin,
+    stderr: Stderr,
 }
 
 impl<'a, R> SystemFiles<'a, R> {
-    pub fn new(rt: &'a R, stdin: Stdin) -> SystemFiles<'a, R> {
-        SystemFiles { rt, stdin }
+    pub fn new(rt: &'a R, stdin: Stdin, stderr: Stderr) -> SystemFiles<'a, R> {
+        SystemFiles { rt, stdin, stderr }
     }
 }
 
@@ -30,6 +32,9 @@ fn read_most<R: Read + Drop>(alloc: Global, reader: R) -> io::Result<Vec<u8>> {
 impl<'a, R: Files> InputFiles for SystemFiles<'a, R> {
     fn read_file(&self, alloc: Global, path: &str) -> io::Result<Vec<u8>> {
         if path == "-" {
+            if self.stdin.is_terminal() {
+                let _printed = print_reading(&self.stderr);
+            }
             return read_most(alloc, self.stdin);
         }
         let file = fs::open(self.rt, path)?;

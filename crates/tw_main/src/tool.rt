@@ -1,17 +1,24 @@
 //! Answers the arguments of the command.
 
 use crate::exit::Exit;
-use crate::hints::{Answered, complain_twice, complain_unread, print_hints, print_notice};
+use crate::hints::{
+    Answered, complain_misfit, complain_missing, complain_unread, print_hints, print_notice,
+};
 use crate::noted_writer::NotedWriter;
 use crate::progress_printer::ProgressPrinter;
 use crate::symbolic::unnamed_path;
 use crate::system_files::SystemFiles;
+use std::alloc::{AllocError, Global};
+use std::io;
 use std::io::{ErrorKind, IsTerminal};
 use std::rt::{Files, Stderr, Stdin, Stdout};
 use std::sync::Wait;
 use std::thread::Threads;
 use std::time::Clock;
-use tw_files::{NoInput, SessionInput, reads_program, session_input};
+use tw_cli::rejects;
+use tw_files::{
+    InputFiles, NoInput, SessionInput, reads_program, session_input, words_without_files,
+};
 use tw_session::{InStream, Status, complain, is_quiet, session, without_words};
 
 /// The standard streams.
@@ -22,16 +29,45 @@ pub struct Streams {
     pub stderr: Stderr,
 }
 
+/// Returns the command and its arguments.
+fn words_of(alloc: Global, command: &str, others: &[String]) -> Result<Vec<String>, AllocError> {
+    let mut words = Vec::new(alloc);
+    words.push(String::from_str(alloc, command)?)?;
+    for word in others {
+        words.push(word.clone()?)?;
+    }
+    Ok(words)
+}
+
+/// Puts lines of inputs after a program.
+fn with_lines(mut program: Vec<u8>, lines: &[u8]) -> Result<Vec<u8>, AllocError> {
+    program.extend_from_slice(b"\ninputs\n")?;
+    program.extend_from_slice(lines)?;
+    Ok(program)
+}
+
+/// Returns whether a word may be meant as an input: the command takes inputs, none has a file, and the word looks like no file's name.
+fn is_bare_word(command: &str, others: &[String], word: &str) -> bool {
+    let has_files = others.iter().any(|other| {
+        let other = other.as_str();
+        other == "--inputs" || other == "--inputs-json" || other == "--each" || other == "--events"
+    });
+    let takes_inputs = command == "run" || command == "replay" || command == "picture";
+    takes_inputs && !has_files && !word.contains('.') && !word.contains('/')
+}
+
 /// The command, with the system that it is run on.
 #[derive(Drop)]
 pub struct Tool<'a, H> {
     rt: &'a H,
     streams: Streams,
+    /// Messages name the command so.
+    name: &'a str,
 }
 
 impl<'a, H: AllocGlobal + Files + Threads + Wait + Clock + Sync> Tool<'a, H> {
-    pub fn new(rt: &'a H, streams: Streams) -> Tool<'a, H> {
-        Tool { rt, streams }
+    pub fn new(rt: &'a H, streams: Streams, name: &'a str) -> Tool<'a, H> {
+        Tool { rt, streams, name }
     }
 
     /// Holds a session, and prints hints about its answer. `unnamed` is the file whose name promises symbolic assembly, if its text isn't symbolic.
@@ -48,6 +84,7 @@ impl<'a, H: AllocGlobal + Files + Threads + Wait + Clock + Sync> Tool<'a, H> {
         let status = session(self.rt, &reporter, words, reader, &mut writer);
         complain(self.rt.alloc(), status, words, &mut stderr);
         let answered = Answered {
+            name: self.name,
             status,
             line: writer.line(),
             words,
@@ -67,34 +104,115 @@ impl<'a, H: AllocGlobal + Files + Threads + Wait + Clock + Sync> Tool<'a, H> {
         self.hold(words, &mut stdin, None, true)
     }
 
-    /// Holds a session over what `session_input` returned for the arguments after a command.
-    fn hold_over(&self, others: &[String], made: SessionInput) -> Status {
-        let words = made.words;
-        match made.bytes {
-            None => self.hold_over_input(&words),
-            Some(bytes) => {
-                let mut reader = bytes.as_slice();
-                let unnamed = unnamed_path(others, &bytes);
-                self.hold(&words, &mut reader, unnamed, false)
+    /// Holds a session over what was read of files.
+    fn hold_over_bytes(&self, others: &[String], words: &[String], bytes: &[u8]) -> Status {
+        let mut reader = bytes;
+        let unnamed = unnamed_path(others, bytes);
+        self.hold(words, &mut reader, unnamed, false)
+    }
+
+    /// Holds a session over a program and the lines of `--each`, which have a file of their own.
+    fn hold_over_lines(
+        &self,
+        others: &[String],
+        words: &[String],
+        program: Vec<u8>,
+        path: &str,
+    ) -> Exit {
+        let files = SystemFiles::new(self.rt, self.streams.stdin, self.streams.stderr);
+        match files.read_file(self.rt.alloc(), path) {
+            Ok(lines) => match with_lines(program, &lines) {
+                Ok(bytes) => Exit::Session(self.hold_over_bytes(others, words, &bytes)),
+                Err(_) => {
+                    let mut stdout = self.streams.stdout;
+                    Exit::Session(without_words(ErrorKind::OutOfMemory, &mut stdout))
+                }
+            },
+            Err(error) => {
+                let _printed = complain_unread(&self.streams.stderr, path, &error);
+                Exit::Unread
             }
         }
     }
 
-    /// Answers a command that reads a program.
+    /// Holds a session over what `session_input` returned for the arguments after a command.
+    fn hold_over(&self, others: &[String], made: SessionInput<'_>) -> Exit {
+        let words = made.words;
+        match (made.bytes, made.lines) {
+            (None, _) => Exit::Session(self.hold_over_input(&words)),
+            (Some(program), Some(path)) => self.hold_over_lines(others, &words, program, path),
+            (Some(bytes), None) => Exit::Session(self.hold_over_bytes(others, &words, &bytes)),
+        }
+    }
+
+    /// Answers a command whose file of this name can't be read. A bare word is taken for an input if there is no such file.
+    fn answer_unread(
+        &self,
+        command: &str,
+        others: &[String],
+        path: &str,
+        error: &io::Error,
+    ) -> Exit {
+        if error.kind() != ErrorKind::NotFound || !is_bare_word(command, others, path) {
+            let _printed = complain_unread(&self.streams.stderr, path, error);
+            return Exit::Unread;
+        }
+        let Ok(words) = words_of(self.rt.alloc(), command, others) else {
+            let mut stdout = self.streams.stdout;
+            return Exit::Session(without_words(ErrorKind::OutOfMemory, &mut stdout));
+        };
+        let status = self.hold(&words, &mut { self.streams.stdin }, None, false);
+        let _printed = complain_missing(&self.streams.stderr, path);
+        Exit::Session(status)
+    }
+
+    /// Answers a command that reads a program, if its arguments may be accepted.
     fn answer_command(&self, command: &str, others: &[String]) -> Exit {
         let mut stdout = self.streams.stdout;
-        let files = SystemFiles::new(self.rt, self.streams.stdin);
+        let files = SystemFiles::new(self.rt, self.streams.stdin, self.streams.stderr);
         match session_input(&files, self.rt.alloc(), command, others) {
-            Ok(made) => Exit::Session(self.hold_over(others, made)),
-            Err(NoInput::Unread(path, error)) => {
-                let _printed = complain_unread(&self.streams.stderr, path, &error);
-                Exit::Unread
-            }
-            Err(NoInput::InputsTwice(path)) => {
-                let _printed = complain_twice(&self.streams.stderr, path);
+            Ok(made) => self.hold_over(others, made),
+            Err(NoInput::Unread(path, error)) => self.answer_unread(command, others, path, &error),
+            Err(NoInput::Misfit(path, why)) => {
+                let _printed = complain_misfit(&self.streams.stderr, path, why);
                 Exit::Session(without_words(ErrorKind::InvalidInput, &mut stdout))
             }
             Err(NoInput::NoMemory) => {
+                Exit::Session(without_words(ErrorKind::OutOfMemory, &mut stdout))
+            }
+        }
+    }
+
+    /// Returns the arguments without the files that they name, if they are rejected whatever the files hold.
+    fn rejected_words(
+        &self,
+        command: &str,
+        others: &[String],
+    ) -> Result<Option<Vec<String>>, AllocError> {
+        let alloc = self.rt.alloc();
+        let words = words_without_files(alloc, command, false, others)?;
+        if !rejects(alloc, &words)? {
+            return Ok(None);
+        }
+        // Without a trace it draws a run, which takes other options.
+        if command == "picture" {
+            let drawing = words_without_files(alloc, command, true, others)?;
+            if !rejects(alloc, &drawing)? {
+                return Ok(None);
+            }
+        }
+        Ok(Some(words))
+    }
+
+    /// Answers a command that reads a program. Rejected arguments are answered before a file is opened.
+    fn judge_command(&self, command: &str, others: &[String]) -> Exit {
+        match self.rejected_words(command, others) {
+            Ok(None) => self.answer_command(command, others),
+            Ok(Some(words)) => {
+                Exit::Session(self.hold(&words, &mut { self.streams.stdin }, None, false))
+            }
+            Err(_) => {
+                let mut stdout = self.streams.stdout;
                 Exit::Session(without_words(ErrorKind::OutOfMemory, &mut stdout))
             }
         }
@@ -104,7 +222,7 @@ impl<'a, H: AllocGlobal + Files + Threads + Wait + Clock + Sync> Tool<'a, H> {
     pub fn answer(&self, words: &[String]) -> Exit {
         match words {
             [command, others @ ..] if reads_program(command.as_str()) => {
-                self.answer_command(command.as_str(), others)
+                self.judge_command(command.as_str(), others)
             }
             _ => Exit::Session(self.hold(words, &mut { self.streams.stdin }, None, false)),
         }

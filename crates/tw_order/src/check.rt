@@ -13,6 +13,13 @@ pub enum BoundsOf {
     OfEach,
 }
 
+/// Whether a check says if the order of events may show in outputs.
+#[derive(Clone, Copy, PartialEq, Eq)]
+pub enum EventOrder {
+    Ignored,
+    Checked,
+}
+
 /// The output of a check in addition to the budgets.
 #[derive(Clone, Copy)]
 pub struct CheckOrder {
@@ -22,6 +29,8 @@ pub struct CheckOrder {
     pub bounds: BoundsOf,
     /// The most events of a run, if its bounds by this limit are printed too.
     pub limit: Option<EventLimit>,
+    /// Whether the last line says if the order of events may show.
+    pub event_order: EventOrder,
     /// The caps above which the program is rejected.
     pub caps: Caps,
     pub form: Form,

@@ -11,7 +11,7 @@ mod range;
 mod runs;
 
 pub use caps::Caps;
-pub use check::{BoundsOf, CheckOrder};
+pub use check::{BoundsOf, CheckOrder, EventOrder};
 pub use form::{AssembleOrder, Assembling, DisassembleOrder, Form, Places};
 pub use limit::EventLimit;
 pub use order::{InputsOrder, Order, ProgramOrder, Source, VerifiedOrder};

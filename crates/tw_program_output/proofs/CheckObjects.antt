@@ -21,7 +21,9 @@ use Rattle.tw_json_output.proofs.Floats.{both, one_more, strings, with_one}
 use Rattle.tw_json_output.specs.Error.{lines_json}
 use Rattle.tw_json_output.specs.Texts.{whole_json, with_status}
 use Rattle.tw_program_output.specs.Bounds.{limit_rows, run_rows}
-use Rattle.tw_program_output.specs.CheckJson.{AreProcedureObjects, IsCircleOf, bound_json, check_members, circle_json, count_json, kind_word, needs_json, procedure_json, rows_json, with_circle, with_found, with_limited, with_listing, with_name, with_own_bounds, with_row}
+use Rattle.tw_copies.specs.declared.check.CopyInsertion.{CopyInsertion}
+use Rattle.tw_program_output.specs.EventOrder.{count_json, order_json, with_order}
+use Rattle.tw_program_output.specs.CheckJson.{AreProcedureObjects, IsCircleOf, bound_json, check_members, circle_json, kind_word, needs_json, procedure_json, rows_json, with_circle, with_found, with_limited, with_listing, with_name, with_own_bounds, with_row}
 use Rattle.tw_program_output.specs.declared.bounds_json.FoundBounds.{FoundBounds}
 use Rattle.tw_program_output.proofs.ReplyNames.{Procedure, slice_get, slice_get-get_or, take_more}
 use Rattle.tw_symbols.specs.Symbols.{name_at}
@@ -128,12 +130,20 @@ listing_fine : (listing : Option (List ℕ)) (ms : json.Members) → members_hav
 listing_fine None ms before = before
 listing_fine (Some text) ms before = one_more (codes "listing") (lines_json text) ms (strings (lines (utf8_lossy text))) before
 
-pub check_fine : (names : List (List ℕ)) (each : Option RunBounds) (program : List Procedure) (objects : List json.Data) (engines workers : ℕ) (listing : Option (List ℕ)) (found : Option FoundBounds) → AreProcedureObjects names each 0 program objects
-    → has_float (json.object (check_members objects engines workers listing found)) ≡ false
-check_fine names each program objects engines workers listing found are =
+order_fine : (answer : Option (Option CopyInsertion)) (ms : json.Members) → members_have_float ms ≡ false → members_have_float (with_order answer ms) ≡ false
+order_fine None ms before = before
+order_fine (Some None) ms before = one_more (codes "order") (order_json None) ms refl before
+order_fine (Some (Some at)) ms before =
+    let procedure = json.put (codes "procedure") (count_json at.procedure) json.no_members in
+    let one = one_more (codes "procedure") (count_json at.procedure) json.no_members refl refl in
+    one_more (codes "order") (order_json (Some at)) ms (one_more (codes "place") (count_json at.place) procedure refl one) before
+
+pub check_fine : (names : List (List ℕ)) (each : Option RunBounds) (program : List Procedure) (objects : List json.Data) (engines workers : ℕ) (listing : Option (List ℕ)) (found : Option FoundBounds) (answer : Option (Option CopyInsertion))
+    → AreProcedureObjects names each 0 program objects → has_float (json.object (check_members objects engines workers listing found answer)) ≡ false
+check_fine names each program objects engines workers listing found answer are =
     let listed = with_status (codes "accepted") (codes "procedures") (json.array (items_of objects)) in
     let first = with_one (codes "accepted") (codes "procedures") (json.array (items_of objects)) (objects_fine names each 0 program objects are) in
     let engine = json.put (codes "engines") (count_json engines) json.no_members in
     let needs = one_more (codes "workers") (count_json workers) engine refl (one_more (codes "engines") (count_json engines) json.no_members refl refl) in
     let all = json.put (codes "needs") (needs_json engines workers) listed in
-    found_fine found (with_listing listing all) (listing_fine listing all (one_more (codes "needs") (needs_json engines workers) listed needs first))
+    order_fine answer (with_found found (with_listing listing all)) (found_fine found (with_listing listing all) (listing_fine listing all (one_more (codes "needs") (needs_json engines workers) listed needs first)))

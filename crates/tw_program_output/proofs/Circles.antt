@@ -1,4 +1,4 @@
--- The line of the call that leads back to its own procedure.
+-- The lines of a call that leads back to its own procedure, and of an insertion.
 use Rattle.std.proofs.Common.{◌≡◌, ◌∙◌, ◌⊎◌, ℕ, List, Option, Some, None, ap, sym, subst, inl, inr}
 use Rattle.std.specs.Option.{option_and_then}
 use Rattle.std.specs.Prelude.{slice_get}
@@ -9,6 +9,8 @@ use Rattle.tw_code.specs.declared.instr.Instr.TheVariants as instr
 use Rattle.tw_code.specs.declared.procedure.Procedure.{Procedure}
 use Rattle.tw_bounds.specs.Circles.{IsCircle}
 use Rattle.tw_bounds.specs.declared.circles.Circle.{Circle}
+use Rattle.tw_copies.specs.Copies.{IsCopyInsertion}
+use Rattle.tw_copies.specs.declared.check.CopyInsertion.{CopyInsertion}
 use Rattle.tw_program_output.specs.Source.{MayBeSource, MayBeSourceAt}
 use Rattle.tw_program_output.specs.declared.source.SourceText.{SourceText}
 
@@ -30,3 +32,8 @@ circle_there program circle is =
 pub source_at : (source : Option SourceText) (program : List Procedure) (circle : Circle) → MayBeSource source program → IsCircle program circle → MayBeSourceAt source program circle.procedure circle.place
 source_at None program circle h is = tt
 source_at (Some source) program circle h is = (h.1, circle_there program circle is, h.3)
+
+pub insertion_at : (source : Option SourceText) (program : List Procedure) (insertion : CopyInsertion) → MayBeSource source program → IsCopyInsertion program insertion.procedure insertion.place
+    → MayBeSourceAt source program insertion.procedure insertion.place
+insertion_at None program insertion h is = tt
+insertion_at (Some source) program insertion h is = (h.1, some_there program insertion.procedure insertion.place is.at.0 is.i is.at.1 is.at.2, h.3)

@@ -16,6 +16,7 @@ use Rattle.tw_program_output.specs.CheckJson.{IsCheckLine}
 use Rattle.tw_symbols.specs.Symbols.{AreSymbols, bracketed, name_at}
 use Rattle.tw_program_output.specs.Admission.{RepliesIfAdmitted}
 use Rattle.tw_program_output.specs.Bounds.{MayPrintBounds}
+use Rattle.tw_program_output.specs.EventOrder.{MayPrintOrder}
 use Rattle.tw_program_output.specs.Lines.{verify_line}
 use Rattle.tw_program_output.specs.Listing.{IsListing, IsRefusedListing}
 use Rattle.tw_program_output.specs.Reply.{Reply, reply}
@@ -55,7 +56,8 @@ IsChecked Shown source program text =
 -- holds for the check and what else is requested
 abbrev pub IsPrintedByCheck : CheckOrder → Option (List ℕ) → List Procedure → List ℕ → Type 0
 IsPrintedByCheck order source program text =
-    (check : List ℕ) × (lines : List ℕ) × IsChecked order.places source program check × MayPrintBounds order source program lines × (text ≡ check ++ lines)
+    (check : List ℕ) × (lines : List ℕ) × (last : List ℕ) × IsChecked order.places source program check × MayPrintBounds order source program lines × MayPrintOrder order.event_order source program last
+    × (text ≡ check ++ (lines ++ last))
 
 -- holds for the check in this form: its lines, or an object
 abbrev pub IsInForm : Form → CheckOrder → Option (List ℕ) → List Procedure → List ℕ → Type 0

@@ -27,12 +27,11 @@ use Rattle.tw_json_output.specs.Error.{lines_json}
 use Rattle.tw_json_output.specs.Run.{json_line}
 use Rattle.tw_json_output.specs.Texts.{whole_json, with_status}
 use Rattle.tw_program_output.specs.Bounds.{limit_rows, run_rows}
+use Rattle.tw_copies.specs.declared.check.CopyInsertion.{CopyInsertion}
+use Rattle.tw_program_output.specs.EventOrder.{MayBeChecked, count_json, with_order}
 use Rattle.tw_program_output.specs.Listing.{IsListing}
 use Rattle.tw_program_output.specs.declared.bounds_json.FoundBounds.{FoundBounds}
 use Rattle.tw_symbols.specs.Symbols.{AreSymbols, name_at}
-
-abbrev pub count_json : ℕ → json.Data
-count_json n = json.number (json.unsigned n)
 
 -- ---- bounds
 
@@ -141,9 +140,9 @@ abbrev pub with_listing : Option (List ℕ) → json.Members → json.Members
 with_listing None members = members
 with_listing (Some text) members = json.put (codes "listing") (lines_json text) members
 
-abbrev pub check_members : List json.Data → ℕ → ℕ → Option (List ℕ) → Option FoundBounds → json.Members
-check_members objects engines workers listing found =
-    with_found found (with_listing listing (json.put (codes "needs") (needs_json engines workers) (with_status (codes "accepted") (codes "procedures") (json.array (items_of objects)))))
+abbrev pub check_members : List json.Data → ℕ → ℕ → Option (List ℕ) → Option FoundBounds → Option (Option CopyInsertion) → json.Members
+check_members objects engines workers listing found answer =
+    with_order answer (with_found found (with_listing listing (json.put (codes "needs") (needs_json engines workers) (with_status (codes "accepted") (codes "procedures") (json.array (items_of objects))))))
 
 -- holds for the listing, if it is requested
 abbrev pub MayBeListed : Places → Option (List ℕ) → List Procedure → Option (List ℕ) → Type 0
@@ -154,7 +153,7 @@ MayBeListed Shown source program (Some text) = IsListing source program text
 -- holds for the line of an accepted program, with the names of the text
 abbrev pub IsCheckLine : CheckOrder → Option (List ℕ) → List Procedure → List ℕ → Type 0
 IsCheckLine order source program line =
-    (names : List (List ℕ)) × (found : Option FoundBounds) × (objects : List json.Data) × (listing : Option (List ℕ))
+    (names : List (List ℕ)) × (found : Option FoundBounds) × (objects : List json.Data) × (listing : Option (List ℕ)) × (answer : Option (Option CopyInsertion))
     × AreSymbols source names × MayBeFound order.bounds order.limit program found × AreProcedureObjects names (each_bounds order.bounds found) 0 program objects
-    × MayBeListed order.places source program listing
-    × (line ≡ json_line (json.object (check_members objects (needed Control program) (needed Leaf program) listing found)))
+    × MayBeListed order.places source program listing × MayBeChecked order.event_order program answer
+    × (line ≡ json_line (json.object (check_members objects (needed Control program) (needed Leaf program) listing found answer)))

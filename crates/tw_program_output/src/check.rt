@@ -14,6 +14,7 @@ use crate::admission::{excess_reply, excess_text};
 use crate::bounds::put_requested_bounds;
 use crate::check_json::check_line;
 use crate::close::Close;
+use crate::event_order::put_requested_order;
 use crate::lines::put_verify_line;
 use crate::listing::{refused_text, typed_text};
 use crate::reply::{Reply, refused_by};
@@ -162,8 +163,10 @@ fn checked_text(
     requires { MayBeSource source.now verified.now.program }
     ensures { IfOk result (λ text. IsPrintedByCheck order (text_of source.now) verified.now.program text.items) }
 {
+    let event_order = order.event_order;
     let mut text = budgets_text(alloc, source, order.places, verified)?;
     put_requested_bounds(alloc, &mut text, source, order, verified)?;
+    put_requested_order(alloc, &mut text, source, event_order, verified)?;
     Ok(text)
 }
 

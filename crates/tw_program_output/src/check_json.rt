@@ -7,9 +7,11 @@ ghost use Rattle.tw_program_output.specs.Source.{MayBeSource, text_of};
 
 use crate::bounds_json::{FoundBounds, bounds_value, found_bounds, put_found};
 use crate::check::accepted_listing;
+use crate::event_order::{order_answer, put_order_value};
 use crate::source::{SourceText, symbols_of};
 use serde_json::{Map, Value as Json};
 use std::alloc::{AllocError, Global};
+use tw_copies::CopyInsertion;
 use tw_json_output::{line_of, lines_value, members_with, text_value};
 use tw_order::{BoundsOf, CheckOrder, Places};
 use tw_symbols::Symbols;
@@ -198,15 +200,17 @@ fn check_members(
     needs: (u8, u8),
     listing: &Option<Vec<u8>>,
     found: &Option<FoundBounds>,
+    answer: Option<Option<CopyInsertion>>,
 ) -> Result<Map<String, Json>, AllocError>
     ensures { IfOk result (λ members. members_view members.entries
-        ≡ check_members (map view procedures.items) needs.0 needs.1 (option_map (λ t. t.items) listing.now) found.now) }
+        ≡ check_members (map view procedures.items) needs.0 needs.1 (option_map (λ t. t.items) listing.now) found.now answer) }
 {
     let mut members = members_with(alloc, "accepted", "procedures", Json::from(procedures))?;
     let needs = needs_value(alloc, needs.0, needs.1)?;
     serde_json::put(&mut members, alloc, "needs", needs)?;
     put_listing(alloc, &mut members, listing)?;
     put_found(alloc, &mut members, found)?;
+    put_order_value(alloc, &mut members, answer)?;
     Ok(members)
 }
 
@@ -222,9 +226,11 @@ pub(crate) fn check_line(
 {
     let names = symbols_of(alloc, source)?;
     let found = found_bounds(alloc, order.bounds, order.limit, verified)?;
+    let answer = order_answer(alloc, order.event_order, verified)?;
     let procedures = procedure_values(alloc, &names, order.bounds, &found, verified)?;
     let listing = requested_listing(alloc, source, order.places, verified)?;
-    let members = check_members(alloc, procedures, verified.needs(), &listing, &found)?;
+    let needs = verified.needs();
+    let members = check_members(alloc, procedures, needs, &listing, &found, answer)?;
     let line = line_of(alloc, &Json::Object(members))?;
     Ok(line.into_bytes())
 }

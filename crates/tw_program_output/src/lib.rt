@@ -10,6 +10,7 @@ mod check;
 mod check_json;
 mod close;
 mod digits;
+mod event_order;
 mod inputs;
 mod lines;
 mod listing;

@@ -2,13 +2,12 @@
 use Rattle.std.proofs.Common.{◌≡◌, ◌≢◌, ℕ, List, [], ◌∷◌, codes, Option, Some, None, IfOk, IfSome, Result, Ok, Err, OnErr, inl, inr, refl, sym, subst}
 use Rattle.std.specs.Io.KnownBytes.{Appends}
 use Rattle.clap.specs.Words.{Kinds, Text}
-use Rattle.tw_cli.specs.CommandLine.{Asked, Assembles, Checks, Disassembles, Explains, IsExplained, IsRefusedInput, Replays, Runs, RunsEach, RunsJson}
-use Rattle.tw_cli.proofs.Requests.{never_refused, one_refused}
+use Rattle.tw_cli.specs.CommandLine.{Asked, Explains, IsRefusedInput}
+use Rattle.tw_cli.proofs.Requests.{never_refused, not_refused, one_refused}
 use Rattle.tw_inputs.specs.InputWords.{RefusedWord}
 use Rattle.tw_program_output.specs.Inputs.{PrintsInputWord}
 use Rattle.tw_program_output.specs.Reply.{Reply, reply}
 use Rattle.tw_cli.specs.Options.{ExplainOrder}
-use Rattle.tw_cli.specs.declared.form.Explained.{Explained}
 use Rattle.tw_session.specs.Session.{AnswersWords, MayAnswer, RefusesWords, PrintsMeaning}
 use Rattle.tw_session.specs.Status.{ComesOfReply}
 use Rattle.tw_program_output.specs.declared.reply.Reply.{Reply as MadeReply}
@@ -69,17 +68,6 @@ taken (kind ∷ others) asked input r e h = absurd cc
 pub not_taken : (kinds : Kinds) (asked : Asked) (input : List ℕ) (r : Reply) → (kinds ≡ [] → ⊥) → AnswersWords kinds asked input r → RefusesWords kinds r
 not_taken [] asked input r e h = absurd (e refl)
 not_taken (kind ∷ others) asked input r e h = h
-
--- if an explanation is requested, no input word is rejected
-not_refused : (asked : Asked) (text : Explained) (number : RefusedWord) → IsExplained asked text → IsRefusedInput asked number → ⊥
-not_refused (Assembles what) text number e r = e
-not_refused (Disassembles source listed) text number e r = e
-not_refused (Checks source printed) text number e r = e
-not_refused (Runs source answer layout caps most traced turns words) text number e r = e
-not_refused (RunsJson source answer layout caps most traced turns) text number e r = e
-not_refused (RunsEach source layout caps most threads) text number e r = e
-not_refused (Replays source answer layout words) text number e r = e
-not_refused (Explains explained) text number e r = r
 
 pub word_printed : (asked : Asked) (input : List ℕ) (number : RefusedWord) (r : Reply) → IsRefusedInput asked number → MayAnswer asked input r → PrintsInputWord number r
 word_printed asked input number r refused (inl (order, is_asked, h)) = absurd (never_refused asked order number is_asked refused)

@@ -18,5 +18,5 @@ pub returns : goal.returns
 returns c =
     let rows = rows_of (found_of c.args.matches.now) in (
       only_bounds rows c.in_ok-most.most c.in_ok-caps.caps c.in_ok-most.ensures c.in_ok-caps.ensures ∙ right_bounds rows c.in_ok-bounds.bounds c.in_ok-bounds.ensures,
-      rw (c.places_given.ensures, c.limit_named.ensures, c.form_given.ensures) (given_check_is rows c.in_ok-most.most c.in_ok-caps.caps c.in_ok-bounds.bounds c.in_ok-caps.ensures c.in_ok-bounds.ensures),
+      rw (c.places_given.ensures, c.limit_named.ensures, c.event_order_given.ensures, c.form_given.ensures) (given_check_is rows c.in_ok-most.most c.in_ok-caps.caps c.in_ok-bounds.bounds c.in_ok-caps.ensures c.in_ok-bounds.ensures),
     )

@@ -2,7 +2,7 @@ use Rattle.std.proofs.Common.{◌==◌, ℕ, rules, tests}
 use Rattle.std.proofs.lemmas.Iterator.Search.{any_from_yields_List}
 use Rattle.std.proofs.lemmas.Iterator.Splits.{YieldsList-from_slice_split}
 use Rattle.tw_files.specs.Input.{begins_inputs}
-use Rattle.tw_files.proofs.opening.has_inputs.Goals as goal
+use Rattle.tw_files.proofs.joining.has_inputs.Goals as goal
 
 pub returns : goal.returns
 returns c =

@@ -1,0 +1,169 @@
+//! Which of the named files are opened.
+
+ghost use Rattle.std.specs.Prelude.{◌≡◌, MatchOption};
+ghost use Rattle.std.specs.Option.{option_map};
+ghost use Rattle.tw_files.specs.Input.{HasEventsTwice, HasInputsTwice, IsTwice, draws_run as draws_run_is, events_name as events_name_is, expects_trace as expects_trace_is, file_beside as file_beside_is, has_lines as has_lines_is, joined_inputs as joined_inputs_is, opens_files as opens_files_is, program_path as program_path_is, separate_events as separate_events_is, separate_inputs as separate_inputs_is, separate_lines as separate_lines_is, takes_input as takes_input_is, takes_program as takes_program_is};
+ghost use Rattle.tw_files.specs.Seen.{seen};
+
+use crate::arguments::{asks_help, has_word, reads_trace};
+use crate::joining::has_inputs;
+use crate::naming::Naming;
+use crate::opening::Misfit;
+
+/// The name of standard input.
+const STANDARD_INPUT: &str = "-";
+
+/// Returns a file, unless it is standard input, and something else is there too.
+fn file_beside(is_taken: bool, path: Option<&str>) -> Option<&str>
+    ensures { option_map (λ path. path.now) result ≡ file_beside_is is_taken (option_map (λ path. path.now) path.entry) }
+{
+    match path {
+        Some(path) if path == STANDARD_INPUT && is_taken => None,
+        other => other,
+    }
+}
+
+impl<'a> Naming<'a> {
+    /// Returns the file of the program.
+    pub fn program_path(&self) -> &'a str
+        ensures { result.now ≡ program_path_is (seen self.now) }
+    {
+        match self.program {
+            Some(path) => path,
+            None => STANDARD_INPUT,
+        }
+    }
+
+    fn takes_program(&self) -> bool
+        ensures { result ≡ takes_program_is (seen self.now) }
+    {
+        self.program_path() == STANDARD_INPUT
+    }
+
+    fn takes_input(&self) -> bool
+        ensures { result ≡ takes_input_is (seen self.now) }
+    {
+        let has_inputs = match self.inputs {
+            Some(path) => path == STANDARD_INPUT,
+            None => false,
+        };
+        self.takes_program() || has_inputs
+    }
+
+    /// Returns the file of inputs, unless they follow the program.
+    fn separate_inputs(&self) -> Option<&'a str>
+        ensures { option_map (λ path. path.now) result ≡ separate_inputs_is (seen self.now) }
+    {
+        file_beside(self.takes_program(), self.inputs)
+    }
+
+    fn has_lines(&self) -> bool
+        ensures { result ≡ has_lines_is (seen self.now) }
+    {
+        has_word("--each", &self.others)
+    }
+
+    /// Returns the file of inputs if a session reads it with the program.
+    pub fn joined_inputs(&self) -> Option<&'a str>
+        ensures { option_map (λ path. path.now) result ≡ joined_inputs_is (seen self.now) }
+    {
+        if self.has_lines() {
+            None
+        } else {
+            self.separate_inputs()
+        }
+    }
+
+    /// Returns the file of inputs if a session reads it line by line.
+    pub fn separate_lines(&self) -> Option<&'a str>
+        ensures { option_map (λ path. path.now) result ≡ separate_lines_is (seen self.now) }
+    {
+        if self.has_lines() {
+            self.separate_inputs()
+        } else {
+            None
+        }
+    }
+
+    fn expects_trace(&self, command: &str) -> bool
+        ensures { result ≡ expects_trace_is command.now (seen self.now) }
+    {
+        command == "replay" || has_word("--events", &self.others)
+    }
+
+    fn events_name(&self, command: &str, is_untraced: bool) -> Option<&'a str>
+        ensures { option_map (λ path. path.now) result ≡ events_name_is command.now is_untraced (seen self.now) }
+    {
+        if !reads_trace(command) {
+            None
+        } else if self.events.is_some() {
+            self.events
+        } else if is_untraced && self.expects_trace(command) {
+            Some(STANDARD_INPUT)
+        } else {
+            None
+        }
+    }
+
+    /// Returns the file of the trace, unless it follows the program or the inputs. `is_untraced` is whether the program's file has no trace.
+    pub fn separate_events(&self, command: &str, is_untraced: bool) -> Option<&'a str>
+        ensures { option_map (λ path. path.now) result ≡ separate_events_is command.now is_untraced (seen self.now) }
+    {
+        file_beside(self.takes_input(), self.events_name(command, is_untraced))
+    }
+
+    /// Returns whether a run is drawn in place of a trace.
+    pub fn draws_run(&self, command: &str, is_untraced: bool) -> bool
+        ensures { result ≡ draws_run_is command.now is_untraced (separate_events_is command.now is_untraced (seen self.now)) }
+    {
+        command == "picture"
+            && (is_untraced && self.separate_events(command, is_untraced).is_none())
+    }
+
+    /// Returns whether any file is to be opened.
+    pub fn opens_files(&self, command: &str) -> bool
+        ensures { result ≡ opens_files_is command.now (seen self.now) }
+    {
+        (self.program.is_some()
+            || (self.separate_inputs().is_some() || self.separate_events(command, false).is_some()))
+            && !asks_help(&self.others)
+    }
+
+    fn inputs_twice(&self, program: &[u8]) -> Option<&'a str>
+        ensures { MatchOption result (HasInputsTwice (seen self.now) program.now → ⊥) (λ path. HasInputsTwice (seen self.now) program.now) }
+    {
+        match self.separate_inputs() {
+            Some(path) if has_inputs(program) => Some(path),
+            _ => None,
+        }
+    }
+
+    fn events_twice(&self, command: &str, is_untraced: bool) -> Option<&'a str>
+        ensures { MatchOption result (HasEventsTwice command.now is_untraced (seen self.now) → ⊥) (λ path. HasEventsTwice command.now is_untraced (seen self.now)) }
+    {
+        match self.separate_events(command, is_untraced) {
+            Some(path) if !is_untraced => Some(path),
+            _ => None,
+        }
+    }
+
+    /// Returns the reason why the program's file doesn't fit another, and the other's name.
+    pub fn misfit(
+        &self,
+        command: &str,
+        is_untraced: bool,
+        program: &[u8],
+    ) -> Option<(&'a str, Misfit)>
+        ensures { MatchOption result
+            ((HasInputsTwice (seen self.now) program.now → ⊥) × (HasEventsTwice command.now is_untraced (seen self.now) → ⊥))
+            (λ found. IsTwice command.now is_untraced (seen self.now) program.now found.1) }
+    {
+        if let Some(path) = self.inputs_twice(program) {
+            return Some((path, Misfit::InputsTwice));
+        }
+        match self.events_twice(command, is_untraced) {
+            Some(path) => Some((path, Misfit::EventsTwice)),
+            None => None,
+        }
+    }
+}
