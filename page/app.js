@@ -15,6 +15,7 @@ import {arrowKeys, print} from "./keys.js";
 import {Learning} from "./learning.js";
 import {Library} from "./library.js";
 import {Orders} from "./orders.js";
+import {load} from "./own.js";
 import {decode} from "./program.js";
 import {readPlaces, readRejection, readTrace, readVerdict} from "./replies.js";
 import {Results} from "./results.js";
@@ -298,6 +299,7 @@ async function first() {
 /** Shows the first program. */
 async function begin() {
     bind();
+    await load();
     const page = await first();
     if (!page) return;
     contents.put(page, false);

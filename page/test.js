@@ -52,7 +52,7 @@ class Reader {
     async go(to) { await this.page.ask("Page.navigate", {url: "about:blank"}); await this.page.ask("Page.navigate", {url: to}); await this.page.until('document.body?.dataset.state === "ready"', 60000); }
     // Opens the page without saved contents. They are cleared in the new document, since the old one may save them until it is gone.
     async forget() {
-        const {identifier} = await this.page.ask("Page.addScriptToEvaluateOnNewDocument", {source: "try { localStorage.clear(); } catch {}"});
+        const {identifier} = await this.page.ask("Page.addScriptToEvaluateOnNewDocument", {source: "try { localStorage.clear(); indexedDB.deleteDatabase('yuglemit own'); } catch {}"});
         await this.go(address);
         await this.page.ask("Page.removeScriptToEvaluateOnNewDocument", {identifier});
     }
@@ -228,7 +228,7 @@ async function kept(reader) {
     await reader.key("z", 2);
     await new Promise(go => setTimeout(go, 400)); await reader.ready();
     say((await reader.value("text")) === own && (await reader.value("input-0")) === "41", "Ctrl+Z brings nothing back", (await reader.value("text")).slice(0, 60));
-    await reader.js("localStorage.clear()");
+    await reader.js("localStorage.clear(); indexedDB.deleteDatabase('yuglemit own')");
     await reader.go(link);
     await same("by a link");
     await reader.click("#share");
