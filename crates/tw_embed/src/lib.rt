@@ -48,7 +48,7 @@ const VERSION: u32 = 19_000;
 /// Returns the version of the library, as `YUGLEMIT_VERSION_NUMBER` of the header it is made for.
 #[unsafe(no_mangle)]
 pub extern "C" fn yuglemit_version() -> u32
-    ensures { result ≡ 19000 }
+    ensures { result ≡ 20000 }
 {
     VERSION
 }
