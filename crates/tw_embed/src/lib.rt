@@ -43,7 +43,7 @@ use tw_handles::Handle;
 pub use tw_verdict::Verdict;
 
 /// The version: major, minor and patch, three digits each.
-const VERSION: u32 = 19_000;
+const VERSION: u32 = 20_000;
 
 /// Returns the version of the library, as `YUGLEMIT_VERSION_NUMBER` of the header it is made for.
 #[unsafe(no_mangle)]
