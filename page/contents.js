@@ -1,6 +1,6 @@
 // @ts-check
 // SPDX-License-Identifier: Apache-2.0
-// What is on the page: a program with its inputs and layout. Undo, Redo, the list of programs, the address and the storage keep it, so that nothing is lost.
+// Holds what is on the page: a program with its inputs and layout. Undo, Redo, the list of programs, the address and the storage keep it, so that nothing is lost.
 import {$, h} from "./dom.js";
 import {keepOwn, owns, ownTitle} from "./own.js";
 import {keep} from "./share.js";

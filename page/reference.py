@@ -1,6 +1,6 @@
 # SPDX-License-Identifier: Apache-2.0
 """Makes the page's reference of the instructions, out of the code's own table (tools/instructions.py, crates/tw_code/src/opcode.rt), the tables of
-docs/MACHINE.md and the examples of lessons.txt. It fails if one of these lacks an instruction, so the page can't fall behind."""
+docs/MACHINE.md and the examples of lessons.txt. It fails if one of these lacks an instruction, so the page can't be older than they are."""
 
 from __future__ import annotations
 
@@ -14,7 +14,7 @@ FORMS = {"Value": "a value register", "Right": "a right register", "Number": "a 
 
 
 class Row(NamedTuple):
-    """What docs/MACHINE.md says of an instruction."""
+    """A row of docs/MACHINE.md about an instruction."""
 
     form: str
     does: str
