@@ -432,6 +432,12 @@ async function own(reader) {
     await reader.js('(() => { const it = document.getElementById("text"); it.focus(); it.setSelectionRange(0, 0); document.execCommand("insertText", false, "; last\\n"); })()');
     await reader.go(address);
     say((await reader.value("text")) === `; last\n${mine}`, "lost by closing", (await reader.value("text")).slice(0, 40));
+    const insert = text => reader.js(`(() => { const it = document.getElementById("text"); it.focus(); it.setSelectionRange(0, 0); document.execCommand("insertText", false, ${JSON.stringify(text)}); })()`);
+    const texts = () => reader.js('JSON.parse(localStorage.getItem("yuglemit own")).map(it => it.text.split("\\n")[0])');
+    await reader.js('(() => { const all = JSON.parse(localStorage.getItem("yuglemit own")); all[0].text = "; from another page\\n"; all[0].when = Date.now() + 1; localStorage.setItem("yuglemit own", JSON.stringify(all)); })()');
+    await insert("; from this page\n");
+    await reader.page.until('JSON.parse(localStorage.getItem("yuglemit own")).some(it => it.text.startsWith("; from this page"))', 5000);
+    say((await texts()).includes("; from another page") && (await texts()).includes("; from this page"), "lost by another page", await texts());
 }
 
 // Results that are no longer those of the program are dimmed; the verdict promises what is proved.
