@@ -6,7 +6,7 @@
 # as long for what has to be quick.
 #
 #   page/test.sh             builds program and page first, and puts screenshots into `page/out/pictures`
-#   page/test.sh PROGRAM     takes that program tw, and the page that is built, else the release's (whose narrowed module isn't compared with the wide one)
+#   page/test.sh PROGRAM     takes that program tw, and the page that is built, else one with the release's module (which isn't compared with the wide one)
 #
 # Needs chromium, node 20 and a C compiler.
 here=$(dirname "$(readlink -f "$0")")
@@ -15,9 +15,7 @@ out=$here/out
 program=${1:-$root/crates/tw_main/out/tw_main}
 [ $# -gt 0 ] || { "$root/tw" build && "$here/build.sh"; } || exit
 mkdir -p "$out/pictures"
-if [ ! -e "$out/index.html" ]; then
-    gzip -dc "$root/release/index.html.gz" >"$out/index.html" && python3 -B "$here/unpack.py" "$out/index.html" "$out/yuglemit.wasm" || exit
-fi
+[ -e "$out/index.html" ] || "$here/build.sh" --released || exit
 set --
 [ ! -e "$out/test_wide.wasm" ] || set -- "$out/test_wide.wasm" "$out/test_narrow.wasm"
 if command -v tsc >/dev/null; then tsc -p "$here" || exit; else echo "tsc isn't installed: types aren't checked"; fi
