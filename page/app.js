@@ -50,13 +50,13 @@ const results = new Results();
 const learning = new Learning(editor, contents, text => during(openText(text)));
 const completion = new Completion(editor, () => checked?.source ?? null);
 const files = new Files(library, editor, fields, contents, results);
-const orders = new Orders(library, () => runnable(), (setting, trace) => show(setting, trace, 0, false));
+const orders = new Orders(library, () => runnable(), (setting, trace) => show(setting, trace, 0, false), busy => { ordering = busy; stoppable(busy); });
 const breaking = new Breaking(library, contents, editor, {check: () => check(), leave: () => stepper.leave(), undo: () => restore(() => contents.undo())});
 const tour = new Tour();
 
 /** @type {Checked | null} */
 let checked = null;
-let asked = 0, typing = 0;
+let asked = 0, typing = 0, ordering = false;
 
 /** Shows a message below the head of the page.
  * @param {string} words */
@@ -73,7 +73,7 @@ async function during(work) {
 
 /** Enables Stop while something can be stopped.
  * @param {boolean} busy */
-function stoppable(busy) { /** @type {HTMLButtonElement} */ ($("stop")).disabled = !busy && !following.worker; }
+function stoppable(busy) { /** @type {HTMLButtonElement} */ ($("stop")).disabled = !busy && !ordering && !following.worker; }
 
 /** Restores contents, and shows their event.
  * @param {() => Page | null} take */

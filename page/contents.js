@@ -1,6 +1,6 @@
 // @ts-check
 // SPDX-License-Identifier: Apache-2.0
-// What is on the page: a program with its inputs and layout. Undo, Redo, the list of programs, the address and the storage keep it, so that nothing is lost.
+// Holds what is on the page: a program with its inputs and layout. Undo, Redo, the list of programs, the address and the storage keep it, so that nothing is lost.
 import {$, h} from "./dom.js";
 import {keepOwn, owns, ownTitle} from "./own.js";
 import {keep} from "./share.js";
@@ -26,6 +26,8 @@ export class Contents {
         this.event = event;
         this.example = "";
         this.own = 0;
+        /** When the own program was saved last, as far as this page knows. */
+        this.saved = 0;
         /** Contents that Undo and Redo restore.
          * @type {Page[]} */
         this.before = [];
@@ -73,12 +75,16 @@ export class Contents {
     put(what, undoable) {
         this.example = what.example;
         this.own = what.own;
+        this.saved = this.savedAt(what.own);
         this.editor.set(this.textOf(what), undoable);
         this.fields.set(what.inputs);
         this.fields.layout = what.layout;
         this.shown = {...what, text: this.textOf(what)};
         this.list();
     }
+
+    /** @param {number} own */
+    savedAt(own) { return owns().find(it => it.id === own)?.when ?? 0; }
 
     /** Remembers the current contents for Undo. */
     remember() { this.push(this.current); }
@@ -130,15 +136,20 @@ export class Contents {
     adopt(known) {
         this.example = known.example;
         this.own = known.own;
+        this.saved = this.savedAt(known.own);
         this.fields.set(known.inputs);
         this.fields.layout = known.layout;
         this.shown = {...known, text: this.textOf(known)};
         this.list();
     }
 
-    /** Saves an own program at once. */
+    /** Saves an own program at once. If another page has saved it since, this text becomes a program beside that one. */
     keepOwn() {
-        if (this.own && !keepOwn({...this.current, id: this.own, when: Date.now()})) $("said").textContent = "The program is too long for this browser's storage. Download its text below.";
+        if (!this.own) return;
+        const other = owns().find(it => it.id === this.own), when = Date.now();
+        if (other && other.when > this.saved && other.text !== this.editor.text) this.own = when;
+        this.saved = when;
+        if (!keepOwn({...this.current, id: this.own, when})) $("said").textContent = "The program is too long for this browser's storage. Download its text below.";
     }
 
     /** Saves after a short delay. */

@@ -14,7 +14,7 @@ const FIRST = 2000, NEXT = 25000;
  * @param {import("./run.js").Opening} opening @param {string} trace @param {(part: Part) => void} send @param {number} first @param {number} next the events of parts */
 export function followInParts(opening, trace, send, first = FIRST, next = NEXT) {
     const follower = new Follower(opening, trace), keeper = new Keeper(copyOf(follower.state)), actors = actorsOf(opening);
-    // What was sent isn't needed here: each part has a track of its own.
+    // Each part has columns of its own, since this thread doesn't need what it has sent.
     for (let more = true, part = first; more; part = next) {
         /** @type {import("./run.js").Kept[]} */
         const kept = [];

@@ -12,11 +12,13 @@ import {counted} from "./verdict.js";
 const MOST = 100000;
 
 export class Orders {
-    /** @param {import("./library.js").Library} library @param {() => Promise<Runnable | null>} runnable @param {(setting: import("./run.js").Setting, trace: string) => Promise<void>} show */
-    constructor(library, runnable, show) {
+    /** @param {import("./library.js").Library} library @param {() => Promise<Runnable | null>} runnable @param {(setting: import("./run.js").Setting, trace: string) => Promise<void>} show
+     * @param {(busy: boolean) => void} busy called when such a run begins and ends; it ends if `stopped` is set */
+    constructor(library, runnable, show, busy) {
         this.library = library;
         this.runnable = runnable;
         this.show = show;
+        this.busy = busy;
         this.seed = 0;
         this.same = 0;
         this.stopped = false;
@@ -35,8 +37,10 @@ export class Orders {
         const seed = ++this.seed, most = Math.min(it.limit, MOST);
         this.stopped = false;
         $("order").textContent = "running in another order ..";
-        const inTurn = await this.library.session(["run", "--text", "--limit", String(it.limit), ...it.words], it.text);
+        this.busy(true);
         const {trace, ended} = await orderOf(it.setting, seed, most, () => this.stopped);
+        this.busy(false);
+        const inTurn = await this.library.session(["run", "--text", "--limit", String(it.limit), ...it.words], it.text);
         const replayed = await this.library.session(["replay", "--text", ...it.words], `${it.text}\nevents\n${trace}end\n`);
         if (!inTurn || !replayed) { $("order").textContent = "stopped"; return; }
         const same = outputsIn(inTurn.text) === outputsIn(replayed.text);

@@ -1,9 +1,10 @@
 # SPDX-License-Identifier: Apache-2.0
 """Makes the page's reference of the instructions, out of the code's own table (tools/instructions.py, crates/tw_code/src/opcode.rt), the tables of
-docs/MACHINE.md and the examples of lessons.txt. It fails if one of these lacks an instruction, so the page can't fall behind."""
+docs/MACHINE.md and the examples of lessons.txt. It fails if one of these lacks an instruction, so the page can't be older than they are."""
 
 from __future__ import annotations
 
+import importlib
 import re
 import sys
 from pathlib import Path
@@ -14,7 +15,7 @@ FORMS = {"Value": "a value register", "Right": "a right register", "Number": "a 
 
 
 class Row(NamedTuple):
-    """What docs/MACHINE.md says of an instruction."""
+    """A row of docs/MACHINE.md about an instruction."""
 
     form: str
     does: str
@@ -26,8 +27,7 @@ class Row(NamedTuple):
 def words_of(root: Path) -> dict[str, list[str]]:
     """Returns the instructions by their names in assembly, each with the forms of its operands, as opcode.rt has them."""
     sys.path.insert(0, str(root / "tools"))
-    import instructions
-
+    instructions = importlib.import_module("instructions")
     text = (root / instructions.OPCODES).read_text(encoding="utf-8")
     named = dict(re.findall(r'Opcode::(\w+) => "(\w+)"', text))
     forms = {name: re.findall(r"\w+", some) for names, some in re.findall(r"((?:Opcode::\w+(?: \| )?)+) => &\[(.*?)\],", text) for name in re.findall(r"::(\w+)", names)}
@@ -61,9 +61,9 @@ def rows_of(section: str) -> dict[str, Row]:
                 own = re.search(rf"\b{name} ([^,]*)", row[0])
                 rest = dict(zip(head[1:], row[1:]))
                 found[name] = Row(f"{name} {own[1] if own and own[1] else operands}".strip(), rest["Does"], rest.get("Requires", rest.get("The verifier requires", "")), rest.get("Refused, and skips", ""), rest.get("and leaves", ""))
-    for name, row in found.items():
-        does = found[re.sub("^T", "", name)].does if row.does == "likewise" else row.does
-        found[name] = row._replace(does=does, refused=row.refused or refusal(section, name))
+    for name, known in found.items():
+        does = found[re.sub("^T", "", name)].does if known.does == "likewise" else known.does
+        found[name] = known._replace(does=does, refused=known.refused or refusal(section, name))
     return found
 
 

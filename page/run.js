@@ -21,8 +21,8 @@ import {Track} from "./track.js";
  * @typedef {{count: number, state: State, size: number}} Kept */
 
 /** Local instructions that are followed in all, and between two kept states; events between two kept states; things in all kept states; and how
- * far before an event a state is kept once somebody goes back there. */
-const FOLLOWED = 20000000, WORK = 300000, SPACING = 50, THINGS = 120000, NEAR = 100;
+ * far before an event a state is kept once a reader steps back to it. */
+const FOLLOWED = 20000000, WORK = 300000, SPACING = 50, THINGS = 80000, NEAR = 100;
 
 /** Returns all actors of a layout, in their order.
  * @param {Opening} opening */

@@ -3,7 +3,7 @@
 // Steps through a run: plays it, moves forward and back, and shows each event in the program, the state and the timeline.
 import {$, h} from "./dom.js";
 import {actorName, computed, dataName, sentence, viewOf} from "./model.js";
-import {pictureOf} from "./picture.js";
+import {diagramOf} from "./diagram.js";
 import {grouped} from "./verdict.js";
 import {show} from "./view.js";
 
@@ -158,7 +158,7 @@ export class Stepper {
         $("at").textContent = this.position;
         $("what").textContent = happened ? `${sentence(run, happened)}${sum && `: ${sum}`}` : "Nothing has happened yet: main waits for an engine.";
         this.slider.setAttribute("aria-valuetext", `${$("at").textContent}: ${$("what").textContent}`);
-        show(now, before?.view ?? now, pictureOf(run, state), {pickDatum: id => this.pick(`d${id}`), pickLine: line => this.online(line)});
+        show(now, before?.view ?? now, diagramOf(run, state), {pickDatum: id => this.pick(`d${id}`), pickLine: line => this.online(line)});
         this.light(happened, now.running);
         this.timeline?.point(event);
         this.buttons();

@@ -85,9 +85,7 @@ async function firstSight(reader, page) {
         await reader.forget();
         after = Math.min(after, await reader.js("+document.body.dataset.readyAfter"));
     }
-    console.log(`ready after ${after} ms, ${zlib.gzipSync(fs.readFileSync(index), {level: 9}).length} bytes compressed`);
     say(after < most, "ready late", after);
-    say(zlib.gzipSync(fs.readFileSync(index), {level: 9}).length < 700000, "the page is too large");
     say((await reader.value("text")).startsWith("names\n"), "no names at first");
     say(/^event [01] of \d+/.test(await reader.seen("#at")), "not at the first event", await reader.seen("#at"));
     say((await reader.seen("#play")) === "Pause", "it doesn't play");
@@ -96,6 +94,9 @@ async function firstSight(reader, page) {
     await reader.key("Shift");
     say((await reader.seen("#play")) === "Play", "a touch doesn't end it");
     say((await reader.js('document.activeElement === document.body')), "something has the focus");
+    const {length} = zlib.gzipSync(fs.readFileSync(index), {level: 9});
+    console.log(`ready after ${after} ms, ${length} bytes compressed`);
+    say(length < 700000, "the page is too large", length);
 }
 
 // Each example runs at the first click, with what the page has for it, and as tw runs it.
@@ -431,6 +432,12 @@ async function own(reader) {
     await reader.js('(() => { const it = document.getElementById("text"); it.focus(); it.setSelectionRange(0, 0); document.execCommand("insertText", false, "; last\\n"); })()');
     await reader.go(address);
     say((await reader.value("text")) === `; last\n${mine}`, "lost by closing", (await reader.value("text")).slice(0, 40));
+    const insert = text => reader.js(`(() => { const it = document.getElementById("text"); it.focus(); it.setSelectionRange(0, 0); document.execCommand("insertText", false, ${JSON.stringify(text)}); })()`);
+    const texts = () => reader.js('JSON.parse(localStorage.getItem("yuglemit own")).map(it => it.text.split("\\n")[0])');
+    await reader.js('(() => { const all = JSON.parse(localStorage.getItem("yuglemit own")); all[0].text = "; from another page\\n"; all[0].when = Date.now() + 1; localStorage.setItem("yuglemit own", JSON.stringify(all)); })()');
+    await insert("; from this page\n");
+    await reader.page.until('JSON.parse(localStorage.getItem("yuglemit own")).some(it => it.text.startsWith("; from this page"))', 5000);
+    say((await texts()).includes("; from another page") && (await texts()).includes("; from this page"), "lost by another page", await texts());
 }
 
 // Results that are no longer those of the program are dimmed; the verdict promises what is proved.
@@ -588,20 +595,20 @@ async function inputs(reader) {
     say((await hint("names\n", "")).includes("begin the text with the line names"), "no hint at names", await hint("names\n", ""));
 }
 
-// Data are boxes, and rights are arrows, for up to twenty; then there is a table.
-async function picture(reader) {
+// Data are boxes, and rights are arrows, for up to twenty data; then there is a table.
+async function diagram(reader) {
     await reader.forget(); await reader.key("Shift"); await reader.event(4);
     const boxes = () => reader.js('[...document.querySelectorAll("#data .box[class~=open], #data .box[class~=closed]")].map(it => it.textContent)'), arrows = look => reader.js(`document.querySelectorAll("#data .arrow.${look}").length`);
     say((await boxes()).length === 3 && (await boxes()).some(it => /middle \(datum 3\): int.*not yet written/.test(it)), "other boxes", await boxes());
     say((await arrows("writes")) === 2 && (await arrows("waits")) === 2, "other arrows", await arrows("writes"), await arrows("waits"), await arrows("reads"));
-    say(/middle \(datum 3\): int, open, not yet written; .*double writes middle \(datum 3\)/.test(await reader.js('document.querySelector("#data .picture").getAttribute("aria-label")')), "not in words", await reader.js('document.querySelector("#data .picture").getAttribute("aria-label")'));
+    say(/middle \(datum 3\): int, open, not yet written; .*double writes middle \(datum 3\)/.test(await reader.js('document.querySelector("#data .diagram").getAttribute("aria-label")')), "not in words", await reader.js('document.querySelector("#data .diagram").getAttribute("aria-label")'));
     await reader.js('document.querySelector("#data .box.open").dispatchEvent(new MouseEvent("click", {bubbles: true}))');
     say(/^d\d/.test(await reader.value("by")), "a box can't be picked", await reader.value("by"));
     await reader.write("text", "proc control closed cont int write int\nregs int\nDROPR d0\nSTORE d1 v0\nRET\n");
     for (const [members, shown] of [[18, 1], [19, 0]]) {
         await reader.write("input-0", Array.from({length: members}, (_, k) => `${k}=1`).join(","));
         await reader.click("#run"); await reader.key("Shift"); await reader.event(1);
-        say((await reader.js('document.querySelectorAll("#data .picture").length')) === shown && (await reader.js('document.querySelectorAll("#data tbody tr").length')) === members + 2, members, "members as another picture");
+        say((await reader.js('document.querySelectorAll("#data .diagram").length')) === shown && (await reader.js('document.querySelectorAll("#data tbody tr").length')) === members + 2, members, "members as another picture");
     }
 }
 
@@ -631,7 +638,7 @@ async function looks(reader) {
     await reader.size(1300);
 }
 
-// Returns the marks of the timeline that have less than 3 to 1 with the bars or the lanes.
+// Returns the marks of the timeline that have less than 3 to 1 with the bars or the rows.
 const MARKS = `(() => {
     const rgb = value => { const made = document.createElement("canvas").getContext("2d"); made.fillStyle = value; made.fillRect(0, 0, 1, 1); return [...made.getImageData(0, 0, 1, 1).data]; };
     const shine = ([r, g, b]) => [r, g, b].map(it => (it /= 255) <= 0.03928 ? it / 12.92 : ((it + 0.055) / 1.055) ** 2.4).reduce((sum, it, k) => sum + it * [0.2126, 0.7152, 0.0722][k], 0);
@@ -724,7 +731,7 @@ async function screens(reader) {
 const page = await open(address), reader = new Reader(page);
 say(await page.until('document.body?.dataset.state === "ready"', 60000), "the page isn't ready");
 const only = process.env.ONLY?.split(",");
-for (const part of [firstSight, steps, typing, kept, mistakes, tour, downloads, quick, millions, own, old_results, learning, completion, another, links, policy, inputs, picture, looks, timeline, everywhere, allExamples, long, old, narrowed, screens].filter(it => !only || only.includes(it.name))) {
+for (const part of [firstSight, steps, typing, kept, mistakes, tour, downloads, quick, millions, own, old_results, learning, completion, another, links, policy, inputs, diagram, looks, timeline, everywhere, allExamples, long, old, narrowed, screens].filter(it => !only || only.includes(it.name))) {
     const from = Date.now(), failures = failed;
     await part(reader, page).catch(error => say(false, part.name, error.stack));
     console.log(`${part.name}: ${failed === failures ? "well" : "FAILED"}, ${((Date.now() - from) / 1000).toFixed(1)} s`);

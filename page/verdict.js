@@ -26,9 +26,12 @@ export function accepted({budgets, engines, workers}, source, most) {
     return `Accepted: no task of it can fail. A run may still get stuck, or reach its limit. Budgets: ${budget}${more}. ${events}${needs ? ` It needs ${needs}.` : ""}`;
 }
 
-/** Returns the sentence about a rejection.
+/** Returns the sentence about a rejection. A budget's numbers have commas, as elsewhere.
  * @param {Rejection} rejection */
-export const refusedAt = rejection => `Refused by ${rejection.number}${rejection.line >= 0 ? ` in line ${rejection.line + 1}` : ""}${rejection.reason ? `: ${rejection.reason}` : ""}`;
+export function refusedAt({number, line, reason}) {
+    const said = number === "V17" ? reason.replace(/\d{5,}/g, grouped) : reason;
+    return `Refused by ${number}${line >= 0 ? ` in line ${line + 1}` : ""}${said && `: ${said}`}`;
+}
 
 /** Shows what a rejection's code means.
  * @param {Library} library @param {HTMLElement} box @param {Rejection | null} rejection */

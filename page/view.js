@@ -3,7 +3,7 @@
 // Shows the state after an event: running tasks, what waits, and data.
 import {$, h} from "./dom.js";
 import {actorName, compared} from "./model.js";
-import {draw} from "./picture.js";
+import {draw} from "./diagram.js";
 
 /** @typedef {import("./model.js").View} View */
 /** @typedef {import("./model.js").Row} Row */
@@ -76,9 +76,9 @@ function card(now, before, picks) {
  * @param {string} title @param {...(Node | null)} children */
 const part = (title, ...children) => h("section.part", {}, h("h3", {}, title), ...children);
 
-/** Shows a state, with what differs from the one before, and its picture if it has one.
- * @param {View} now @param {View} before @param {import("./picture.js").Picture | null} picture @param {Picks} picks */
-export function show(now, before, picture, picks) {
+/** Shows a state, with what differs from the one before, and its diagram if it has one.
+ * @param {View} now @param {View} before @param {import("./diagram.js").Diagram | null} diagram @param {Picks} picks */
+export function show(now, before, diagram, picks) {
     const cards = now.running.map(it => card(it, before.running.find(old => old.actor === it.actor), picks));
     const idle = now.idle.length ? h("p.faint", {}, `no task: ${now.idle.map(actorName).join(", ")}`) : null;
     const waiting = [
@@ -88,14 +88,14 @@ export function show(now, before, picture, picks) {
         difference("messages on their way", ["from", "message", "to"], now.notices, before.notices, picks),
     ].filter(it => it);
     $("state").replaceChildren(part("Running", ...cards, idle), part("Waiting", ...waiting.length ? waiting : [h("p.faint", {}, "nothing waits")]));
-    showData(now, before, picture, picks);
+    showData(now, before, diagram, picks);
 }
 
-/** Shows the data of a state, as a picture if they are few, and as a table.
- * @param {View} now @param {View} before @param {import("./picture.js").Picture | null} picture @param {Picks} picks */
-function showData(now, before, picture, picks) {
+/** Shows the data of a state, as a diagram if they are few, and as a table.
+ * @param {View} now @param {View} before @param {import("./diagram.js").Diagram | null} diagram @param {Picks} picks */
+function showData(now, before, diagram, picks) {
     const all = difference("data that are alive", ["id", "name", "type", "content", "state", "readers / writers", "waited for by"], now.data, before.data, picks) ?? h("p.faint", {}, "no data are alive");
-    const shown = picture ? [draw(picture, picks.pickDatum), h("p.faint", {}, "Arrows: filled, a right to write; open, to read; dashed, a rule waits for it."), folded("data", "the data as a table", all, false)] : [all];
+    const shown = diagram ? [draw(diagram, picks.pickDatum), h("p.faint", {}, "Arrows: filled, a right to write; open, to read; dashed, a rule waits for it."), folded("data", "the data as a table", all, false)] : [all];
     const refused = now.refused.length ? part("Insertions that were refused", h("ul", {}, ...now.refused.map(it => h("li", {}, it)))) : null;
     $("data").replaceChildren(part("Data", ...shown), ...refused ? [refused] : [], part("Outputs so far", h("pre.out", {tabindex: 0, "aria-label": "outputs so far"}, now.outputs)));
 }

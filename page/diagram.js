@@ -12,13 +12,13 @@ import {callName} from "./source.js";
  * @typedef {{key: string, title: string, words: string, look: string, datum?: number}} Box */
 /** An arrow from a holder to a datum, or a line from a container to a member.
  * @typedef {{from: string, to: string, look: "reads" | "writes" | "waits" | "holds"}} Arrow */
-/** @typedef {{holders: Box[], data: Box[], arrows: Arrow[]}} Picture */
+/** @typedef {{holders: Box[], data: Box[], arrows: Arrow[]}} Diagram */
 
 const MOST = 20, HIGH = 38, GAP = 8, LEFT = 250, RIGHT = 380, WIDE = 640;
 
-/** Returns the picture of a state; null if it has no data, or too many things.
- * @param {Run} run @param {State} state @returns {Picture | null} */
-export function pictureOf(run, state) {
+/** Returns the diagram of a state; null if it has no data, or too many things.
+ * @param {Run} run @param {State} state @returns {Diagram | null} */
+export function diagramOf(run, state) {
     const {data, rules, tasks, frames} = state;
     if (!data.size || data.size > MOST || rules.size + tasks.size + frames.size > MOST) return null;
     /** @type {Arrow[]} */
@@ -51,12 +51,12 @@ function waiting(run, it, key, look, arrows) {
     return {key, title: `${callName(source, it.procedure)}${values.length ? `(${values.join(", ")})` : ""}`, words: key, look};
 }
 
-/** Draws a picture.
- * @param {Picture} picture @param {(id: number) => void} pick called with a datum that is picked */
+/** Draws a state.
+ * @param {Diagram} diagram @param {(id: number) => void} pick called with a datum that is picked */
 export function draw({holders, data, arrows}, pick) {
     const places = new Map([...holders.map((it, k) => /** @type {[string, number]} */ ([it.key, k])), ...data.map((it, k) => /** @type {[string, number]} */ ([it.key, k]))]);
     const middle = (/** @type {string} */ key) => (places.get(key) ?? 0) * (HIGH + GAP) + GAP + HIGH / 2, height = Math.max(holders.length, data.length) * (HIGH + GAP) + GAP;
-    return h("div.scroller", {}, s("svg.picture", {viewBox: `0 0 ${WIDE} ${height}`, role: "img", "aria-label": described(holders, data, arrows)}, heads(),
+    return h("div.scroller", {}, s("svg.diagram", {viewBox: `0 0 ${WIDE} ${height}`, role: "img", "aria-label": described(holders, data, arrows)}, heads(),
         ...arrows.map(it => it.look === "holds" ? holds(middle(it.from), middle(it.to)) : arrow(it.look, middle(it.from), middle(it.to))),
         ...holders.map(it => box(it, 4, LEFT - 4, middle(it.key))), ...data.map(it => box(it, RIGHT, WIDE - RIGHT - 30, middle(it.key), pick))),
     );
@@ -81,7 +81,7 @@ function box({title, words, look, datum}, x, width, y, pick) {
     return made;
 }
 
-/** Says a picture in words.
+/** Says a diagram in words.
  * @param {Box[]} holders @param {Box[]} data @param {Arrow[]} arrows */
 function described(holders, data, arrows) {
     const does = {reads: "may read", writes: "writes", waits: "waits for", holds: "has"}, name = (/** @type {string} */ key) => { const it = [...holders, ...data].find(it => it.key === key); return it ? it.title : key; };
