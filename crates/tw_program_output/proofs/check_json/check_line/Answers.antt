@@ -14,7 +14,7 @@ pub line_of-requires : goal.line_of-requires
 line_of-requires c =
     let is = view-Object c.in_ok-members.members ∙ ap json.object c.in_ok-members.ensures in
     subst (λ (d : json.Data). has_float d ≡ false) (sym is)
-    (check_fine _ _ c.args.verified.now.program (map view c.in_ok-procedures.procedures.items) c.needs.result.0 c.needs.result.1 (option_map (λ t. t.items) c.in_ok-listing.listing) c.in_ok-found.found c.in_ok-answer.answer c.in_ok-procedures.ensures)
+    (check_fine _ _ c.args.verified.now.program (map view c.in_ok-procedures.procedures.items) c.needs-needs.result.0 c.needs-needs.result.1 (option_map (λ t. t.items) c.in_ok-listing.listing) c.in_ok-found.found c.in_ok-answer.answer c.in_ok-procedures.ensures)
 
 pub returns : goal.returns
 returns c =
@@ -37,6 +37,6 @@ returns c =
       ap (λ (v : Vec ℕ Global). v.items) c.into_bytes.ensures.value
           ∙ c.in_ok-line.ensures
           ∙ ap json_line is
-          ∙ ap (λ (n : ℕ). json_line (json.object (check_members objects n c.needs.result.1 listing found answer))) c.needs.ensures.engines
-          ∙ ap (λ (n : ℕ). json_line (json.object (check_members objects (needed Control program) n listing found answer))) c.needs.ensures.workers,
+          ∙ ap (λ (n : ℕ). json_line (json.object (check_members objects n c.needs-needs.result.1 listing found answer))) c.needs-needs.ensures.engines
+          ∙ ap (λ (n : ℕ). json_line (json.object (check_members objects (needed Control program) n listing found answer))) c.needs-needs.ensures.workers,
     )
