@@ -3,7 +3,7 @@
 """Tries the mutants of tools/must-fail, which CI leaves out: the prover has to reject each.
 
 A mutant costs a proof of its crate, so CI tries those of crates/NAME/must-fail alone. This copies the others into a clone of what is committed, and
-runs `rt must-fail` there. It notes each crate whose mutants were all rejected in release/REJECTED, with a sum of what that depends on: the toolchain,
+runs `rt ci NAME..` there, which takes what CI has proved of the crates below and tries a crate's mutants. It notes each crate whose mutants were all rejected in release/REJECTED, with a sum of what that depends on: the toolchain,
 the sources of the crate and of those below it, and the mutants. A crate that is noted so isn't tried again.
 
   tools/must_fail.py [NAME..]          tries the mutants of these crates, or of all; some 45 minutes of processor time for all
@@ -105,21 +105,22 @@ def note(root: Path, kit: str, names: Iterable[str]) -> None:
 
 
 def rejected_in(output: str) -> set[str]:
-    """Returns the mutants that `rt must-fail` reports as rejected, as CRATE/FILE."""
+    """Returns the mutants that `rt ci` reports as rejected, as CRATE/FILE."""
     return set(re.findall(r"(?m)^(?:rt: )?must-fail (\S+): refused, as it must be", output))
 
 
 def run_prover(tree: Path, names: list[str]) -> str:
-    """Runs `rt must-fail` for these crates in a folder, and returns what it prints."""
-    ran = subprocess.run(["rt", "must-fail", *names], cwd=tree, stdin=subprocess.DEVNULL, stdout=subprocess.PIPE, stderr=subprocess.STDOUT, text=True)
+    """Runs `rt ci` for these crates in a folder, and returns what it prints."""
+    ran = subprocess.run(["rt", "ci", *names], cwd=tree, stdin=subprocess.DEVNULL, stdout=subprocess.PIPE, stderr=subprocess.STDOUT, text=True)
     return ran.stdout
 
 
 def copy_mutants(root: Path, tree: Path, names: Iterable[str]) -> None:
     """Copies what is committed to a folder, with these crates' mutants in place of those that CI tries."""
     subprocess.run(["git", "-C", str(root), "clone", "-q", "--no-hardlinks", "--depth", "1", f"file://{root}", str(tree)], check=True)
+    for folder in tree.glob("crates/*/must-fail"):
+        shutil.rmtree(folder)
     for name in names:
-        shutil.rmtree(tree / "crates" / name / "must-fail", ignore_errors=True)
         shutil.copytree(tree / "tools/must-fail" / name, tree / "crates" / name / "must-fail")
 
 
