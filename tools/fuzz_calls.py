@@ -62,7 +62,9 @@ def named_files(words: list[str]) -> list[str]:
 
 @dataclass(frozen=True)
 class ArgsTest(FuzzTest):
-    """Any arguments: a known status with its text, and the program answers as the library does."""
+    """Any arguments: a known status with its text, and the program answers as the library does, or that a file can't be read.
+
+    It opens no file if the arguments are rejected, and takes a bare word, such as `7`, for an input if there is no such file."""
 
     words: tuple[str, ...]
     data: str
@@ -81,8 +83,10 @@ class ArgsTest(FuzzTest):
             return why
         status, text = library.command(self.line, self.data)
         files = named_files(self.line)
-        if files:
-            return None if "-" in files or status == NO_FILE else f"program: status {status}, but {files} can't be read"
+        if "-" in files or files and status == NO_FILE:
+            return None
+        if files and not text.startswith("command line refused") and any("." in name or "/" in name for name in files):
+            return f"program: status {status}, but {files} can't be read"
         if status != answer[0]:
             return f"program: status {status} {text[:100]!r}, the library {answer[0]} {answer[1][:100]!r}"
         return difference("program", answer[1], text)

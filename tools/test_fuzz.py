@@ -234,7 +234,8 @@ class RulesTest(unittest.TestCase):
         test = fuzz_orders.OrdersTest(RACE, (), (1, 1, 2))
         self.assertIsNone(test.fault(Library()))
         with mock.patch.object(fuzz_orders, "copies", return_value=set()):
-            self.assertEqual(test.fault(Library()), "an insertion is contested, though none is by a copy")
+            self.assertIn("expected 'order same'", str(test.fault(Library())))
+            self.assertEqual(test.orders_fault(Library()), "an insertion is contested, though none is by a copy")
         with mock.patch.object(fuzz_orders.OrdersTest, "runs", return_value=[run_in_turn(PIPELINE, [number], (1, 1, 1), 100) for number in (1, 2)]):
             self.assertIn("in another order", str(test.fault(Library())))
 
@@ -331,7 +332,8 @@ class KindsTest(unittest.TestCase):
         for kind in fuzz.KINDS:
             with self.subTest(kind):
                 self.assertEqual(self.faults(kind, Library(), 8), [])
-                self.assertNotEqual(self.faults(kind, Lying(), 30), [])
+                # Few random arguments give a text with a digit.
+                self.assertNotEqual(self.faults(kind, Lying(), 300 if kind == "args" else 30), [])
 
     def test_made_programs_are_accepted(self) -> None:
         library = Library()
