@@ -26,7 +26,7 @@ extern "C" {
 #endif
 
 /* The version: 1,000,000 times major, 1,000 times minor, and patch. The call returns that of the library. */
-#define YUGLEMIT_VERSION_NUMBER 20000
+#define YUGLEMIT_VERSION_NUMBER 21000
 uint32_t yuglemit_version(void);
 
 /* Exit statuses, and how a run ended. */

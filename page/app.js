@@ -102,7 +102,7 @@ let checks = 0;
 async function check() {
     clearTimeout(typing);
     const mine = ++checks, text = editor.text;
-    const replies = await Promise.all([["check", "--text"], ["check", "--text", "--places"], ["asm", "--names"], ["asm", "--names", "--plain"]].map(words => library.session(words, text)));
+    const replies = await Promise.all([["check", "--text", "--order"], ["check", "--text", "--places"], ["asm", "--names"], ["asm", "--names", "--plain"]].map(words => library.session(words, text)));
     if (mine !== checks) return;
     const trouble = replies.find(it => !it || it.failed);
     if (trouble !== undefined) { cannot(trouble?.failed ?? "The check was stopped."); return; }

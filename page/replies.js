@@ -7,15 +7,24 @@ import {wordsOf} from "./source.js";
 /** A rejection: its code, its line (from 0, or -1), its reason, and the columns of the word at fault.
  * @typedef {{number: string, line: number, reason: string, from: number, to: number}} Rejection */
 /** @typedef {{procedure: number, kind: string, budget: string, more: string}} Budget */
-/** The result of `check`.
- * @typedef {{accepted: boolean, budgets: Budget[], engines: number, workers: number, rejection: Rejection | null, text: string}} Verdict */
+/** Whether outputs are the same in every order of events; else the line (from 0) that may make them differ.
+ * @typedef {{same: boolean, line: number}} EventOrder */
+/** The result of `check`; with `--order` it has the order.
+ * @typedef {{accepted: boolean, budgets: Budget[], engines: number, workers: number, order: EventOrder | null, rejection: Rejection | null, text: string}} Verdict */
 
 /** Parses the reply to `check`.
  * @param {string} text @param {Source} source @returns {Verdict} */
 export function readVerdict(text, source) {
     const lines = text.split("\n"), needs = /^needs engines (\d+) workers (\d+)/m.exec(text), accepted = lines[0] === "accepted";
     const budgets = [...text.matchAll(/^proc (\d+) (?:.* )?(control|leaf) (?:.* )?budget (\d+)(.*)$/gm)].map(it => ({procedure: +it[1], kind: it[2], budget: it[3], more: it[4].replace(/\(\w+\)/, "").trim()}));
-    return {accepted, budgets, engines: +(needs?.[1] ?? 0), workers: +(needs?.[2] ?? 0), rejection: accepted ? null : readRejection(text, source), text};
+    return {accepted, budgets, engines: +(needs?.[1] ?? 0), workers: +(needs?.[2] ?? 0), order: readOrder(text, source), rejection: accepted ? null : readRejection(text, source), text};
+}
+
+/** Reads the last line of `check --order`; null if there is none.
+ * @param {string} text @param {Source} source @returns {EventOrder | null} */
+function readOrder(text, source) {
+    const found = /^order (?:same|may show in procedure (\d+) at place (\d+))$/m.exec(text);
+    return found && {same: found[1] === undefined, line: source.places[+found[1]]?.[+found[2]] ?? -1};
 }
 
 /** Reads a rejection; null if the text has none. Only the first line decides, since the others quote the program.

@@ -19,12 +19,16 @@ export const counted = (count, noun) => `${grouped(count)} ${noun}${count === 1 
 
 /** Returns the sentence of a program that is accepted.
  * @param {Verdict} verdict @param {import("./source.js").Source} source @param {bigint | null} most its events */
-export function accepted({budgets, engines, workers}, source, most) {
+export function accepted({budgets, engines, workers, order}, source, most) {
     const budget = budgets.slice(0, 3).map(it => `${callName(source, it.procedure)} ${grouped(it.budget)}`).join(", "), more = budgets.length > 3 ? " and others" : "";
     const needs = [engines > 1 && `${engines} engines`, workers > 1 && `${workers} workers`].filter(it => it).join(" and ");
     const events = most === null ? "Its tasks start one another in a circle, so the limit ends a run." : `A run has at most ${grouped(most)} events.`;
-    return `Accepted: no task of it can fail. A run may still get stuck, or reach its limit. Budgets: ${budget}${more}. ${events}${needs ? ` It needs ${needs}.` : ""}`;
+    return `Accepted: no task of it can fail. A run may still get stuck, or reach its limit. Budgets: ${budget}${more}. ${events}${needs ? ` It needs ${needs}.` : ""}${order ? ` ${orderOf(order)}` : ""}`;
 }
+
+/** Returns the sentence about the order of events.
+ * @param {import("./replies.js").EventOrder} order */
+const orderOf = ({same, line}) => same ? "All its runs that end have the same outputs, in every order of events." : `Its outputs may depend on the order of events, by line ${line + 1}.`;
 
 /** Returns the sentence about a rejection. A budget's numbers have commas, as elsewhere.
  * @param {Rejection} rejection */

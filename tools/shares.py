@@ -5,11 +5,13 @@
     tools/shares.py            a line for each crate of crates.txt: its lines, the crates above it, and the share in percent
     tools/shares.py --make     writes the table of docs/ARCHITECTURE.md
     tools/shares.py --check    fails if a crate isn't in the table, or its share differs by more than one percent
+    tools/shares.py --changed  prints which crates have changed since the release was made, and how much CI proves again, unless it has kept it
 """
 
 from __future__ import annotations
 
 import re
+import subprocess
 import sys
 from pathlib import Path
 from typing import NamedTuple
@@ -94,6 +96,35 @@ def written(made: str) -> dict[str, int]:
     return {crate: int(percent) for percent, crates in rows for crate in re.findall(r"`(\w+)`", crates)}
 
 
+def git(root: Path, *words: str) -> str:
+    """Returns what git prints in the repository, or nothing if it fails."""
+    ran = subprocess.run(["git", "-C", str(root), *words], stdout=subprocess.PIPE, stderr=subprocess.DEVNULL, text=True, check=False)
+    return ran.stdout if ran.returncode == 0 else ""
+
+
+def changed(root: Path, commit: str) -> set[str]:
+    """Returns the crates whose code, definitions or proofs, or whose line of crates.txt, differ from those of a commit."""
+    files = git(root, "diff", "--name-only", commit, "--", "crates").splitlines() + git(root, "ls-files", "-o", "--exclude-standard", "--", "crates").splitlines()
+    found = {name.split("/")[1] for name in files if re.search(r"/(?:src|specs|proofs)/.*\.(?:rt|antt)$", name)}
+    now = dependencies((root / "crates.txt").read_text(encoding="utf-8"))
+    before = dependencies(git(root, "show", f"{commit}:crates.txt"))
+    return {crate for crate in now if crate in found or now[crate] != before.get(crate)}
+
+
+def since_release(root: Path) -> str:
+    """Says which crates have changed since the release was made, and how much is proved again."""
+    commit = git(root, "log", "-1", "--format=%H", "--", "release/MANIFEST").strip()
+    if not commit:
+        return "no release in the history: all crates are proved that CI hasn't kept"
+    below = dependencies((root / "crates.txt").read_text(encoding="utf-8"))
+    own = changed(root, commit)
+    again = own.union(*(above(crate, below) for crate in own))
+    lines = {crate: lines_of(root / "crates" / crate) for crate in below}
+    percent = round(100 * sum(lines[crate] for crate in again) / max(sum(lines.values()), 1))
+    names = f" ({', '.join(sorted(own))})" if own else ""
+    return f"{len(own)} crates have changed since the release{names}; with those above them CI proves {len(again)} of {len(below)}, {percent} % of the lines, unless it has kept them"
+
+
 def findings(found: list[Share], made: str) -> list[str]:
     """Says which rows of a table are missing, too many or wrong."""
     has = written(made)
@@ -112,6 +143,9 @@ def main(words: list[str], root: Path = ROOT) -> int:
     if not words:
         for share in found:
             print(f"{share.crate:20} {share.lines:6} lines  {share.above:2} above  {share.percent:3} %")
+        return 0
+    if words == ["--changed"]:
+        print(since_release(root))
         return 0
     if words not in (["--make"], ["--check"]):
         print(__doc__, file=sys.stderr)

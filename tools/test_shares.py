@@ -7,6 +7,7 @@ from __future__ import annotations
 import contextlib
 import io
 import pathlib
+import subprocess
 import sys
 import tempfile
 import unittest
@@ -95,6 +96,32 @@ class Shares(unittest.TestCase):
 
     def test_other_words(self) -> None:
         self.assertEqual(self.run_with("--chek")[0], 2)
+
+    def commit(self) -> None:
+        """Commits all files as a release."""
+        (self.root / "release").mkdir(exist_ok=True)
+        (self.root / "release" / "MANIFEST").write_text("version 1\n", encoding="utf-8")
+        who = ("-c", "user.name=A", "-c", "user.email=a@b")
+        for words in (("init", "-q"), ("add", "-A"), (*who, "commit", "-qm", "Release")):
+            subprocess.run(["git", "-C", str(self.root), *words], check=True)
+
+    def test_nothing_changed(self) -> None:
+        self.commit()
+        self.assertIn("0 crates have changed since the release; with those above them CI proves 0 of 4, 0 % of", self.run_with("--changed")[1])
+
+    def test_changed(self) -> None:
+        self.commit()
+        self.put("tw_left", "proofs/New.antt", 0)
+        self.put("tw_right", "README.md", 3)
+        self.assertIn("1 crates have changed since the release (tw_left); with those above them CI proves 2 of 4, 60 % of", self.run_with("--changed")[1])
+
+    def test_other_dependencies(self) -> None:
+        self.commit()
+        (self.root / "crates.txt").write_text(CRATES.replace("tw_right: tw_low", "tw_right: tw_left"), encoding="utf-8")
+        self.assertIn("(tw_right); with those above them CI proves 1 of 4, 30 % of", self.run_with("--changed")[1])
+
+    def test_no_release(self) -> None:
+        self.assertIn("no release in the history", self.run_with("--changed")[1])
 
 
 if __name__ == "__main__":

@@ -215,6 +215,28 @@ class Comments(unittest.TestCase):
             self.assertEqual(len(list(words.wrong_openings("a", comments(text, ".rt")))), count, text)
 
 
+class Undocumented(unittest.TestCase):
+    """Public functions without a doc line."""
+
+    def found(self, text: str) -> list[str]:
+        return [it.text.split()[0] for it in words.undocumented("crates/a/src/a.rt", text)]
+
+    def test_a_doc_line_is_enough(self) -> None:
+        self.assertEqual(self.found("/// Adds one.\n#[inline]\npub fn add() {}\n"), [])
+
+    def test_those_without_one_are_found(self) -> None:
+        self.assertEqual(self.found("pub fn one() {}\n\n    pub const fn two() {}\n"), ["one", "two"])
+
+    def test_a_comment_is_none(self) -> None:
+        self.assertEqual(self.found("// Adds one.\npub fn add() {}\n"), ["add"])
+
+    def test_an_empty_line_ends_it(self) -> None:
+        self.assertEqual(self.found("/// A type.\n\npub fn add() {}\n"), ["add"])
+
+    def test_private_functions_may_have_none(self) -> None:
+        self.assertEqual(self.found("fn one() {}\npub(crate) fn two() {}\n"), [])
+
+
 class Counts(unittest.TestCase):
     """Counts that may only fall."""
 

@@ -7,8 +7,8 @@
     tools/words.py --counts   writes tools/words.json, the counts that comments may not exceed
     tools/words.py --words    prints the number of words of each Markdown file
 
-Markdown has to pass. Findings in comments are counted by kind, and no count may rise. Code blocks, code spans and the exceptions below
-are left out.
+Markdown has to pass. Findings in comments, and public functions without a doc line, are counted by kind, and no count may rise. Code
+blocks, code spans and the exceptions below are left out.
 """
 
 from __future__ import annotations
@@ -366,11 +366,27 @@ def markdown_findings(documents: dict[str, list[Line]]) -> Iterator[Finding]:
     yield from repeated(documents)
 
 
+PUBLIC = re.compile(r"\s*pub (?:const |unsafe |extern \"C\" )*fn (\w+)")
+
+
+def undocumented(path: str, text: str) -> Iterator[Finding]:
+    """Finds public functions of Rattle without a doc line before them. Attributes may be between."""
+    before = ""
+    for number, line in enumerate(text.splitlines(), 1):
+        name = PUBLIC.match(line)
+        if name and not before.lstrip().startswith("///"):
+            yield Finding(path, number, "undocumented", f"{name[1]} has no doc line")
+        if not line.lstrip().startswith("#["):
+            before = line
+
+
 def source_findings(paths: Iterable[str]) -> Iterator[Finding]:
-    """Finds all that is wrong in the comments of sources."""
+    """Finds all that is wrong in the comments of sources, and public functions without one."""
     for path in paths:
         file = ROOT / path
-        lines = comment_lines(file.read_text(encoding="utf-8"), file.suffix)
+        text = file.read_text(encoding="utf-8")
+        lines = comment_lines(text, file.suffix)
+        yield from undocumented(path, text) if file.suffix == ".rt" else []
         yield from wrong_words(path, lines)
         yield from wrong_openings(path, lines)
         yield from long_sentences(path, lines)

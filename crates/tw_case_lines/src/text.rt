@@ -15,6 +15,7 @@ pub struct Text {
 }
 
 impl Text {
+    /// Returns an empty text.
     pub fn new(alloc: Global) -> Text {
         Text {
             bytes: Vec::new(alloc),
@@ -28,10 +29,12 @@ impl Text {
         self.alloc
     }
 
+    /// Adds words.
     pub fn put(&mut self, words: &str) {
         self.put_bytes(words.as_bytes());
     }
 
+    /// Adds bytes. If memory runs out, the text isn't whole.
     pub fn put_bytes(&mut self, bytes: &[u8]) {
         self.is_whole &= self.bytes.extend_from_slice(bytes).is_ok();
     }
@@ -60,10 +63,12 @@ impl Text {
         }
     }
 
+    /// Adds the line of an event.
     pub fn event(&mut self, event: &Event) {
         self.is_whole &= put_event_line(self.alloc, &mut self.bytes, event).is_ok();
     }
 
+    /// Adds a value in the form for users.
     pub fn display<T: Display>(&mut self, shown: &T) {
         match format!(in self.alloc; "{shown}") {
             Ok(text) => self.put(text.as_str()),
@@ -71,6 +76,7 @@ impl Text {
         }
     }
 
+    /// Adds a value in the form for debugging.
     pub fn debug<T: Debug>(&mut self, shown: &T) {
         match format!(in self.alloc; "{shown:?}") {
             Ok(text) => self.put(text.as_str()),

@@ -116,6 +116,7 @@ pub struct Room {
 }
 
 impl Room {
+    /// Makes a writer that has kept nothing.
     pub fn new() -> Room {
         Room {
             bytes: [0; 256],

@@ -43,12 +43,12 @@ use tw_handles::Handle;
 pub use tw_verdict::Verdict;
 
 /// The version: major, minor and patch, three digits each.
-const VERSION: u32 = 20_000;
+const VERSION: u32 = 21_000;
 
 /// Returns the version of the library, as `YUGLEMIT_VERSION_NUMBER` of the header it is made for.
 #[unsafe(no_mangle)]
 pub extern "C" fn yuglemit_version() -> u32
-    ensures { result ≡ 20000 }
+    ensures { result ≡ 21000 }
 {
     VERSION
 }

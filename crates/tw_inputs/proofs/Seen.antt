@@ -2,6 +2,7 @@
 use Rattle.std.proofs.Common.{◌≡◌, ◌+◌, ◌<◌, ℕ, zero, suc, List, [], ◌∷◌, ◌++◌, Bor, Option, Some, None, ap, arith, refl, sym, subst, map, length, take, drop, get_or, slice_index_or, option_map, append_assoc, rules, ◌∙◌}
 use Rattle.std.specs.List.{Contains}
 use Rattle.std.specs.Prelude.{MatchOption}
+use Rattle.std.specs.declared.cmp.Ordering.{Ordering}
 use Rattle.std.proofs.lemmas.List.{length-map, length-take, map-append, map_more, take-append-drop}
 use Rattle.json.specs.Json.{Json, Members, number}
 use Rattle.json.specs.Value.{members_view, value_view}
@@ -32,8 +33,8 @@ none_among (x ∷ xs) zero lt e = absurd cc
 none_among (x ∷ xs) (suc k) lt e = none_among xs k (omega (arith, lt)) e
 
 -- members are none where one of them is
-pub no_members : {K V : Type 0} (key : List ℕ → Option K) (value : Json → Option V) (ms : Members) (es : List (K × V)) → NoMembers key value ms → AreMembers key value ms es → ⊥
-no_members key value ms es none (read, is, ordered) = by (subst (λ (l : List (Option _)). Contains l None) (sym is) none)
+pub no_members : {K V : Type 0} (order : K → K → Ordering) (key : List ℕ → Option K) (value : Json → Option V) (ms : Members) (es : List (K × V)) → NoMembers key value ms → AreMembers order key value ms es → ⊥
+no_members order key value ms es none (read, is, ordered, sorted) = by (subst (λ (l : List (Option _)). Contains l None) (sym is) none)
   where
     by : Contains (map Some read) None → ⊥
     by (k, lt, e) = none_among read k (omega (arith, lt, length-map read Some)) e

@@ -1,7 +1,10 @@
 -- The inputs of a program as a JSON array: an integer is a number, a text a string, and a container an object of its members by subscript.
 use Rattle.std.specs.Prelude.{◌≡◌, ℕ, ℤ, suc, Bool, true, false, List, [], ◌∷◌, ◌++◌, codes, decimal, map, length, Option, Some, None, option_map, slice_get}
 use Rattle.std.specs.List.{Contains}
-use Rattle.std.specs.List.Sorted.{IsPermutation}
+use Rattle.std.specs.Cmp.Lexicographic.{slice_cmp}
+use Rattle.std.specs.List.Sorted.{IsPermutation, IsSortedByKey}
+use Rattle.std.specs.Ordering.{int_cmp, nat_cmp}
+use Rattle.std.specs.declared.cmp.Ordering.{Ordering}
 use Rattle.std.specs.Option.{option_and_then, option_map_or}
 use Rattle.std.specs.Result.{result_ok}
 use Rattle.json.specs.Find.{as_number, as_str}
@@ -50,9 +53,10 @@ member_in key value m = option_and_then (λ k. option_map (λ v. (k, v)) (value 
 abbrev pub members_in : {K V : Type 0} → (List ℕ → Option K) → (Json → Option V) → Members → List (Option (K × V))
 members_in key value ms = map (member_in key value) (entries ms)
 
--- holds for the members of an object, in any order; opening a program requires that their subscripts rise
-abbrev pub AreMembers : {K V : Type 0} → (List ℕ → Option K) → (Json → Option V) → Members → List (K × V) → Type 0
-AreMembers {K} {V} key value ms es = (read : List (K × V)) × (map Some read ≡ members_in key value ms) × IsPermutation read es
+-- holds for the members of an object in the order of their subscripts: none is before the one that it follows
+abbrev pub AreMembers : {K V : Type 0} → (K → K → Ordering) → (List ℕ → Option K) → (Json → Option V) → Members → List (K × V) → Type 0
+AreMembers {K} {V} order key value ms es =
+    (read : List (K × V)) × (map Some read ≡ members_in key value ms) × IsPermutation read es × IsSortedByKey (λ (e : K × V). e.0) order es
 
 -- holds if a key or a value of an object is of another type
 abbrev pub NoMembers : {K V : Type 0} → (List ℕ → Option K) → (Json → Option V) → Members → Type 0
@@ -62,10 +66,10 @@ NoMembers key value ms = Contains (members_in key value ms) None
 
 -- holds for the container that an object is, by whether its subscripts are texts, and by the type of its values
 abbrev pub IsContainer : Bool → Scalar → Members → Input → Type 0
-IsContainer false scalar.Int ms given = (es : List (ℤ × ℤ)) × AreMembers int_in int_json ms es × (given ≡ input.Ints es)
-IsContainer false scalar.Text ms given = (es : List (ℤ × List ℕ)) × AreMembers int_in as_str ms es × (given ≡ input.Texts es)
-IsContainer true scalar.Int ms given = (es : List (List ℕ × ℤ)) × AreMembers Some int_json ms es × (given ≡ input.IntsByText es)
-IsContainer true scalar.Text ms given = (es : List (List ℕ × List ℕ)) × AreMembers Some as_str ms es × (given ≡ input.TextsByText es)
+IsContainer false scalar.Int ms given = (es : List (ℤ × ℤ)) × AreMembers int_cmp int_in int_json ms es × (given ≡ input.Ints es)
+IsContainer false scalar.Text ms given = (es : List (ℤ × List ℕ)) × AreMembers int_cmp int_in as_str ms es × (given ≡ input.Texts es)
+IsContainer true scalar.Int ms given = (es : List (List ℕ × ℤ)) × AreMembers (slice_cmp nat_cmp) Some int_json ms es × (given ≡ input.IntsByText es)
+IsContainer true scalar.Text ms given = (es : List (List ℕ × List ℕ)) × AreMembers (slice_cmp nat_cmp) Some as_str ms es × (given ≡ input.TextsByText es)
 
 -- holds for the input that a JSON value is. The parameter's type decides only which container an object is: whether it is the input's type is
 -- compared when the program is opened.

@@ -2,7 +2,7 @@
 
 ghost use Rattle.std.specs.Prelude.{◌≡◌, None, Some, IfOk, MatchOption, map};
 ghost use Rattle.std.specs.List.{Contains};
-ghost use Rattle.std.specs.List.Sorted.{IsPermutation};
+ghost use Rattle.std.specs.List.Sorted.{IsPermutation, IsSortedByKey};
 ghost use Rattle.json.specs.Value.{members_view, value_view};
 ghost use Rattle.tw_inputs.specs.JsonInputs.{AreMembers, NoMembers, entry_of, member_in};
 
@@ -48,7 +48,8 @@ fn unordered<K: Part, V: Part>(
 
 /// Orders members by their subscripts.
 fn ordered<K: Part, V: Part>(mut members: Vec<(K, V)>) -> Vec<(K, V)>
-    ensures { IsPermutation members.items result.items }
+    ensures permutation { IsPermutation members.items result.items }
+    ensures sorted { IsSortedByKey (λ (member : K × V). member.0) K.order result.items }
 {
     members.sort_unstable_by(|a, b| a.0.compare(&b.0));
     members
@@ -61,7 +62,7 @@ pub fn members<K: Part, V: Part>(
 ) -> Result<Option<Vec<(K, V)>>, AllocError>
     ensures { IfOk result (λ read. MatchOption read
         (NoMembers K.of_key V.of_value (members_view object.now))
-        (λ members. AreMembers K.of_key V.of_value (members_view object.now) members.items)) }
+        (λ members. AreMembers K.order K.of_key V.of_value (members_view object.now) members.items)) }
 {
     match unordered(alloc, object)? {
         Some(members) => Ok(Some(ordered(members))),

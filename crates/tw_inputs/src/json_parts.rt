@@ -1,6 +1,11 @@
 //! Reads subscripts and values of members.
 
 ghost use Rattle.std.specs.Prelude.{◌≡◌, List, ℕ, Option, Some, IfOk};
+ghost use Rattle.std.specs.Cmp.{IsTotalOrder};
+ghost use Rattle.std.specs.Cmp.Lexicographic.{slice_cmp};
+ghost use Rattle.std.specs.Ordering.{int_cmp, nat_cmp};
+ghost use Rattle.std.specs.declared.cmp.Ordering.{Ordering as SubscriptOrdering};
+ghost use Rattle.std.proofs.lemmas.Cmp.{int_cmp_total, nat_list_cmp_total};
 ghost use Rattle.json.specs.Find.{as_str};
 ghost use Rattle.json.specs.Json.{Json as JsonValue};
 ghost use Rattle.json.specs.Value.{value_view};
@@ -18,6 +23,10 @@ pub trait Part: Drop {
 
     ghost of_value: { JsonValue → Option Self };
 
+    ghost order: { Self → Self → SubscriptOrdering };
+
+    ghost total: { IsTotalOrder order };
+
     /// Returns the subscript that a key of an object is.
     fn from_key(alloc: Global, key: &str) -> Result<Option<Self>, AllocError>
         ensures { IfOk result (λ part. part ≡ of_key key.now) };
@@ -27,7 +36,8 @@ pub trait Part: Drop {
         ensures { IfOk result (λ part. part ≡ of_value (value_view value.now)) };
 
     /// Compares subscripts in the order of a container's members.
-    fn compare(&self, other: &Self) -> Ordering;
+    fn compare(&self, other: &Self) -> Ordering
+        ensures { result ≡ order self.now other.now };
 }
 
 /// Returns the integer of 64 bits that a text writes in decimal.
@@ -49,6 +59,10 @@ impl Part for i64 {
 
     ghost of_value = { int_json };
 
+    ghost order = { int_cmp };
+
+    ghost total = { int_cmp_total };
+
     fn from_key(_alloc: Global, key: &str) -> Result<Option<i64>, AllocError> {
         Ok(int_in(key))
     }
@@ -69,6 +83,10 @@ impl Part for InputText {
     ghost of_key = { Some };
 
     ghost of_value = { as_str };
+
+    ghost order = { slice_cmp nat_cmp };
+
+    ghost total = { nat_list_cmp_total };
 
     fn from_key(alloc: Global, key: &str) -> Result<Option<InputText>, AllocError> {
         let text = text_of(alloc, key)?;

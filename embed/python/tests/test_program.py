@@ -127,6 +127,16 @@ class Programs(unittest.TestCase):
         self.assertEqual((bounds.members, bounds.bytes), (16, 0))
         self.assertEqual(program.bounds.greatest, max(it.budget for it in program.procedures))
 
+    def test_same_in_every_order(self) -> None:
+        store = "proc control write int\nregs int\nINT v0 7\nSTORE d0 v0\nRET\n"
+        copies = (
+            "proc control write cont int\nregs\nDUPW d1 d0\nPUT 1 0 any 0\nPUT 1 0 any 1\nRET\n"
+            "proc leaf write cont int\nregs int\nNEW d1 d2 int\nSTORE d1 v0\nINS d0 v0 d2 +1\nJMP +1\nDROPR d2\nDROPW d0\nRET\n"
+        )
+        self.assertIs(yuglemit.load(store).same_in_every_order, True)
+        self.assertIs(yuglemit.load(copies).same_in_every_order, False)
+        self.assertIs(yuglemit.load_bytes(yuglemit.assemble(copies)).same_in_every_order, False)
+
     def test_bounds_with_a_limit(self) -> None:
         """Main executes PUT and RET, its task INT, REPEAT, 100 times COPY and END, and RET; a task is an event more."""
         text = "proc control\nregs\nPUT 1 0 any\nRET\nproc leaf\nregs int\nINT v0 1\nREPEAT 100\nCOPY v0 v0\nEND\nRET\n"

@@ -4,7 +4,7 @@ use Rattle.tw_inputs.proofs.Seen.{seen_members}
 use Rattle.tw_inputs.proofs.json_members.members.Goals as goal
 
 pub returns-in-Some : goal.returns-in-Some
-returns-in-Some g c = (c.in-Some.members.items, (rw c.in-Some.is at c.in_ok-members.ensures) ∙ sym (seen_members g.K.Part.of_key g.V.Part.of_value c.args.object.now), c.ordered.ensures)
+returns-in-Some g c = (c.in-Some.members.items, (rw c.in-Some.is at c.in_ok-members.ensures) ∙ sym (seen_members g.K.Part.of_key g.V.Part.of_value c.args.object.now), c.ordered.ensures.permutation, c.ordered.ensures.sorted)
 
 pub returns-in-None : goal.returns-in-None
 returns-in-None g c =
