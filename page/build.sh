@@ -40,7 +40,7 @@ for part in heap.c wide.c glue.ll narrow_test.c; do
 done
 ln -sf "$tools/ld.lld" "$out/wasm-ld"
 link="$out/wasm-ld -mwasm64 --no-entry --gc-sections --stack-first --strip-all"
-$link -z stack-size=1048576 --export=yuglemit_session --export=yuglemit_verify --export=yuglemit_room --export=yuglemit_free \
+$link -z stack-size=1048576 --export=yuglemit_session --export=yuglemit_raw_verify --export=yuglemit_room --export=yuglemit_free \
     "$out/module.o" "$out/heap.o" "$out/wide.o" "$out/glue.o" -o "$out/wide.wasm"
 $link --export=go "$out/narrow_test.o" -o "$out/test_wide.wasm"
 python3 -B "$here/narrow.py" <"$out/wide.wasm" >"$out/yuglemit.wasm"

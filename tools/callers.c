@@ -80,14 +80,13 @@ static uint8_t run(handles *all) {
 }
 
 static uint8_t load(handles *all, const uint8_t *source, size_t length, uint8_t format) {
-    yuglemit_source_verdict verdict;
-    yuglemit_load_source(source, length, format, &all->program, &verdict);
-    return verdict.verdict.letter;
+    yuglemit_verdict verdict = YUGLEMIT_VERDICT;
+    return yuglemit_load_source(source, length, format, &all->program, &verdict);
 }
 
 /* ---- Each request for memory is refused in turn */
 
-static int is_memory(uint8_t code) { return code == 0 || code == YUGLEMIT_NO_MEMORY || code == 5; }
+static int is_memory(uint8_t code) { return code == 0 || code == YUGLEMIT_NO_MEMORY; }
 
 /* Makes a session. Returns whether the handle holds its text, or memory ran out and the handle is as it was. */
 static int is_kept(const uint8_t *words, size_t words_length, const uint8_t *input, size_t input_length, yuglemit_text *output) {
@@ -100,8 +99,8 @@ static int is_kept(const uint8_t *words, size_t words_length, const uint8_t *inp
 static int make_all(handles *all) {
     static const uint8_t digits[] = "41", words[] = "run\0--text", source[] = "names\nproc control main(w: write int)\nregs n: int\nINT n 7\nSTORE w n\nRET\n";
     handles other = {{NULL}, {NULL}, {NULL}, {NULL}, {NULL}, {NULL}, {NULL}};
-    yuglemit_ending ending = {0, 0, 0};
-    yuglemit_bounds bounds;
+    yuglemit_ending ending = YUGLEMIT_ENDING;
+    yuglemit_bounds bounds = YUGLEMIT_BOUNDS;
     int holds = is_memory(load(all, program_bytes, program_length, YUGLEMIT_ANY_FORMAT)) && is_memory(load(&other, source, sizeof source - 1, YUGLEMIT_TEXT));
     holds = holds && is_kept(words, sizeof words, source, sizeof source - 1, &other.text);
     holds = holds && is_memory(yuglemit_source_name(source, sizeof source - 1, 0, &all->text)) && is_memory(yuglemit_stop_new(&all->stop));
@@ -110,7 +109,7 @@ static int make_all(handles *all) {
     if (all->program.at) holds = holds && is_memory(yuglemit_program_share(&all->program, &all->other)) && is_memory(yuglemit_program_bounds(&all->program, 0, &bounds));
     if (all->program.at && is_memory(yuglemit_input_text(&all->inputs, digits, 2)) && all->inputs.at) {
         uint8_t code = run(all);
-        holds = holds && (is_memory(code) || code == 1) && (code == 0) == (all->report.at != NULL);
+        holds = holds && (is_memory(code) || code == YUGLEMIT_INPUT_COUNT) && (code == 0) == (all->report.at != NULL);
     }
     if (all->report.at) {
         holds = holds && yuglemit_report_ending(&all->report, &ending) == 0 && is_memory(yuglemit_print_report(&all->report, &all->text));
@@ -169,13 +168,13 @@ static void check_many(void) {
     check(load(&all, program_bytes, program_length, YUGLEMIT_BYTES) == 0, "the program");
     int wrong = 0;
     for (int k = 0; k < MANY; k++) wrong += yuglemit_input_int(&all.inputs, k) != 0;
-    check(wrong == 0 && run(&all) == 1 && !all.report.at, "O01: 900,000 inputs");
+    check(wrong == 0 && run(&all) == YUGLEMIT_INPUT_COUNT && !all.report.at, "O01: 900,000 inputs");
     yuglemit_inputs_free(all.inputs);
     all.inputs.at = NULL;
     check(yuglemit_container_new(&all.container, 'i', 'i') == 0, "a container");
     for (int k = 0; k < MANY; k++) wrong += yuglemit_member_int(&all.container, k, -k) != 0;
     check(wrong == 0 && yuglemit_input_container(&all.inputs, &all.container) == 0, "900,000 members");
-    check(run(&all) == 2 && !all.report.at, "O02: they are no text");
+    check(run(&all) == YUGLEMIT_INPUT_TYPE && !all.report.at, "O02: they are no text");
     size_t index = 9;
     check(yuglemit_unfit_input(&all.program, &all.inputs, &index) == 0 && index == 0, "they are the first that doesn't fit");
     free_all(&all);
@@ -184,7 +183,7 @@ static void check_many(void) {
 static void check_long_text(const uint8_t *text, size_t length) {
     handles all = {{NULL}, {NULL}, {NULL}, {NULL}, {NULL}, {NULL}, {NULL}};
     check(load(&all, program_bytes, program_length, YUGLEMIT_BYTES) == 0, "the program");
-    check(yuglemit_input_text(&all.inputs, text, length) == 0 && run(&all) == 2 && !all.report.at, "O02: a text that is too long");
+    check(yuglemit_input_text(&all.inputs, text, length) == 0 && run(&all) == YUGLEMIT_INPUT_TYPE && !all.report.at, "O02: a text that is too long");
     check(yuglemit_container_new(&all.container, 't', 't') == 0 && yuglemit_member_text_by_text(&all.container, text, length, text, length) == 0, "a long member");
     free_all(&all);
 }
@@ -194,7 +193,7 @@ static void check_long_text(const uint8_t *text, size_t length) {
 static void check_source(const uint8_t *source, size_t length, const char *shape) {
     static const uint8_t formats[] = {YUGLEMIT_ANY_FORMAT, YUGLEMIT_BYTES, YUGLEMIT_HEX, YUGLEMIT_TEXT};
     handles all = {{NULL}, {NULL}, {NULL}, {NULL}, {NULL}, {NULL}, {NULL}};
-    yuglemit_verdict verdict;
+    yuglemit_verdict verdict = YUGLEMIT_VERDICT;
     for (size_t f = 0; f < sizeof formats; f++) check(load(&all, source, length, formats[f]) != 0 && !all.program.at, shape);
     yuglemit_verify(source, length, &verdict);
     check(verdict.letter != 0, shape);

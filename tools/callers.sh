@@ -93,11 +93,11 @@ two_libraries() {
         cat >"$room/two.c" <<'END' &&
 #include "yuglemit.h"
 uint32_t other_version(void);
-void other_verify(const uint8_t *bytes, size_t length, yuglemit_verdict *verdict);
+uint8_t other_raw_verify(const uint8_t *bytes, size_t length, uint64_t *verdict, size_t count);
 int main(void) {
-    yuglemit_verdict one, two;
+    yuglemit_verdict one = YUGLEMIT_VERDICT, two = YUGLEMIT_VERDICT;
     yuglemit_verify((const uint8_t *)"TWB", 3, &one);
-    other_verify((const uint8_t *)"TWB", 3, &two);
+    other_raw_verify((const uint8_t *)"TWB", 3, &two.letter, 9);
     return yuglemit_version() != other_version() || one.letter != 'F' || two.letter != 'F' || one.number != two.number;
 }
 END
@@ -107,7 +107,7 @@ END
 # Only the calls of the header are names that a program sees.
 exports_calls_alone() {
     nm --defined-only --extern-only "$library" | awk '$3 != "" { print $3 }' | sort >"$room/exported"
-    grep -oE '\byuglemit_[a-z_]+\(' "$root/embed/yuglemit.h" | tr -d '(' | sort -u >"$room/declared"
+    grep -oE '^[a-z0-9_]+ yuglemit_[a-z_]+\(' "$root/embed/yuglemit.h" | sed 's/.* //; s/(//' | sort -u >"$room/declared"
     diff "$room/exported" "$room/declared"
 }
 

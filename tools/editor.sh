@@ -113,11 +113,21 @@ options() {
     "$program" "$1" --help </dev/null | sed -n '/^Options:/,/^$/s/^ *\(-[a-z], \)\{0,1\}\(--[a-z-]*\).*/\2/p' | tr '\n' ' ' | sed 's/ $//'
 }
 
-# The options of all commands that take a number: those whose help has a value, except for these that take a file.
+# The options of all commands that take a number: those whose help has a value.
 number_options() {
     for name in $(all_commands); do
         "$program" "$name" --help </dev/null | sed -n '/^Options:/,/^$/s/^ *\(-[a-z], \)\{0,1\}\(--[a-z-]*\) <\([a-z-]*\)>.*/\2 \3/p'
-    done | awk '$1 == "--" $2 && $1 !~ /^--(inputs|inputs-json|each|events)$/ { print $1 }' | sort -u
+    done | awk '$1 == "--" $2 { print $1 }' | sort -u
+}
+
+# The options that the name of a file follows, by their rows.
+file_options() {
+    sed -n 's/.*form: ArgumentForm::\(Inputs\|Trace\), name: "\([a-z-]*\)".*/--\2/p' "$root/crates/tw_cli/src/command_rows.rt" | sort -u
+}
+
+# Options as alternatives of a case.
+in_case() {
+    tr '\n' ' ' | sed 's/ $//; s/ / | /g'
 }
 
 # The codes that `explain` lists.
@@ -164,10 +174,10 @@ _tw() {
         return
     fi
     case \${COMP_WORDS[COMP_CWORD - 1]} in
-        $(number_options | tr '\n' ' ' | sed 's/ $//; s/ / | /g'))
+        $(number_options | in_case))
             compopt +o bashdefault
             return ;;
-        --inputs | --inputs-json | --each | --events)
+        $(file_options | in_case))
             COMPREPLY=(\$(compgen -f -- "\$word"))
             return ;;
     esac
@@ -208,10 +218,10 @@ if (( CURRENT == 2 )); then
     return
 fi
 case \$words[CURRENT-1] in
-    $(number_options | tr '\n' ' ' | sed 's/ $//; s/ / | /g'))
+    $(number_options | in_case))
         _message number
         return ;;
-    --inputs | --inputs-json | --each | --events)
+    $(file_options | in_case))
         _files
         return ;;
 esac

@@ -31,7 +31,7 @@ static void make_session(const call *c) {
 
 static void *made(void *given) {
     call *c = given;
-    yuglemit_verdict verdict;
+    yuglemit_verdict verdict = YUGLEMIT_VERDICT;
     c->frame = (uintptr_t)&verdict;
     if (c->verifies) yuglemit_verify(c->input, c->input_length, &verdict);
     else make_session(c);

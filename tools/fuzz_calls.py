@@ -27,7 +27,7 @@ INPUTS = ["int:7", "int:-4", "int:", "int:x", "int:9223372036854775808", "ints:"
 TEXTS = {
     0: re.compile(r""),
     1: re.compile(r'(?m)^refused ([A-Z]\d\d|memory)|^not enabled at event \d+$|"status":"refused"}$'),
-    2: re.compile(r'^command line refused\n|^(input (word )?\d+|inputs) refused\n|^{"error":\["input[^"]* refused",.*"status":"refused"}$'),
+    2: re.compile(r'^command line refused\n|^(input (word )?\d+|inputs) refused\n|^{"error":{("input":\d+,)?"lines":\["input[^"]* refused",.*"status":"refused"}$'),
     3: re.compile(r'(?m)^stuck \d+$|<svg|"status":"stuck"}$'),
     4: re.compile(r'(?m)^limit$|<svg|"status":"limit"}$'),
     6: re.compile(r'(?m)^trap C\d+ at event \d+$|"status":"trap"}$'),

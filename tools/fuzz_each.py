@@ -4,7 +4,9 @@ from __future__ import annotations
 
 import json
 import random
+import tempfile
 from dataclasses import dataclass, replace
+from pathlib import Path
 from typing import Iterator
 
 import fuzz_make
@@ -33,7 +35,7 @@ class Line:
 
 @dataclass(frozen=True)
 class EachTest(RunTest):
-    """A program with lines of inputs, in turn, and by so many threads of the program if that isn't 0."""
+    """A program with lines of inputs, in turn; if `jobs` isn't 0, also by the program with so many threads, from one input and as a stream."""
 
     lines: tuple[Line, ...] = ()
     jobs: int = 0
@@ -58,7 +60,9 @@ class EachTest(RunTest):
             if line.inputs is not None:
                 answers.append(f'{{"line":{number},' + self.single(library, line.inputs)[1:].rstrip("\n"))
             elif line.text in WRONG:
-                answers.append(f'{{"line":{number},"error":["{WRONG[line.text]}","line {number}, column ')
+                wrong = WRONG[line.text]
+                item = '"input":' + wrong.split(" ")[1] + "," if wrong.startswith("input ") else ""
+                answers.append(f'{{"line":{number},"error":{{{item}"lines":["{wrong}","line {number}, column ')
         return answers
 
     def answer_fault(self, expected: list[str], answer: Answer) -> str | None:
@@ -71,6 +75,14 @@ class EachTest(RunTest):
             return f"status: {status} of {text[:300]!r}"
         return difference("each", "\n".join([*expected, ""]), "\n".join([*cut, *got[len(expected):]]))
 
+    def streamed(self, library: Library, jobs: list[str]) -> Answer:
+        """Returns the answer to lines on standard input, with the program in a file."""
+        with tempfile.TemporaryDirectory() as folder:
+            program = Path(folder) / "program"
+            program.write_text(self.hex, encoding="ascii")
+            words = ["run", str(program), "--each", "-", *self.arguments[2:], *jobs]
+            return library.command(words, "\n".join(line.text for line in self.lines))
+
     def fault(self, library: Library) -> str | None:
         if not self.is_accepted(library):
             return None
@@ -78,7 +90,11 @@ class EachTest(RunTest):
         why = self.answer_fault(expected, library.session(self.arguments, self.data))
         if why or not self.jobs:
             return why
-        return self.answer_fault(expected, library.command([*self.arguments, "--jobs", str(self.jobs)], self.data))
+        jobs = ["--jobs", str(self.jobs)]
+        return (
+            self.answer_fault(expected, library.command([*self.arguments, *jobs], self.data))
+            or self.answer_fault(expected, self.streamed(library, jobs))
+        )
 
     def smaller(self) -> Iterator[FuzzTest]:
         for place in range(len(self.lines)):

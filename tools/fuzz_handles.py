@@ -17,6 +17,7 @@ from fuzz_machine import Datum, Machine, Scalar, Value, run_in_turn
 from fuzz_report import status_of
 
 ROOM = 64
+NONE = (ctypes.c_uint64 * 1)()  # an empty list, whose pointer isn't null
 OVER, NO_BOUND = (1 << 64) - 2, (1 << 64) - 1
 
 
@@ -28,28 +29,41 @@ class Member(ctypes.Structure):
     _fields_ = [("subscript", Item), ("value", Item)]
 
 
-class Ending(ctypes.Structure):
-    _fields_ = [("events", ctypes.c_size_t), ("outputs", ctypes.c_size_t), ("status", ctypes.c_uint8)]
+class Struct(ctypes.Structure):
+    """A struct of numbers that begins with its size, as in embed/yuglemit.h."""
+
+    def __init__(self, *numbers: int) -> None:
+        super().__init__(ctypes.sizeof(self), *numbers)
+
+    def listed(self) -> tuple[Any, int]:
+        """Returns where its numbers are, and how many there are."""
+        size = ctypes.sizeof(ctypes.c_size_t)
+        return ctypes.c_void_p(ctypes.addressof(self) + size), self.size // size - 1
 
 
-class Options(ctypes.Structure):
-    _fields_ = [("size", ctypes.c_size_t), ("limit", ctypes.c_size_t), *((name, ctypes.c_uint8) for name in ("engines", "servers", "workers"))]
+def fields(*names: str) -> list[tuple[str, Any]]:
+    return [("size", ctypes.c_size_t), *((name, ctypes.c_uint64) for name in names)]
 
 
-class Caps(ctypes.Structure):
-    _fields_ = [("size", ctypes.c_size_t), *((name, ctypes.c_uint64) for name in ("tasks", "instructions", "data", "bytes", "budget"))]
+class Ending(Struct):
+    _fields_ = fields("events", "outputs", "status")
 
 
-class Bounds(ctypes.Structure):
-    _fields_ = [(name, ctypes.c_uint64) for name in COUNTED]
+class Options(Struct):
+    _fields_ = fields("limit", "engines", "servers", "workers")
 
 
-class Verdict(ctypes.Structure):
-    _fields_ = [*((name, ctypes.c_uint8) for name in ("letter", "number", "engines", "workers")), ("procedure", ctypes.c_size_t), ("place", ctypes.c_size_t)]
+class Bounds(Struct):
+    _fields_ = fields(*COUNTED)
 
 
-class SourceVerdict(ctypes.Structure):
-    _fields_ = [("verdict", Verdict), *((name, ctypes.c_size_t) for name in ("line", "word", "column"))]
+class Verdict(Struct):
+    _fields_ = fields("letter", "number", "engines", "workers", "procedure", "place", "line", "word", "column")
+
+
+# Codes of calls (yuglemit_code).
+INPUT_COUNT, INPUT_TYPE, NO_LIMIT, ABOVE_CAP = 201, 202, 204, 207
+NO_PROGRAM, NO_REPORT, NO_LAYOUT, NO_INDEX, NO_TEXT, NO_UTF8, NO_ROOM, REJECTED = 211, 215, 222, 223, 224, 225, 226, 229
 
 
 class Fault(Exception):
@@ -65,22 +79,24 @@ def handles(library: Library) -> Any:
     """Returns the library, with the types of the calls of handles."""
     native = library.native.library()
     pointer, size, byte = ctypes.c_void_p, ctypes.c_size_t, ctypes.c_uint8
+    numbers = [pointer, size]
     for name, types in {
-        "load": [ctypes.c_char_p, size, pointer, pointer], "program_share": [pointer, pointer], "program_procedures": [pointer, pointer],
-        "load_source": [ctypes.c_char_p, size, byte, pointer, pointer], "container_new": [pointer, byte, byte], "input_container": [pointer, pointer],
+        "raw_load_source": [ctypes.c_char_p, size, byte, *numbers, pointer, *numbers], "raw_program_share": [pointer, pointer],
+        "raw_program_procedures": [pointer, pointer], "container_new": [pointer, byte, byte], "raw_input_container": [pointer, pointer],
         "member_int": [pointer, ctypes.c_int64, ctypes.c_int64], "member_text": [pointer, ctypes.c_int64, ctypes.c_char_p, size],
         "member_int_by_text": [pointer, ctypes.c_char_p, size, ctypes.c_int64],
         "member_text_by_text": [pointer, ctypes.c_char_p, size, ctypes.c_char_p, size], "container_free": [pointer],
-        "stop_new": [pointer], "stop_share": [pointer, pointer], "stop_raise": [pointer], "stop_lower": [pointer], "stop_free": [pointer],
-        "program_budget": [pointer, size, pointer], "input_int": [pointer, ctypes.c_int64], "input_text": [pointer, ctypes.c_char_p, size],
-        "run": [pointer] * 5, "run_within": [pointer] * 6, "run_capped": [pointer] * 4 + [size] + [pointer] * 2, "unfit_input": [pointer] * 3,
-        "report_find_int": [pointer, size, ctypes.c_int64, pointer], "report_find_text": [pointer, size, ctypes.c_char_p, size, pointer],
-        "program_bounds": [pointer, size, pointer], "report_ending": [pointer, pointer], "report_output": [pointer, size, pointer],
-        "report_member": [pointer, size, size, pointer], "report_text": [pointer, size, pointer, size], "report_member_text": [pointer, size, size, pointer, size],
-        "report_subscript_text": [pointer, size, size, pointer, size], "program_free": [pointer], "inputs_free": [pointer], "report_free": [pointer],
+        "stop_new": [pointer], "raw_stop_share": [pointer, pointer], "raw_stop_raise": [pointer], "raw_stop_lower": [pointer], "stop_free": [pointer],
+        "raw_program_budget": [pointer, size, pointer], "input_int": [pointer, ctypes.c_int64], "input_text": [pointer, ctypes.c_char_p, size],
+        "raw_run": [pointer, pointer, *numbers, *numbers, pointer, pointer], "raw_unfit_input": [pointer, pointer, pointer],
+        "raw_report_find_int": [pointer, size, ctypes.c_int64, pointer], "raw_report_find_text": [pointer, size, ctypes.c_char_p, size, pointer],
+        "raw_program_bounds": [pointer, size, *numbers], "raw_report_ending": [pointer, *numbers], "raw_report_output": [pointer, size, pointer],
+        "raw_report_member": [pointer, size, size, pointer], "raw_report_members": [pointer, size, size, pointer, size],
+        "raw_report_text": [pointer, size, pointer, size], "raw_report_member_text": [pointer, size, size, pointer, size],
+        "raw_report_subscript_text": [pointer, size, size, pointer, size], "program_free": [pointer], "inputs_free": [pointer], "report_free": [pointer],
     }.items():
         call = getattr(native, f"yuglemit_{name}")
-        call.argtypes, call.restype = types, None if name.endswith("free") or name.startswith("load") else byte
+        call.argtypes, call.restype = types, None if name.endswith("free") else byte
     return native
 
 
@@ -102,30 +118,35 @@ class Report:
     def compare(self, output: int, number: int) -> None:
         """Compares an output, and its members by their order."""
         datum = self.machine.store[number]
-        self.compare_item(f"output {output}", self.item(output), datum, [self.native.yuglemit_report_text, output])
+        self.compare_item(f"output {output}", self.item(output), datum, [self.native.yuglemit_raw_report_text, output])
         members = datum.sorted_members() if not datum.is_scalar else []
+        every = (Member * (len(members) + 1))()
+        expect("report_members", 0, self.native.yuglemit_raw_report_members(ctypes.byref(self.handle), output, 0, ctypes.byref(every), len(members)))
         for place, (subscript, member) in enumerate(members):
             found = Member()
-            expect("report_member", 0, self.native.yuglemit_report_member(ctypes.byref(self.handle), output, place, ctypes.byref(found)))
-            self.compare_scalar(f"subscript {place}", found.subscript, subscript, [self.native.yuglemit_report_subscript_text, output, place])
-            self.compare_item(f"member {place}", found.value, self.machine.store[member], [self.native.yuglemit_report_member_text, output, place])
+            expect("report_member", 0, self.native.yuglemit_raw_report_member(ctypes.byref(self.handle), output, place, ctypes.byref(found)))
+            self.compare_scalar(f"subscript {place}", found.subscript, subscript, [self.native.yuglemit_raw_report_subscript_text, output, place])
+            self.compare_item(f"member {place}", found.value, self.machine.store[member], [self.native.yuglemit_raw_report_member_text, output, place])
+            expect(f"member {place} of all", listed(found), listed(every[place]))
             expect(f"the place of {subscript!r}", (0, place), self.place_of(output, subscript))
+        many = self.native.yuglemit_raw_report_members(ctypes.byref(self.handle), output, 0, ctypes.byref(every), len(members) + 1)
+        expect("more members than there are", NO_INDEX, many)
         given = {subscript for subscript, _ in members}
         for other in {near for subscript in given for near in near_by(subscript)} - given:
-            expect(f"no place of {other!r}", (ord("X"), 77), self.place_of(output, other))
+            expect(f"no place of {other!r}", (NO_INDEX, 77), self.place_of(output, other))
         found = Member()
-        expect("the member after the last", ord("X"), self.native.yuglemit_report_member(ctypes.byref(self.handle), output, len(members), ctypes.byref(found)))
+        expect("the member after the last", NO_INDEX, self.native.yuglemit_raw_report_member(ctypes.byref(self.handle), output, len(members), ctypes.byref(found)))
 
     def place_of(self, output: int, subscript: Scalar) -> tuple[int, int]:
         """Returns the answer of the call that finds a member, and the place, which is 77 if it writes none."""
         place = ctypes.c_size_t(77)
-        call = self.native.yuglemit_report_find_int if isinstance(subscript, int) else self.native.yuglemit_report_find_text
+        call = self.native.yuglemit_raw_report_find_int if isinstance(subscript, int) else self.native.yuglemit_raw_report_find_text
         words: list[Any] = [subscript] if isinstance(subscript, int) else [subscript.encode(), len(subscript.encode())]
         return call(ctypes.byref(self.handle), output, *words, ctypes.byref(place)), place.value
 
     def item(self, output: int) -> Item:
         found = Item()
-        expect("report_output", 0, self.native.yuglemit_report_output(ctypes.byref(self.handle), output, ctypes.byref(found)))
+        expect("report_output", 0, self.native.yuglemit_raw_report_output(ctypes.byref(self.handle), output, ctypes.byref(found)))
         return found
 
     def compare_item(self, what: str, item: Item, datum: Datum, text: list[Any]) -> None:
@@ -142,13 +163,13 @@ class Report:
     def compare_scalar(self, what: str, item: Item, value: Scalar, text: list[Any]) -> None:
         if isinstance(value, int):
             expect(what, ("i", value), (chr(item.kind), item.number))
-            expect(f"{what}: its text", ord("T"), self.written(text, ROOM)[0])
+            expect(f"{what}: its text", NO_TEXT, self.written(text, ROOM)[0])
             return
         data = value.encode()
         expect(what, ("t", len(data)), (chr(item.kind), item.length))
         expect(f"{what}: its text", (0, data + b"\xa5" * 8), self.written(text, len(data) + 8))
         if data:
-            expect(f"{what}: a short buffer", (ord("S"), b"\xa5" * (len(data) - 1)), self.written(text, len(data) - 1))
+            expect(f"{what}: a short buffer", (NO_ROOM, b"\xa5" * (len(data) - 1)), self.written(text, len(data) - 1))
 
     def written(self, text: list[Any], size: int) -> tuple[int, bytes]:
         """Returns the answer of a call that writes a text, and the buffer; the buffer's neighbours have to stay."""
@@ -157,6 +178,11 @@ class Report:
         answer = call(ctypes.byref(self.handle), *places, ctypes.addressof(room) + 16, size)
         expect("the buffer's neighbours", b"\xa5" * 32, room.raw[:16] + room.raw[size + 16:])
         return answer, room.raw[16:size + 16]
+
+
+def listed(member: Member) -> list[object]:
+    """Returns the fields of a member."""
+    return [getattr(item, name) for item in (member.subscript, member.value) for name, _ in Item._fields_]
 
 
 def number_of(printed: str) -> int:
@@ -182,15 +208,16 @@ class HandlesTest(RunTest):
 
     def compare(self, library: Library, native: Any, program: Any, shared: Any, inputs: Any, report: Any) -> None:
         data = encode(self.program)
-        verdict = Verdict()
-        native.yuglemit_load(data, len(data), ctypes.byref(program), ctypes.byref(verdict))
+        verdict = Verdict(*[0] * 9)
+        answered = native.yuglemit_raw_load_source(data, len(data), ord("b"), ctypes.byref(NONE), 0, ctypes.byref(program), *verdict.listed())
+        expect("the code of a load", REJECTED if verdict.letter else 0, answered)
         code = f"{chr(verdict.letter)}{verdict.number:02}" if verdict.letter else ""
         answer = library.verify(data)
         expect("verdict", (answer.code, answer.procedure, answer.place), (code, verdict.procedure, verdict.place))
         expect("a handle", not answer.code, bool(program.value))
         self.compare_program(native, program, not answer.code)
         if not answer.code:
-            expect("share", 0, native.yuglemit_program_share(ctypes.byref(program), ctypes.byref(shared)))
+            expect("share", 0, native.yuglemit_raw_program_share(ctypes.byref(program), ctypes.byref(shared)))
             self.append(native, inputs)
             self.compare_run(native, program, inputs, report)
             self.compare_above(native, program, inputs)
@@ -203,21 +230,20 @@ class HandlesTest(RunTest):
 
     def compare_program(self, native: Any, program: Any, is_accepted: bool) -> None:
         count, budget = ctypes.c_size_t(77), ctypes.c_uint64(77)
-        answer = native.yuglemit_program_procedures(ctypes.byref(program), ctypes.byref(count))
-        expected = (0, len(self.program.procedures)) if is_accepted else (ord("P"), 77)
+        answer = native.yuglemit_raw_program_procedures(ctypes.byref(program), ctypes.byref(count))
+        expected = (0, len(self.program.procedures)) if is_accepted else (NO_PROGRAM, 77)
         expect("procedures", expected, (answer, count.value))
         for number, most in enumerate([*budgets(self.program), None] if is_accepted else []):
-            answer = native.yuglemit_program_budget(ctypes.byref(program), number, ctypes.byref(budget))
-            expect("budget", (0, most) if most is not None else ord("X"), (answer, budget.value) if most is not None else answer)
-
+            answer = native.yuglemit_raw_program_budget(ctypes.byref(program), number, ctypes.byref(budget))
+            expect("budget", (0, most) if most is not None else NO_INDEX, (answer, budget.value) if most is not None else answer)
         for limit in (0, 1, 600, 1_000_001):
             self.compare_bounds(native, program, limit, is_accepted)
 
     def compare_bounds(self, native: Any, program: Any, limit: int, is_accepted: bool) -> None:
-        found = Bounds(*[77] * len(COUNTED))
-        answer = native.yuglemit_program_bounds(ctypes.byref(program), limit, ctypes.byref(found))
         unchanged = [77] * len(COUNTED)
-        expected = (ord("P"), unchanged) if not is_accepted else (4, unchanged) if limit > 1_000_000 else (0, self.least(limit))
+        found = Bounds(*unchanged)
+        answer = native.yuglemit_raw_program_bounds(ctypes.byref(program), limit, *found.listed())
+        expected = (NO_PROGRAM, unchanged) if not is_accepted else (NO_LIMIT, unchanged) if limit > 1_000_000 else (0, self.least(limit))
         expect(f"bounds by {limit}", expected, (answer, [getattr(found, name) for name in COUNTED]))
 
     def least(self, limit: int) -> list[int]:
@@ -232,29 +258,30 @@ class HandlesTest(RunTest):
         return [found["tasks"], found["instructions"], found["data"], found["bytes"], max(budgets(self.program)), found["members"], found["rules"]]
 
     def run_capped(self, native: Any, program: Any, inputs: Any, caps: list[int], report: Any) -> int:
-        options, no_stop = Options(ctypes.sizeof(Options), self.limit, *self.layout), ctypes.c_void_p()
-        given = [ctypes.byref(it) for it in (program, inputs, options, (ctypes.c_uint64 * 8)(*caps))]
-        return int(native.yuglemit_run_capped(*given, len(caps), ctypes.byref(no_stop), ctypes.byref(report)))
+        return self.run_until(native, program, inputs, caps, ctypes.c_void_p(), report)
+
+    def run_until(self, native: Any, program: Any, inputs: Any, caps: list[int], stop: ctypes.c_void_p, report: Any) -> int:
+        options, most = Options(self.limit, *self.layout), (ctypes.c_uint64 * 8)(*caps)
+        given = [ctypes.byref(program), ctypes.byref(inputs), *options.listed(), ctypes.byref(most), len(caps)]
+        return int(native.yuglemit_raw_run(*given, ctypes.byref(stop), ctypes.byref(report)))
 
     def compare_above(self, native: Any, program: Any, inputs: Any) -> None:
         """Makes no run, since a bound is above its cap; or it is none for another reason."""
-        options, no_stop, report = Options(ctypes.sizeof(Options), self.limit, *self.layout), ctypes.c_void_p(), ctypes.c_void_p()
-        is_layout, is_limit = self.expected() != ord("L"), 1 <= self.limit <= 1_000_000
-        expected = (7 if is_layout and is_limit else self.expected(), None)
+        report = ctypes.c_void_p()
+        is_layout, is_limit = self.expected() != NO_LAYOUT, 1 <= self.limit <= 1_000_000
+        expected = (ABOVE_CAP if is_layout and is_limit else self.expected(), None)
         caps = self.caps()
         for index in (index for index, most in enumerate(caps) if most):
             smaller = [most - (place == index) for place, most in enumerate(caps)][: index + 1]
             expect(f"a bound above cap {index}", expected, (self.run_capped(native, program, inputs, smaller, report), report.value))
-        five = Caps(ctypes.sizeof(Caps), *caps[:4], caps[4] - 1)
-        answer = native.yuglemit_run_within(*map(ctypes.byref, (program, inputs, options, five, no_stop, report)))
-        expect("a budget above its cap, as by version 0.16", expected, (answer, report.value))
 
     def compare_unfit(self, native: Any, program: Any, inputs: Any) -> None:
         """Finds the input that doesn't fit, if the run has the error O02."""
         types, index = self.program.inputs, ctypes.c_size_t(77)
         unfit = [index for index, (type_, value) in enumerate(zip(types, self.inputs)) if type_ != self.type_of(index, value)]
-        expected = (1, 77) if len(types) != len(self.inputs) else (0, unfit[0]) if unfit else (ord("X"), 77)
-        expect("the input that doesn't fit", expected, (native.yuglemit_unfit_input(*map(ctypes.byref, (program, inputs, index))), index.value))
+        expected = (INPUT_COUNT, 77) if len(types) != len(self.inputs) else (0, unfit[0]) if unfit else (NO_INDEX, 77)
+        given = [ctypes.byref(program), ctypes.byref(inputs), ctypes.byref(index)]
+        expect("the input that doesn't fit", expected, (native.yuglemit_raw_unfit_input(*given), index.value))
 
     def append(self, native: Any, inputs: Any) -> None:
         for index, value in enumerate(self.inputs):
@@ -265,7 +292,7 @@ class HandlesTest(RunTest):
             else:
                 answer = native.yuglemit_input_int(ctypes.byref(inputs), value)
             expect("input", 0, answer)
-        expect("an input that isn't UTF-8", ord("U"), native.yuglemit_input_text(ctypes.byref(inputs), b"a\xff", 2))
+        expect("an input that isn't UTF-8", NO_UTF8, native.yuglemit_input_text(ctypes.byref(inputs), b"a\xff", 2))
 
     def type_of(self, index: int, value: Value) -> Type:
         """Returns the type of an input: its own, or the parameter's if it is a container without members."""
@@ -286,7 +313,7 @@ class HandlesTest(RunTest):
                 words = [[word.encode(), len(word.encode())] if isinstance(word, str) else [word] for word in (subscript, value[subscript])]
                 name = ("text" if isinstance(value[subscript], str) else "int") + ("_by_text" if isinstance(subscript, str) else "")
                 expect("a member", 0, getattr(native, f"yuglemit_member_{name}")(at, *words[0], *words[1]))
-            return int(native.yuglemit_input_container(ctypes.byref(inputs), at))
+            return int(native.yuglemit_raw_input_container(ctypes.byref(inputs), at))
         finally:
             native.yuglemit_container_free(container)
 
@@ -294,38 +321,38 @@ class HandlesTest(RunTest):
         """Returns the answer of a run: the number of its error, or 0."""
         engines, servers, workers = self.layout
         if not 1 <= engines <= 4 or not 1 <= servers <= 4 or not 1 <= workers <= 16:
-            return ord("L")
+            return NO_LAYOUT
         types = self.program.inputs
         if len(types) != len(self.inputs):
-            return 1
+            return INPUT_COUNT
         if any(type_ != self.type_of(index, value) for index, (type_, value) in enumerate(zip(types, self.inputs))):
-            return 2
-        return 0 if 1 <= self.limit <= 1_000_000 else 4
+            return INPUT_TYPE
+        return 0 if 1 <= self.limit <= 1_000_000 else NO_LIMIT
 
     def compare_run(self, native: Any, program: Any, inputs: Any, report: Any) -> None:
         answer = self.run_capped(native, program, inputs, self.caps(), report)
         expect("run", self.expected(), answer)
-        ending = Ending()
+        ending = Ending(0, 0, 0)
         if answer:
-            expect("a report of no run", ord("R"), native.yuglemit_report_ending(ctypes.byref(report), ctypes.byref(ending)))
+            code = native.yuglemit_raw_report_ending(ctypes.byref(report), *ending.listed())
+            expect("a report of no run", NO_REPORT, code)
             return
         machine = run_in_turn(self.program, list(self.inputs), self.layout, self.limit)
-        expect("ending", 0, native.yuglemit_report_ending(ctypes.byref(report), ctypes.byref(ending)))
+        expect("ending", 0, native.yuglemit_raw_report_ending(ctypes.byref(report), *ending.listed()))
         expect("ending", (machine.events, len(machine.outputs), status_of(machine)), (ending.events, ending.outputs, ending.status))
         for output, number in enumerate(machine.outputs):
             Report(native, report, machine).compare(output, number)
 
     def compare_stopped(self, native: Any, program: Any, inputs: Any) -> None:
         """Makes a run whose flag is raised: it is opened or refused as ever, and has no event."""
-        stop, other, report, ending = ctypes.c_void_p(), ctypes.c_void_p(), ctypes.c_void_p(), Ending()
-        options = Options(ctypes.sizeof(Options), self.limit, *self.layout)
+        stop, other, report, ending = ctypes.c_void_p(), ctypes.c_void_p(), ctypes.c_void_p(), Ending(0, 0, 0)
         try:
-            expect("a flag", 0, native.yuglemit_stop_new(ctypes.byref(stop)) or native.yuglemit_stop_share(ctypes.byref(stop), ctypes.byref(other)))
-            expect("raised", 0, native.yuglemit_stop_raise(ctypes.byref(other)))
-            answer = native.yuglemit_run(*map(ctypes.byref, (program, inputs, options, stop, report)))
+            expect("a flag", 0, native.yuglemit_stop_new(ctypes.byref(stop)) or native.yuglemit_raw_stop_share(ctypes.byref(stop), ctypes.byref(other)))
+            expect("raised", 0, native.yuglemit_raw_stop_raise(ctypes.byref(other)))
+            answer = self.run_until(native, program, inputs, [], stop, report)
             expect("a stopped run", self.expected(), answer)
             if not answer:
-                expect("its ending", 0, native.yuglemit_report_ending(ctypes.byref(report), ctypes.byref(ending)))
+                expect("its ending", 0, native.yuglemit_raw_report_ending(ctypes.byref(report), *ending.listed()))
                 expect("its ending", (0, 8), (ending.events, ending.status))
         finally:
             for handle, name in ((stop, "stop"), (other, "stop"), (report, "report")):
@@ -333,9 +360,9 @@ class HandlesTest(RunTest):
 
     def compare_hex(self, native: Any, data: bytes, program: Any) -> None:
         """Loads the program again, from hex text."""
-        verdict, source = SourceVerdict(), data.hex().encode()
-        native.yuglemit_load_source(source, len(source), 0, ctypes.byref(program), ctypes.byref(verdict))
-        expect("hex text", (0, 0, 0, 0), (verdict.verdict.letter, verdict.line, verdict.word, verdict.column))
+        verdict, source = Verdict(*[9] * 9), data.hex().encode()
+        answer = native.yuglemit_raw_load_source(source, len(source), 0, ctypes.byref(NONE), 0, ctypes.byref(program), *verdict.listed())
+        expect("hex text", (0, 0, 0, 0, 0), (answer, verdict.letter, verdict.line, verdict.word, verdict.column))
 
     def compare_aside(self, native: Any, shared: Any, inputs: Any, report: Any) -> None:
         """Makes the run again in another thread, by the other handle, after the first one was freed."""

@@ -160,10 +160,10 @@ class OrdersTest(RunTest):
         return next((why for why in faults if why), None) or (self.library_fault(library, reports[0]) if reports else None)
 
     def library_fault(self, library: Library, report: str) -> str | None:
-        """Compares the library's run in turn, or the program's in threads, with the machine's."""
+        """Compares the library's run in the order of a seed, or the program's in threads, with the machine's."""
         words = ["--limit", str(self.limit), *self.options, *self.words]
         if not self.in_threads or any("\0" in word for word in self.words):
-            status, text = library.session(["run", "--in-turn", *words], self.hex)
+            status, text = library.session(["run", "--in-turn", "--seed", str(self.seed + 1), *words], self.hex)
         else:
             status, text = library.command(["run", "--quiet", *words], self.hex)
         if status == 4:

@@ -10,7 +10,7 @@ import fuzz_make
 from fuzz_bounds import COUNTED, OVER, bound, bound_lines, budgets, check_lines, each_lines, has_circle, is_circle, limited_lines, needs
 from fuzz_code import Program, encode
 from fuzz_library import Library
-from fuzz_machine import Event, Layout, Machine, NotEnabled, Trap, actors_of, run_in_turn
+from fuzz_machine import Event, Layout, Machine, NotEnabled, Trap, actors_of, run_by_seed, run_in_turn
 from fuzz_report import (
     circle_fault, event_text, report_lines, split_circle, split_trace, stats_lines, status_of, trace_text,
 )
@@ -122,14 +122,23 @@ def make_check(chance: random.Random, corpus: Corpus) -> FuzzTest:
 
 @dataclass(frozen=True)
 class InTurnTest(RunTest):
-    """A run in turn: its trace and report, and the report of the trace's replay."""
+    """A run in turn, in the order of a seed if it has one: its trace and report, and the report of the trace's replay."""
+
+    seed: int | None = None
 
     @property
     def arguments(self) -> list[str]:
-        return ["run", "--in-turn", "--trace", "--limit", str(self.limit), *self.options, *self.words]
+        seed = ["--seed", str(self.seed)] if self.seed else []
+        return ["run", "--in-turn", *seed, "--trace", "--limit", str(self.limit), *self.options, *self.words]
+
+    def run(self) -> Machine:
+        given = list(self.inputs)
+        if self.seed:
+            return run_by_seed(self.program, given, self.layout, self.limit, self.seed)
+        return run_in_turn(self.program, given, self.layout, self.limit)
 
     def expected(self) -> tuple[Machine, str]:
-        machine = run_in_turn(self.program, list(self.inputs), self.layout, self.limit)
+        machine = self.run()
         trace = trace_text([made.event for made in machine.made])
         return machine, trace + "\n".join(report_lines(machine, True)) + "\n"
 
@@ -192,7 +201,7 @@ def make_run(chance: random.Random, corpus: Corpus) -> FuzzTest:
     test = run_test(chance, corpus)
     if chance.random() < 0.04:
         return ThreadsTest(**test.fields)
-    return InTurnTest(**test.fields)
+    return InTurnTest(**test.fields, seed=chance.choice([None, chance.randrange(1, 200), chance.randrange(1, 2**64)]))
 
 
 # --- Traces

@@ -5,7 +5,7 @@
     tools/json_cases.py
 
 Each object has to fit its command's schema (checked if the module jsonschema is there), and each member that a schema allows with a
-status has to be in some case.
+status, or in an error, has to be in some case.
 """
 
 from __future__ import annotations
@@ -100,6 +100,13 @@ def unseen(command: str, schema: dict[str, Any], expected: Iterable[Expected]) -
     return [f"{command}: no case has `{member}` with the status {status}" for status, member in members_of(schema) if (status, member) not in seen]
 
 
+def unseen_of_errors(command: str, schema: dict[str, Any], expected: Iterable[Expected]) -> list[str]:
+    """Returns the members that a schema allows in an error, and that no case has."""
+    allowed = schema.get("$defs", {}).get("error", {}).get("properties", {})
+    seen = {member for one in expected if one.command == command for member in one.found.get("error", {})}
+    return [f"{command}: no case has an error with `{member}`" for member in allowed if member not in seen]
+
+
 def complaints(schemas: dict[str, Any], expected: list[Expected]) -> Iterator[str]:
     """Yields what is wrong with the objects of the cases, and what they lack."""
     for one in expected if schemas else ():
@@ -107,6 +114,7 @@ def complaints(schemas: dict[str, Any], expected: list[Expected]) -> Iterator[st
             yield f"{one.case}: {fault}"
     for command in COMMANDS:
         yield from unseen(command, schema_of(command), expected)
+        yield from unseen_of_errors(command, schema_of(command), expected)
 
 
 def main() -> int:

@@ -2,7 +2,8 @@
 """Links the library: link_library.py KIT OUT, where OUT has libtw_embed.a. Writes libyuglemit.so and libyuglemit.a there.
 
 Both hold the proved archive and the three functions over malloc from which its memory comes, and export the calls of
-embed/yuglemit.h alone: the names that begin with `yuglemit_`. All tools are the kit's, so the files are the same on each machine.
+embed/yuglemit.h alone: the names that begin with `yuglemit_`. All tools are the kit's, so the files are the same on each machine. embed/ABI has the
+number of the ABI, which is in the soname and in the names' version, and the first version of Yuglemit that has it.
 """
 
 from __future__ import annotations
@@ -15,7 +16,8 @@ from pathlib import Path
 
 # The names that a caller sees.
 CALLS = "yuglemit_*"
-SONAME = "libyuglemit.so.0"
+ABI = (Path(__file__).resolve().parent.parent / "embed" / "ABI").read_text(encoding="utf-8").split()[0]
+SONAME = f"libyuglemit.so.{ABI}"
 
 
 def run_tool(kit: Path, room: Path, name: str, *words: str) -> None:
@@ -34,7 +36,7 @@ def archives(kit: Path, out: Path) -> list[str]:
 def link_shared(kit: Path, room: Path, out: Path) -> None:
     """Links the shared object."""
     exports = room / "exports"
-    exports.write_text("{ global: %s; local: *; };\n" % CALLS, encoding="utf-8")
+    exports.write_text("YUGLEMIT_%s { global: %s; local: *; };\n" % (ABI, CALLS), encoding="utf-8")
     library = out / "libyuglemit.so"
     words = ["-shared", "-soname", SONAME, f"--version-script={exports}", "--gc-sections", "--strip-all", "--hash-style=gnu"]
     words += ["-z", "relro", "-z", "now", "-z", "noexecstack", "--no-undefined", "-Bsymbolic", "-o", str(library)]

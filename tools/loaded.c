@@ -27,18 +27,18 @@ static void check(int holds, const char *what) {
     printf("FAILS %s\n", what);
 }
 
-static uint8_t run_by(yuglemit_program *program, yuglemit_inputs *inputs, yuglemit_options options, yuglemit_report *report) {
+static uint8_t run_by(const yuglemit_program *program, const yuglemit_inputs *inputs, yuglemit_options options, yuglemit_report *report) {
     yuglemit_stop no_stop = {NULL};
     return yuglemit_run(program, inputs, &options, &no_stop, report);
 }
 
-static uint8_t run(yuglemit_program *program, yuglemit_inputs *inputs, size_t limit, yuglemit_report *report) {
+static uint8_t run(const yuglemit_program *program, const yuglemit_inputs *inputs, size_t limit, yuglemit_report *report) {
     yuglemit_options options = YUGLEMIT_OPTIONS;
     options.limit = limit;
     return run_by(program, inputs, options, report);
 }
 
-static uint8_t run_within(yuglemit_program *program, yuglemit_inputs *inputs, size_t limit, yuglemit_caps caps, yuglemit_report *report) {
+static uint8_t run_within(const yuglemit_program *program, const yuglemit_inputs *inputs, size_t limit, yuglemit_caps caps, yuglemit_report *report) {
     yuglemit_options options = YUGLEMIT_OPTIONS;
     yuglemit_stop no_stop = {NULL};
     options.limit = limit;
@@ -46,15 +46,15 @@ static uint8_t run_within(yuglemit_program *program, yuglemit_inputs *inputs, si
 }
 
 static void check_load(yuglemit_program *program) {
-    yuglemit_verdict verdict;
+    yuglemit_verdict verdict = YUGLEMIT_VERDICT;
     uint8_t none = 0;
-    yuglemit_load(&none, 0, program, &verdict);
+    check(yuglemit_load(&none, 0, program, &verdict) == YUGLEMIT_REJECTED, "a rejected program has its code");
     check(verdict.letter == 'F' && !program->at, "no byte is no program, and the handle stays empty");
     for (size_t k = 1; k < length; k++) {
         yuglemit_load(bytes, k, program, &verdict);
         check(verdict.letter != 0 && !program->at, "a prefix is no program");
     }
-    yuglemit_load(bytes, length, program, &verdict);
+    check(yuglemit_load(bytes, length, program, &verdict) == YUGLEMIT_DONE, "an accepted program is done");
     check(verdict.letter == 0 && program->at, "the program is loaded");
     void *was = program->at;
     yuglemit_load(bytes, length - 1, program, &verdict);
@@ -100,11 +100,11 @@ static void check_sources(void) {
     for (size_t k = 0; k < sizeof sources / sizeof *sources; k++) {
         const wrong *w = &sources[k];
         yuglemit_program program = {NULL};
-        yuglemit_source_verdict v;
-        yuglemit_load_source((const uint8_t *)w->source, strlen(w->source), w->format, &program, &v);
-        int holds = v.verdict.letter == w->letter && v.verdict.number == w->number && v.line == w->line && v.word == w->word && v.column == w->column;
-        check(holds && !program.at, w->source);
-        if (!holds) printf("%c%02d line %zu word %zu column %zu\n", v.verdict.letter, v.verdict.number, v.line, v.word, v.column);
+        yuglemit_verdict v = YUGLEMIT_VERDICT;
+        uint8_t code = yuglemit_load_source((const uint8_t *)w->source, strlen(w->source), w->format, &program, &v);
+        int holds = v.letter == w->letter && v.number == w->number && v.line == w->line && v.word == w->word && v.column == w->column;
+        check(holds && code == YUGLEMIT_REJECTED && !program.at, w->source);
+        if (!holds) printf("%c%02d line %zu word %zu column %zu\n", (char)v.letter, (int)v.number, (size_t)v.line, (size_t)v.word, (size_t)v.column);
     }
 }
 
@@ -112,14 +112,14 @@ static void check_sources(void) {
 static void check_hex(void) {
     static uint8_t hex[3 * sizeof bytes + 1];
     yuglemit_program program = {NULL};
-    yuglemit_source_verdict v;
+    yuglemit_verdict v = YUGLEMIT_VERDICT;
     for (size_t k = 0; k < length; k++) snprintf((char *)hex + 3 * k, 4, "%02X\n", bytes[k]);
     yuglemit_load_source(hex, 3 * length, YUGLEMIT_ANY_FORMAT, &program, &v);
-    check(v.verdict.letter == 0 && program.at, "hex text");
+    check(v.letter == 0 && program.at, "hex text");
     yuglemit_load_source(bytes, length, YUGLEMIT_BYTES, &program, &v);
-    check(v.verdict.letter == 0 && program.at, "bytes by the other call");
+    check(v.letter == 0 && program.at, "bytes by the other call");
     yuglemit_load_source(bytes, length, YUGLEMIT_TEXT, &program, &v);
-    check(v.verdict.letter != 0 && program.at, "bytes are no text, and the handle stays");
+    check(v.letter != 0 && program.at, "bytes are no text, and the handle stays");
     yuglemit_program_free(program);
 }
 
@@ -130,7 +130,7 @@ static void check_damaged(void) {
             yuglemit_program program = {NULL};
             yuglemit_inputs inputs = {NULL};
             yuglemit_report report = {NULL};
-            yuglemit_verdict verdict;
+            yuglemit_verdict verdict = YUGLEMIT_VERDICT;
             bytes[k] ^= (uint8_t)mask;
             yuglemit_load(bytes, length, &program, &verdict);
             bytes[k] ^= (uint8_t)mask;
@@ -168,7 +168,7 @@ static void check_kinds(yuglemit_program *program) {
     yuglemit_program of_report = {report.at};
     yuglemit_inputs of_program = {share.at};
     yuglemit_report of_inputs = {inputs.at};
-    yuglemit_ending ending = {1, 1, 1};
+    yuglemit_ending ending = {sizeof ending, 1, 1, 1};
     check(yuglemit_program_share(&of_report, &other) == YUGLEMIT_NO_PROGRAM && !other.at, "a report isn't shared");
     check(yuglemit_input_int(&of_program, 1) == YUGLEMIT_NO_INPUTS, "a program takes no input");
     check(yuglemit_report_ending(&of_inputs, &ending) == YUGLEMIT_NO_REPORT && ending.events == 1, "inputs have no ending");
@@ -185,10 +185,10 @@ static void check_run(yuglemit_program *program) {
     yuglemit_report report = {NULL};
     static uint8_t long_text[5000];
     memset(long_text, 'a', sizeof long_text);
-    check(run(program, &inputs, LIMIT, &report) == 1 && !report.at, "O01: no input");
+    check(run(program, &inputs, LIMIT, &report) == YUGLEMIT_INPUT_COUNT && !report.at, "O01: no input");
     check(yuglemit_input_text(&inputs, (const uint8_t *)"\xff", 1) == YUGLEMIT_NO_UTF8 && !inputs.at, "no UTF-8");
     check(yuglemit_input_text(&inputs, long_text, sizeof long_text) == 0, "a long text");
-    check(run(program, &inputs, LIMIT, &report) == 2 && !report.at, "O02: a text that is too long");
+    check(run(program, &inputs, LIMIT, &report) == YUGLEMIT_INPUT_TYPE && !report.at, "O02: a text that is too long");
     yuglemit_inputs_free(inputs);
     inputs.at = NULL;
     check(yuglemit_input_text(&inputs, (const uint8_t *)"41", 2) == 0, "a text");
@@ -198,52 +198,63 @@ static void check_run(yuglemit_program *program) {
     options.engines = 1, options.workers = 17;
     check(run_by(program, &inputs, options, &report) == YUGLEMIT_NO_LAYOUT && !report.at, "17 workers");
     options.workers = 1, options.size = 0;
-    check(run_by(program, &inputs, options, &report) == YUGLEMIT_NO_OPTIONS && !report.at, "options of no size");
+    check(run_by(program, &inputs, options, &report) == YUGLEMIT_NO_SIZE && !report.at, "options of no size");
     options.size = sizeof options + 1;
-    check(run_by(program, &inputs, options, &report) == YUGLEMIT_NO_OPTIONS && !report.at, "options of another size");
-    check(run(program, &inputs, 0, &report) == 4, "O04: no event");
-    check(run(program, &inputs, 1000001, &report) == 4 && !report.at, "O04: too many events");
+    check(run_by(program, &inputs, options, &report) == YUGLEMIT_NO_SIZE && !report.at, "options of another size");
+    check(run(program, &inputs, 0, &report) == YUGLEMIT_NO_LIMIT, "O04: no event");
+    check(run(program, &inputs, 1000001, &report) == YUGLEMIT_NO_LIMIT && !report.at, "O04: too many events");
     check(run(program, &inputs, 1, &report) == 0 && report.at, "one event");
-    yuglemit_ending ending;
+    yuglemit_ending ending = YUGLEMIT_ENDING;
     check(yuglemit_report_ending(&report, &ending) == 0 && ending.status == 4 && ending.events == 1, "the limit");
     check(run(program, &inputs, LIMIT, &report) == 0, "a run over a full report");
     yuglemit_inputs_free(inputs);
     yuglemit_report_free(report);
 }
 
-/* The struct of callers of version 0.16, who call this function by another name here. */
-typedef struct five_caps {
-    size_t size;
-    uint64_t tasks, instructions, data, bytes, budget;
-} five_caps;
-
-uint8_t run_within_five(yuglemit_program *program, yuglemit_inputs *inputs, const yuglemit_options *options, const five_caps *caps,
-                        yuglemit_stop *stop, yuglemit_report *report) __asm__("yuglemit_run_within");
-
-/* Lists of caps, and structs of other sizes. */
-static void check_cap_lists(yuglemit_program *program, yuglemit_inputs *inputs, const yuglemit_bounds *bounds, uint64_t budget) {
-    yuglemit_options options = YUGLEMIT_OPTIONS;
+/* Caps and options of each size. Those that a smaller struct lacks are as usual. */
+static void check_sizes(const yuglemit_program *program, const yuglemit_inputs *inputs, const yuglemit_bounds *bounds, uint64_t budget) {
+    struct { yuglemit_caps caps; uint64_t more[2]; } large = {
+        {sizeof(yuglemit_caps), bounds->tasks, bounds->instructions, bounds->data, bounds->bytes, budget, bounds->members, bounds->rules}, {0, 0}};
+    struct { yuglemit_options options; uint64_t more[2]; } many = {YUGLEMIT_OPTIONS, {0, 0}};
     yuglemit_report report = {NULL};
     yuglemit_stop no_stop = {NULL};
-    const uint64_t most = UINT64_MAX;
-    uint64_t caps[8] = {bounds->tasks, bounds->instructions, bounds->data, bounds->bytes, budget, bounds->members, bounds->rules, most};
-    check(yuglemit_run_capped(program, inputs, &options, caps, 8, &no_stop, &report) == YUGLEMIT_NO_OPTIONS && !report.at, "a cap more than there are");
-    check(yuglemit_run_capped(program, inputs, &options, caps, SIZE_MAX / 8, &no_stop, &report) == YUGLEMIT_NO_OPTIONS, "very many caps");
-    for (size_t count = 0; count <= 7; count++)
-        check(yuglemit_run_capped(program, inputs, &options, caps, count, &no_stop, &report) == 0 && report.at, "caps at the bounds, as many as are given");
-    caps[0]--;
-    check(yuglemit_run_capped(program, inputs, &options, caps, 0, &no_stop, &report) == 0, "a cap that isn't given");
-    check(yuglemit_run_capped(program, inputs, &options, caps, 1, &no_stop, &report) == 7, "O07: the first cap");
-    options.size--;
-    check(yuglemit_run_capped(program, inputs, &options, caps, 1, &no_stop, &report) == YUGLEMIT_NO_OPTIONS, "options of another size");
-    options.size++;
-    five_caps five = {sizeof(five_caps), bounds->tasks, bounds->instructions, bounds->data, bounds->bytes, budget};
-    check(run_within_five(program, inputs, &options, &five, &no_stop, &report) == 0, "the caps of version 0.16");
-    five.budget--;
-    check(run_within_five(program, inputs, &options, &five, &no_stop, &report) == 7, "O07: a cap of version 0.16");
-    five.size += 8;
-    check(run_within_five(program, inputs, &options, &five, &no_stop, &report) == YUGLEMIT_NO_OPTIONS, "another size than that of 0.16");
+    for (size_t size = 0; size <= sizeof large; size++) {
+        large.caps.size = size;
+        uint8_t code = yuglemit_run_within(program, inputs, &many.options, &large.caps, &no_stop, &report);
+        check(code == (size >= 8 && size <= sizeof(yuglemit_caps) && size % 8 == 0 ? YUGLEMIT_DONE : YUGLEMIT_NO_SIZE), "caps of a size");
+    }
+    large.caps.tasks--;
+    large.caps.size = 8;
+    check(yuglemit_run_within(program, inputs, &many.options, &large.caps, &no_stop, &report) == 0, "a cap that isn't given");
+    large.caps.size = 16;
+    check(yuglemit_run_within(program, inputs, &many.options, &large.caps, &no_stop, &report) == YUGLEMIT_ABOVE_CAP, "O07: the first cap");
+    for (size_t size = 0; size <= sizeof many; size++) {
+        many.options.size = size;
+        uint8_t code = yuglemit_run(program, inputs, &many.options, &no_stop, &report);
+        check(code == (size >= 8 && size <= sizeof(yuglemit_options) && size % 8 == 0 ? YUGLEMIT_DONE : YUGLEMIT_NO_SIZE), "options of a size");
+    }
+    yuglemit_options wide = YUGLEMIT_OPTIONS;
+    wide.engines = 257; /* 1, if it were cut to a byte */
+    check(run_by(program, inputs, wide, &report) == YUGLEMIT_NO_LAYOUT, "257 engines");
     yuglemit_report_free(report);
+}
+
+/* Structs that are written, of each size: as many numbers as there is room for, and the rest stays. */
+static void check_written(const yuglemit_program *program) {
+    struct { yuglemit_bounds bounds; uint64_t more[2]; } large = {YUGLEMIT_BOUNDS, {9, 9}};
+    yuglemit_bounds whole = YUGLEMIT_BOUNDS;
+    check(yuglemit_program_bounds(program, LIMIT, &whole) == 0, "bounds");
+    for (size_t count = 0; count <= 9; count++) {
+        uint64_t *numbers = &large.bounds.tasks;
+        for (size_t k = 0; k < 9; k++) numbers[k] = 9;
+        large.bounds.size = 8 * (count + 1);
+        check(yuglemit_program_bounds(program, LIMIT, &large.bounds) == 0, "bounds of a size");
+        for (size_t k = 0; k < 9; k++) check(numbers[k] == (k < count && k < 7 ? (&whole.tasks)[k] : 9), "a bound is written, or stays");
+    }
+    for (size_t size = 0; size < 8; size++) {
+        large.bounds.size = size;
+        check(yuglemit_program_bounds(program, LIMIT, &large.bounds) == YUGLEMIT_NO_SIZE, "no room for a size");
+    }
 }
 
 /* Caps on members and rules: a program that makes one member of a container and one rule. */
@@ -253,24 +264,24 @@ static void check_more_caps(void) {
     yuglemit_program program = {NULL};
     yuglemit_inputs inputs = {NULL};
     yuglemit_report report = {NULL};
-    yuglemit_source_verdict verdict;
-    yuglemit_bounds bounds;
+    yuglemit_verdict verdict = YUGLEMIT_VERDICT;
+    yuglemit_bounds bounds = YUGLEMIT_BOUNDS;
     yuglemit_load_source((const uint8_t *)text, strlen(text), 't', &program, &verdict);
-    check(verdict.verdict.letter == 0 && yuglemit_program_bounds(&program, LIMIT, &bounds) == 0, "a member and a rule");
+    check(verdict.letter == 0 && yuglemit_program_bounds(&program, LIMIT, &bounds) == 0, "a member and a rule");
     check(bounds.members == 1 && bounds.rules == 1, "one member, one rule");
     yuglemit_caps caps = YUGLEMIT_CAPS;
     caps.members = caps.rules = 1;
     check(run_within(&program, &inputs, LIMIT, caps, &report) == 0, "caps at the bounds");
     caps.members = 0;
-    check(run_within(&program, &inputs, LIMIT, caps, &report) == 7, "O07: a member above its cap");
+    check(run_within(&program, &inputs, LIMIT, caps, &report) == YUGLEMIT_ABOVE_CAP, "O07: a member above its cap");
     caps.size -= 8;
-    check(run_within(&program, &inputs, LIMIT, caps, &report) == 7, "without the cap on rules");
+    check(run_within(&program, &inputs, LIMIT, caps, &report) == YUGLEMIT_ABOVE_CAP, "without the cap on rules");
     caps.size -= 8;
     check(run_within(&program, &inputs, LIMIT, caps, &report) == 0, "the size of version 0.16: no cap on members");
     caps.size += 16;
     caps.members = 1;
     caps.rules = 0;
-    check(run_within(&program, &inputs, LIMIT, caps, &report) == 7, "O07: a rule above its cap");
+    check(run_within(&program, &inputs, LIMIT, caps, &report) == YUGLEMIT_ABOVE_CAP, "O07: a rule above its cap");
     yuglemit_report_free(report);
     yuglemit_program_free(program);
 }
@@ -280,10 +291,10 @@ static void check_caps(yuglemit_program *program) {
     yuglemit_program empty = {NULL};
     yuglemit_inputs inputs = {NULL}, nothing = {NULL};
     yuglemit_report report = {NULL};
-    yuglemit_bounds bounds, one = {9, 9, 9, 9, 9, 9, 9};
+    yuglemit_bounds bounds = YUGLEMIT_BOUNDS, one = {sizeof one, 9, 9, 9, 9, 9, 9, 9};
     uint64_t budget = 0, most = 0;
     check(yuglemit_program_bounds(&empty, 0, &one) == YUGLEMIT_NO_PROGRAM && one.tasks == 9, "bounds of no program");
-    check(yuglemit_program_bounds(program, 1000001, &one) == 4 && one.tasks == 9, "O04: bounds of too many events");
+    check(yuglemit_program_bounds(program, 1000001, &one) == YUGLEMIT_NO_LIMIT && one.tasks == 9, "O04: bounds of too many events");
     check(yuglemit_program_bounds(program, 0, &bounds) == 0 && bounds.tasks == 1 && bounds.data == 0 && bounds.rules == 0, "bounds of one task");
     check(bounds.members == 0 && bounds.bytes == 0, "it makes no member, and no datum of texts");
     check(bounds.instructions > 1 && bounds.instructions < YUGLEMIT_OVER && bounds.events > 1, "its bounds are numbers");
@@ -295,21 +306,22 @@ static void check_caps(yuglemit_program *program) {
     uint64_t *each[] = {&caps.tasks, &caps.instructions, &caps.budget};
     for (size_t k = 0; k < sizeof each / sizeof *each; k++) {
         most = (*each[k])--;
-        check(run_within(program, &inputs, LIMIT, caps, &report) == 7 && !report.at, "O07: a bound above its cap");
-        check(run_within(program, &nothing, LIMIT, caps, &report) == 7, "O07 comes before O01");
-        check(run_within(program, &inputs, 0, caps, &report) == 4, "O04: no event");
+        check(run_within(program, &inputs, LIMIT, caps, &report) == YUGLEMIT_ABOVE_CAP && !report.at, "O07: a bound above its cap");
+        check(run_within(program, &nothing, LIMIT, caps, &report) == YUGLEMIT_ABOVE_CAP, "O07 comes before O01");
+        check(run_within(program, &inputs, 0, caps, &report) == YUGLEMIT_NO_LIMIT, "O04: no event");
         *each[k] = most;
     }
     const size_t sizes[] = {0, 7, sizeof caps - 1, sizeof caps + 8, SIZE_MAX, SIZE_MAX - 7}, size = caps.size;
     for (size_t k = 0; k < sizeof sizes / sizeof *sizes; k++) {
         caps.size = sizes[k];
-        check(run_within(program, &inputs, LIMIT, caps, &report) == YUGLEMIT_NO_OPTIONS && !report.at, "caps of another size");
+        check(run_within(program, &inputs, LIMIT, caps, &report) == YUGLEMIT_NO_SIZE && !report.at, "caps of another size");
     }
     caps.size = size;
     check(run_within(program, &inputs, LIMIT, caps, &report) == 0 && report.at, "caps at the bounds");
     yuglemit_caps none = YUGLEMIT_CAPS;
     check(run_within(program, &inputs, LIMIT, none, &report) == 0, "no caps");
-    check_cap_lists(program, &inputs, &bounds, budget);
+    check_sizes(program, &inputs, &bounds, budget);
+    check_written(program);
     yuglemit_inputs_free(inputs);
     yuglemit_report_free(report);
 }
@@ -320,19 +332,19 @@ static void check_unfit(yuglemit_program *program) {
     yuglemit_program three = {NULL}, empty = {NULL};
     yuglemit_inputs inputs = {NULL}, none = {NULL};
     yuglemit_report report = {NULL};
-    yuglemit_source_verdict verdict;
+    yuglemit_verdict verdict = YUGLEMIT_VERDICT;
     size_t index = 9;
     yuglemit_load_source((const uint8_t *)text, strlen(text), 't', &three, &verdict);
-    check(verdict.verdict.letter == 0, "three inputs");
+    check(verdict.letter == 0, "three inputs");
     check(yuglemit_unfit_input(&empty, &inputs, &index) == YUGLEMIT_NO_PROGRAM && index == 9, "no program has no input");
-    check(yuglemit_unfit_input(&three, &none, &index) == 1 && index == 9, "O01: no inputs");
+    check(yuglemit_unfit_input(&three, &none, &index) == YUGLEMIT_INPUT_COUNT && index == 9, "O01: no inputs");
     yuglemit_inputs of_program = {three.at};
     check(yuglemit_unfit_input(program, &of_program, &index) == YUGLEMIT_NO_INPUTS && index == 9, "a program is no input");
-    check(yuglemit_input_int(&inputs, 7) == 0 && yuglemit_unfit_input(&three, &inputs, &index) == 1, "O01: one input");
+    check(yuglemit_input_int(&inputs, 7) == 0 && yuglemit_unfit_input(&three, &inputs, &index) == YUGLEMIT_INPUT_COUNT, "O01: one input");
     check(yuglemit_input_int(&inputs, 8) == 0 && yuglemit_input_text(&inputs, (const uint8_t *)"", 0) == 0, "three of them");
-    check(run(&three, &inputs, LIMIT, &report) == 2 && !report.at, "O02: the second is no text");
+    check(run(&three, &inputs, LIMIT, &report) == YUGLEMIT_INPUT_TYPE && !report.at, "O02: the second is no text");
     check(yuglemit_unfit_input(&three, &inputs, &index) == 0 && index == 1, "the first that doesn't fit, from 0");
-    check(yuglemit_unfit_input(program, &inputs, &index) == 1 && index == 1, "O01: three for one");
+    check(yuglemit_unfit_input(program, &inputs, &index) == YUGLEMIT_INPUT_COUNT && index == 1, "O01: three for one");
     yuglemit_inputs_free(inputs);
     inputs.at = NULL;
     check(yuglemit_input_text(&inputs, (const uint8_t *)"41", 2) == 0, "a text");
@@ -344,7 +356,7 @@ static void check_unfit(yuglemit_program *program) {
 static void check_report(yuglemit_program *program) {
     yuglemit_inputs inputs = {NULL};
     yuglemit_report report = {NULL};
-    yuglemit_ending ending;
+    yuglemit_ending ending = YUGLEMIT_ENDING;
     yuglemit_item item;
     yuglemit_member member;
     uint8_t room[4] = {9, 9, 9, 9};
@@ -367,9 +379,9 @@ static void check_report(yuglemit_program *program) {
 /* Loads a text, and runs it with the inputs. */
 static void run_text(const char *text, yuglemit_inputs *inputs, yuglemit_report *report) {
     yuglemit_program program = {NULL};
-    yuglemit_source_verdict verdict;
+    yuglemit_verdict verdict = YUGLEMIT_VERDICT;
     yuglemit_load_source((const uint8_t *)text, strlen(text), 't', &program, &verdict);
-    check(verdict.verdict.letter == 0 && run(&program, inputs, LIMIT, report) == 0, "a text is run");
+    check(verdict.letter == 0 && run(&program, inputs, LIMIT, report) == 0, "a text is run");
     yuglemit_program_free(program);
 }
 
@@ -417,7 +429,7 @@ static void check_stop(yuglemit_program *program) {
     yuglemit_inputs inputs = {NULL};
     yuglemit_report report = {NULL};
     yuglemit_stop stop = {NULL}, other = {NULL};
-    yuglemit_ending ending;
+    yuglemit_ending ending = YUGLEMIT_ENDING;
     check(yuglemit_input_text(&inputs, (const uint8_t *)"41", 2) == 0, "a text");
     check(yuglemit_stop_raise(&stop) == YUGLEMIT_NO_STOP && yuglemit_stop_share(&stop, &other) == YUGLEMIT_NO_STOP, "there is no flag yet");
     check(yuglemit_stop_new(&stop) == 0 && yuglemit_stop_share(&stop, &other) == 0 && other.at != stop.at, "a flag and its other handle");
@@ -446,7 +458,7 @@ static void *run_stopped(void *given) {
     stopped *s = given;
     yuglemit_options options = YUGLEMIT_OPTIONS;
     yuglemit_inputs inputs = {NULL};
-    yuglemit_ending ending = {0, 0, 0};
+    yuglemit_ending ending = YUGLEMIT_ENDING;
     yuglemit_input_text(&inputs, (const uint8_t *)"41", 2);
     do {
         yuglemit_report report = {NULL};
@@ -454,7 +466,7 @@ static void *run_stopped(void *given) {
         if (s->code == 0) yuglemit_report_ending(&report, &ending);
         yuglemit_report_free(report);
     } while (s->code == 0 && ending.status != 8);
-    s->status = ending.status;
+    s->status = (uint8_t)ending.status;
     yuglemit_inputs_free(inputs);
     return NULL;
 }
@@ -490,9 +502,9 @@ static void check_containers(yuglemit_program *program) {
         check(yuglemit_member_text_by_text(&c, text, 1, none, 1) == YUGLEMIT_NO_UTF8, "no UTF-8");
         check(yuglemit_member_text_by_text(&c, none, 1, text, 1) == YUGLEMIT_NO_UTF8, "a subscript that is no UTF-8");
         check(yuglemit_input_container(&inputs, &c) == 0 && inputs.at, "the container is an input");
-        check(run(program, &inputs, LIMIT, &report) == 2 && !report.at, "O02: main takes a text");
+        check(run(program, &inputs, LIMIT, &report) == YUGLEMIT_INPUT_TYPE && !report.at, "O02: main takes a text");
         check(yuglemit_input_container(&inputs, &c) == 0 && c.at, "the empty container too");
-        check(run(program, &inputs, LIMIT, &report) == 1 && !report.at, "O01: two inputs");
+        check(run(program, &inputs, LIMIT, &report) == YUGLEMIT_INPUT_COUNT && !report.at, "O01: two inputs");
         yuglemit_inputs of_program = {program->at};
         check(yuglemit_input_container(&of_program, &c) == YUGLEMIT_NO_INPUTS, "a program takes no input");
         yuglemit_container_free(c);
@@ -533,6 +545,152 @@ static void check_sessions(void) {
     yuglemit_text_free(text);
 }
 
+/* One handle for two parameters. */
+static void check_one_handle(yuglemit_program *program) {
+    yuglemit_inputs inputs = {NULL};
+    yuglemit_report report = {NULL};
+    yuglemit_stop stop = {NULL};
+    yuglemit_container container = {NULL};
+    yuglemit_options options = YUGLEMIT_OPTIONS;
+    check(yuglemit_program_share(program, program) == YUGLEMIT_ONE_HANDLE && program->at, "a program shared into itself");
+    check(yuglemit_input_text(&inputs, (const uint8_t *)"41", 2) == 0 && yuglemit_stop_new(&stop) == 0, "inputs and a flag");
+    check(yuglemit_stop_share(&stop, &stop) == YUGLEMIT_ONE_HANDLE, "a flag shared into itself");
+    check(yuglemit_run(program, (yuglemit_inputs *)(void *)program, &options, &stop, &report) == YUGLEMIT_NO_INPUTS, "a program as its inputs");
+    check(yuglemit_run(program, &inputs, &options, &stop, (yuglemit_report *)(void *)program) == YUGLEMIT_ONE_HANDLE, "a report over its program");
+    check(yuglemit_run(program, &inputs, &options, &stop, (yuglemit_report *)(void *)&inputs) == YUGLEMIT_ONE_HANDLE, "over its inputs");
+    check(yuglemit_run(program, &inputs, &options, &stop, (yuglemit_report *)(void *)&stop) == YUGLEMIT_ONE_HANDLE, "over its flag");
+    check(yuglemit_run(program, &inputs, &options, &stop, &report) == 0, "a run");
+    yuglemit_text *text = (yuglemit_text *)(void *)&report;
+    check(yuglemit_print_report(&report, text) == YUGLEMIT_ONE_HANDLE && yuglemit_print_trace(&report, text) == YUGLEMIT_ONE_HANDLE
+              && yuglemit_print_json(&report, text) == YUGLEMIT_ONE_HANDLE, "a text over its report");
+    yuglemit_ending ending = YUGLEMIT_ENDING;
+    check(yuglemit_report_ending(&report, &ending) == 0 && ending.outputs == 1, "the report is as it was");
+    check(yuglemit_container_new(&container, 'i', 'i') == 0, "a container");
+    check(yuglemit_input_container((yuglemit_inputs *)(void *)&container, &container) == YUGLEMIT_ONE_HANDLE, "a container into itself");
+    yuglemit_container_free(container);
+    yuglemit_inputs_free(inputs);
+    yuglemit_stop_free(stop);
+    yuglemit_report_free(report);
+}
+
+/* Each code has a name and words of its own. */
+static void check_codes(void) {
+    int known = 0;
+    for (int code = 0; code < 256; code++) {
+        const char *name = yuglemit_code_name((uint8_t)code), *text = yuglemit_code_text((uint8_t)code);
+        int is_known = strcmp(name, "UNKNOWN") != 0;
+        known += is_known;
+        check(is_known == (strcmp(text, "unknown code") != 0), "a code with a name has words");
+        check(!is_known || code == 0 || code > 200, "no code is a letter, a kind or a status");
+    }
+    check(known == 22 && !strcmp(yuglemit_code_name(YUGLEMIT_NO_MEMORY), "NO_MEMORY"), "the codes of the header");
+}
+
+/* The greatest length of a source. */
+static void check_lengths(void) {
+    yuglemit_program program = {NULL};
+    yuglemit_verdict verdict = YUGLEMIT_VERDICT;
+    yuglemit_load_options options = YUGLEMIT_LOAD_OPTIONS;
+    options.most_bytes = length;
+    check(yuglemit_load_with(bytes, length, YUGLEMIT_BYTES, &options, &program, &verdict) == 0 && program.at, "a program of the greatest length");
+    yuglemit_program_free(program);
+    program.at = NULL;
+    options.most_bytes = length - 1;
+    check(yuglemit_load_with(bytes, length, YUGLEMIT_BYTES, &options, &program, &verdict) == YUGLEMIT_REJECTED && !program.at, "a longer one");
+    check(verdict.letter == 'H' && verdict.number == 2 && verdict.line == 0, "is H02");
+    options.size = sizeof(size_t);
+    check(yuglemit_load_with(bytes, length, YUGLEMIT_BYTES, &options, &program, &verdict) == 0 && program.at, "no greatest length is 16 MiB");
+    options.size = sizeof options + 8;
+    check(yuglemit_load_with(bytes, length, YUGLEMIT_BYTES, &options, &program, &verdict) == YUGLEMIT_NO_SIZE, "more options than there are");
+    yuglemit_program_free(program);
+}
+
+/* All members of a container by one call, at each place and of each number. */
+static void check_members(void) {
+    const char *text = "proc control write cont int\nregs int int\nINT v0 -6\nINT v1 3\nREPEAT 5\nNEW d1 d2 int\nSTORE d1 v0\nINS d0 v0 d2 have\nJMP next\nhave:\nDROPR d2\n"
+                       "next:\nADD v0 v0 v1 too_large\ntoo_large:\nEND\nDROPW d0\nRET\n";
+    yuglemit_inputs inputs = {NULL};
+    yuglemit_report report = {NULL};
+    yuglemit_member members[7];
+    check(yuglemit_report_members(&report, 0, 0, members, 7) == YUGLEMIT_NO_REPORT, "no report has no members");
+    run_text(text, &inputs, &report);
+    for (size_t first = 0; first < 7; first++) {
+        for (size_t count = 0; count < 7; count++) {
+            uint8_t code = yuglemit_report_members(&report, 0, first, members, count);
+            int is_there = count == 0 || first + count <= 5;
+            check(code == (is_there ? YUGLEMIT_DONE : YUGLEMIT_NO_INDEX), "so many members from a place on");
+            for (size_t k = 0; is_there && k < count; k++) {
+                yuglemit_member one;
+                check(yuglemit_report_member(&report, 0, first + k, &one) == 0 && !memcmp(&one.subscript.number, &members[k].subscript.number, 8)
+                          && one.value.number == members[k].value.number && members[k].value.kind == 'i', "is the member of this place");
+            }
+        }
+    }
+    check(yuglemit_report_members(&report, 0, SIZE_MAX, members, 7) == YUGLEMIT_NO_INDEX, "a place beyond all");
+    check(yuglemit_report_members(&report, 1, 0, members, 1) == YUGLEMIT_NO_INDEX, "members of no output");
+    check(yuglemit_report_members(&report, SIZE_MAX, 0, members, 0) == YUGLEMIT_DONE, "none of no output");
+    yuglemit_report_free(report);
+}
+
+/* What a thread reads of a report that others read, too. */
+static void *read_report(void *given) {
+    const yuglemit_report *report = given;
+    size_t wrong = 0;
+    for (int k = 0; k < RUNS; k++) {
+        yuglemit_ending ending = YUGLEMIT_ENDING;
+        yuglemit_item item;
+        yuglemit_text text = {NULL};
+        uint8_t room[4];
+        wrong += yuglemit_report_ending(report, &ending) || ending.outputs != 1;
+        wrong += yuglemit_report_output(report, 0, &item) || item.length != 2;
+        wrong += yuglemit_report_text(report, 0, room, sizeof room) || memcmp(room, "42", 2);
+        wrong += yuglemit_print_report(report, &text) || yuglemit_print_json(report, &text);
+        yuglemit_text_free(text);
+    }
+    return wrong ? given : NULL;
+}
+
+/* What a thread runs of a program that others run, too, with the same inputs. */
+typedef struct given_to_all {
+    const yuglemit_program *program;
+    const yuglemit_inputs *inputs;
+    const yuglemit_stop *stop;
+} given_to_all;
+
+static void *run_given(void *given) {
+    const given_to_all *all = given;
+    const yuglemit_options options = YUGLEMIT_OPTIONS;
+    yuglemit_report report = {NULL};
+    size_t wrong = 0, count = 0;
+    for (int k = 0; k < RUNS; k++) {
+        wrong += yuglemit_run(all->program, all->inputs, &options, all->stop, &report);
+        wrong += yuglemit_program_procedures(all->program, &count);
+    }
+    yuglemit_report_free(report);
+    return wrong ? given : NULL;
+}
+
+/* One program, its inputs and one report, read by several threads at once. */
+static void check_readers(const yuglemit_program *program) {
+    pthread_t threads[THREADS];
+    yuglemit_inputs inputs = {NULL};
+    yuglemit_report report = {NULL};
+    yuglemit_stop stop = {NULL};
+    given_to_all all = {program, &inputs, &stop};
+    check(yuglemit_input_text(&inputs, (const uint8_t *)"41", 2) == 0 && run(program, &inputs, LIMIT, &report) == 0, "a run");
+    check(yuglemit_stop_new(&stop) == 0, "a flag");
+    for (int k = 0; k < THREADS; k++) check(pthread_create(&threads[k], &small, k % 2 ? read_report : run_given, k % 2 ? (void *)&report : &all) == 0, "a thread");
+    for (int k = 0; k < RUNS; k++) check(yuglemit_stop_raise(&stop) == 0, "the flag is raised under their hands");
+    for (int k = 0; k < THREADS; k++) {
+        void *wrong = NULL;
+        pthread_join(threads[k], &wrong);
+        check(!wrong, "what a thread reads");
+    }
+    yuglemit_inputs_free(inputs);
+    yuglemit_report_free(report);
+    yuglemit_stop_free(stop);
+}
+
 /* What a thread does with its own handle of the program. */
 static void *work(void *given) {
     yuglemit_program *program = given;
@@ -540,7 +698,7 @@ static void *work(void *given) {
     yuglemit_report report = {NULL};
     size_t wrong = yuglemit_input_text(&inputs, (const uint8_t *)"41", 2);
     for (int k = 0; k < RUNS; k++) {
-        yuglemit_ending ending = {0, 0, 9};
+        yuglemit_ending ending = {sizeof ending, 0, 0, 9};
         wrong += run(program, &inputs, LIMIT, &report);
         wrong += yuglemit_report_ending(&report, &ending) || ending.status;
     }
@@ -583,6 +741,11 @@ static void *check_all(void *unused) {
     check_unfit(&program);
     check_report(&program);
     check_finds();
+    check_members();
+    check_codes();
+    check_lengths();
+    check_one_handle(&program);
+    check_readers(&program);
     check_stop(&program);
     check_stopped_thread(&program);
     check_containers(&program);

@@ -5,7 +5,7 @@
     tools/manual.py --check    prints what differs, and fails if anything does
 
 A command's entry begins with its line of `tw --help`. An option's entry begins with its sentence of `tw COMMAND --help`, and has a
-sentence "For .." with the commands that take it. The sentences are read from crates/tw_cli/src, and the options of each command from
+sentence "For .." with the commands that take it. If a file follows an option, its name is in both. The sentences are read from crates/tw_cli/src, and the options of each command from
 tools/tw.bash, which tools/editor.sh makes of the help texts.
 """
 
@@ -26,12 +26,17 @@ COMPLETIONS = ROOT / "tools" / "tw.bash"
 COMMON = frozenset({"--help", "--version"})
 
 
+# The name that the page gives the file after an option, by the form of the option's row.
+FILES = {"Inputs": "DATA", "Trace": "TRACE"}
+
+
 class Helps(NamedTuple):
-    """The sentences of the help texts, by command and by option, and the commands of each option."""
+    """The sentences of the help texts, by command and by option, the commands of each option, and the names of the files that some take."""
 
     commands: dict[str, str]
     options: dict[str, str]
     takers: dict[str, set[str]]
+    files: dict[str, str]
 
 
 # --- The help texts
@@ -48,10 +53,20 @@ def unquoted(text: str) -> str:
     return re.sub(r"\\(.)", r"\1", text).replace("`", "")
 
 
+def rows_of(source: str) -> list[tuple[str, str, str]]:
+    """Returns the form, the option and the name of the help's constant of each row."""
+    rows = re.findall(r'form: ArgumentForm::(\w+), name: "([a-z-]+)", help: (\w+_HELP)', source)
+    return [(form, f"--{name}", text) for form, name, text in rows if not form.startswith("Position")]
+
+
 def options_of(source: str) -> dict[str, str]:
     """Returns the name of each option, and that of its help's constant."""
-    rows = re.findall(r'form: ArgumentForm::(\w+), name: "([a-z-]+)", help: (\w+_HELP)', source)
-    return {f"--{name}": text for form, name, text in rows if not form.startswith("Position")}
+    return {option: text for _, option, text in rows_of(source)}
+
+
+def files_of(source: str) -> dict[str, str]:
+    """Returns the name of the file that an option takes, for each that takes one."""
+    return {option: FILES[form] for form, option, _ in rows_of(source) if form in FILES}
 
 
 def commands_of(source: str) -> dict[str, str]:
@@ -75,7 +90,7 @@ def helps_of(sources: Iterable[str], completions: str) -> Helps:
     constants = constants_of(source)
     options = {option: constants.get(name, f"({name} is no constant)") for option, name in options_of(source).items()}
     commands = commands_of(source)
-    return Helps(commands, options, takers_of(completions, commands))
+    return Helps(commands, options, takers_of(completions, commands), files_of(source))
 
 
 # --- The manual page
@@ -94,14 +109,25 @@ def plain(line: str) -> str:
     return re.sub(r"\\f.|\\c", "", line).replace("\\-", "-").replace("\\(dq", '"')
 
 
-def entries_of(page: str) -> dict[str, str]:
-    """Returns the text of each entry of the page, by the first word of its line."""
-    entries: dict[str, str] = {}
+def blocks_of(page: str) -> Iterator[list[str]]:
+    """Yields the lines of each paragraph that has more than one, as they are shown."""
     for block in re.split(r"^\.(?:SH|PP|TP|TQ)\b.*$", page, flags=re.MULTILINE):
         lines = [plain(line) for line in block.strip().splitlines()]
         if len(lines) > 1:
-            entries.setdefault(lines[0].split()[0], " ".join(lines[1:]))
+            yield lines
+
+
+def entries_of(page: str) -> dict[str, str]:
+    """Returns the text of each entry of the page, by the first word of its line."""
+    entries: dict[str, str] = {}
+    for lines in blocks_of(page):
+        entries.setdefault(lines[0].split()[0], " ".join(lines[1:]))
     return entries
+
+
+def named_files(page: str) -> dict[str, str]:
+    """Returns the name of the file in the line of each entry that has one, such as DATA of `--each [DATA]`."""
+    return {found[1]: found[2] for lines in blocks_of(page) if (found := re.fullmatch(r"(--\S+) \[([A-Z]+)\]", lines[0]))}
 
 
 def takers_in(text: str, commands: Iterable[str]) -> set[str]:
@@ -129,13 +155,23 @@ def wrong_takers(option: str, helps: Helps, entries: dict[str, str]) -> Iterator
         yield f"{option} is for: {', '.join(sorted(named))}; and taken by: {', '.join(sorted(taking))}"
 
 
+def wrong_file(option: str, helps: Helps, files: dict[str, str], entries: dict[str, str]) -> Iterator[str]:
+    """Finds an entry whose line has another name of a file than the row's, or whose help doesn't name the file."""
+    name = helps.files.get(option)
+    if option in entries and files.get(option) != name:
+        yield f"{option} names the file {files.get(option)}, and its row {name}"
+    if name and name not in helps.options[option]:
+        yield f"{option} takes a file {name}, and its help says: {helps.options[option]}"
+
+
 def differences(helps: Helps, page: str) -> Iterator[str]:
     """Finds all that the page says otherwise than the help texts."""
-    entries = entries_of(page)
+    entries, files = entries_of(page), named_files(page)
     for name, sentence in [*helps.commands.items(), *helps.options.items()]:
         yield from wrong_entry(name, sentence, entries)
     for option in helps.options:
         yield from wrong_takers(option, helps, entries)
+        yield from wrong_file(option, helps, files, entries)
     described = {name for name in entries if name.startswith("--")} | helps.takers.keys()
     for option in sorted(described - helps.options.keys() - COMMON):
         yield f"{option} is no option of the sources"

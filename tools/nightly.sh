@@ -154,12 +154,17 @@ all_lines() {
 # Each request for memory or for a thread that fails ends in the answer or in `memory`; all runs of a load end alike.
 run_counted() {
     requests=$(whole_or_quick 100000 60)
-    { cat "$clone/examples/pipeline.tw" && printf 'inputs\n[39]\n[40]\n[41]\n[42]\n'; } >"$logs/lines"
+    printf '[39]\n[40]\n[41]\n[42]\n' >"$logs/lines"
+    { cat "$clone/examples/pipeline.tw" && echo inputs && cat "$logs/lines"; } >"$logs/lines.both"
     # shellcheck disable=SC2016
-    all_lines refused 3600 '^[0-9]+ allocations|status 5, memory|status 0, quiet|status 0, \{"(events|line":4,)' sh -c '
+    all_lines refused 3600 '^[0-9]+ allocations|status 5, memory|status 0, (quiet|order same|at line [0-9]+ .*)$|status 0, \{"(events|line":4,|needs)' sh -c '
         tools/refused.sh -n "$1" "$0" run --text int:39 <examples/pipeline.tw && tools/refused.sh -n "$1" "$0" run --text --json int:39 <examples/pipeline.tw &&
+        tools/refused.sh -n "$1" "$0" check --text --order <examples/pipeline.tw && tools/refused.sh -n "$1" "$0" check --text --order <examples/barrier.twn &&
+        tools/refused.sh -n "$1" "$0" check --text --order --json <examples/barrier.twn &&
         tools/refused.sh -t "$0" run --text --workers 4 int:39 <examples/pipeline.tw &&
-        tools/refused.sh -n "$1" "$0" run --text --each --jobs 4 <"$2" && tools/refused.sh -t "$0" run --text --each --jobs 4 <"$2"' "$program" "$requests" "$logs/lines"
+        tools/refused.sh -n "$1" "$0" run --text --each --jobs 4 <"$2.both" && tools/refused.sh -t "$0" run --text --each --jobs 4 <"$2.both" &&
+        tools/refused.sh -n "$1" "$0" run examples/pipeline.tw --each - --jobs 4 <"$2" && tools/refused.sh -t "$0" run examples/pipeline.tw --each - --jobs 4 <"$2"' \
+        "$program" "$requests" "$logs/lines"
     times=$(whole_or_quick 100 3)
     all_lines load 1800 "^ *$times status 0, last line quiet, checksum [0-9a-f]+, errors ''\$|^[0-9]+ of $times\$" tools/load.sh "$times"
 }
@@ -170,6 +175,7 @@ run_harnesses() {
     harness shown 600 tools/shown.sh
     harness json 600 tools/json_runs.py "$program"
     harness progress 300 tools/progress.py
+    harness stream 300 tools/stream.py "$program"
     harness memory 1800 python3 -B tools/memory.py "$program"
     harness_with "cc rt" loaded 900 tools/loaded.sh
     # shellcheck disable=SC2046
@@ -185,7 +191,7 @@ run_harnesses() {
     harness_with "unshare" packaged 2400 tools/packaged.sh
     run_released
     run_counted
-    harness orders 3600 python3 -B tools/orders.py --examples --runs "$(whole_or_quick 20 1)"
+    harness orders 3600 python3 -B tools/orders.py --examples --runs "$(whole_or_quick 20 1)" --seeds "$(whole_or_quick 100 5)"
     harness replayed 3600 tools/replayed.sh "$(whole_or_quick 200 4)"
     harness broken 3600 python3 tools/broken.py "$program" examples
     # shellcheck disable=SC2046

@@ -5,10 +5,11 @@
     tools/orders.py FILE [INPUT..]           with these inputs, and other options of `tw run`
     tools/orders.py --examples               each run of examples/sessions.txt, a line for each
     tools/orders.py --runs 100 FILE ..       so many runs in threads for each layout; else 3
+    tools/orders.py --seeds 100 FILE ..      so many runs in turn in the order of a seed; else 20
     tools/orders.py --limit 100000 FILE ..   the most events of a run; else 10,000
 
-Each layout is run in turn, and in threads, where the order differs from run to run. Printed are the reports that were found, each with how often
-it came and the first command that printed it. The lines of a stuck run's circle don't count, since they have numbers of rules. A run that
+Each layout is run in turn, also in the orders of the seeds 1, 2 and so on, and in threads, where the order differs from run to run. Printed are the
+reports that were found, each with how often it came and the first command that printed it. The lines of a stuck run's circle don't count, since they have numbers of rules. A run that
 `--limit` ended doesn't count, either. The program is that of YUGLEMIT_PROGRAM, the one that is built here, or the release's.
 
 Exit status 1 if runs differ; of the examples, if they do although no insertion is by a right that may be a copy. 2 if a run is rejected, 4 if
@@ -73,10 +74,11 @@ class Rejected(Exception):
 
 @dataclass(frozen=True)
 class Orders:
-    """How a program is run: by which program, how often in threads, and up to how many events."""
+    """How a program is run: by which program, how often in threads and by seeds, and up to how many events."""
 
     program: Path
     runs: int
+    seeds: int
     limit: int
 
     def options(self) -> Iterator[list[str]]:
@@ -84,6 +86,7 @@ class Orders:
         for layout in LAYOUTS:
             actors = [word for name, number in zip(("--engines", "--servers", "--workers"), layout) for word in (name, str(number))]
             yield ["--in-turn", *actors]
+            yield from (["--in-turn", "--seed", str(seed), *actors] for seed in range(1, self.seeds + 1))
             yield from [actors] * self.runs
 
     def call(self, words: list[str]) -> subprocess.CompletedProcess[str]:
@@ -145,13 +148,14 @@ def compare_examples(orders: Orders) -> int:
 
 
 def main() -> int:
-    parser = argparse.ArgumentParser(usage="tools/orders.py [--runs N] [--limit N] FILE [INPUT..] | --examples")
+    parser = argparse.ArgumentParser(usage="tools/orders.py [--runs N] [--seeds N] [--limit N] FILE [INPUT..] | --examples")
     parser.add_argument("--examples", action="store_true")
     parser.add_argument("--runs", type=int, default=3)
+    parser.add_argument("--seeds", type=int, default=20)
     parser.add_argument("--limit", type=int, default=10_000)
     parser.add_argument("file", nargs="?")
     given, words = parser.parse_known_args()
-    orders = Orders(picked("tw_main", "tw", "YUGLEMIT_PROGRAM"), given.runs, given.limit)
+    orders = Orders(picked("tw_main", "tw", "YUGLEMIT_PROGRAM"), given.runs, given.seeds, given.limit)
     if given.examples:
         return compare_examples(orders)
     if given.file is None:

@@ -1,7 +1,7 @@
 # SPDX-License-Identifier: Apache-2.0
-"""Writes the packages into dist/: package.py [deb] [wheel] [crate] [tar], or all four.
+"""Writes the packages into dist/: package.py [deb] [wheel] [sdist] [crate] [tar], or all five.
 
-Each holds what `./tw install` installs, or the library alone (wheel and crate). The version is the file VERSION's. No tool but tw is
+Each holds what `./tw install` installs, or the library alone (wheel, sdist and crate). The version is the file VERSION's. No tool but tw is
 called, and a file's bytes depend on what is installed and on SOURCE_DATE_EPOCH alone, so the same release gives the same packages.
 """
 
@@ -210,6 +210,31 @@ def write_wheel(room: Path) -> Path:
     return wheel
 
 
+# ---- The Python sdist
+
+
+def sdist_files(library: Path) -> dict[str, bytes]:
+    """Returns the content of each file of the sdist, by its name: what `pip install` builds a wheel from, with the library as it was proved."""
+    package = ROOT / "embed/python"
+    files = {name: (package / name).read_bytes() for name in ("pyproject.toml", "setup.py", "README.md")}
+    wheel = wheel_files(library)
+    files.update({name: data for name, data in wheel.items() if name.startswith("yuglemit/")})
+    files["PKG-INFO"] = wheel[f"yuglemit-{VERSION}.dist-info/METADATA"]
+    files["LICENSE"] = (ROOT / "LICENSE").read_bytes()
+    return files
+
+
+def write_sdist(room: Path) -> Path:
+    """Writes the Python sdist, for those who build their wheels themselves."""
+    folder = room / "sdist"
+    for name, data in sdist_files(plain(room) / "lib" / f"libyuglemit.so.{VERSION}").items():
+        (folder / name).parent.mkdir(parents=True, exist_ok=True)
+        (folder / name).write_bytes(data)
+    archive = DIST / f"yuglemit-{VERSION}.tar.gz"
+    archive.write_bytes(tar_of(folder, f"yuglemit-{VERSION}"))
+    return archive
+
+
 # ---- The Rust crate
 
 def write_crate(room: Path) -> Path:
@@ -228,12 +253,13 @@ def write_crate(room: Path) -> Path:
     return crate
 
 
-USAGE = """Writes packages into dist/, all four if none is named.
+USAGE = """Writes packages into dist/, all five if none is named.
 
-Usage: ./tw package [deb] [wheel] [crate] [tar]
+Usage: ./tw package [deb] [wheel] [sdist] [crate] [tar]
 
   deb    Debian package: the program, the C library, the manual
   wheel  Python wheel, with the library in it
+  sdist  Python sdist, with the library in it, from which pip builds a wheel
   crate  Rust crate, with the library in it
   tar    archive of what ./tw install installs, to be unpacked anywhere
 
@@ -241,7 +267,7 @@ The version is that of the file VERSION. SOURCE_DATE_EPOCH is the time of each f
 Exit status: 0 written, 2 command line rejected, 70 there is no proved program or library.
 """
 
-PACKAGES: dict[str, Callable[[Path], Path]] = {"deb": write_deb, "wheel": write_wheel, "crate": write_crate, "tar": write_tar}
+PACKAGES: dict[str, Callable[[Path], Path]] = {"deb": write_deb, "wheel": write_wheel, "sdist": write_sdist, "crate": write_crate, "tar": write_tar}
 
 
 def print_usage() -> int:

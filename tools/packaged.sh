@@ -9,6 +9,7 @@
 #   KEEP=FOLDER tools/packaged.sh    keeps the two systems in a folder, and takes them from there if they are there
 root=$(dirname "$(dirname "$(readlink -f "$0")")")
 version=$(cat "$root/VERSION")
+read -r abi _ <"$root/embed/ABI"
 failed=0
 room=$(mktemp -d)
 
@@ -91,7 +92,7 @@ check_plain_system() {
     check_output "tw --version" "tw --version" "tw $version"
     check "man tw" "MANPAGER=cat man tw | grep -q 'dataflow programs'"
     check "bash completes" "bash -c '. /usr/share/bash-completion/completions/tw; COMP_WORDS=(tw ru); COMP_CWORD=1; _tw; [ \"\${COMPREPLY[0]}\" = run ]'"
-    check "the library loads" "python3 -c 'import ctypes; ctypes.CDLL(\"libyuglemit.so.0\").yuglemit_session'"
+    check "the library loads" "python3 -c 'import ctypes; ctypes.CDLL(\"libyuglemit.so.$abi\").yuglemit_session'"
     check "the Debian package is removed" "dpkg -P yuglemit"
     files >"$room/after"
     diff "$room/before" "$room/after" >"$room/log"
@@ -130,7 +131,7 @@ check_system_with_compiler() {
     run='run --text <examples/store_seven.tw'
     check "pkg-config knows the library" "[ \$(pkg-config --modversion yuglemit) = $version ]"
     check_output "a C program builds by pkg-config" "cc -O2 -o shared example.c \$(pkg-config --cflags --libs yuglemit) && ./shared $run" "out 0 int 7"
-    check "it takes the library by its soname" "readelf -d shared | grep -q 'NEEDED.*libyuglemit.so.0'"
+    check "it takes the library by its soname" "readelf -d shared | grep -q 'NEEDED.*libyuglemit.so.$abi'"
     check_output "a C program builds by CMake" "cmake -S . -B build >/dev/null && cmake --build build --target shared static >/dev/null && build/shared $run" "out 0 int 7"
     check_output "and with the static library" "build/static $run" "out 0 int 7"
     check_output "a C++ program builds by pkg-config" "c++ -std=c++17 -O2 -o cpp example.cpp \$(pkg-config --cflags --libs yuglemit) && ./cpp" 8
@@ -164,6 +165,8 @@ check_in_prefix() {
     report "a C program builds by pkg-config" $?
     here "c++ -std=c++17 -o cpp example.cpp \$(pkg-config --cflags --libs yuglemit) -Wl,-rpath,'$prefix/yuglemit-$version/lib' && ./cpp | grep -qx 8"
     report "a C++ program builds by pkg-config" $?
+    here "tar tzf '$root/dist/yuglemit-$version.tar.gz' | grep -qx 'yuglemit-$version/yuglemit/lib/libyuglemit.so'"
+    report "the sdist has the library" $?
     python_lines >"$work/lines.txt"
     ln -s "$root/examples" "$room/examples"
     here "python3 -m zipfile -e '$root/dist/$wheel' wheel && PYTHONPATH=wheel python3 -m doctest lines.txt"

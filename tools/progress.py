@@ -2,8 +2,8 @@
 # SPDX-License-Identifier: Apache-2.0
 """Checks the progress that the built `tw` prints on standard error, with a pseudo terminal.
 
-A run of some seconds prints once a second how many events there are so far, and --each how many lines are answered, at which rate, and how long the
-others take. Each such line replaces the one before, and the last is cleared. Nothing is printed with --quiet, by --in-turn, into a pipe, or of a short
+A run of some seconds prints once a second how many events there are so far, and --each how many lines are answered, and at which rate.
+Each such line replaces the one before, and the last is cleared. Nothing is printed with --quiet, by --in-turn, into a pipe, or of a short
 run whose program comes late. A rejected command line prints the reason and a hint. Standard output and the status are the same each time. A command that
 reads a terminal says so first, except with --help. Prints each that differs, ends with `N as wanted, M not`, and fails if one differs.
 
@@ -27,6 +27,7 @@ ROOT = Path(__file__).resolve().parent.parent
 PROGRAM = os.environ.get("TW_PROGRAM") or str(ROOT / "crates" / "tw_main" / "out" / "tw_main")
 SECONDS = 60
 SHORT = "proc control write int\nregs int\nINT v0 7\nSTORE d0 v0\nRET\n"
+NO_LINES = "tw: --each needs lines of inputs: tw run FILE --each LINES\ntw: tw run --help lists its arguments\n"
 REFUSED = "error: --workers takes a number from 1 to 16\ntw: tw run --help lists its arguments\n"
 # The most tasks that an event limit of 1,000,000 allows, with five events each.
 MOST_TASKS = 199_000
@@ -168,21 +169,21 @@ def is_progress(printed: str, took: float) -> bool:
     return len(events) == len(found) and is_timely(len(events), took) and is_rising(events)
 
 
-def second_of(answered: int, rate: str, left: int, lines: int, took: float) -> int:
-    """Returns after how many seconds this rate is that of so many answered lines, and the time that is left fits it; 0 if it never is."""
+def second_of(answered: int, rate: str, took: float) -> int:
+    """Returns after how many seconds this rate is that of so many answered lines; 0 if it never is."""
     for second in range(2, int(took) + 1):
         tenths = answered * 10 // second
-        if rate == f"{tenths // 10}.{tenths % 10}" and left == (lines - answered) * second // answered:
+        if rate == f"{tenths // 10}.{tenths % 10}":
             return second
     return 0
 
 
 def is_line_progress(printed: str, took: float, lines: int) -> bool:
-    """Returns whether these are the lines of `--each` that took so many seconds: answered lines and seconds rise, and the other numbers follow."""
-    form = re.compile(rf"tw: ([1-9][0-9]*) of {lines} lines, ([0-9]+\.[0-9]) a second, ([0-9]+) seconds left")
+    """Returns whether these are the lines of `--each` that took so many seconds: answered lines and seconds rise, and the rates follow."""
+    form = re.compile(r"tw: ([1-9][0-9]*) lines so far, ([0-9]+\.[0-9]) a second")
     found = [form.fullmatch(line) for line in printed_lines(printed)]
-    rows = [(int(it[1]), it[2], int(it[3])) for it in found if it]
-    seconds = [second_of(answered, rate, left, lines, took) for answered, rate, left in rows]
+    rows = [(int(it[1]), it[2]) for it in found if it]
+    seconds = [second_of(answered, rate, took) for answered, rate in rows]
     return (
         len(rows) == len(found) and is_timely(len(rows), took) and is_rising([row[0] for row in rows])
         and rows[-1][0] <= lines and 0 not in seconds and seconds == sorted(set(seconds))
@@ -232,7 +233,7 @@ def short_faults() -> list[str]:
     faults: list[str] = []
     rows: list[tuple[str, list[str], float, Answer]] = [
         ("a short run whose program comes late", [], 3.5, Answer("", "out 0 int 7\nquiet\n", 0)),
-        ("--each of no line", ["--each"], 0.0, Answer("", "", 0)),
+        ("--each without lines", ["--each"], 0.0, Answer(NO_LINES, "command line refused\n", 2)),
         ("a refused command line", ["--workers=17"], 0.0, Answer(REFUSED, "command line refused\n", 2)),
     ]
     for name, words, late, expected in rows:

@@ -314,8 +314,8 @@ class TextsTest(unittest.TestCase):
 
     def test_statuses(self) -> None:
         self.assertIsNone(fuzz_calls.answer_fault((2, "command line refused\n")))
-        self.assertIsNone(fuzz_calls.answer_fault((2, '{"error":["inputs refused","line 1, column 1: this is no JSON"],"status":"refused"}\n')))
-        self.assertIsNotNone(fuzz_calls.answer_fault((2, '{"error":["refused F01"],"status":"refused"}\n')))
+        self.assertIsNone(fuzz_calls.answer_fault((2, '{"error":{"lines":["inputs refused","line 1, column 1: this is no JSON"]},"status":"refused"}\n')))
+        self.assertIsNotNone(fuzz_calls.answer_fault((2, '{"error":{"code":"F01","lines":["refused F01"]},"status":"refused"}\n')))
         self.assertIsNotNone(fuzz_calls.answer_fault((9, "")))
         self.assertIsNotNone(fuzz_calls.answer_fault((1, "quiet\n")))
 

@@ -57,7 +57,7 @@ class Schemas(unittest.TestCase):
             self.assertFalse(self.fits("run", {key: value for key, value in QUIET.items() if key != member}), member)
 
     def test_no_object(self) -> None:
-        wrongs: list[dict[str, Any]] = [{}, {"status": "quiet"}, {"status": "refused", "error": []}, {"status": "refused", "error": "H01"}]
+        wrongs: list[dict[str, Any]] = [{}, {"status": "quiet"}, {"status": "refused", "error": ["H01"]}, {"status": "refused", "error": {"code": "H01"}}]
         for command in json_cases.COMMANDS:
             for wrong in wrongs:
                 self.assertFalse(self.fits(command, wrong), (command, wrong))
@@ -72,6 +72,18 @@ class Unseen(unittest.TestCase):
         seen = [json_cases.Expected("one", "run", found) for found in objects]
         found = [line.removeprefix("run: no case has ") for line in json_cases.unseen("run", schema, seen)]
         self.assertEqual(found, ["`more` with the status b", "`status` with the status c"])
+
+
+    def test_members_of_errors(self) -> None:
+        schema = {"$defs": {"error": {"properties": {"code": {}, "line": {}}}}}
+        seen = [json_cases.Expected("one", "run", {"status": "refused", "error": {"code": "H01"}}), json_cases.Expected("two", "run", {"status": "quiet"})]
+        self.assertEqual(json_cases.unseen_of_errors("run", schema, seen), ["run: no case has an error with `line`"])
+
+    def test_errors_of_lines(self) -> None:
+        lines = ["refused V15 in procedure 2 at place 5", "at line 9 in work: DROPW d0", "d0 holds write int"]
+        self.assertEqual(json_runs.error_members(lines), {"code": "V15", "procedure": 2, "place": 5, "line": 9, "lines": lines})
+        self.assertEqual(json_runs.error_members(["refused O07", "tasks: bound 3, at most 2"])["code"], "O07")
+        self.assertEqual(json_runs.error_members(["trap C5 at event 2"]), {"code": "C5", "event": 2, "lines": ["trap C5 at event 2"]})
 
 
 class Differences(unittest.TestCase):

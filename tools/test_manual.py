@@ -19,16 +19,18 @@ pub(crate) const RUN: CommandHelp<'static> = CommandHelp {
 pub(crate) const LIMIT_HELP: &str = "The most events: 1 to 9 (default: 3)";
 pub(crate) const TRACE_HELP: &str =
     "Write a line `events` of \\"e\\"";
+pub(crate) const INPUTS_HELP: &str = "Read a file DATA";
 """
 COMMAND = """
         ArgumentRow { form: ArgumentForm::Value, name: "limit", help: LIMIT_HELP },
         ArgumentRow { form: ArgumentForm::Flag, name: "trace", help: TRACE_HELP },
+        ArgumentRow { form: ArgumentForm::Inputs, name: "inputs", help: INPUTS_HELP },
         ArgumentRow { form: ArgumentForm::Positions, name: "input", help: INPUT_HELP },
 """
 COMPLETIONS = """
         build:*) COMPREPLY=($(compgen -W "--library" -- "$word")) ;;
         install:-*) COMPREPLY=($(compgen -W "--uninstall" -- "$word")) ;;
-        run:-*) COMPREPLY=($(compgen -W "--limit --trace --help" -- "$word")) ;;
+        run:-*) COMPREPLY=($(compgen -W "--limit --trace --inputs --help" -- "$word")) ;;
 """
 PAGE = """.SH COMMANDS
 .TP
@@ -47,6 +49,12 @@ of \\(dqe\\(dq. For
 .B run
 with
 .BR \\-\\-limit .
+.TP
+.BR \\-\\-inputs " [\\fIDATA\\fR]"
+Read a file
+.IR DATA .
+For
+.BR run .
 .TP
 .B \\-\\-help
 The help.
@@ -102,6 +110,13 @@ class Otherwise(unittest.TestCase):
 
     def test_a_command_after_for_that_is_none_of_them(self) -> None:
         self.assertEqual(found(PAGE.replace("3). For\n.BR run .", "3).")), ["--limit is for: ; and taken by: run"])
+
+    def test_a_file_of_another_name(self) -> None:
+        self.assertEqual(found(PAGE.replace("[\\fIDATA\\fR]", "[\\fITRACE\\fR]")), ["--inputs names the file TRACE, and its row DATA"])
+
+    def test_a_help_text_without_the_file(self) -> None:
+        source = (HELP + COMMAND).replace("Read a file DATA", "Read a file")
+        self.assertEqual(found(PAGE, source), ["--inputs takes a file DATA, and its help says: Read a file"])
 
 
 if __name__ == "__main__":

@@ -56,6 +56,9 @@ DROPW into
 RET
 """
 
+# Runs each layout once, in turn.
+ONCE = ("--runs", "0", "--seeds", "0")
+
 
 class OrdersTest(unittest.TestCase):
     def setUp(self) -> None:
@@ -63,25 +66,31 @@ class OrdersTest(unittest.TestCase):
         self.addCleanup(folder.cleanup)
         self.path = Path(folder.name, "race.twn")
         self.path.write_text(RACE, encoding="utf-8")
-        self.orders = orders.Orders(unpacked("tw"), 0, 1000)
+        self.orders = orders.Orders(unpacked("tw"), 0, 0, 1000)
 
     def call(self, *words: str) -> tuple[int, str]:
         out = io.StringIO()
         with mock.patch.object(sys, "argv", ["orders.py", *words]), contextlib.redirect_stdout(out), contextlib.redirect_stderr(out):
             return orders.main(), out.getvalue()
 
+    def test_options(self) -> None:
+        actors = ["--engines", "1", "--servers", "1", "--workers", "1"]
+        found = list(orders.Orders(self.path, 1, 2, 1000).options())
+        self.assertEqual(found[:4], [["--in-turn", *actors], ["--in-turn", "--seed", "1", *actors], ["--in-turn", "--seed", "2", *actors], actors])
+        self.assertEqual(len(found), 4 * len(orders.LAYOUTS))
+
     def test_layouts_that_differ(self) -> None:
         found = self.orders.compare(str(self.path), [])
         self.assertEqual(set(found.reports), {f"out 0 cont int closed 1\n  at 0 int {number}\nquiet" for number in (1, 2)})
         self.assertEqual((found.status, sum(found.reports.values()), found.limited), (orders.DIFFERENT, 7, 0))
         self.assertEqual(self.orders.rule(str(self.path)), "order may show in procedure 1 at place 8")
-        self.assertEqual(self.call("--runs", "0", str(self.path))[0], 1)
+        self.assertEqual(self.call(*ONCE, str(self.path))[0], 1)
 
     def test_other_ends(self) -> None:
-        self.assertEqual(self.call("--runs", "0", "--limit", "3", str(self.path)), (4, "7 runs reached the limit\nno run ended by itself\n"))
-        status, text = self.call("--runs", "0", "examples/pipeline.twn")
+        self.assertEqual(self.call(*ONCE, "--limit", "3", str(self.path)), (4, "7 runs reached the limit\nno run ended by itself\n"))
+        status, text = self.call(*ONCE, "examples/pipeline.twn")
         self.assertEqual((status, text.splitlines()[0]), (2, "status 1: refused O01"))
-        self.assertEqual(self.call("--runs", "0", "examples/stuck_on_itself.twn")[1].splitlines()[1:], ["    stuck 1", "the same in all orders"])
+        self.assertEqual(self.call(*ONCE, "examples/stuck_on_itself.twn")[1].splitlines()[1:], ["    stuck 1", "the same in all orders"])
 
     def test_a_circle_does_not_count(self) -> None:
         self.assertEqual(orders.without_circle("out 0 unset\nstuck 2\nwaits 1 1 2\nwaits 2 2 1\nrule 1 runs procedure 1\n"), "out 0 unset\nstuck 2")
@@ -90,9 +99,9 @@ class OrdersTest(unittest.TestCase):
         runs = dict(orders.example_runs())
         self.assertEqual(runs["examples/two_inputs.tw"], ["ints:1=7,5=-3", "int:-4"])
         with mock.patch.object(orders, "example_runs", return_value=[(str(self.path), []), ("examples/cut.hex", [])]):
-            self.assertEqual(self.call("--runs", "0", "--examples"), (0, f"{self.path} : order may show in procedure 1 at place 8; DIFFERENT\n"))
+            self.assertEqual(self.call(*ONCE, "--examples"), (0, f"{self.path} : order may show in procedure 1 at place 8; DIFFERENT\n"))
             with mock.patch.object(orders, "order_line", return_value="order same"):
-                self.assertEqual(self.call("--runs", "0", "--examples")[0], 1)
+                self.assertEqual(self.call(*ONCE, "--examples")[0], 1)
 
 
 if __name__ == "__main__":

@@ -40,7 +40,7 @@ put_link() {
 
 # Lays out a template of tools/install with its words filled in: its name there, its mode, and its name below the prefix.
 put_filled() {
-    sed "s|@VERSION@|$version|g; s|@MINOR@|${version%.*}|g; s|@LIBDIR@|$libdir|g; s|@UP@|$up|g" "$root/tools/install/$1.in" >"$room/filled"
+    sed "s|@VERSION@|$version|g; s|@ABI@|$abi|g; s|@SINCE@|$since|g; s|@LIBDIR@|$libdir|g; s|@UP@|$up|g" "$root/tools/install/$1.in" >"$room/filled"
     put "$2" "$room/filled" "$3"
 }
 
@@ -65,9 +65,10 @@ static_library() {
 
 put_library() {
     need_proved tw_embed "./tw build --library"
+    read -r abi since <"$root/embed/ABI"
     put 644 "$program" "$libdir/libyuglemit.so.$version"
-    put_link "libyuglemit.so.$version" "$libdir/libyuglemit.so.0"
-    put_link libyuglemit.so.0 "$libdir/libyuglemit.so"
+    put_link "libyuglemit.so.$version" "$libdir/libyuglemit.so.$abi"
+    put_link "libyuglemit.so.$abi" "$libdir/libyuglemit.so"
     archive=$(static_library) || exit 70
     put 644 "$archive" "$libdir/libyuglemit.a"
     put 644 "$root/embed/yuglemit.h" include/yuglemit.h
@@ -91,7 +92,7 @@ put_documents() {
     for file in "$root"/docs/*.schema.json; do
         put 644 "$file" "share/doc/yuglemit/docs/${file##*/}"
     done
-    documents="README SECURITY CHANGELOG docs/FORMAT docs/MACHINE docs/BYTES docs/NAMES docs/IDIOMS docs/BUILD docs/HOSTING docs/MANY"
+    documents="README SECURITY CHANGELOG docs/FORMAT docs/MACHINE docs/BYTES docs/NAMES docs/IDIOMS docs/BUILD docs/HOSTING docs/MANY docs/ABI"
     for file in $documents; do echo "share/doc/yuglemit/$file.md"; done >>"$room/names"
     for file in $documents; do
         name=share/doc/yuglemit/$file.md

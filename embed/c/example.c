@@ -3,6 +3,7 @@
  * program's bytes. TIMES=n in the environment makes n calls, and prints on standard error how long one takes. */
 #define _POSIX_C_SOURCE 199309L /* clock_gettime */
 #include "../yuglemit.h"
+#include <inttypes.h>
 #include <stdio.h>
 #include <stdlib.h>
 #include <string.h>
@@ -55,10 +56,10 @@ static int is_read(const bytes *words, const bytes *empty, bytes *text) {
 }
 
 static void tell_verdict(const yuglemit_verdict *v) {
-    switch (v->letter) {
-    case 0: printf("accepted\nneeds engines %d workers %d\n", v->engines, v->workers); break;
-    case 'F': printf("refused F%02d at byte %zu\n", v->number, v->place); break;
-    case 'V': printf("refused V%02d in procedure %zu at place %zu\n", v->number, v->procedure, v->place); break;
+    switch ((char)v->letter) {
+    case 0: printf("accepted\nneeds engines %" PRIu64 " workers %" PRIu64 "\n", v->engines, v->workers); break;
+    case 'F': printf("refused F%02" PRIu64 " at byte %" PRIu64 "\n", v->number, v->place); break;
+    case 'V': printf("refused V%02" PRIu64 " in procedure %" PRIu64 " at place %" PRIu64 "\n", v->number, v->procedure, v->place); break;
     default: puts("memory");
     }
 }
@@ -71,7 +72,7 @@ static double seconds(void) {
 
 int main(int count, char **word) {
     bytes words = {NULL, 0, 0}, text = {NULL, 0, 0}, input = {NULL, 0, 0};
-    yuglemit_verdict verdict = {0, 0, 0, 0, 0, 0};
+    yuglemit_verdict verdict = YUGLEMIT_VERDICT;
     int status = 0, verifies = count == 2 && !strcmp(word[1], "verify");
     long times = getenv("TIMES") ? atol(getenv("TIMES")) : 1;
     need(&words, 1);

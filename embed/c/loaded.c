@@ -17,14 +17,15 @@ enum {
 };
 
 /* Prints why a program isn't loaded: the error's code, and where it is. */
-static int fail_load(const yuglemit_source_verdict *v) {
-    printf("refused %c%02d procedure %zu place %zu line %zu word %zu column %zu\n", v->verdict.letter, v->verdict.number, v->verdict.procedure,
-           v->verdict.place, v->line, v->word, v->column);
-    return v->verdict.letter == 'M' ? 5 : 1;
+static int fail_load(const yuglemit_verdict *v) {
+    printf("refused %c%02d procedure %zu place %zu line %zu word %zu column %zu\n", (char)v->letter, (int)v->number, (size_t)v->procedure,
+           (size_t)v->place, (size_t)v->line, (size_t)v->word, (size_t)v->column);
+    return v->letter == YUGLEMIT_LETTER_MEMORY ? 5 : 1;
 }
 
-static int fail(const char *what, int code) {
-    printf("refused %s %d\n", what, code);
+/* Prints which call failed, and the code's name and what it says. */
+static int fail(const char *what, uint8_t code) {
+    printf("refused %s %s: %s\n", what, yuglemit_code_name(code), yuglemit_code_text(code));
     return code == YUGLEMIT_NO_MEMORY ? 5 : 1;
 }
 
@@ -139,7 +140,7 @@ static void print_item(const yuglemit_item *item, const uint8_t *text) {
     }
 }
 
-static void print_member(yuglemit_report *report, size_t output, size_t place) {
+static void print_member(const yuglemit_report *report, size_t output, size_t place) {
     yuglemit_member member;
     uint8_t text[LONGEST_TEXT];
     if (yuglemit_report_member(report, output, place, &member)) return;
@@ -152,7 +153,7 @@ static void print_member(yuglemit_report *report, size_t output, size_t place) {
     putchar('\n');
 }
 
-static void print_output(yuglemit_report *report, size_t output) {
+static void print_output(const yuglemit_report *report, size_t output) {
     yuglemit_item item;
     uint8_t text[LONGEST_TEXT];
     if (yuglemit_report_output(report, output, &item)) return;
@@ -163,11 +164,11 @@ static void print_output(yuglemit_report *report, size_t output) {
     for (size_t place = 0; item.kind == 'c' && place < item.length; place++) print_member(report, output, place);
 }
 
-static int print_report(yuglemit_report *report) {
-    yuglemit_ending ending = {0, 0, 0};
+static int print_report(const yuglemit_report *report) {
+    yuglemit_ending ending = YUGLEMIT_ENDING;
     if (yuglemit_report_ending(report, &ending)) return 1;
     for (size_t output = 0; output < ending.outputs; output++) print_output(report, output);
-    return ending.status;
+    return (int)ending.status;
 }
 
 static double seconds(void) {
@@ -177,20 +178,20 @@ static double seconds(void) {
 }
 
 /* Runs the program as often as TIMES says, and returns the code of the last run. */
-static int run(yuglemit_program *program, yuglemit_inputs *inputs, yuglemit_report *report) {
+static uint8_t run(const yuglemit_program *program, const yuglemit_inputs *inputs, yuglemit_report *report) {
     const char *times = getenv("TIMES");
     long count = times ? strtol(times, NULL, 10) : 1;
     yuglemit_options options = YUGLEMIT_OPTIONS;
     yuglemit_stop no_stop = {NULL};
     double begun = seconds();
-    int code = 0;
+    uint8_t code = 0;
     for (long k = 0; k < count && code == 0; k++) code = yuglemit_run(program, inputs, &options, &no_stop, report);
     if (times) fprintf(stderr, "%.0f runs a second\n", (double)count / (seconds() - begun));
     return code;
 }
 
 /* Runs the program with these inputs, and prints what comes of it. */
-static int answer(yuglemit_program *program, int count, char **words) {
+static int answer(const yuglemit_program *program, int count, char **words) {
     yuglemit_inputs inputs = {NULL};
     yuglemit_report report = {NULL};
     int code = 0, status, k = 0;
@@ -198,8 +199,8 @@ static int answer(yuglemit_program *program, int count, char **words) {
     if (code == MALFORMED) {
         printf("input word %d refused\n", k + 1);
         status = YUGLEMIT_STATUS_ARGUMENTS;
-    } else if (code) status = fail("input", code);
-    else if ((code = run(program, &inputs, &report)) != 0) status = fail("run", code);
+    } else if (code) status = fail("input", (uint8_t)code);
+    else if ((code = run(program, &inputs, &report)) != 0) status = fail("run", (uint8_t)code);
     else status = print_report(&report);
     yuglemit_inputs_free(inputs);
     yuglemit_report_free(report);
@@ -209,9 +210,9 @@ static int answer(yuglemit_program *program, int count, char **words) {
 int main(int argc, char **argv) {
     static uint8_t bytes[1 << 20];
     yuglemit_program program = {NULL};
-    yuglemit_source_verdict verdict;
-    yuglemit_load_source(bytes, read_all(bytes, sizeof bytes), YUGLEMIT_ANY_FORMAT, &program, &verdict);
-    int status = verdict.verdict.letter ? fail_load(&verdict) : answer(&program, argc - 1, argv + 1);
+    yuglemit_verdict verdict = YUGLEMIT_VERDICT;
+    uint8_t code = yuglemit_load_source(bytes, read_all(bytes, sizeof bytes), YUGLEMIT_ANY_FORMAT, &program, &verdict);
+    int status = code ? fail_load(&verdict) : answer(&program, argc - 1, argv + 1);
     yuglemit_program_free(program);
     return status;
 }

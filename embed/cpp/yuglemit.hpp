@@ -13,11 +13,13 @@
 //     if (!program) return program.error().what();
 //     auto report = program->try_run({7});
 //
-// An object is used by one thread at a time; Program::share and Stop::share make one for another thread.
+// Any number of threads may read a Program, a Report or a Stop at once: its calls are const. Program::share and Stop::share make another object
+// of the same.
 #ifndef YUGLEMIT_HPP
 #define YUGLEMIT_HPP
 #include "yuglemit.h"
 #include <cstdint>
+#include <cstdlib>
 #include <map>
 #include <new>
 #include <optional>
@@ -41,7 +43,7 @@ using TextsByText = Container<std::string, std::string>;
 using Value = std::variant<std::monostate, std::int64_t, std::string, Ints, Texts, IntsByText, TextsByText>;
 
 // Says why a call failed: a program isn't accepted, a run can't begin, or an Error::Kind that the calls that throw report by a type of std. Positions
-// are as in yuglemit_source_verdict; 0 where there is none.
+// are as in yuglemit_verdict; 0 where there is none.
 class Error : public std::runtime_error {
 public:
     enum class Kind {
@@ -52,20 +54,22 @@ public:
         use        // std::logic_error
     };
 
-    explicit Error(const yuglemit_source_verdict &verdict)
-        : std::runtime_error(message(verdict)), letter(static_cast<char>(verdict.verdict.letter)), number(verdict.verdict.number),
-          procedure(verdict.verdict.procedure), place(verdict.verdict.place), line(verdict.line), word(verdict.word), column(verdict.column) {}
+    explicit Error(const yuglemit_verdict &verdict)
+        : std::runtime_error(message(verdict)), raw(YUGLEMIT_REJECTED), letter(static_cast<char>(verdict.letter)), number(static_cast<int>(verdict.number)),
+          procedure(verdict.procedure), place(verdict.place), line(verdict.line), word(verdict.word), column(verdict.column) {}
 
-    explicit Error(int run_code, std::size_t input_number = 0)
-        : std::runtime_error("refused " + code_of('O', run_code) + (input_number ? " at input " + std::to_string(input_number) : "")), letter('O'),
-          number(run_code), input(input_number) {}
+    // A run that can't begin, by the number of its O: 1 to 4 or 7.
+    explicit Error(int run_number, std::size_t input_number = 0)
+        : std::runtime_error("refused " + code_of('O', run_number) + (input_number ? " at input " + std::to_string(input_number) : "")),
+          raw(static_cast<yuglemit_code>(YUGLEMIT_INPUT_COUNT - 1 + run_number)), letter('O'), number(run_number), input(input_number) {}
 
-    Error(Kind failed, const std::string &message) : std::runtime_error("yuglemit: " + message), kind(failed) {}
+    Error(Kind failed, yuglemit_code code, const std::string &message) : std::runtime_error("yuglemit: " + message), kind(failed), raw(code) {}
 
     // As explain takes it, as V04; only of an error that is rejected.
     std::string code() const { return code_of(letter, number); }
 
     Kind kind = Kind::rejected;
+    yuglemit_code raw;  // what the library returned; YUGLEMIT_DONE if it is an error of this header's own
     char letter = 0;
     int number = 0;
     std::size_t procedure = 0, place = 0, line = 0, word = 0, column = 0;
@@ -74,16 +78,16 @@ public:
 private:
     static std::string code_of(char letter, int number) { return letter + std::string(number < 10 ? "0" : "") + std::to_string(number); }
 
-    static std::string message(const yuglemit_source_verdict &verdict) {
-        const auto &it = verdict.verdict;
-        std::string text = "refused " + code_of(static_cast<char>(it.letter), it.number);
+    static std::string message(const yuglemit_verdict &it) {
+        std::string text = "refused " + code_of(static_cast<char>(it.letter), static_cast<int>(it.number));
         if (it.letter == 'F') text += " at byte " + std::to_string(it.place);
         if (it.letter == 'V') text += " in procedure " + std::to_string(it.procedure) + " at place " + std::to_string(it.place);
-        return verdict.line ? text + " at line " + std::to_string(verdict.line) : text;
+        return it.line ? text + " at line " + std::to_string(it.line) : text;
     }
 };
 
-// The result of a call that doesn't throw: a value, or the error. Test it before you use either.
+// The result of a call that doesn't throw: a value, or the error. A Result that has no value has an error: using the other one ends the program by
+// std::abort, with exceptions and without. value_if() and error_if() are null pointers then.
 template <class T> class [[nodiscard]] Result {
 public:
     // Inlined, it makes GCC 12 warn of texts that a Value doesn't hold.
@@ -91,13 +95,21 @@ public:
     Result(Error error) : it_(std::in_place_index<1>, std::move(error)) {}
 
     explicit operator bool() const { return it_.index() == 0; }
-    T &operator*() { return *std::get_if<0>(&it_); }
-    const T &operator*() const { return *std::get_if<0>(&it_); }
-    T *operator->() { return std::get_if<0>(&it_); }
-    const T *operator->() const { return std::get_if<0>(&it_); }
-    const Error &error() const { return *std::get_if<1>(&it_); }
+    T *value_if() { return std::get_if<0>(&it_); }
+    const T *value_if() const { return std::get_if<0>(&it_); }
+    const Error *error_if() const { return std::get_if<1>(&it_); }
+    T &operator*() { return *checked(value_if()); }
+    const T &operator*() const { return *checked(value_if()); }
+    T *operator->() { return checked(value_if()); }
+    const T *operator->() const { return checked(value_if()); }
+    const Error &error() const { return *checked(error_if()); }
 
 private:
+    template <class Part> static Part *checked(Part *part) {
+        if (!part) std::abort();
+        return part;
+    }
+
     std::variant<T, Error> it_;
 };
 
@@ -114,6 +126,7 @@ public:
     }
     ~Handle() { free_handle(raw_); }
     Raw *get() { return &raw_; }
+    const Raw *get() const { return &raw_; }
 
 private:
     Raw raw_ = {nullptr};
@@ -126,19 +139,27 @@ using StopHandle = Handle<yuglemit_stop, yuglemit_stop_free>;
 using ReportHandle = Handle<yuglemit_report, yuglemit_report_free>;
 using TextHandle = Handle<yuglemit_text, yuglemit_text_free>;
 
-using Code = std::uint8_t;  // of a call: 0, the number of an error, or a letter
-constexpr Code UNSET = 32;  // no call returns it: an input is unset
+using Code = std::uint8_t;   // of a call, a yuglemit_code
+constexpr Code UNSET = 255;  // no call returns it: an input is unset
 
 // Returns the error of a call, which failed.
 inline Error error_of(Code code) {
     using Kind = Error::Kind;
-    if (code == YUGLEMIT_NO_MEMORY || code == YUGLEMIT_STATUS_MEMORY) return {Kind::memory, "out of memory"};
-    if (code < UNSET) return Error(code);
-    if (code == UNSET) return {Kind::argument, "an input or a member of one is unset"};
-    if (code == YUGLEMIT_NO_LAYOUT) return {Kind::argument, "engines and servers are 1 to 4, workers 1 to 16"};
-    if (code == YUGLEMIT_NO_UTF8) return {Kind::argument, "a text isn't UTF-8"};
-    if (code == YUGLEMIT_NO_INDEX) return {Kind::index, "there is none of this index"};
-    return {Kind::use, std::string("a call returned the error ") + static_cast<char>(code)};
+    if (code == UNSET) return {Kind::argument, YUGLEMIT_DONE, "an input or a member of one is unset"};
+    const auto raw = static_cast<yuglemit_code>(code);
+    const std::string words = yuglemit_code_text(code);
+    switch (raw) {
+    case YUGLEMIT_INPUT_COUNT:
+    case YUGLEMIT_INPUT_TYPE:
+    case YUGLEMIT_NO_ACTOR:
+    case YUGLEMIT_NO_LIMIT:
+    case YUGLEMIT_ABOVE_CAP: return Error(code - (YUGLEMIT_INPUT_COUNT - 1));
+    case YUGLEMIT_NO_MEMORY: return {Kind::memory, raw, words};
+    case YUGLEMIT_NO_LAYOUT:
+    case YUGLEMIT_NO_UTF8: return {Kind::argument, raw, words};
+    case YUGLEMIT_NO_INDEX: return {Kind::index, raw, words};
+    default: return {Kind::use, raw, words};
+    }
 }
 
 #ifdef __cpp_exceptions
@@ -159,8 +180,7 @@ template <class T> T value_of(Result<T> result) {
 #endif
 
 // Returns what a call writes.
-template <class T, class Call> Result<T> written(Call call) {
-    T found{};
+template <class T, class Call> Result<T> written(Call call, T found = T{}) {
     const Code code = call(&found);
     if (code) return error_of(code);
     return found;
@@ -236,7 +256,7 @@ public:
         if (code) return detail::error_of(code);
         return made;
     }
-    Result<Stop> try_share() {
+    Result<Stop> try_share() const {
         Stop other{detail::StopHandle()};
         const auto code = yuglemit_stop_share(handle_.get(), other.handle_.get());
         if (code) return detail::error_of(code);
@@ -244,16 +264,16 @@ public:
     }
 
     // Return false if the object was moved from.
-    bool try_raise() { return yuglemit_stop_raise(handle_.get()) == YUGLEMIT_DONE; }
-    bool try_lower() { return yuglemit_stop_lower(handle_.get()) == YUGLEMIT_DONE; }
+    bool try_raise() const { return yuglemit_stop_raise(handle_.get()) == YUGLEMIT_DONE; }
+    bool try_lower() const { return yuglemit_stop_lower(handle_.get()) == YUGLEMIT_DONE; }
 
 #ifdef __cpp_exceptions
     Stop() : Stop(detail::value_of(try_make())) {}
-    Stop share() { return detail::value_of(try_share()); }
-    void raise() {
+    Stop share() const { return detail::value_of(try_share()); }
+    void raise() const {
         if (!try_raise()) detail::raise(detail::error_of(YUGLEMIT_NO_STOP));
     }
-    void lower() {
+    void lower() const {
         if (!try_lower()) detail::raise(detail::error_of(YUGLEMIT_NO_STOP));
     }
 #endif
@@ -270,39 +290,39 @@ enum class End { quiet = 0, stuck = 3, limit = 4, stopped = 8 };
 class Report {
 public:
     End end() const { return static_cast<End>(ending_.status); }
-    std::size_t events() const { return ending_.events; }
-    std::size_t output_count() const { return ending_.outputs; }
+    std::size_t events() const { return static_cast<std::size_t>(ending_.events); }
+    std::size_t output_count() const { return static_cast<std::size_t>(ending_.outputs); }
 
     // How many instructions the run executed; the greatest number if they were more.
-    Result<std::uint64_t> try_instructions() {
+    Result<std::uint64_t> try_instructions() const {
         return detail::written<std::uint64_t>([&](auto at) { return yuglemit_report_instructions(handle_.get(), at); });
     }
 
     // The report as `tw run` prints that of a program's bytes, the events as `tw run --trace` does, and the line of `tw run --json`, which a run
     // that was stopped hasn't (Kind::use). The run isn't made again. The report of a run that was stopped ends with `running`.
-    Result<std::string> try_text() {
+    Result<std::string> try_text() const {
         return detail::made_text([&](auto text) { return yuglemit_print_report(handle_.get(), text); });
     }
-    Result<std::string> try_trace() {
+    Result<std::string> try_trace() const {
         return detail::made_text([&](auto text) { return yuglemit_print_trace(handle_.get(), text); });
     }
-    Result<std::string> try_json() {
+    Result<std::string> try_json() const {
         return detail::made_text([&](auto text) { return yuglemit_print_json(handle_.get(), text); });
     }
 
     // Returns whether an output never changes again.
-    Result<bool> try_is_closed(std::size_t output) {
+    Result<bool> try_is_closed(std::size_t output) const {
         yuglemit_item found{};
         const auto code = yuglemit_report_output(handle_.get(), output, &found);
         if (code) return detail::error_of(code);
         return found.closed != 0;
     }
 
-    Result<Value> try_output(std::size_t output) {
+    Result<Value> try_output(std::size_t output) const {
         return detail::written<Value>([&](Value *value) { return read_output(output, *value); });
     }
 
-    Result<std::vector<Value>> try_outputs() {
+    Result<std::vector<Value>> try_outputs() const {
         std::vector<Value> values(ending_.outputs);
         for (std::size_t output = 0; output < values.size(); output++)
             if (const auto code = read_output(output, values[output])) return detail::error_of(code);
@@ -310,47 +330,47 @@ public:
     }
 
     // Returns the member of an output with this subscript, without reading the others; std::monostate if it is unset, std::nullopt if there is none.
-    Result<std::optional<Value>> try_member(std::size_t output, std::int64_t subscript) {
+    Result<std::optional<Value>> try_member(std::size_t output, std::int64_t subscript) const {
         return member_at(output, [&](auto place) { return yuglemit_report_find_int(handle_.get(), output, subscript, place); });
     }
-    Result<std::optional<Value>> try_member(std::size_t output, std::string_view subscript) {
+    Result<std::optional<Value>> try_member(std::size_t output, std::string_view subscript) const {
         const auto bytes = detail::bytes_of(subscript);
         return member_at(output, [&](auto place) { return yuglemit_report_find_text(handle_.get(), output, bytes, subscript.size(), place); });
     }
 
 #ifdef __cpp_exceptions
-    std::uint64_t instructions() { return detail::value_of(try_instructions()); }
-    std::string text() { return detail::value_of(try_text()); }
-    std::string trace() { return detail::value_of(try_trace()); }
-    std::string json() { return detail::value_of(try_json()); }
-    bool is_closed(std::size_t output) { return detail::value_of(try_is_closed(output)); }
-    Value output(std::size_t output) { return detail::value_of(try_output(output)); }
-    std::vector<Value> outputs() { return detail::value_of(try_outputs()); }
-    std::optional<Value> member(std::size_t output, std::int64_t subscript) { return detail::value_of(try_member(output, subscript)); }
-    std::optional<Value> member(std::size_t output, std::string_view subscript) { return detail::value_of(try_member(output, subscript)); }
+    std::uint64_t instructions() const { return detail::value_of(try_instructions()); }
+    std::string text() const { return detail::value_of(try_text()); }
+    std::string trace() const { return detail::value_of(try_trace()); }
+    std::string json() const { return detail::value_of(try_json()); }
+    bool is_closed(std::size_t output) const { return detail::value_of(try_is_closed(output)); }
+    Value output(std::size_t output) const { return detail::value_of(try_output(output)); }
+    std::vector<Value> outputs() const { return detail::value_of(try_outputs()); }
+    std::optional<Value> member(std::size_t output, std::int64_t subscript) const { return detail::value_of(try_member(output, subscript)); }
+    std::optional<Value> member(std::size_t output, std::string_view subscript) const { return detail::value_of(try_member(output, subscript)); }
 #endif
 
 private:
     friend class Program;
     Report(detail::ReportHandle handle, const yuglemit_ending &ending) : handle_(std::move(handle)), ending_(ending) {}
 
-    detail::Code read(std::size_t, std::size_t, const yuglemit_item &found, bool, std::int64_t &number) {
+    detail::Code read(std::size_t, std::size_t, const yuglemit_item &found, bool, std::int64_t &number) const {
         number = found.number;
         return YUGLEMIT_DONE;
     }
-    detail::Code read(std::size_t output, std::size_t place, const yuglemit_item &found, bool is_subscript, std::string &text) {
+    detail::Code read(std::size_t output, std::size_t place, const yuglemit_item &found, bool is_subscript, std::string &text) const {
         const auto call = is_subscript ? yuglemit_report_subscript_text : yuglemit_report_member_text;
         return detail::write_text(text, found.length, [&](auto room, auto size) { return call(handle_.get(), output, place, room, size); });
     }
 
-    detail::Code read_text(std::size_t output, const yuglemit_item &found, Value &value) {
+    detail::Code read_text(std::size_t output, const yuglemit_item &found, Value &value) const {
         std::string text;
         const auto code = detail::write_text(text, found.length, [&](auto room, auto size) { return yuglemit_report_text(handle_.get(), output, room, size); });
         value = std::move(text);
         return code;
     }
 
-    detail::Code read_output(std::size_t output, Value &value) {
+    detail::Code read_output(std::size_t output, Value &value) const {
         yuglemit_item found{};
         const auto code = yuglemit_report_output(handle_.get(), output, &found);
         if (code) return code;
@@ -363,31 +383,32 @@ private:
         }
     }
 
-    template <class By> detail::Code read_by(std::size_t output, const yuglemit_item &found, Value &value) {
+    template <class By> detail::Code read_by(std::size_t output, const yuglemit_item &found, Value &value) const {
         return found.scalar == 't' ? read_members<By, std::string>(output, found, value) : read_members<By, std::int64_t>(output, found, value);
     }
 
-    template <class By, class Scalar> detail::Code read_members(std::size_t output, const yuglemit_item &found, Value &value) {
+    // Reads all members in one call, and then the texts.
+    template <class By, class Scalar> detail::Code read_members(std::size_t output, const yuglemit_item &found, Value &value) const {
         Container<By, Scalar> all;
-        detail::Code code = YUGLEMIT_DONE;
-        for (std::size_t place = 0; !code && place < found.length; place++) code = read_member(output, place, all);
+        std::vector<yuglemit_member> members(found.length ? found.length : 1);
+        auto code = yuglemit_report_members(handle_.get(), output, 0, members.data(), found.length);
+        for (std::size_t place = 0; !code && place < found.length; place++) code = read_member(output, place, members[place], all);
         value = std::move(all);
         return code;
     }
 
-    template <class By, class Scalar> detail::Code read_member(std::size_t output, std::size_t place, Container<By, Scalar> &all) {
-        yuglemit_member member{};
+    template <class By, class Scalar>
+    detail::Code read_member(std::size_t output, std::size_t place, const yuglemit_member &member, Container<By, Scalar> &all) const {
         By subscript{};
         Scalar value{};
-        auto code = yuglemit_report_member(handle_.get(), output, place, &member);
-        if (!code) code = read(output, place, member.subscript, true, subscript);
+        auto code = read(output, place, member.subscript, true, subscript);
         const bool is_set = member.value.kind != YUGLEMIT_KIND_UNSET && member.value.kind != YUGLEMIT_KIND_NONE;
         if (!code && is_set) code = read(output, place, member.value, false, value);
         if (!code) all.emplace_hint(all.end(), std::move(subscript), is_set ? std::optional<Scalar>(std::move(value)) : std::nullopt);
         return code;
     }
 
-    template <class Find> Result<std::optional<Value>> member_at(std::size_t output, Find find) {
+    template <class Find> Result<std::optional<Value>> member_at(std::size_t output, Find find) const {
         std::size_t place = 0;
         yuglemit_member found{};
         auto code = find(&place);
@@ -401,7 +422,7 @@ private:
     }
 
     detail::ReportHandle handle_;
-    yuglemit_ending ending_{};
+    yuglemit_ending ending_;
 };
 
 // The most that a run may do; std::nullopt is no cap.
@@ -412,26 +433,31 @@ struct Caps {
 struct Options {
     std::size_t limit = 10000;  // the most events, 1 to 1,000,000
     std::uint8_t engines = 1, servers = 1, workers = 1;
+    std::uint64_t seed = 0;  // decides the order of the turns; 0: the actors take turns
     Caps caps;  // a program with a bound above one isn't run: an Error O07
 };
 
 // A program that is verified.
 class Program {
 public:
-    // Loads a program from its bytes, hex text or assembly text.
-    static Result<Program> try_load(std::string_view source, std::uint8_t format = YUGLEMIT_ANY_FORMAT) {
+    static constexpr std::uint64_t MOST_BYTES = 16777216;
+
+    // Loads a program from its bytes, hex text or assembly text. A source of more bytes than these is rejected, H02.
+    static Result<Program> try_load(std::string_view source, std::uint8_t format = YUGLEMIT_ANY_FORMAT, std::uint64_t most_bytes = MOST_BYTES) {
         Program program;
-        yuglemit_source_verdict verdict{};
-        yuglemit_load_source(detail::bytes_of(source), source.size(), format, program.handle_.get(), &verdict);
-        if (verdict.verdict.letter == YUGLEMIT_LETTER_MEMORY) return detail::error_of(YUGLEMIT_NO_MEMORY);
-        if (verdict.verdict.letter) return Error(verdict);
-        program.engines_ = verdict.verdict.engines;
-        program.workers_ = verdict.verdict.workers;
+        yuglemit_verdict verdict = YUGLEMIT_VERDICT;
+        yuglemit_load_options options = YUGLEMIT_LOAD_OPTIONS;
+        options.most_bytes = most_bytes;
+        const auto code = yuglemit_load_with(detail::bytes_of(source), source.size(), format, &options, program.handle_.get(), &verdict);
+        if (code == YUGLEMIT_REJECTED) return Error(verdict);
+        if (code) return detail::error_of(code);
+        program.engines_ = static_cast<int>(verdict.engines);
+        program.workers_ = static_cast<int>(verdict.workers);
         return program;
     }
 
-    // Makes another object of the same program, for another thread.
-    Result<Program> try_share() {
+    // Makes another object of the same program.
+    Result<Program> try_share() const {
         Program other;
         const auto code = yuglemit_program_share(handle_.get(), other.handle_.get());
         if (code) return detail::error_of(code);
@@ -444,7 +470,7 @@ public:
     int needed_engines() const { return engines_; }
     int needed_workers() const { return workers_; }
 
-    Result<std::size_t> try_procedures() {
+    Result<std::size_t> try_procedures() const {
         return detail::written<std::size_t>([&](auto at) { return yuglemit_program_procedures(handle_.get(), at); });
     }
 
@@ -454,63 +480,69 @@ public:
         std::vector<yuglemit_parameter> parameters;
     };
 
-    Result<Procedure> try_procedure(std::size_t number) {
-        yuglemit_procedure found{};
+    Result<Procedure> try_procedure(std::size_t number) const {
+        yuglemit_procedure found = YUGLEMIT_PROCEDURE;
         auto code = yuglemit_program_procedure(handle_.get(), number, &found);
-        Procedure procedure{static_cast<char>(found.kind), std::vector<yuglemit_parameter>(found.parameters)};
-        for (std::size_t index = 0; !code && index < found.parameters; index++)
+        const yuglemit_parameter none = YUGLEMIT_PARAMETER;
+        Procedure procedure{static_cast<char>(found.kind), std::vector<yuglemit_parameter>(static_cast<std::size_t>(found.parameters), none)};
+        for (std::size_t index = 0; !code && index < procedure.parameters.size(); index++)
             code = yuglemit_program_parameter(handle_.get(), number, index, &procedure.parameters[index]);
         if (code) return detail::error_of(code);
         return procedure;
     }
 
     // The most instructions that one task of a procedure executes.
-    Result<std::uint64_t> try_budget(std::size_t procedure) {
+    Result<std::uint64_t> try_budget(std::size_t procedure) const {
         return detail::written<std::uint64_t>([&](auto at) { return yuglemit_program_budget(handle_.get(), procedure, at); });
     }
 
     // The bounds of runs with at most so many events, or of all runs if the limit is 0.
-    Result<yuglemit_bounds> try_bounds(std::size_t limit = 0) {
-        return detail::written<yuglemit_bounds>([&](auto at) { return yuglemit_program_bounds(handle_.get(), limit, at); });
+    Result<yuglemit_bounds> try_bounds(std::size_t limit = 0) const {
+        const yuglemit_bounds none = YUGLEMIT_BOUNDS;
+        return detail::written([&](auto at) { return yuglemit_program_bounds(handle_.get(), limit, at); }, none);
     }
 
     // Runs the program in this thread, its actors in turn.
-    Result<Report> try_run(const std::vector<Value> &values = {}, const Options &options = {}) {
+    Result<Report> try_run(const std::vector<Value> &values = {}, const Options &options = {}) const {
         detail::StopHandle none;
         return run_until(values, options, none);
     }
 
     // Runs the program until its end, or until `stop` is raised.
-    Result<Report> try_run(const std::vector<Value> &values, const Options &options, Stop &stop) { return run_until(values, options, stop.handle_); }
+    Result<Report> try_run(const std::vector<Value> &values, const Options &options, const Stop &stop) const { return run_until(values, options, stop.handle_); }
 
 #ifdef __cpp_exceptions
-    static Program load(std::string_view source, std::uint8_t format = YUGLEMIT_ANY_FORMAT) { return detail::value_of(try_load(source, format)); }
-    Program share() { return detail::value_of(try_share()); }
-    std::size_t procedures() { return detail::value_of(try_procedures()); }
-    Procedure procedure(std::size_t number) { return detail::value_of(try_procedure(number)); }
-    std::uint64_t budget(std::size_t procedure) { return detail::value_of(try_budget(procedure)); }
-    yuglemit_bounds bounds(std::size_t limit = 0) { return detail::value_of(try_bounds(limit)); }
-    Report run(const std::vector<Value> &values = {}, const Options &options = {}) { return detail::value_of(try_run(values, options)); }
-    Report run(const std::vector<Value> &values, const Options &options, Stop &stop) { return detail::value_of(try_run(values, options, stop)); }
+    static Program load(std::string_view source, std::uint8_t format = YUGLEMIT_ANY_FORMAT, std::uint64_t most_bytes = MOST_BYTES) {
+        return detail::value_of(try_load(source, format, most_bytes));
+    }
+    Program share() const { return detail::value_of(try_share()); }
+    std::size_t procedures() const { return detail::value_of(try_procedures()); }
+    Procedure procedure(std::size_t number) const { return detail::value_of(try_procedure(number)); }
+    std::uint64_t budget(std::size_t procedure) const { return detail::value_of(try_budget(procedure)); }
+    yuglemit_bounds bounds(std::size_t limit = 0) const { return detail::value_of(try_bounds(limit)); }
+    Report run(const std::vector<Value> &values = {}, const Options &options = {}) const { return detail::value_of(try_run(values, options)); }
+    Report run(const std::vector<Value> &values, const Options &options, const Stop &stop) const {
+        return detail::value_of(try_run(values, options, stop));
+    }
 #endif
 
 private:
     Program() = default;
 
-    Result<Report> run_until(const std::vector<Value> &values, const Options &options, detail::StopHandle &stop) {
+    Result<Report> run_until(const std::vector<Value> &values, const Options &options, const detail::StopHandle &stop) const {
         detail::InputsHandle inputs;
         for (const auto &value : values)
             if (const auto code = std::visit(detail::Append{inputs}, value)) return detail::error_of(code);
         detail::ReportHandle report;
         const auto code = run_into(report, inputs, options, stop);
         std::size_t index = 0;
-        if (code == 2 && yuglemit_unfit_input(handle_.get(), inputs.get(), &index) == YUGLEMIT_DONE) return Error(code, index + 1);
+        if (code == YUGLEMIT_INPUT_TYPE && yuglemit_unfit_input(handle_.get(), inputs.get(), &index) == YUGLEMIT_DONE) return Error(2, index + 1);
         if (code) return detail::error_of(code);
         return read(std::move(report));
     }
 
-    detail::Code run_into(detail::ReportHandle &report, detail::InputsHandle &inputs, const Options &options, detail::StopHandle &stop) {
-        const yuglemit_options raw = {sizeof(yuglemit_options), options.limit, options.engines, options.servers, options.workers};
+    detail::Code run_into(detail::ReportHandle &report, const detail::InputsHandle &inputs, const Options &options, const detail::StopHandle &stop) const {
+        const yuglemit_options raw = {sizeof(yuglemit_options), options.limit, options.engines, options.servers, options.workers, options.seed};
         const auto cap = [](const std::optional<std::uint64_t> &most) { return most.value_or(UINT64_MAX); };
         const auto &[tasks, instructions, data, bytes, budget, members, rules] = options.caps;
         const yuglemit_caps caps = {sizeof(yuglemit_caps), cap(tasks), cap(instructions), cap(data), cap(bytes), cap(budget), cap(members), cap(rules)};
@@ -518,7 +550,7 @@ private:
     }
 
     static Result<Report> read(detail::ReportHandle report) {
-        yuglemit_ending ending{};
+        yuglemit_ending ending = YUGLEMIT_ENDING;
         auto code = yuglemit_report_ending(report.get(), &ending);
         if (!code && ending.status == YUGLEMIT_STATUS_MEMORY) code = YUGLEMIT_NO_MEMORY;
         if (code) return detail::error_of(code);
@@ -526,7 +558,7 @@ private:
     }
 
     detail::ProgramHandle handle_;
-    std::uint8_t engines_ = 0, workers_ = 0;
+    int engines_ = 0, workers_ = 0;
 };
 
 // A session of the command tw.
@@ -551,7 +583,7 @@ inline Result<Reply> try_session(const std::vector<std::string> &words, std::str
 inline Result<std::string> try_explain(const std::string &code) {
     auto reply = try_session({"explain", code}, "");
     if (!reply) return reply.error();
-    if (code.empty() || code[0] == '-' || reply->status != YUGLEMIT_STATUS_QUIET) return Error(Error::Kind::argument, "there is no such code");
+    if (code.empty() || code[0] == '-' || reply->status != YUGLEMIT_STATUS_QUIET) return Error(Error::Kind::argument, YUGLEMIT_DONE, "there is no such code");
     return std::move(reply->text);
 }
 
@@ -562,9 +594,9 @@ inline Result<std::string> try_procedure_name(std::string_view source, std::size
 
 // Returns what the verifier says of a program's bytes.
 inline Result<yuglemit_verdict> try_verify(std::string_view bytes) {
-    yuglemit_verdict verdict{};
-    yuglemit_verify(detail::bytes_of(bytes), bytes.size(), &verdict);
-    if (verdict.letter == YUGLEMIT_LETTER_MEMORY) return detail::error_of(YUGLEMIT_NO_MEMORY);
+    yuglemit_verdict verdict = YUGLEMIT_VERDICT;
+    const auto code = yuglemit_verify(detail::bytes_of(bytes), bytes.size(), &verdict);
+    if (code && code != YUGLEMIT_REJECTED) return detail::error_of(code);
     return verdict;
 }
 

@@ -2,9 +2,9 @@
 
 use std::alloc::{AllocError, Global};
 use std::ops::Range;
-use tw_calls::{Verdict, session, session_text, verify};
+use tw_calls::{session, session_text};
 use tw_case_lines::Text;
-use tw_handles::{Handle, text_copy, text_length};
+use tw_handles::{Handle, take_text, verify};
 
 /// The content of each byte of a buffer before a call.
 const BLANK: u8 = b'.';
@@ -67,13 +67,11 @@ pub fn is_answered(
 }
 
 /// Returns whether a handle holds this text.
-fn holds(alloc: Global, output: &mut Handle, text: &[u8]) -> Result<bool, AllocError> {
-    let mut room = Vec::from_elem(alloc, BLANK, text.len().saturating_add(1))?;
-    let mut length = usize::MAX;
-    let is_text = text_length(alloc, output, &mut length) == 0;
-    let is_copied = text_copy(alloc, output, room.as_mut_slice()) == 0;
-    let is_read = is_text && is_copied && length == text.len();
-    Ok(is_read && is_filled(room.as_slice(), text))
+fn holds(alloc: Global, output: &mut Handle, text: &[u8]) -> bool {
+    match take_text(alloc, output) {
+        Some(kept) => kept.as_slice() == text,
+        None => false,
+    }
 }
 
 /// Returns whether the library returns this status, and puts this text into a handle. In this call an argument with a NUL is two arguments.
@@ -81,7 +79,7 @@ pub fn is_kept(alloc: Global, words: &[String], input: &[u8], (code, text): (u8,
     let words = ended_words(alloc, words, "\0");
     let mut output = Handle::empty(alloc);
     let status = session_text(alloc, words.written(), input, &mut output);
-    status == code && holds(alloc, &mut output, text).unwrap_or(false)
+    status == code && holds(alloc, &mut output, text)
 }
 
 /// Returns whether an argument has a line feed, so that lines can't have it.
@@ -98,16 +96,18 @@ pub fn is_verdict(
     needs: (u8, u8),
     (procedure, place): (usize, usize),
 ) -> bool {
-    let mut verdict = Verdict {
-        letter: u8::MAX,
-        number: 0,
-        engines: 0,
-        workers: 0,
-        procedure: 0,
-        place: 0,
-    };
-    verify(alloc, bytes, &mut verdict);
-    let is_named = verdict.letter == letter && verdict.number == number;
-    let is_needed = verdict.engines == needs.0 && verdict.workers == needs.1;
-    is_named && is_needed && verdict.procedure == procedure && verdict.place == place
+    let mut verdict = [u64::MAX; 9];
+    let code = verify(alloc, bytes, &mut verdict);
+    let wanted = [
+        letter as u64,
+        number as u64,
+        needs.0 as u64,
+        needs.1 as u64,
+        procedure as u64,
+        place as u64,
+        0,
+        0,
+        0,
+    ];
+    (code == 0) == (letter == 0) && &verdict[..] == &wanted[..]
 }

@@ -23,9 +23,9 @@ use Rattle.tw_lexer.specs.Number.{IsRead, SpellsDigits}
 use Rattle.tw_lexer.specs.declared.numbers.TokenError.{TokenError}
 use Rattle.tw_lexer.specs.declared.numbers.TokenError.TheVariants.{Form, Limit}
 use Rattle.tw_types.specs.Layout.{ActorCounts}
-use Rattle.tw_cli.specs.Options.{HasActors, HasCaps, HasStretch, bounds_faults, cap_options, check_options, each, given_bounds, given_check, given_event_order, given_form, given_places, named_limit, NumberOption, actor_options, engines, first_shown, inputs, inputs_json, is_given, jobs, last_shown, limit, number_in, number_of, number_options, option_faults, servers, stretch_options, workers}
+use Rattle.tw_cli.specs.Options.{HasActors, HasCaps, HasStretch, bounds_faults, cap_options, check_options, each, given_bounds, given_check, given_event_order, given_form, given_places, named_limit, NumberOption, actor_options, engines, first_shown, inputs, inputs_json, is_given, jobs, last_shown, limit, number_in, number_of, number_options, option_faults, seed, servers, stretch_options, workers}
 use Rattle.tw_cli.specs.Order.{HasReason, IsRequest}
-use Rattle.tw_cli.specs.CommandLine.{Asked, check_faults, drawing_faults, each_excludes, given_faults, given_words, input_faults, is_json_with_more, json_excludes, picture_faults, replay_faults, report_faults, run_faults, stretch_faults}
+use Rattle.tw_cli.specs.CommandLine.{Asked, check_faults, drawing_faults, each_excludes, given_faults, given_words, input_faults, is_json_with_more, is_seed_alone, json_excludes, picture_faults, replay_faults, report_faults, run_faults, seed_faults, stretch_faults}
 use Rattle.tw_cli.specs.declared.command.NoOrder.TheVariants.{Refused}
 use Rattle.tw_order.specs.declared.caps.Caps.{Caps}
 use Rattle.tw_order.specs.declared.check.BoundsOf.{BoundsOf}
@@ -144,7 +144,7 @@ pub events_backward : (rows : List Row) (s : EventRange) → HasStretch rows s �
 events_backward rows s h back = rw (h.0, h.1, back) refl
 
 -- options with numbers have no fault
-numbers_fit : (rows : List Row) (layout : ActorCounts) (most : ℕ) (s : EventRange) → HasActors rows layout → Some most ≡ number_of limit rows → HasStretch rows s → option_faults number_options rows ≡ []
+pub numbers_fit : (rows : List Row) (layout : ActorCounts) (most : ℕ) (s : EventRange) → HasActors rows layout → Some most ≡ number_of limit rows → HasStretch rows s → option_faults number_options rows ≡ []
 numbers_fit rows layout most s actors is shown = rw (actors.0, actors.1, actors.2, sym is, shown.0, shown.1) refl
 
 pub caps_fit : (rows : List Row) (caps : Caps) → HasCaps rows caps → option_faults cap_options rows ≡ []
@@ -153,8 +153,8 @@ caps_fit rows caps capped = rw (capped.0, capped.1, capped.2, capped.3, capped.4
 -- a wrong cap is wrong with `run`, if the other options are right
 pub caps_refused : (rows : List Row) (layout : ActorCounts) (most : ℕ) (s : EventRange) → HasActors rows layout → Some most ≡ number_of limit rows → HasStretch rows s → option_faults cap_options rows ≡ ValueValidation ∷ [] → run_faults rows ≡ ValueValidation ∷ []
 caps_refused rows layout most s actors is shown wrong =
-    ap (λ (k : Kinds). or_else k (or_else (option_faults cap_options rows) (or_else (picture_faults rows) (given_faults rows)))) (numbers_fit rows layout most s actors is shown)
-    ∙ ap (λ (k : Kinds). or_else k (or_else (picture_faults rows) (given_faults rows))) wrong
+    ap (λ (k : Kinds). or_else k (or_else (option_faults cap_options rows) (or_else (picture_faults rows) (or_else (seed_faults rows) (given_faults rows))))) (numbers_fit rows layout most s actors is shown)
+    ∙ ap (λ (k : Kinds). or_else k (or_else (picture_faults rows) (or_else (seed_faults rows) (given_faults rows)))) wrong
 
 -- ---- the options of `check`
 
@@ -187,9 +187,9 @@ right_bounds rows whose e = ap (λ (o : Option BoundsOf). cond (is_some o) [] (V
 pub picture_refused : (rows : List Row) (layout : ActorCounts) (most : ℕ) (s : EventRange) (caps : Caps) → HasActors rows layout → Some most ≡ number_of limit rows → HasStretch rows s → HasCaps rows caps → picture_faults rows ≡ ArgumentConflict ∷ []
     → run_faults rows ≡ ArgumentConflict ∷ []
 picture_refused rows layout most s caps actors is shown capped refused =
-    ap (λ (k : Kinds). or_else k (or_else (option_faults cap_options rows) (or_else (picture_faults rows) (given_faults rows)))) (numbers_fit rows layout most s actors is shown)
-    ∙ ap (λ (k : Kinds). or_else k (or_else (picture_faults rows) (given_faults rows))) (caps_fit rows caps capped)
-    ∙ ap (λ (k : Kinds). or_else k (given_faults rows)) refused
+    ap (λ (k : Kinds). or_else k (or_else (option_faults cap_options rows) (or_else (picture_faults rows) (or_else (seed_faults rows) (given_faults rows))))) (numbers_fit rows layout most s actors is shown)
+    ∙ ap (λ (k : Kinds). or_else k (or_else (picture_faults rows) (or_else (seed_faults rows) (given_faults rows)))) (caps_fit rows caps capped)
+    ∙ ap (λ (k : Kinds). or_else k (or_else (seed_faults rows) (given_faults rows))) refused
 
 -- it is wrong with `picture` too
 pub unnumbered_refused : (rows : List Row) → option_faults stretch_options rows ≡ ValueValidation ∷ [] → drawing_faults rows ≡ ValueValidation ∷ []
@@ -206,29 +206,37 @@ backward_refused rows s shown refused =
 pub both_refused : (rows : List Row) (asked : Asked) → is_given inputs rows ≡ true → not (is_empty (given_words rows)) ≡ true → HasReason (input_faults rows) asked Refused
 both_refused rows asked read given = has_conflict (input_faults rows) asked (rw (read, given) refl)
 
+-- a seed of no single run in one thread is a fault of `run`, and so is a wrong one
+pub seed_alone_refused : (rows : List Row) → option_faults number_options rows ≡ [] → option_faults cap_options rows ≡ [] → picture_faults rows ≡ [] → is_seed_alone rows ≡ true → run_faults rows ≡ ArgumentConflict ∷ []
+seed_alone_refused rows numbers capped pictures alone = rw (numbers, capped, pictures, alone) refl
+
+pub seed_refused : (rows : List Row) → option_faults number_options rows ≡ [] → option_faults cap_options rows ≡ [] → picture_faults rows ≡ [] → is_seed_alone rows ≡ false → number_of seed rows ≡ None
+    → run_faults rows ≡ ValueValidation ∷ []
+seed_refused rows numbers capped pictures used wrong = rw (numbers, capped, pictures, used, wrong) refl
+
 -- what `--each` excludes is a fault of `run`
-pub each_refused : (rows : List Row) → option_faults number_options rows ≡ [] → option_faults cap_options rows ≡ [] → picture_faults rows ≡ [] → is_given each rows ≡ true → each_excludes rows ≡ true
+pub each_refused : (rows : List Row) → option_faults number_options rows ≡ [] → option_faults cap_options rows ≡ [] → picture_faults rows ≡ [] → seed_faults rows ≡ [] → is_given each rows ≡ true → each_excludes rows ≡ true
     → run_faults rows ≡ ArgumentConflict ∷ []
-each_refused rows numbers capped pictures given excluded = rw (numbers, capped, pictures, given, excluded) refl
+each_refused rows numbers capped pictures seeds given excluded = rw (numbers, capped, pictures, seeds, given, excluded) refl
 
 -- a wrong number of threads is one too
-pub jobs_refused : (rows : List Row) → option_faults number_options rows ≡ [] → option_faults cap_options rows ≡ [] → picture_faults rows ≡ [] → is_given each rows ≡ true → each_excludes rows ≡ false → number_of jobs rows ≡ None
+pub jobs_refused : (rows : List Row) → option_faults number_options rows ≡ [] → option_faults cap_options rows ≡ [] → picture_faults rows ≡ [] → seed_faults rows ≡ [] → is_given each rows ≡ true → each_excludes rows ≡ false → number_of jobs rows ≡ None
     → run_faults rows ≡ ValueValidation ∷ []
-jobs_refused rows numbers capped pictures given alone wrong = rw (numbers, capped, pictures, given, alone, wrong) refl
+jobs_refused rows numbers capped pictures seeds given alone wrong = rw (numbers, capped, pictures, seeds, given, alone, wrong) refl
 
 -- what `--inputs-json` excludes is a fault of `run`
-pub json_refused : (rows : List Row) → option_faults number_options rows ≡ [] → option_faults cap_options rows ≡ [] → picture_faults rows ≡ [] → is_given each rows ≡ false → is_given inputs_json rows ≡ true → json_excludes rows ≡ true
+pub json_refused : (rows : List Row) → option_faults number_options rows ≡ [] → option_faults cap_options rows ≡ [] → picture_faults rows ≡ [] → seed_faults rows ≡ [] → is_given each rows ≡ false → is_given inputs_json rows ≡ true → json_excludes rows ≡ true
     → run_faults rows ≡ ArgumentConflict ∷ []
-json_refused rows numbers capped pictures single given excluded = rw (numbers, capped, pictures, single, given, excluded) refl
+json_refused rows numbers capped pictures seeds single given excluded = rw (numbers, capped, pictures, seeds, single, given, excluded) refl
 
 -- threads without `--each` are a fault of `run`
-pub jobs_alone_refused : (rows : List Row) → option_faults number_options rows ≡ [] → option_faults cap_options rows ≡ [] → picture_faults rows ≡ [] → is_given each rows ≡ false → is_given inputs_json rows ≡ false
+pub jobs_alone_refused : (rows : List Row) → option_faults number_options rows ≡ [] → option_faults cap_options rows ≡ [] → picture_faults rows ≡ [] → seed_faults rows ≡ [] → is_given each rows ≡ false → is_given inputs_json rows ≡ false
     → is_some (first_of jobs.name rows) ≡ true → run_faults rows ≡ ArgumentConflict ∷ []
-jobs_alone_refused rows numbers capped pictures single words named = rw (numbers, capped, pictures, single, words, named) refl
+jobs_alone_refused rows numbers capped pictures seeds single words named = rw (numbers, capped, pictures, seeds, single, words, named) refl
 
 -- a fault of an option is a fault of the command; without one, a fault of the inputs is
 pub run_refused : (rows : List Row) → option_faults number_options rows ≡ ValueValidation ∷ [] → run_faults rows ≡ ValueValidation ∷ []
-run_refused rows e = ap (λ (k : Kinds). or_else k (or_else (option_faults cap_options rows) (or_else (picture_faults rows) (given_faults rows)))) e
+run_refused rows e = ap (λ (k : Kinds). or_else k (or_else (option_faults cap_options rows) (or_else (picture_faults rows) (or_else (seed_faults rows) (given_faults rows))))) e
 
 pub replay_refused : (rows : List Row) → option_faults actor_options rows ≡ ValueValidation ∷ [] → replay_faults rows ≡ ValueValidation ∷ []
 replay_refused rows e = ap (λ (k : Kinds). or_else k (input_faults rows)) e

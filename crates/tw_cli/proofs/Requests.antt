@@ -17,9 +17,9 @@ pub never_refused : (asked : Asked) (order : Order) (number : RefusedWord) → I
 never_refused (Assembles what) order number is_asked h = h
 never_refused (Disassembles source listed) order number is_asked h = h
 never_refused (Checks source requested) order number is_asked h = h
-never_refused (Runs source answer layout caps most traced turns (Some words)) order number (run, is, answer_is, layout_is, caps_is, limit_is, trace_is, turns_is, spelled) h = none_refused words run.inputs number spelled h
-never_refused (Runs source answer layout caps most traced turns None) order number is_asked h = h
-never_refused (RunsJson source answer layout caps most traced turns) order number is_asked h = h
+never_refused (Runs source answer layout caps most traced turns drawn (Some words)) order number (run, is, answer_is, layout_is, caps_is, limit_is, trace_is, turns_is, seed_is, spelled) h = none_refused words run.inputs number spelled h
+never_refused (Runs source answer layout caps most traced turns drawn None) order number is_asked h = h
+never_refused (RunsJson source answer layout caps most traced turns drawn) order number is_asked h = h
 never_refused (RunsEach source layout caps most threads) order number is_asked h = h
 never_refused (Replays source answer layout (Some words)) order number (replay, is, answer_is, layout_is, spelled) h = none_refused words replay.inputs number spelled h
 never_refused (Replays source answer layout None) order number is_asked h = h
@@ -29,9 +29,9 @@ pub one_refused : (asked : Asked) (number other : RefusedWord) → IsRefusedInpu
 one_refused (Assembles what) number other h k = absurd h
 one_refused (Disassembles source listed) number other h k = absurd h
 one_refused (Checks source requested) number other h k = absurd h
-one_refused (Runs source answer layout caps most traced turns (Some words)) number other h k = one_refused_word words number other h k
-one_refused (Runs source answer layout caps most traced turns None) number other h k = absurd h
-one_refused (RunsJson source answer layout caps most traced turns) number other h k = absurd h
+one_refused (Runs source answer layout caps most traced turns drawn (Some words)) number other h k = one_refused_word words number other h k
+one_refused (Runs source answer layout caps most traced turns drawn None) number other h k = absurd h
+one_refused (RunsJson source answer layout caps most traced turns drawn) number other h k = absurd h
 one_refused (RunsEach source layout caps most threads) number other h k = absurd h
 one_refused (Replays source answer layout (Some words)) number other h k = one_refused_word words number other h k
 one_refused (Replays source answer layout None) number other h k = absurd h
@@ -57,8 +57,8 @@ pub not_refused : (asked : Asked) (text : Explained) (number : RefusedWord) → 
 not_refused (Assembles what) text number e r = e
 not_refused (Disassembles source listed) text number e r = e
 not_refused (Checks source requested) text number e r = e
-not_refused (Runs source answer layout caps most traced turns words) text number e r = e
-not_refused (RunsJson source answer layout caps most traced turns) text number e r = e
+not_refused (Runs source answer layout caps most traced turns drawn words) text number e r = e
+not_refused (RunsJson source answer layout caps most traced turns drawn) text number e r = e
 not_refused (RunsEach source layout caps most threads) text number e r = e
 not_refused (Replays source answer layout words) text number e r = e
 not_refused (Explains explained) text number e r = r

@@ -8,7 +8,8 @@ use Rattle.clap.proofs.OnLiterals.{clap_on_literals}
 use Rattle.tw_cli.specs.declared.command.NoOrder.{NoOrder}
 use Rattle.tw_cli.specs.declared.command.NoOrder.TheVariants.{Help, Refused, InputWord, Explanation, NoMemory}
 use Rattle.tw_cli.specs.Order.{HasReason, IsReason}
-use Rattle.tw_cli.specs.CommandLine.{Asked, asked_by_words, asked_of, command_line, faults_after, word_faults}
+use Rattle.tw_cli.specs.CommandLine.{Asked, asked_by_words, asked_of, faults_after, word_faults}
+use Rattle.tw_cli.specs.Rows.{command_line}
 
 simple : is_simple command_line ≡ true
 unfolding clap_on_literals command_line

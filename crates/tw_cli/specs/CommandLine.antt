@@ -1,14 +1,14 @@
--- The command line: how clap is set up, and what the arguments request.
-use Rattle.std.specs.Prelude.{◌≡◌, ◌||◌, ◌&&◌, ℕ, Bool, true, not, List, [], ◌∷◌, Option, Some, None, codes, bytes_eq, fold, if◌then◌else◌, is_some, map, nat_lt, unwrap_or}
+-- The requests that arguments make, and why they are rejected.
+use Rattle.std.specs.Prelude.{◌≡◌, ◌||◌, ◌&&◌, ℕ, Bool, true, not, List, [], ◌∷◌, Option, Some, None, codes, bytes_eq, if◌then◌else◌, is_some, nat_lt, unwrap_or}
 use Rattle.clap.specs.Kinds.{or_else}
-use Rattle.clap.specs.Lexer.{usize_max}
 use Rattle.clap.specs.Walk.{is_empty}
-use Rattle.clap.specs.Words.{App, Kinds, Row, Rule, Text, all_of, fault_of, first_of, new_app, new_rule, subcommand_of, with_rule, with_subcommand}
+use Rattle.clap.specs.Words.{Kinds, Row, Text, all_of, fault_of, first_of, subcommand_of}
 use Rattle.clap.specs.declared.error.ErrorKind.TheVariants.{ArgumentConflict}
 use Rattle.tw_types.specs.Layout.{ActorCounts}
 use Rattle.tw_inputs.specs.InputWords.{AreSpelled, IsRefusedWord, RefusedWord}
-use Rattle.tw_cli.specs.Options.{NumberOption, actor_options, event_order, ExplainOrder, explaining, given_actors, given_assembly, given_disassembly, given_form, each, events, first_shown, flag_rule, in_turn, inputs, inputs_json, bounds, bounds_faults, cap_options, check_options, given_caps, given_check, checking, is_given, jobs, json, last_shown, limit, main_rule, names, number_options, option_faults, option_rule, picture, picture_options, places, plain, quiet, given_source, stats, stretch_options, given_range, text, requested, trace}
-use Rattle.tw_cli.specs.Explanations.{IsMeaningOf, number_faults, number_rule, number_word}
+use Rattle.tw_cli.specs.Options.{actor_options, ExplainOrder, explaining, given_actors, given_assembly, given_disassembly, given_form, each, events, first_shown, in_turn, inputs, inputs_json, bounds_faults, cap_options, check_options, given_caps, given_check, given_seed, checking, is_given, jobs, json, last_shown, limit, number_options, option_faults, picture, seed, given_source, stats, stretch_options, given_range, requested, trace}
+use Rattle.tw_cli.specs.Rows.{command_line}
+use Rattle.tw_cli.specs.Explanations.{IsMeaningOf, number_faults, number_word}
 use Rattle.tw_order.specs.declared.runs.Answer.{Answer}
 use Rattle.tw_order.specs.declared.runs.Answer.TheVariants.{Json, Numbers, Picture, Report}
 use Rattle.tw_order.specs.declared.runs.RunAnswer.{RunAnswer}
@@ -33,74 +33,6 @@ use Rattle.tw_order.specs.declared.form.DisassembleOrder.{DisassembleOrder}
 use Rattle.tw_cli.specs.declared.form.Explained.{Explained}
 use Rattle.tw_order.specs.declared.order.Source.TheVariants.{Hex}
 
--- a command with options for caps
-abbrev pub capped_line : App → App
-capped_line line = fold with_rule line (map (λ o. option_rule o.name) cap_options)
-
--- adds flags to a command
-abbrev pub flags_line : App → List Text → App
-flags_line line flags = fold with_rule line (map flag_rule flags)
-
--- the command that assembles: symbolic assembly may be read, and expanded text written
-abbrev pub asm_line : App
-asm_line = flags_line (new_app (codes "asm")) (names ∷ plain ∷ json ∷ [])
-
--- returns a command that reads a program, with options for its format and for listing the places
-abbrev pub program_line : Text → App
-program_line name = flags_line (new_app name) (text ∷ places ∷ json ∷ [])
-
--- the command that verifies
-abbrev pub check_line : App
-check_line = capped_line (with_rule (with_rule (with_rule (program_line (codes "check")) (flag_rule event_order)) (main_rule bounds)) (option_rule limit.name))
-
-abbrev pub explain_line : App
-explain_line = with_rule (with_rule (new_app (codes "explain")) number_rule) (flag_rule json)
-
--- returns how clap is set up for arguments of this name, any number of them
-abbrev pub several_rule : Text → Rule
-several_rule name = record (new_rule name) { range = Some (record { start_inclusive = 0; end_inclusive = usize_max }) }
-
--- returns a command with these options, which take numbers
-abbrev pub numbers_line : Text → List NumberOption → App
-numbers_line name options = fold with_rule (new_app name) (map (λ o. option_rule o.name) options)
-
--- adds the options for how the program and its inputs are read, and the input arguments
-abbrev pub reading_line : App → App
-reading_line line = with_rule (flags_line line (text ∷ inputs ∷ [])) (several_rule (codes "input"))
-
--- `run` with its options that take numbers, and the flags for its output
-abbrev pub numbered_line : App
-numbered_line = with_rule (numbers_line (codes "run") number_options) (option_rule jobs.name)
-
-abbrev pub written_line : App
-written_line = flags_line numbered_line (trace ∷ stats ∷ json ∷ each ∷ picture ∷ [])
-
-abbrev pub run_line : App
-run_line = reading_line (flags_line (capped_line written_line) (in_turn ∷ quiet ∷ inputs_json ∷ []))
-
--- the commands that are given a trace
-abbrev pub replay_line : App
-replay_line = reading_line (flags_line (numbers_line (codes "replay") actor_options) (stats ∷ json ∷ events ∷ []))
-
-abbrev pub picture_line : App
-picture_line = reading_line (flags_line (numbers_line (codes "picture") picture_options) (events ∷ []))
-
--- the program without its commands: the arguments come without its own name, and must name a command, or request help or the version
-abbrev pub bare_line : App
-bare_line = record (new_app (codes "tw")) {
-  top = record (new_app (codes "tw")).top {
-    no_binary_name = true;
-    subcommand_required = true;
-    has_version = true;
-  };
-}
-
--- the whole command line
-unfoldable pub command_line : App
-command_line = fold (λ line command. with_subcommand line command.top) bare_line
-    (asm_line ∷ program_line (codes "disasm") ∷ check_line ∷ run_line
-    ∷ replay_line ∷ picture_line ∷ explain_line ∷ [])
-
 -- ---- what the arguments request
 
 -- returns the input arguments that clap found
@@ -112,7 +44,8 @@ abbrev pub listed_words : List Row → Option (List Text)
 listed_words rows = if is_given inputs rows then None else Some (given_words rows)
 
 -- what a command requests. Each that reads a program has its format; `asm`, `disasm` and `check` have what they print. `run` has its
--- output, its actors, its maximum number of events, whether its trace is written, whether it is single-threaded, and its input arguments. `replay`
+-- output, its actors, its maximum number of events, whether its trace is written, whether it is single-threaded, its seed if it has one, and its input
+-- arguments. `replay`
 -- and `picture` have their output, their actors and their input arguments. Without input arguments the inputs are read after the program. `run` with
 -- JSON inputs has what `run` has, without input arguments. `run` of each line has its actors, its caps, the maximum number of events of each run, and
 -- how many threads answer lines. `explain` has its code.
@@ -120,8 +53,8 @@ pub data Asked : Type 0 where
   Assembles : AssembleOrder → Asked
   Disassembles : Source → DisassembleOrder → Asked
   Checks : Source → CheckOrder → Asked
-  Runs : Source → RunAnswer → ActorCounts → Caps → ℕ → Bool → Bool → Option (List Text) → Asked
-  RunsJson : Source → RunAnswer → ActorCounts → Caps → ℕ → Bool → Bool → Asked
+  Runs : Source → RunAnswer → ActorCounts → Caps → ℕ → Bool → Bool → Option ℕ → Option (List Text) → Asked
+  RunsJson : Source → RunAnswer → ActorCounts → Caps → ℕ → Bool → Bool → Option ℕ → Asked
   RunsEach : Source → ActorCounts → Caps → ℕ → ℕ → Asked
   Replays : Source → Answer → ActorCounts → Option (List Text) → Asked
   Explains : ExplainOrder → Asked
@@ -139,11 +72,11 @@ run_answer rows = if is_given picture rows then written.Picture (given_range row
 -- return the request of `run`, from what clap found after it: of one run, of one with JSON inputs, and of any
 abbrev pub single_asked : List Row → Asked
 single_asked rows =
-    Runs (given_source rows) (run_answer rows) (given_actors rows) (given_caps rows) (requested limit rows) (is_given trace rows) (is_given in_turn rows) (listed_words rows)
+    Runs (given_source rows) (run_answer rows) (given_actors rows) (given_caps rows) (requested limit rows) (is_given trace rows) (is_given in_turn rows) (given_seed rows) (listed_words rows)
 
 abbrev pub json_asked : List Row → Asked
 json_asked rows =
-    RunsJson (given_source rows) (run_answer rows) (given_actors rows) (given_caps rows) (requested limit rows) (is_given trace rows) (is_given in_turn rows)
+    RunsJson (given_source rows) (run_answer rows) (given_actors rows) (given_caps rows) (requested limit rows) (is_given trace rows) (is_given in_turn rows) (given_seed rows)
 
 abbrev pub run_asked : List Row → Asked
 run_asked rows =
@@ -180,13 +113,13 @@ abbrev pub IsAsked : Asked → Order → Type 0
 IsAsked (Assembles what) order = order ≡ Assemble what
 IsAsked (Disassembles source listed) order = order ≡ Program source (Disassemble listed)
 IsAsked (Checks source requested) order = order ≡ Program source (Verified (Check requested))
-IsAsked (Runs source answer layout caps most traced turns (Some words)) order =
+IsAsked (Runs source answer layout caps most traced turns drawn (Some words)) order =
     (run : RunOrder) × (order ≡ Program source (Verified (Run run)))
-    × (run.answer ≡ answer) × (run.layout ≡ layout) × (run.caps ≡ caps) × (run.limit ≡ most) × (run.trace ≡ traced) × (run.in_turn ≡ turns) × AreSpelled run.inputs words
-IsAsked (Runs source answer layout caps most traced turns None) order =
-    (run : RunOptions) × (order ≡ Inputs source (ToRun run)) × (run.answer ≡ answer) × (run.layout ≡ layout) × (run.caps ≡ caps) × (run.limit ≡ most) × (run.trace ≡ traced) × (run.in_turn ≡ turns)
-IsAsked (RunsJson source answer layout caps most traced turns) order =
-    (run : RunOptions) × (order ≡ Inputs source (ToRunJson run)) × (run.answer ≡ answer) × (run.layout ≡ layout) × (run.caps ≡ caps) × (run.limit ≡ most) × (run.trace ≡ traced) × (run.in_turn ≡ turns)
+    × (run.answer ≡ answer) × (run.layout ≡ layout) × (run.caps ≡ caps) × (run.limit ≡ most) × (run.trace ≡ traced) × (run.in_turn ≡ turns) × (run.seed ≡ drawn) × AreSpelled run.inputs words
+IsAsked (Runs source answer layout caps most traced turns drawn None) order =
+    (run : RunOptions) × (order ≡ Inputs source (ToRun run)) × (run.answer ≡ answer) × (run.layout ≡ layout) × (run.caps ≡ caps) × (run.limit ≡ most) × (run.trace ≡ traced) × (run.in_turn ≡ turns) × (run.seed ≡ drawn)
+IsAsked (RunsJson source answer layout caps most traced turns drawn) order =
+    (run : RunOptions) × (order ≡ Inputs source (ToRunJson run)) × (run.answer ≡ answer) × (run.layout ≡ layout) × (run.caps ≡ caps) × (run.limit ≡ most) × (run.trace ≡ traced) × (run.in_turn ≡ turns) × (run.seed ≡ drawn)
 IsAsked (RunsEach source layout caps most threads) order =
     (run : EachOrder) × (order ≡ Each source run) × (run.layout ≡ layout) × (run.caps ≡ caps) × (run.limit ≡ most) × (run.jobs ≡ threads)
 IsAsked (Replays source answer layout (Some words)) order =
@@ -200,9 +133,9 @@ abbrev pub IsRefusedInput : Asked → RefusedWord → Type 0
 IsRefusedInput (Assembles what) refused = ⊥
 IsRefusedInput (Disassembles source listed) refused = ⊥
 IsRefusedInput (Checks source requested) refused = ⊥
-IsRefusedInput (Runs source answer layout caps most traced turns (Some words)) refused = IsRefusedWord words refused
-IsRefusedInput (Runs source answer layout caps most traced turns None) refused = ⊥
-IsRefusedInput (RunsJson source answer layout caps most traced turns) refused = ⊥
+IsRefusedInput (Runs source answer layout caps most traced turns drawn (Some words)) refused = IsRefusedWord words refused
+IsRefusedInput (Runs source answer layout caps most traced turns drawn None) refused = ⊥
+IsRefusedInput (RunsJson source answer layout caps most traced turns drawn) refused = ⊥
 IsRefusedInput (RunsEach source layout caps most threads) refused = ⊥
 IsRefusedInput (Replays source answer layout (Some words)) refused = IsRefusedWord words refused
 IsRefusedInput (Replays source answer layout None) refused = ⊥
@@ -213,8 +146,8 @@ abbrev pub IsExplained : Asked → Explained → Type 0
 IsExplained (Assembles what) explained = ⊥
 IsExplained (Disassembles source listed) explained = ⊥
 IsExplained (Checks source requested) explained = ⊥
-IsExplained (Runs source answer layout caps most traced turns words) explained = ⊥
-IsExplained (RunsJson source answer layout caps most traced turns) explained = ⊥
+IsExplained (Runs source answer layout caps most traced turns drawn words) explained = ⊥
+IsExplained (RunsJson source answer layout caps most traced turns drawn) explained = ⊥
 IsExplained (RunsEach source layout caps most threads) explained = ⊥
 IsExplained (Replays source answer layout words) explained = ⊥
 IsExplained (Explains order) explained = (explained.form ≡ order.form) × IsMeaningOf order.word explained.code.items explained.text.items
@@ -251,6 +184,14 @@ json_input_faults rows = if json_excludes rows then ArgumentConflict ∷ [] else
 abbrev pub given_faults : List Row → Kinds
 given_faults rows = if is_given each rows then each_faults rows else if is_given inputs_json rows then json_input_faults rows else single_faults rows
 
+-- returns whether a seed is given, but no single run in one thread is requested
+abbrev pub is_seed_alone : List Row → Bool
+is_seed_alone rows = is_some (first_of seed.name rows) && (not (is_given in_turn rows) || is_given each rows)
+
+-- returns the fault of such a seed, or of its number
+abbrev pub seed_faults : List Row → Kinds
+seed_faults rows = if is_seed_alone rows then ArgumentConflict ∷ [] else option_faults (seed ∷ []) rows
+
 -- returns the fault of a range whose last event is before its first
 abbrev pub stretch_faults : List Row → Kinds
 stretch_faults rows = if nat_lt (requested last_shown rows) (requested first_shown rows) then ArgumentConflict ∷ [] else []
@@ -276,7 +217,7 @@ picture_faults rows = if is_given picture rows then drawn_faults rows else if is
 
 -- return the faults of `run`, and of a trace and its inputs
 abbrev pub run_faults : List Row → Kinds
-run_faults rows = or_else (option_faults number_options rows) (or_else (option_faults cap_options rows) (or_else (picture_faults rows) (given_faults rows)))
+run_faults rows = or_else (option_faults number_options rows) (or_else (option_faults cap_options rows) (or_else (picture_faults rows) (or_else (seed_faults rows) (given_faults rows))))
 
 abbrev pub check_faults : List Row → Kinds
 check_faults rows = or_else (option_faults check_options rows) (bounds_faults rows)

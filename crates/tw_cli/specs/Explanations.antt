@@ -3,7 +3,7 @@ use Rattle.std.specs.Prelude.{◌≡◌, ◌++◌, ◌==◌, ◌&&◌, ◌||◌,
 use Rattle.std.specs.List.{list_any, starts_with}
 use Rattle.std.specs.Char.{to_ascii_uppercase}
 use Rattle.std.specs.Str.{bytes_eq}
-use Rattle.clap.specs.Words.{Kinds, Row, Rule, Text, first_of, new_rule}
+use Rattle.clap.specs.Words.{Kinds, Row, Text, first_of}
 use Rattle.clap.specs.declared.error.ErrorKind.TheVariants.{ValueValidation}
 
 -- ---- all codes, as errors and traps name them
@@ -74,10 +74,7 @@ IsExplainedBy false word code text = (code ≡ meant word) × IsExplanation (mea
 abbrev pub IsMeaningOf : Text → Text → List ℕ → Type 0
 IsMeaningOf word code text = IsExplainedBy (length word == 0) word code text
 
--- the argument after `explain`, which may be missing
-abbrev pub number_rule : Rule
-number_rule = new_rule (codes "number")
-
+-- returns the argument after `explain`, or an empty one
 abbrev pub number_word : List Row → Text
 number_word rows = unwrap_or (first_of (codes "number") rows) []
 

@@ -7,8 +7,8 @@ abbrev pub turned : Asked → Asked
 turned (Assembles what) = Assembles what
 turned (Disassembles source listed) = Disassembles source listed
 turned (Checks source listed) = Checks source listed
-turned (Runs source answer layout caps most traced turns words) = Runs source answer layout caps most traced true words
-turned (RunsJson source answer layout caps most traced turns) = RunsJson source answer layout caps most traced true
+turned (Runs source answer layout caps most traced turns drawn words) = Runs source answer layout caps most traced true drawn words
+turned (RunsJson source answer layout caps most traced turns drawn) = RunsJson source answer layout caps most traced true drawn
 turned (RunsEach source layout caps most threads) = RunsEach source layout caps most threads
 turned (Replays source answer layout words) = Replays source answer layout words
 turned (Explains number) = Explains number

@@ -102,6 +102,10 @@ trace = codes "trace"
 abbrev pub in_turn : Text
 in_turn = codes "in-turn"
 
+-- the option of `run` with `--in-turn`: what decides the order of the actors' steps
+abbrev pub seed : NumberOption
+seed = record { name = codes "seed"; most = 18446744073709551615; default = 1 }
+
 -- the flag of `run` and `replay`: the statistics of the events are written after the report
 abbrev pub stats : Text
 stats = codes "stats"
@@ -275,6 +279,10 @@ given_bounds rows = option_map_or bounds_in (first_of bounds rows) (Some NoBound
 -- returns the limit, if the option is given
 abbrev pub named_limit : List Row → Option ℕ
 named_limit rows = if is_some (first_of limit.name rows) then Some (requested limit rows) else None
+
+-- returns the seed, if the option is given
+abbrev pub given_seed : List Row → Option ℕ
+given_seed rows = if is_some (first_of seed.name rows) then Some (requested seed rows) else None
 
 -- returns whether a check says if the order of events may show
 abbrev pub given_event_order : List Row → EventOrder

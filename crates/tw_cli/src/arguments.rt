@@ -16,7 +16,9 @@ fn argument<'a>(alloc: Global, row: &ArgumentRow<'a>) -> Arg<'a>
 {
     let bare = Arg::new(alloc, row.name).help(row.help);
     match row.form {
-        ArgumentForm::Flag => bare.long(row.name).action(ArgAction::SetTrue),
+        ArgumentForm::Flag | ArgumentForm::Inputs | ArgumentForm::Trace => {
+            bare.long(row.name).action(ArgAction::SetTrue)
+        }
         ArgumentForm::Value => bare.long(row.name),
         ArgumentForm::ValueOrMain => bare
             .long(row.name)

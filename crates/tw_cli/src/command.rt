@@ -4,7 +4,7 @@ ghost use Rattle.std.specs.Prelude.{◌≡◌, false, IfOk};
 ghost use Rattle.std.specs.List.{fold};
 ghost use Rattle.clap.specs.Words.{App, app_of, with_subcommand};
 ghost use Rattle.clap.specs.declared.Command.TheViews.{out-Command};
-ghost use Rattle.tw_cli.specs.CommandLine.{bare_line, command_line};
+ghost use Rattle.tw_cli.specs.Rows.{bare_line, command_line};
 ghost use Rattle.tw_cli.specs.reading.Rows.{with_row};
 ghost use Rattle.tw_cli.specs.declared.command.NoOrder.TheVariants.{NoMemory};
 

@@ -5,8 +5,8 @@ use crate::help::{
     FROM_HELP, IN_TURN_HELP, INPUT_HELP, INPUTS_HELP, INPUTS_JSON_HELP, JOBS_HELP, JSON_HELP,
     LIMIT_HELP, MOST_BUDGET_HELP, MOST_BYTES_HELP, MOST_DATA_HELP, MOST_INSTRUCTIONS_HELP,
     MOST_TASKS_HELP, NAMES_HELP, NUMBER_HELP, ORDER_HELP, PICTURE, PICTURE_HELP, PLACES_HELP,
-    PLAIN_HELP, QUIET_HELP, REPLAY, RUN, SERVERS_HELP, STATS_HELP, TEXT_HELP, TO_HELP, TRACE_HELP,
-    WORKERS_HELP,
+    PLAIN_HELP, QUIET_HELP, REPLAY, RUN, SEED_HELP, SERVERS_HELP, STATS_HELP, TEXT_HELP, TO_HELP,
+    TRACE_HELP, WORKERS_HELP,
 };
 
 /// How an argument is given.
@@ -18,6 +18,10 @@ pub enum ArgumentForm {
     Value,
     /// As an option whose value may be left out; it is `main` then.
     ValueOrMain,
+    /// As an option without a value, after which `tw` takes the name of the file of inputs.
+    Inputs,
+    /// As an option without a value, after which `tw` takes the name of the file of the trace.
+    Trace,
     /// By its position.
     Position,
     /// By its position, any number of times.
@@ -34,24 +38,26 @@ pub struct ArgumentRow<'a> {
 /// A command, and its arguments in the order of its help.
 pub struct CommandRow<'a> {
     pub name: &'a str,
+    /// Whether `tw` takes the name of the program's file among the arguments.
+    pub reads_program: bool,
     pub help: CommandHelp<'a>,
     pub arguments: &'a [ArgumentRow<'a>],
 }
 
 /// The commands, in the order of the program's help.
 #[rattlefmt::skip]
-pub(crate) const COMMANDS: [CommandRow<'static>; 7] = [
-    CommandRow { name: "asm", help: ASM, arguments: &[
+pub const COMMANDS: [CommandRow<'static>; 7] = [
+    CommandRow { name: "asm", reads_program: true, help: ASM, arguments: &[
         ArgumentRow { form: ArgumentForm::Flag, name: "names", help: NAMES_HELP },
         ArgumentRow { form: ArgumentForm::Flag, name: "plain", help: PLAIN_HELP },
         ArgumentRow { form: ArgumentForm::Flag, name: "json", help: JSON_HELP },
     ] },
-    CommandRow { name: "disasm", help: DISASM, arguments: &[
+    CommandRow { name: "disasm", reads_program: true, help: DISASM, arguments: &[
         ArgumentRow { form: ArgumentForm::Flag, name: "text", help: TEXT_HELP },
         ArgumentRow { form: ArgumentForm::Flag, name: "places", help: PLACES_HELP },
         ArgumentRow { form: ArgumentForm::Flag, name: "json", help: JSON_HELP },
     ] },
-    CommandRow { name: "check", help: CHECK, arguments: &[
+    CommandRow { name: "check", reads_program: true, help: CHECK, arguments: &[
         ArgumentRow { form: ArgumentForm::Flag, name: "text", help: TEXT_HELP },
         ArgumentRow { form: ArgumentForm::Flag, name: "places", help: PLACES_HELP },
         ArgumentRow { form: ArgumentForm::Flag, name: "json", help: JSON_HELP },
@@ -64,7 +70,7 @@ pub(crate) const COMMANDS: [CommandRow<'static>; 7] = [
         ArgumentRow { form: ArgumentForm::Value, name: "most-bytes", help: MOST_BYTES_HELP },
         ArgumentRow { form: ArgumentForm::Value, name: "most-budget", help: MOST_BUDGET_HELP },
     ] },
-    CommandRow { name: "run", help: RUN, arguments: &[
+    CommandRow { name: "run", reads_program: true, help: RUN, arguments: &[
         ArgumentRow { form: ArgumentForm::Value, name: "engines", help: ENGINES_HELP },
         ArgumentRow { form: ArgumentForm::Value, name: "servers", help: SERVERS_HELP },
         ArgumentRow { form: ArgumentForm::Value, name: "workers", help: WORKERS_HELP },
@@ -75,7 +81,7 @@ pub(crate) const COMMANDS: [CommandRow<'static>; 7] = [
         ArgumentRow { form: ArgumentForm::Flag, name: "trace", help: TRACE_HELP },
         ArgumentRow { form: ArgumentForm::Flag, name: "stats", help: STATS_HELP },
         ArgumentRow { form: ArgumentForm::Flag, name: "json", help: JSON_HELP },
-        ArgumentRow { form: ArgumentForm::Flag, name: "each", help: EACH_HELP },
+        ArgumentRow { form: ArgumentForm::Inputs, name: "each", help: EACH_HELP },
         ArgumentRow { form: ArgumentForm::Flag, name: "picture", help: PICTURE_HELP },
         ArgumentRow { form: ArgumentForm::Value, name: "most-tasks", help: MOST_TASKS_HELP },
         ArgumentRow { form: ArgumentForm::Value, name: "most-instructions", help: MOST_INSTRUCTIONS_HELP },
@@ -83,35 +89,36 @@ pub(crate) const COMMANDS: [CommandRow<'static>; 7] = [
         ArgumentRow { form: ArgumentForm::Value, name: "most-bytes", help: MOST_BYTES_HELP },
         ArgumentRow { form: ArgumentForm::Value, name: "most-budget", help: MOST_BUDGET_HELP },
         ArgumentRow { form: ArgumentForm::Flag, name: "in-turn", help: IN_TURN_HELP },
+        ArgumentRow { form: ArgumentForm::Value, name: "seed", help: SEED_HELP },
         ArgumentRow { form: ArgumentForm::Flag, name: "quiet", help: QUIET_HELP },
-        ArgumentRow { form: ArgumentForm::Flag, name: "inputs-json", help: INPUTS_JSON_HELP },
+        ArgumentRow { form: ArgumentForm::Inputs, name: "inputs-json", help: INPUTS_JSON_HELP },
         ArgumentRow { form: ArgumentForm::Flag, name: "text", help: TEXT_HELP },
-        ArgumentRow { form: ArgumentForm::Flag, name: "inputs", help: INPUTS_HELP },
+        ArgumentRow { form: ArgumentForm::Inputs, name: "inputs", help: INPUTS_HELP },
         ArgumentRow { form: ArgumentForm::Positions, name: "input", help: INPUT_HELP },
     ] },
-    CommandRow { name: "replay", help: REPLAY, arguments: &[
+    CommandRow { name: "replay", reads_program: true, help: REPLAY, arguments: &[
         ArgumentRow { form: ArgumentForm::Value, name: "engines", help: ENGINES_HELP },
         ArgumentRow { form: ArgumentForm::Value, name: "servers", help: SERVERS_HELP },
         ArgumentRow { form: ArgumentForm::Value, name: "workers", help: WORKERS_HELP },
         ArgumentRow { form: ArgumentForm::Flag, name: "stats", help: STATS_HELP },
         ArgumentRow { form: ArgumentForm::Flag, name: "json", help: JSON_HELP },
-        ArgumentRow { form: ArgumentForm::Flag, name: "events", help: EVENTS_HELP },
+        ArgumentRow { form: ArgumentForm::Trace, name: "events", help: EVENTS_HELP },
         ArgumentRow { form: ArgumentForm::Flag, name: "text", help: TEXT_HELP },
-        ArgumentRow { form: ArgumentForm::Flag, name: "inputs", help: INPUTS_HELP },
+        ArgumentRow { form: ArgumentForm::Inputs, name: "inputs", help: INPUTS_HELP },
         ArgumentRow { form: ArgumentForm::Positions, name: "input", help: INPUT_HELP },
     ] },
-    CommandRow { name: "picture", help: PICTURE, arguments: &[
+    CommandRow { name: "picture", reads_program: true, help: PICTURE, arguments: &[
         ArgumentRow { form: ArgumentForm::Value, name: "engines", help: ENGINES_HELP },
         ArgumentRow { form: ArgumentForm::Value, name: "servers", help: SERVERS_HELP },
         ArgumentRow { form: ArgumentForm::Value, name: "workers", help: WORKERS_HELP },
         ArgumentRow { form: ArgumentForm::Value, name: "from", help: FROM_HELP },
         ArgumentRow { form: ArgumentForm::Value, name: "to", help: TO_HELP },
-        ArgumentRow { form: ArgumentForm::Flag, name: "events", help: EVENTS_HELP },
+        ArgumentRow { form: ArgumentForm::Trace, name: "events", help: EVENTS_HELP },
         ArgumentRow { form: ArgumentForm::Flag, name: "text", help: TEXT_HELP },
-        ArgumentRow { form: ArgumentForm::Flag, name: "inputs", help: INPUTS_HELP },
+        ArgumentRow { form: ArgumentForm::Inputs, name: "inputs", help: INPUTS_HELP },
         ArgumentRow { form: ArgumentForm::Positions, name: "input", help: INPUT_HELP },
     ] },
-    CommandRow { name: "explain", help: EXPLAIN, arguments: &[
+    CommandRow { name: "explain", reads_program: false, help: EXPLAIN, arguments: &[
         ArgumentRow { form: ArgumentForm::Position, name: "number", help: NUMBER_HELP },
         ArgumentRow { form: ArgumentForm::Flag, name: "json", help: JSON_HELP },
     ] },

@@ -6,6 +6,7 @@ ghost use Rattle.tw_cli.specs.CommandLine.{each_excludes, json_excludes};
 ghost use Rattle.tw_cli.specs.Options.{jobs, number_of};
 
 use crate::found::{flag_given, has_words, number_given};
+use crate::seed::is_seed_alone;
 use crate::shown::{Conflict, has_more, is_named};
 use clap::ArgMatches;
 
@@ -39,10 +40,12 @@ pub(crate) fn json_excludes(matches: &ArgMatches<'_>) -> bool
     names_jobs(matches) || (flag_given(matches, "inputs") || has_words(matches))
 }
 
-/// Returns the conflict of `--each`, `--jobs` and `--inputs-json` with other options.
+/// Returns the conflict of `--seed`, `--each`, `--jobs` and `--inputs-json` with other options.
 pub(crate) fn each_conflict(matches: &ArgMatches<'_>) -> Option<Conflict> {
     let each = flag_given(matches, "each");
-    if each && each_excludes(matches) {
+    if is_seed_alone(matches) {
+        Some(Conflict::SeedAlone)
+    } else if each && each_excludes(matches) {
         Some(Conflict::EachWithMore)
     } else if !each && names_jobs(matches) {
         Some(Conflict::JobsAlone)

@@ -11,7 +11,7 @@ pub(crate) struct CommandHelp<'a> {
 }
 
 /// The program's version, which the newest section of CHANGELOG.md names.
-pub(crate) const VERSION: &str = "0.21";
+pub(crate) const VERSION: &str = "0.22";
 
 pub(crate) const ABOUT: &str = "Assembles, checks and runs dataflow programs of the task host.";
 
@@ -82,8 +82,8 @@ is a number, a string or an object of members by subscript: [39, \"abc\", {\"1\"
 by one line, in order: the object of --json, with the line's number as `line`. With --jobs N, N threads answer parts of the lines.
 With --inputs-json all that follows the line `inputs` is one such array, which may have several lines, with the inputs of one run.
 With --inputs the inputs are read instead: after the program a line `inputs`, then one input a line, up to a line `end` or the
-end. An input is its whole line; empty lines are skipped. No input is an argument then. With --inputs FILE, --inputs-json FILE
-and --each FILE the lines after `inputs` are those of a file; - is standard input.
+end. An input is its whole line; empty lines are skipped. No input is an argument then. With --inputs DATA, --inputs-json DATA
+and --each DATA the lines after `inputs` are those of a file; - is standard input.
 Options may come before, after or between the inputs. --trace, --in-turn, --stats, --picture, --quiet, --text, --inputs,
 --inputs-json and --each take no value; the others take a number in decimal digits.
 With --most-tasks, --most-instructions, --most-data, --most-bytes or --most-budget, a program is rejected before it runs, as O07,
@@ -93,7 +93,8 @@ With --trace the trace precedes the report: a line `events`, a line for each eve
 hex text, a line end and this output can be piped into `tw replay`, with the same inputs, engines, servers and workers.
 Each engine, server and worker is a thread. With --in-turn there is one thread, in which the engines, then the servers, then
 the workers take turns, again and again. The same command makes the same trace each time; that is proved as long as no
-server has two notices to choose from.
+server has two notices to choose from. With --in-turn --seed N the number N decides who takes the next turn; the same N gives
+the same trace, another N may give another. What depends on the order of events shows so. --each is excluded then.
 A run in threads of more than two seconds prints once a second on standard error, if that is a terminal, how many events
 there are so far, and --each how many lines are answered, how many that is a second, and how long the others take. With
 --quiet nothing is printed, nor by a run with --in-turn.
@@ -179,14 +180,17 @@ pub(crate) const TRACE_HELP: &str =
 pub(crate) const IN_TURN_HELP: &str =
     "Run in one thread, in which the actors take turns in a fixed order";
 
+pub(crate) const SEED_HELP: &str =
+    "With --in-turn: another order of the turns, which this number decides, from 1 to 18446744073709551615";
+
 pub(crate) const INPUT_HELP: &str =
     "An input: int:, text:, ints:, texts:, tints: or ttexts:, and its value";
 
 pub(crate) const INPUTS_HELP: &str =
-    "Read the inputs: they follow the program and a line `inputs`, one a line";
+    "Read the inputs, one a line: they follow the program and a line `inputs`, or are in a file DATA";
 
 pub(crate) const INPUTS_JSON_HELP: &str =
-    "Read the inputs as JSON: they follow the program and a line `inputs`, in one array";
+    "Read the inputs as one JSON array: it follows the program and a line `inputs`, or is in a file DATA";
 
 pub(crate) const JSON_HELP: &str = "Write a JSON object on one line in place of the output";
 
@@ -194,10 +198,10 @@ pub(crate) const JOBS_HELP: &str =
     "With --each: answer lines in so many threads, 1 to 64; 1 by default";
 
 pub(crate) const EACH_HELP: &str =
-    "Run each line of inputs after the program, a JSON array, and write a JSON line for each";
+    "Run each line of inputs, a JSON array, after the program or in a file DATA, and write a JSON line for each";
 
 pub(crate) const EVENTS_HELP: &str =
-    "Read the trace from a file of its own: the line `events` and those after it";
+    "Read the trace from a file TRACE: the line `events` and those after it";
 
 pub(crate) const STATS_HELP: &str =
     "Write statistics after the report: events by kind, procedure and actor, and the longest chain";

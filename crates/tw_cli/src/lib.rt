@@ -15,13 +15,17 @@ mod explanations;
 mod form;
 mod found;
 mod help;
+mod option_forms;
 mod orders;
+mod seed;
 mod shown;
 mod theorems;
 mod wrong_words;
 
 pub use command::NoOrder;
+pub use command_rows::ArgumentForm;
 pub use form::Explained;
+pub use option_forms::{is_option, reads_program};
 pub use orders::{read_order, rejects};
-pub use theorems::{commands_are_taken, strangers_are_refused};
+pub use theorems::{commands_are_taken, options_have_forms, strangers_are_refused};
 pub use wrong_words::complaint;

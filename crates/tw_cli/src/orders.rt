@@ -22,6 +22,7 @@ use crate::form::{assembly_given, disassembly_given, form_given};
 use crate::found::{
     answer_given, flag_given, inputs_given, layout_given, limit_given, source_given,
 };
+use crate::seed::{is_seed_alone, seed_named, seed_number};
 use crate::shown::{event_range_given, is_json_with_more, run_answer};
 use clap::error::ErrorKind;
 use clap::{ArgMatches, Error};
@@ -57,6 +58,10 @@ fn run_options(matches: &ArgMatches<'_>) -> Option<RunOptions>
     let Ok(answer) = run_answer(matches, stretch) else {
         return None;
     };
+    if is_seed_alone(matches) {
+        return None;
+    }
+    let seed = seed_number(matches)?;
     Some(RunOptions {
         answer,
         layout,
@@ -64,6 +69,7 @@ fn run_options(matches: &ArgMatches<'_>) -> Option<RunOptions>
         caps,
         trace: flag_given(matches, "trace"),
         in_turn: flag_given(matches, "in-turn"),
+        seed: seed_named(matches, seed),
     })
 }
 

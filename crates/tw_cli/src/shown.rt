@@ -21,6 +21,8 @@ pub(crate) enum Conflict {
     JsonInputsWithMore,
     /// A number of threads without a run of each line.
     JobsAlone,
+    /// A seed without a single run in one thread.
+    SeedAlone,
     /// A timeline, together with a trace, statistics or a JSON line.
     PictureWithMore,
     /// A range of events without a timeline.

@@ -12,6 +12,7 @@ use crate::command::{NoOrder, command};
 use crate::each::{each_conflict, jobs_given};
 use crate::found::{flag_given, number_given};
 use crate::orders::{order_of, reason_of};
+use crate::seed::seed_number;
 use crate::shown::{Conflict, event_range_given, run_answer};
 use clap::error::ErrorKind;
 use clap::{ArgMatches, Error};
@@ -30,6 +31,8 @@ fn range_line(given: &ArgMatches<'_>) -> Option<&'static str> {
         Some("error: --limit takes a number from 1 to 1000000\n")
     } else if jobs_given(given).is_none() {
         Some("error: --jobs takes a number from 1 to 64\n")
+    } else if seed_number(given).is_none() {
+        Some("error: --seed takes a number from 1 to 18446744073709551615\n")
     } else if event_range_given(given).is_none() {
         Some("error: --from and --to take numbers from 1 to 4294967295\n")
     } else if caps_given(given).is_none() {
@@ -49,6 +52,7 @@ fn conflict_line(conflict: Conflict) -> &'static str {
             "error: --inputs-json excludes --inputs and input arguments\n"
         }
         Conflict::JobsAlone => "error: --jobs needs --each\n",
+        Conflict::SeedAlone => "error: --seed needs --in-turn, and excludes --each\n",
         Conflict::PictureWithMore => "error: --picture excludes --trace, --stats and --json\n",
         Conflict::RangeAlone => "error: --from and --to need --picture\n",
         Conflict::Reversed => "error: --to takes no number below that of --from\n",

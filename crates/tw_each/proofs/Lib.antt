@@ -1,2 +1,7 @@
 pub mod InputLines
 pub mod LineAnswers
+pub mod Pieces
+pub mod Written
+pub mod Chunks
+pub mod Slices
+pub mod Room

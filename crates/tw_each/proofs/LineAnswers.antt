@@ -1,20 +1,38 @@
 -- The answers to lines, one more after the others.
-use Rattle.std.proofs.Common.{◌≡◌, ◌+◌, ◌<◌, ◌++◌, ◌||◌, ◌∙◌, ℕ, suc, Bool, Bor, true, false, List, [], ◌∷◌, arith, ap, append_assoc, get_or, length, map, refl, subst, sym, take}
+use Rattle.std.proofs.Common.{◌≡◌, ◌+◌, ◌<◌, ◌++◌, ◌||◌, ◌∙◌, ℕ, suc, Bool, Bor, true, false, List, [], ◌∷◌, IsUtf8, arith, ap, append_assoc, get_or, inl, inr, length, map, nat_lt, refl, subst, sym, take}
 use Rattle.std.proofs.lemmas.List.{append-nil, length-map, length-take-le, map-append, take_more}
-use Rattle.tw_each.specs.Answers.{AreAnswers, IsAnswer, IsLine, Way, is_blank, numbered}
+use Rattle.tw_program_output.specs.Input.{most_bytes}
+use Rattle.tw_each.specs.Answers.{AreAnswers, IsAnswer, IsFullLine, IsLine, IsShortLine, Way, is_blank, numbered, other_bytes, too_long, unread_line}
 
 -- ---- one line
 
-pub blank_line : (w : Way) (n : ℕ) (text : List ℕ) → is_blank text ≡ true → IsLine w n text [] false
+pub blank_line : (w : Way) (n : ℕ) (text : List ℕ) → is_blank text ≡ true → IsShortLine w n text [] false
 blank_line w n text blank = rw blank (refl, refl)
 
-pub answered_line : (w : Way) (n : ℕ) (text old new : List ℕ) (refused : Bool) → is_blank text ≡ false → (line : List ℕ) × IsAnswer w text line refused × (new ≡ old ++ numbered n line)
-    → (answer : List ℕ) × IsLine w n text answer refused × (new ≡ old ++ answer)
-answered_line w n text old new refused blank (line, h, is) = (numbered n line, rw blank (line, h, refl), is)
+full_line : (w : Way) (n : ℕ) (text answer : List ℕ) (refused : Bool) → is_blank text ≡ false → IsFullLine w n text answer refused → IsShortLine w n text answer refused
+full_line w n text answer refused blank h = rw blank h
+
+pub text_line : (w : Way) (n : ℕ) (line text old new : List ℕ) (refused : Bool) → is_blank line ≡ false → text ≡ line → IsUtf8 line
+    → (answer : List ℕ) × IsAnswer w text answer refused × (new ≡ old ++ numbered n answer) → (answer : List ℕ) × IsShortLine w n line answer refused × (new ≡ old ++ answer)
+text_line w n line text old new refused blank same utf8 (answer, h, is) =
+    (numbered n answer, full_line w n line (numbered n answer) refused blank (inl (utf8, (answer, subst (λ (t : List ℕ). IsAnswer w t answer refused) same h, refl))), is)
+
+pub other_line : (w : Way) (n : ℕ) (line old new : List ℕ) (refused : Bool) → is_blank line ≡ false → (IsUtf8 line → ⊥)
+    → (refused ≡ true) × (new ≡ old ++ numbered n (unread_line other_bytes)) → (answer : List ℕ) × IsShortLine w n line answer refused × (new ≡ old ++ answer)
+other_line w n line old new refused blank other (is_refused, is) =
+    (numbered n (unread_line other_bytes), full_line w n line _ refused blank (inr (other, refl, is_refused)), is)
+
+pub long_line : (w : Way) (n : ℕ) (line old new : List ℕ) (refused : Bool) → nat_lt most_bytes (length line) ≡ true
+    → (refused ≡ true) × (new ≡ old ++ numbered n (unread_line too_long)) → (answer : List ℕ) × IsLine w n line answer refused × (new ≡ old ++ answer)
+long_line w n line old new refused long (is_refused, is) = (numbered n (unread_line too_long), rw long (refl, is_refused), is)
+
+pub short_line : (w : Way) (n : ℕ) (line old new : List ℕ) (refused : Bool) → nat_lt most_bytes (length line) ≡ false
+    → (answer : List ℕ) × IsShortLine w n line answer refused × (new ≡ old ++ answer) → (answer : List ℕ) × IsLine w n line answer refused × (new ≡ old ++ answer)
+short_line w n line old new refused short (answer, h, is) = (answer, rw short h, is)
 
 -- ---- one more
 
-or_assoc : (a b c : Bool) → (a || (b || c)) ≡ ((a || b) || c)
+pub or_assoc : (a b c : Bool) → (a || (b || c)) ≡ ((a || b) || c)
 or_assoc true b c = refl
 or_assoc false b c = refl
 
@@ -30,7 +48,7 @@ answers_more w before (l ∷ lines) text refused line answer bad (first, rest, o
     let more = answers_more w (before + 1) lines rest others line answer bad are (subst (λ (n : ℕ). IsLine w n line answer bad) (omega arith) h) in
     (first, rest ++ answer, one, others || bad, is, more, ap (λ (t : List ℕ). t ++ answer) text_is ∙ append_assoc first rest answer, ap (λ (r : Bool). r || bad) refused_is ∙ sym (or_assoc one others bad))
 
-line_at : (lines : List (Bor (List ℕ))) (i : ℕ) (d : Bor (List ℕ)) → i < length lines → map (λ l. l.now) (take (i + 1) lines) ≡ map (λ l. l.now) (take i lines) ++ (get_or lines i d).now ∷ []
+pub line_at : (lines : List (Bor (List ℕ))) (i : ℕ) (d : Bor (List ℕ)) → i < length lines → map (λ l. l.now) (take (i + 1) lines) ≡ map (λ l. l.now) (take i lines) ++ (get_or lines i d).now ∷ []
 line_at lines i d lt = ap (map (λ l. l.now)) (take_more lines i d lt) ∙ map-append (λ l. l.now) (take i lines) (get_or lines i d ∷ [])
 
 pub one_line_more : (w : Way) (before i : ℕ) (lines : List (Bor (List ℕ))) (d : Bor (List ℕ)) (text new answer : List ℕ) (refused bad : Bool) → i < length lines → AreAnswers w before (map (λ l. l.now) (take i lines)) text refused
@@ -44,7 +62,7 @@ one_line_more w before i lines d text new answer refused bad lt are is same =
 
 -- ---- other lines after these
 
-answers_joined : (w : Way) (before : ℕ) (front back : List (List ℕ)) (text more : List ℕ) (refused bad : Bool) → AreAnswers w before front text refused → AreAnswers w (before + length front) back more bad
+pub answers_joined : (w : Way) (before : ℕ) (front back : List (List ℕ)) (text more : List ℕ) (refused bad : Bool) → AreAnswers w before front text refused → AreAnswers w (before + length front) back more bad
     → AreAnswers w before (front ++ back) (text ++ more) (refused || bad)
 answers_joined w before [] back text more refused bad (none, well) h =
     subst (λ (t : List ℕ). AreAnswers w before back (t ++ more) (refused || bad)) (sym none) (subst (λ (r : Bool). AreAnswers w before back more (r || bad)) (sym well) (subst (λ (n : ℕ). AreAnswers w n back more bad) (omega arith) h))

@@ -1,5 +1,5 @@
 -- The answers to lines of inputs, each of them a JSON object on one line.
-use Rattle.std.specs.Prelude.{◌≡◌, ◌≢◌, ◌⊎◌, ◌+◌, ◌++◌, ◌||◌, ℕ, Bool, true, false, MatchBool, List, [], ◌∷◌, codes, decimal, drop, Option, Some, None}
+use Rattle.std.specs.Prelude.{◌≡◌, ◌≢◌, ◌⊎◌, ◌+◌, ◌++◌, ◌||◌, ℕ, Bool, true, false, MatchBool, List, [], ◌∷◌, codes, decimal, drop, length, nat_lt, IsUtf8, Option, Some, None}
 use Rattle.std.specs.List.{list_all}
 use Rattle.tw_types.specs.Layout.{ActorCounts}
 use Rattle.tw_types.specs.declared.input.Input.{Input}
@@ -16,10 +16,14 @@ use Rattle.tw_in_turn.specs.InTurn.{IsLeft}
 use Rattle.tw_in_turn.specs.declared.run.InTurnResult.TheVariants as left
 use Rattle.tw_inputs.specs.JsonInputs.{AreInputsIn, HasFaultAt, IsFaultText}
 use Rattle.tw_inputs.specs.declared.json_inputs.Place.{Place}
-use Rattle.tw_json_output.specs.Error.{error_json}
 use Rattle.tw_json_output.specs.Run.{json_line}
-use Rattle.tw_program_output.specs.Input.{is_gap_byte}
-use Rattle.tw_program_output.specs.Lines.{opening_line}
+use Rattle.tw_program_output.specs.Input.{is_gap_byte, most_bytes}
+use Rattle.tw_program_output.specs.ErrorJson.{error_json}
+use Rattle.tw_program_output.specs.Failure.{coded, failed, failed_with}
+use Rattle.tw_program_output.specs.Inputs.{unreadable}
+use Rattle.tw_program_output.specs.declared.failure.Failure.{Failure}
+use Rattle.tw_program_output.specs.declared.failure.Position.{Position}
+use Rattle.tw_program_output.specs.declared.failure.Position.TheVariants.{Nowhere}
 use Rattle.tw_program_output.specs.Source.{text_of}
 use Rattle.tw_replay_output.specs.Opening.{AreOpeningDetails}
 use Rattle.tw_run_output.specs.Json.{IsEndLine}
@@ -40,14 +44,14 @@ way run = record { text = text_of run.source.now; verified = run.verified.now; l
 -- holds for the line of what a run leaves, from its first pool on
 abbrev pub IsRunLine : PoolView → List ℕ → Type 0
 IsRunLine first line =
-    (final : FinalView) × (history : HistoryView) × (closing : Closing) × IsLeft first (left.Over final history)
+    (final : FinalView) × (history : HistoryView) × (closing : Closing) × IsLeft None first (left.Over final history)
     × (final.closing ≡ Some closing) × IsEndLine final history.events closing line
 
 -- holds for the line of the error at opening
 abbrev pub IsRejectedLine : Way → List Input → List ℕ → Type 0
 IsRejectedLine w inputs line =
-    (why : OpenError) × (more : List ℕ) × IsRejection w.verified.program inputs w.layout w.limit why × (why ≢ NoMemory)
-    × AreOpeningDetails w.text w.verified.program inputs more × (line ≡ json_line (error_json (codes "refused") (opening_line (open_error_code why) ++ more)))
+    (why : OpenError) × (at : Position) × (more : List ℕ) × IsRejection w.verified.program inputs w.layout w.limit why × (why ≢ NoMemory)
+    × AreOpeningDetails w.text w.verified.program inputs at more × (line ≡ json_line (error_json (failed_with (coded 79 (open_error_code why) at) more)))
 
 -- holds for the line of a run with these inputs, or of its error, and whether it is an error
 abbrev pub IsInputsAnswer : Way → List Input → List ℕ → Bool → Type 0
@@ -56,7 +60,7 @@ IsInputsAnswer w inputs line true = IsRejectedLine w inputs line
 
 -- holds for the line of an error, of inputs that aren't read
 abbrev pub IsFaultAnswer : Place → List ℕ → Bool → Type 0
-IsFaultAnswer place line refused = (error : List ℕ) × IsFaultText place error × (line ≡ json_line (error_json (codes "refused") error)) × (refused ≡ true)
+IsFaultAnswer place line refused = (error : List ℕ) × IsFaultText place error × (line ≡ json_line (error_json (unreadable place error))) × (refused ≡ true)
 
 -- holds for the answer to a text: it has inputs, with which the program is run in turn; or it has none
 abbrev pub IsAnswer : Way → List ℕ → List ℕ → Bool → Type 0
@@ -74,10 +78,31 @@ numbered n line = codes "{\"line\":" ++ (decimal n ++ 44 ∷ drop 1 line)
 abbrev pub is_blank : List ℕ → Bool
 is_blank line = list_all is_gap_byte line
 
--- holds for the answer to the line with this number; a blank line has none
+-- returns the object of an error, of a line that isn't read as inputs
+abbrev pub unread_line : Failure → List ℕ
+unread_line failure = json_line (error_json (failed failure))
+
+-- the errors of a line that isn't UTF-8, and of one that is too long
+abbrev pub other_bytes : Failure
+other_bytes = coded 72 3 Nowhere
+
+abbrev pub too_long : Failure
+too_long = coded 72 2 Nowhere
+
+-- holds for the answer to a line that isn't blank: that of its text, or the error of bytes that aren't UTF-8
+abbrev pub IsFullLine : Way → ℕ → List ℕ → List ℕ → Bool → Type 0
+IsFullLine w n text answer refused =
+    (IsUtf8 text × ((line : List ℕ) × IsAnswer w text line refused × (answer ≡ numbered n line)))
+    ⊎ ((IsUtf8 text → ⊥) × (answer ≡ numbered n (unread_line other_bytes)) × (refused ≡ true))
+
+-- holds for the answer to a line that isn't too long; a blank line has none
+abbrev pub IsShortLine : Way → ℕ → List ℕ → List ℕ → Bool → Type 0
+IsShortLine w n text answer refused = MatchBool (is_blank text) ((answer ≡ []) × (refused ≡ false)) (IsFullLine w n text answer refused)
+
+-- holds for the answer to the line with this number; a line has a limit of its bytes
 abbrev pub IsLine : Way → ℕ → List ℕ → List ℕ → Bool → Type 0
 IsLine w n text answer refused =
-    MatchBool (is_blank text) ((answer ≡ []) × (refused ≡ false)) ((line : List ℕ) × IsAnswer w text line refused × (answer ≡ numbered n line))
+    MatchBool (nat_lt most_bytes (length text)) ((answer ≡ numbered n (unread_line too_long)) × (refused ≡ true)) (IsShortLine w n text answer refused)
 
 -- holds for the answers to the lines after so many, in their order, and whether one of them is an error
 abbrev pub AreAnswers : Way → ℕ → List (List ℕ) → List ℕ → Bool → Type 0

@@ -1,5 +1,7 @@
 -- The reply to a program and the lines of inputs after it.
-use Rattle.std.specs.Prelude.{◌≡◌, ◌≢◌, ◌⊎◌, ◌++◌, ℕ, Bool, true, false, List, [], Option, Some, codes, IsUtf8}
+use Rattle.std.specs.Prelude.{◌≡◌, ◌≢◌, ◌⊎◌, ◌++◌, ℕ, Bool, true, false, List, [], Option, Some, MatchBool, codes, IsUtf8}
+use Rattle.std.specs.List.{list_any}
+use Rattle.std.specs.Str.{bytes_eq}
 use Rattle.std.specs.Str.Lines.{lines}
 use Rattle.tw_code.specs.declared.procedure.Procedure.{Procedure}
 use Rattle.tw_code.specs.format.Program.{Versioned}
@@ -8,26 +10,28 @@ use Rattle.tw_verify.specs.Typed.{TypedProgram}
 use Rattle.tw_order.specs.declared.runs.EachOrder.{EachOrder}
 use Rattle.tw_order.specs.declared.form.Places.TheVariants.{Hidden}
 use Rattle.tw_order.specs.declared.order.Source.{Source}
-use Rattle.tw_json_output.specs.Error.{error_json}
 use Rattle.tw_json_output.specs.Run.{json_line}
 use Rattle.tw_program_output.specs.Admission.{AreExcessLines, StaysWithinCaps, has_cap}
 use Rattle.tw_program_output.specs.Check.{IsRefused}
+use Rattle.tw_program_output.specs.ErrorJson.{error_json}
+use Rattle.tw_program_output.specs.Failure.{coded, failed, failed_with, uncoded}
+use Rattle.tw_program_output.specs.declared.failure.Position.TheVariants as position
 use Rattle.tw_program_output.specs.Inputs.{after_inputs, before_inputs}
-use Rattle.tw_program_output.specs.Program.{AreParseErrorDetails, Spells, SpellsNone, no_program_line, source_text}
+use Rattle.tw_program_output.specs.Program.{AreParseErrorDetails, Spells, SpellsNone, failure_of, source_text}
 use Rattle.tw_program_output.specs.Reply.{Reply, reply}
 use Rattle.tw_program_output.specs.declared.close.Close.{Close}
-use Rattle.tw_program_output.specs.declared.close.Close.TheVariants.{Refused, Success}
+use Rattle.tw_program_output.specs.declared.close.Close.TheVariants.{CommandLine, Refused, Success}
 use Rattle.tw_program_output.specs.declared.program.NoProgram.{NoProgram}
-use Rattle.tw_each.specs.Answers.{AreAnswers, Way}
+use Rattle.tw_each.specs.Answers.{AreAnswers, Way, too_long}
 
 -- returns an error's reply as a JSON object
 abbrev pub json_reply : Reply → Reply
-json_reply error = reply (json_line (error_json (codes "refused") error.text)) error.close
+json_reply error = reply (json_line (error_json error)) error.close
 
 -- returns how a session ends, by whether a line is refused
 abbrev pub close_of : Bool → Close
 close_of false = Success
-close_of true = Refused
+close_of true = Refused (uncoded position.Nowhere)
 
 abbrev pub way_of : Option (List ℕ) → EachOrder → TypedProgram → Way
 way_of text order verified = record { text = text; verified = verified; layout = order.layout; limit = order.limit }
@@ -37,27 +41,46 @@ abbrev pub IsAnswered : Option (List ℕ) → EachOrder → List Procedure → L
 IsAnswered text order program given r =
     (verified : TypedProgram) × (refused : Bool) × (verified.program ≡ program) × AreAnswers (way_of text order verified) 0 given r.text refused × (r.close ≡ close_of refused)
 
--- holds if no bound of an accepted program is above its cap, and for its answers; or for the object with the lines for the bounds that are
-abbrev pub RepliesIfWithinCaps : Option (List ℕ) → EachOrder → List Procedure → List (List ℕ) → Reply → Type 0
-RepliesIfWithinCaps text order program given r =
-    (excess : List ℕ) × AreExcessLines (has_cap order.caps) program (Some order.limit) order.caps excess
-    × (((excess ≡ []) × StaysWithinCaps program (Some order.limit) order.caps × IsAnswered text order program given r)
-    ⊎ ((excess ≢ []) × (r ≡ json_reply (reply (codes "refused O07\n" ++ excess) Refused))))
+-- holds for an accepted program no bound of which is above its cap
+abbrev pub IsAdmitted : EachOrder → List Procedure → Type 0
+IsAdmitted order program = IsAccepted program × AreExcessLines (has_cap order.caps) program (Some order.limit) order.caps [] × StaysWithinCaps program (Some order.limit) order.caps
 
--- holds for the reply to an accepted program, or for the program's rejection
+-- holds for the object with the lines for the bounds of an accepted program that are above their caps, or for the program's rejection
+abbrev pub IsRejected : Option (List ℕ) → EachOrder → List Procedure → Reply → Type 0
+IsRejected text order program r =
+    (IsAccepted program
+    × ((excess : List ℕ) × AreExcessLines (has_cap order.caps) program (Some order.limit) order.caps excess × (excess ≢ []) × (r ≡ json_reply (failed_with (coded 79 7 position.Nowhere) excess))))
+    ⊎ ((error : Reply) × IsRefused Hidden text program error × (r ≡ json_reply error))
+
+-- holds for the reply to an admitted program, or for the program's rejection
 abbrev pub RepliesByLines : Option (List ℕ) → EachOrder → List Procedure → List (List ℕ) → Reply → Type 0
-RepliesByLines text order program given r =
-    (IsAccepted program × RepliesIfWithinCaps text order program given r) ⊎ ((error : Reply) × IsRefused Hidden text program error × (r ≡ json_reply error))
+RepliesByLines text order program given r = (IsAdmitted order program × IsAnswered text order program given r) ⊎ IsRejected text order program r
 
--- holds for them, or for the reason why there is no program
+-- holds for the reason why there is no program
+abbrev pub IsNoProgram : Source → List ℕ → Reply → Type 0
+IsNoProgram source input r =
+    (error : Reply) × (why : NoProgram) × (more : List ℕ) × SpellsNone source input why × AreParseErrorDetails input why more × (error ≡ failed_with (failure_of why) more)
+    × (r ≡ json_reply error)
+
+-- holds for the reply to a program and lines of inputs, or for the reason why there is no program
+abbrev pub RepliesByParts : Source → EachOrder → List ℕ → List (List ℕ) → Reply → Type 0
+RepliesByParts source order input given r =
+    ((program : Versioned) × Spells source input program × RepliesByLines (source_text source input) order program.procedures given r) ⊎ IsNoProgram source input r
+
+-- returns whether there is a line `inputs`
+abbrev pub has_inputs : List (List ℕ) → Bool
+has_inputs all = list_any (λ line. bytes_eq line (codes "inputs")) all
+
+-- holds for the reply to a program and the lines after its line `inputs`; without that line the command line is rejected
 abbrev pub RepliesInUtf8 : Source → EachOrder → List ℕ → Reply → Type 0
 RepliesInUtf8 source order input r =
-    ((program : Versioned) × Spells source (before_inputs (lines input)) program
-    × RepliesByLines (source_text source (before_inputs (lines input))) order program.procedures (after_inputs (lines input)) r)
-    ⊎ ((error : Reply) × (why : NoProgram) × (more : List ℕ) × SpellsNone source (before_inputs (lines input)) why × AreParseErrorDetails (before_inputs (lines input)) why more
-    × (error ≡ reply (no_program_line why ++ more) Refused) × (r ≡ json_reply error))
+    MatchBool (has_inputs (lines input)) (RepliesByParts source order (before_inputs (lines input)) (after_inputs (lines input)) r) (r ≡ reply (codes "command line refused\n") CommandLine)
 
 -- holds for the reply to what is read
 abbrev pub RepliesByEach : Source → EachOrder → List ℕ → Reply → Type 0
 RepliesByEach source order input r =
-    (IsUtf8 input × RepliesInUtf8 source order input r) ⊎ ((IsUtf8 input → ⊥) × (r ≡ json_reply (reply (codes "refused H03\n") Refused)))
+    (IsUtf8 input × RepliesInUtf8 source order input r) ⊎ ((IsUtf8 input → ⊥) × (r ≡ json_reply (failed (coded 72 3 position.Nowhere))))
+
+-- returns the reply to too many bytes
+abbrev pub too_long_reply : Reply
+too_long_reply = json_reply (failed too_long)

@@ -1,21 +1,20 @@
 //! The answer to one line.
 
-ghost use Rattle.std.specs.Prelude.{◌≡◌, ◌≢◌, ◌++◌, List, ℕ, IfOk, string_bytes};
+ghost use Rattle.std.specs.Prelude.{◌≡◌, ◌≢◌, ◌++◌, List, None, ℕ, IfOk, string_bytes, true};
 ghost use Rattle.tw_code.specs.machine.Opening.{main_params};
 ghost use Rattle.tw_in_turn.specs.InTurn.{IsLeft};
 ghost use Rattle.tw_pool.specs.Openings.{IsRejection};
 ghost use Rattle.tw_pool.specs.PoolView.{PoolView};
 ghost use Rattle.tw_pool.specs.declared.open.OpenError.TheVariants.{NoMemory};
-ghost use Rattle.tw_each.specs.Answers.{IsAnswer, IsFaultAnswer, IsInputsAnswer, IsRejectedLine, IsRunLine, numbered, way};
+ghost use Rattle.tw_each.specs.Answers.{IsAnswer, IsFaultAnswer, IsInputsAnswer, IsRejectedLine, IsRunLine, numbered, unread_line, way};
 
 use crate::numbered::put_numbered_line;
 use std::alloc::{AllocError, Global};
 use tw_code::main_params;
 use tw_in_turn::{InTurnResult, run_in_turn};
 use tw_inputs::{NoInputs, Place, Scratch, fault_text, read_inputs};
-use tw_json_output::error_line;
 use tw_pool::OpenError;
-use tw_program_output::SourceText;
+use tw_program_output::{Failure, SourceText, error_line, failed_reply, unreadable_reply};
 use tw_replay_output::inputs_refused_reply;
 use tw_run_output::end_line;
 use tw_types::{Input, Layout, Param};
@@ -47,8 +46,8 @@ fn params_of<'a>(run: &EachRun<'a>) -> &'a [Param]
 
 /// Returns the line of what a run left.
 fn left_line(alloc: Global, left: InTurnResult) -> Result<String, AllocError>
-    requires { (first : PoolView) × IsLeft first left }
-    ensures { IfOk result (λ line. (first : PoolView) → IsLeft first left → IsRunLine first (string_bytes line)) }
+    requires { (first : PoolView) × IsLeft None first left }
+    ensures { IfOk result (λ line. (first : PoolView) → IsLeft None first left → IsRunLine first (string_bytes line)) }
 {
     match left {
         InTurnResult::Over { outcome, history } => match outcome.closing() {
@@ -72,7 +71,7 @@ fn rejected_line(
 {
     let procedures = run.verified.program().procedures();
     let reply = inputs_refused_reply(alloc, run.source, why.number(), procedures, inputs)?;
-    error_line(alloc, "refused", &reply.text)
+    error_line(alloc, &reply)
 }
 
 /// Runs the program with these inputs.
@@ -83,7 +82,7 @@ fn inputs_answer(
 ) -> Result<AnswerLine, AllocError>
     ensures { IfOk result (λ answer. IsInputsAnswer (way run.now) inputs.now (string_bytes answer.line) answer.refused) }
 {
-    match run_in_turn(alloc, run.verified, inputs, run.layout, run.limit) {
+    match run_in_turn(alloc, run.verified, inputs, run.layout, run.limit, None) {
         Ok(left) => Ok(AnswerLine {
             line: left_line(alloc, left)?,
             refused: false,
@@ -109,7 +108,7 @@ fn fault_answer(
 {
     let error = fault_text(alloc, params_of(run), text, place, number, scratch)?;
     Ok(AnswerLine {
-        line: error_line(alloc, "refused", &error)?,
+        line: error_line(alloc, &unreadable_reply(error, place))?,
         refused: true,
     })
 }
@@ -145,4 +144,19 @@ pub fn put_answer(
     let answer = line_answer(alloc, run, number, text, scratch)?;
     put_numbered_line(alloc, out, number, answer.line.as_bytes())?;
     Ok(answer.refused)
+}
+
+/// Appends the error of the line with this number, which isn't read as inputs. Returns that it is refused.
+pub fn put_unread(
+    alloc: Global,
+    out: &mut Vec<u8>,
+    number: usize,
+    failure: Failure,
+) -> Result<bool, AllocError>
+    ensures { IfOk result (λ refused. (refused ≡ true) × (out.new.items ≡ out.old.items ++ numbered number (unread_line failure))) }
+{
+    let error = failed_reply(alloc, failure)?;
+    let line = error_line(alloc, &error)?;
+    put_numbered_line(alloc, out, number, line.as_bytes())?;
+    Ok(true)
 }

@@ -4,6 +4,7 @@ ghost use Rattle.std.specs.Prelude.{◌≡◌, ◌++◌, ◌∷◌, [], List, ma
 ghost use Rattle.std.specs.Str.Lines.{lines};
 ghost use Rattle.tw_program_output.specs.Inputs.{after_inputs, before_inputs};
 ghost use Rattle.tw_each.specs.InputLines.{after_in, after_line, seen};
+ghost use Rattle.tw_each.specs.Reply.{has_inputs};
 
 use std::alloc::{AllocError, Global};
 use tw_lexer::put;
@@ -58,6 +59,7 @@ fn take_line<'a>(parts: LineParts<'a>, line: &'a str) -> Result<LineParts<'a>, A
 
 /// Splits a text into the lines of the program and those of the inputs after it.
 pub fn line_parts<'a>(alloc: Global, text: &'a str) -> Result<LineParts<'a>, AllocError>
+    ensures has { IfOk result (λ p. p.has_inputs ≡ has_inputs (lines text.entry.now)) }
     ensures program { IfOk result (λ p. p.program.items ≡ before_inputs (lines text.entry.now)) }
     ensures rest { IfOk result (λ p. map (λ line. line.now) p.lines.items ≡ after_inputs (lines text.entry.now)) }
 {
@@ -70,4 +72,15 @@ pub fn line_parts<'a>(alloc: Global, text: &'a str) -> Result<LineParts<'a>, All
         parts = take_line(parts, line)?;
     }
     Ok(parts)
+}
+
+/// Returns the bytes of lines.
+pub(crate) fn bytes_of<'a>(alloc: Global, lines: &[&'a str]) -> Result<Vec<&'a [u8]>, AllocError>
+    ensures { IfOk result (λ bytes. map (λ line. line.now) bytes.items ≡ map (λ line. line.now) lines.now) }
+{
+    let mut bytes = Vec::with_capacity(alloc, lines.len())?;
+    for index in 0..lines.len() {
+        bytes.push(lines[index].as_bytes())?;
+    }
+    Ok(bytes)
 }

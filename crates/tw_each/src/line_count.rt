@@ -2,34 +2,20 @@
 
 use std::sync::atomic::{AtomicBool, AtomicU64, Ordering};
 
-/// How many of all lines are answered.
-#[derive(Clone, Copy)]
-pub struct AnsweredLines {
-    pub answered: u64,
-    pub lines: u64,
-}
-
 /// Counts the answered lines, for whoever monitors the threads that answer them. No answer depends on it.
 #[derive(Drop)]
 pub struct LineCount {
-    lines: AtomicU64,
     answered: AtomicU64,
     is_over: AtomicBool,
 }
 
 impl LineCount {
-    /// Makes a count of no lines, which are still to be read.
+    /// Makes a count of no lines.
     pub fn new() -> LineCount {
         LineCount {
-            lines: AtomicU64::new(0),
             answered: AtomicU64::new(0),
             is_over: AtomicBool::new(false),
         }
-    }
-
-    /// Publishes how many lines there are.
-    pub fn begin(&self, lines: usize) {
-        self.lines.store(lines as u64, Ordering::SeqCst);
     }
 
     /// Publishes that one more line is answered.
@@ -42,14 +28,11 @@ impl LineCount {
         self.is_over.store(true, Ordering::SeqCst);
     }
 
-    /// Returns recent numbers, or `None` once no more lines are answered.
-    pub fn so_far(&self) -> Option<AnsweredLines> {
+    /// Returns a recent number, or `None` once no more lines are answered.
+    pub fn so_far(&self) -> Option<u64> {
         if self.is_over.load(Ordering::SeqCst) {
             return None;
         }
-        Some(AnsweredLines {
-            answered: self.answered.load(Ordering::SeqCst),
-            lines: self.lines.load(Ordering::SeqCst),
-        })
+        Some(self.answered.load(Ordering::SeqCst))
     }
 }

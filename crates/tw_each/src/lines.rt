@@ -2,18 +2,36 @@
 
 ghost use Rattle.std.specs.Prelude.{◌≡◌, ◌+◌, ◌^◌, ◌<◌, ◌++◌, List, ℕ, IfOk, length, map};
 ghost use Rattle.tw_program_output.specs.Input.{is_gap_byte};
-ghost use Rattle.tw_each.specs.Answers.{AreAnswers, IsLine, is_blank, way};
+ghost use Rattle.tw_each.specs.Answers.{AreAnswers, IsLine, IsShortLine, is_blank, other_bytes as other_bytes_is, too_long as too_long_is, way};
 
-use crate::answer::{EachRun, put_answer};
+use crate::answer::{EachRun, put_answer, put_unread};
 use crate::line_count::LineCount;
 use std::alloc::{AllocError, Global};
 use tw_inputs::Scratch;
+use tw_program_output::{Failure, Position};
+
+/// The maximum number of bytes of a line.
+pub(crate) const MOST_BYTES: usize = 16_777_216;
 
 /// Answers to lines, and whether one of them is refused.
 #[derive(Drop)]
 pub struct Answers {
     pub text: Vec<u8>,
     pub refused: bool,
+}
+
+/// Returns the error of a line that isn't UTF-8.
+fn other_bytes() -> Failure
+    ensures { result ≡ other_bytes_is }
+{
+    Failure::coded(b'H', 3, Position::Nowhere)
+}
+
+/// Returns the error of a line, or of a program, that is too long.
+pub(crate) fn too_long() -> Failure
+    ensures { result ≡ too_long_is }
+{
+    Failure::coded(b'H', 2, Position::Nowhere)
 }
 
 fn is_gap(byte: u8) -> bool
@@ -23,10 +41,30 @@ fn is_gap(byte: u8) -> bool
 }
 
 /// Returns whether a line has no other characters than blanks.
-fn is_blank(line: &str) -> bool
+fn is_blank(line: &[u8]) -> bool
     ensures { result ≡ is_blank line.now }
 {
-    line.as_bytes().iter().all(|byte| is_gap(*byte))
+    line.iter().all(|byte| is_gap(*byte))
+}
+
+/// Appends the answer to a line that isn't too long, if it isn't blank. Returns whether it is refused.
+fn put_short_line(
+    alloc: Global,
+    out: &mut Vec<u8>,
+    run: &EachRun<'_>,
+    number: usize,
+    line: &[u8],
+    scratch: &mut Scratch,
+) -> Result<bool, AllocError>
+    ensures { IfOk result (λ refused. (text : List ℕ) × IsShortLine (way run.now) number line.now text refused × (out.new.items ≡ out.old.items ++ text)) }
+{
+    if is_blank(line) {
+        return Ok(false);
+    }
+    match str::from_utf8(line) {
+        Ok(text) => put_answer(alloc, out, run, number, text, scratch),
+        Err(_) => put_unread(alloc, out, number, other_bytes()),
+    }
 }
 
 /// Appends the answer to the line with this number, if it isn't blank. Returns whether it is refused.
@@ -35,15 +73,15 @@ fn put_line(
     out: &mut Vec<u8>,
     run: &EachRun<'_>,
     number: usize,
-    line: &str,
+    line: &[u8],
     scratch: &mut Scratch,
 ) -> Result<bool, AllocError>
     ensures { IfOk result (λ refused. (text : List ℕ) × IsLine (way run.now) number line.now text refused × (out.new.items ≡ out.old.items ++ text)) }
 {
-    if is_blank(line) {
-        return Ok(false);
+    if line.len() > MOST_BYTES {
+        return put_unread(alloc, out, number, too_long());
     }
-    put_answer(alloc, out, run, number, line, scratch)
+    put_short_line(alloc, out, run, number, line, scratch)
 }
 
 /// Runs the program on each line, one after the other, and returns the answers in the order of the lines. `before` lines precede these.
@@ -52,7 +90,7 @@ pub fn answer_lines(
     run: &EachRun<'_>,
     count: &LineCount,
     before: usize,
-    lines: &[&str],
+    lines: &[&[u8]],
 ) -> Result<Answers, AllocError>
     requires { before + length lines.now < 2 ^ 63 }
     ensures { IfOk result (λ answers. AreAnswers (way run.now) before (map (λ line. line.now) lines.now) answers.text.items answers.refused) }

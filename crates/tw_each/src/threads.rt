@@ -21,7 +21,7 @@ pub trait Answering {
         alloc: Global,
         run: &EachRun<'_>,
         jobs: usize,
-        lines: &[&str],
+        lines: &[&[u8]],
     ) -> Result<Answers, AllocError>
         requires shared { shared }
         requires count { length lines.now < 2 ^ 63 }
@@ -45,7 +45,7 @@ impl Answering for InOneThread {
         alloc: Global,
         run: &EachRun<'_>,
         _jobs: usize,
-        lines: &[&str],
+        lines: &[&[u8]],
     ) -> Result<Answers, AllocError> {
         answer_lines(alloc, run, &LineCount::new(), 0, lines)
     }
@@ -59,9 +59,8 @@ impl<'a, H: Threads + Sync> Answering for InThreads<'a, H> {
         alloc: Global,
         run: &EachRun<'_>,
         jobs: usize,
-        lines: &[&str],
+        lines: &[&[u8]],
     ) -> Result<Answers, AllocError> {
-        self.count.begin(lines.len());
         divided(self.rt, alloc, run, self.count, jobs, 0, lines)
     }
 }
@@ -79,14 +78,14 @@ fn joined(mut first: Answers, mut rest: Answers) -> Result<Answers, AllocError>
 
 /// Divides the lines among `jobs` threads, as evenly as whole lines allow. `before` lines precede these.
 #[cycle(division)]
-fn divided<H: Threads + Sync>(
+pub(crate) fn divided<H: Threads + Sync>(
     rt: &H,
     alloc: Global,
     run: &EachRun<'_>,
     count: &LineCount,
     jobs: usize,
     before: usize,
-    lines: &[&str],
+    lines: &[&[u8]],
 ) -> Result<Answers, AllocError>
     requires { before + length lines.now < 2 ^ 63 }
     ensures { IfOk result (λ answers. AreAnswers (way run.now) before (map (λ line. line.now) lines.now) answers.text.items answers.refused) }

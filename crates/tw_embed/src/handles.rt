@@ -1,64 +1,58 @@
-//! Exports the calls of `tw_handles` that load programs and make inputs.
+//! Exports the calls of `tw_handles` that load programs, describe them, and make inputs.
 
 ghost use Rattle.std.specs.Prelude.{◌≡◌};
 ghost use Rattle.tw_handles.specs.Asking.{IsBudgetOf, IsCountOf, IsShared};
 ghost use Rattle.tw_handles.specs.Caps.{AreBounds};
 ghost use Rattle.tw_handles.specs.Containers.{IsBegun, IsContainerAdded, IsMemberAdded, WithText, container_in, empty_by};
-ghost use Rattle.tw_handles.specs.Loading.{IsLoaded, IsSourceLoaded};
+ghost use Rattle.tw_handles.specs.Loading.{IsLoading, IsVerified};
 ghost use Rattle.tw_handles.specs.Running.{IsAdded};
 ghost use Rattle.tw_handles.specs.Shape.{AreNeeds, IsNameRead, IsParameter, IsSection};
 ghost use Rattle.tw_handles.specs.declared.container.NewMember.TheVariants as member;
 ghost use Rattle.tw_verdict.specs.Format.{format_of};
-ghost use Rattle.tw_verdict.specs.Verdict.{IsVerdict};
 ghost use Rattle.tw_types.specs.declared.input.Input.TheVariants as input;
 
 use std::alloc::Global;
-use tw_handles::{Handle, Needs, Parameter, RunBounds, Section, SourceVerdict, Verdict};
+use tw_handles::Handle;
 
-/// Exports `tw_handles::load`.
+/// Exports `tw_handles::verify`.
 #[unsafe(no_mangle)]
-pub extern "C" fn yuglemit_load(
-    alloc: Global,
-    bytes: &[u8],
-    program: &mut Handle,
-    verdict: &mut Verdict,
-)
-    ensures verdict { IsVerdict bytes.now verdict.new }
-    ensures loaded { IsLoaded bytes.now program.old.held program.new.held verdict.new.letter }
+pub extern "C" fn yuglemit_raw_verify(alloc: Global, bytes: &[u8], numbers: &mut [u64]) -> u8
+    ensures { IsVerified bytes.now numbers.old numbers.new result }
 {
-    tw_handles::load(alloc, bytes, program, verdict);
+    tw_handles::verify(alloc, bytes, numbers)
 }
 
 /// Exports `tw_handles::load_source`.
 #[unsafe(no_mangle)]
-pub extern "C" fn yuglemit_load_source(
+pub extern "C" fn yuglemit_raw_load_source(
     alloc: Global,
     source: &[u8],
     format: u8,
+    options: &[u64],
     program: &mut Handle,
-    verdict: &mut SourceVerdict,
-)
-    ensures { IsSourceLoaded (format_of format source.now) source.now program.old.held program.new.held verdict.new }
+    numbers: &mut [u64],
+) -> u8
+    ensures { IsLoading (format_of format source.now) options.now source.now program.old.held program.new.held numbers.old numbers.new result }
 {
-    tw_handles::load_source(alloc, source, format, program, verdict);
+    tw_handles::load_source(alloc, source, format, options, program, numbers)
 }
 
 /// Exports `tw_handles::share`.
 #[unsafe(no_mangle)]
-pub extern "C" fn yuglemit_program_share(
+pub extern "C" fn yuglemit_raw_program_share(
     alloc: Global,
     program: &mut Handle,
     other: &mut Handle,
 ) -> u8
     ensures kept { program.new.held ≡ program.old.held }
-    ensures shared { IsShared program.old.held other.old.held other.new.held result }
+    ensures is { IsShared program.old.held other.old.held other.new.held result }
 {
     tw_handles::share(alloc, program, other)
 }
 
 /// Exports `tw_handles::procedures`.
 #[unsafe(no_mangle)]
-pub extern "C" fn yuglemit_program_procedures(
+pub extern "C" fn yuglemit_raw_program_procedures(
     alloc: Global,
     program: &mut Handle,
     count: &mut usize,
@@ -71,7 +65,7 @@ pub extern "C" fn yuglemit_program_procedures(
 
 /// Exports `tw_handles::budget`.
 #[unsafe(no_mangle)]
-pub extern "C" fn yuglemit_program_budget(
+pub extern "C" fn yuglemit_raw_program_budget(
     alloc: Global,
     program: &mut Handle,
     procedure: usize,
@@ -85,58 +79,58 @@ pub extern "C" fn yuglemit_program_budget(
 
 /// Exports `tw_handles::program_bounds`.
 #[unsafe(no_mangle)]
-pub extern "C" fn yuglemit_program_bounds(
+pub extern "C" fn yuglemit_raw_program_bounds(
     alloc: Global,
     program: &mut Handle,
     limit: usize,
-    bounds: &mut RunBounds,
+    numbers: &mut [u64],
 ) -> u8
     ensures kept { program.new.held ≡ program.old.held }
-    ensures are { AreBounds program.old.held limit bounds.old bounds.new result }
+    ensures is { AreBounds program.old.held limit numbers.old numbers.new result }
 {
-    tw_handles::program_bounds(alloc, program, limit, bounds)
+    tw_handles::program_bounds(alloc, program, limit, numbers)
 }
 
 /// Exports `tw_handles::describe_procedure`.
 #[unsafe(no_mangle)]
-pub extern "C" fn yuglemit_program_procedure(
+pub extern "C" fn yuglemit_raw_program_procedure(
     alloc: Global,
     program: &mut Handle,
     procedure: usize,
-    section: &mut Section,
+    numbers: &mut [u64],
 ) -> u8
     ensures kept { program.new.held ≡ program.old.held }
-    ensures is { IsSection program.old.held procedure section.old section.new result }
+    ensures is { IsSection program.old.held procedure numbers.old numbers.new result }
 {
-    tw_handles::describe_procedure(alloc, program, procedure, section)
+    tw_handles::describe_procedure(alloc, program, procedure, numbers)
 }
 
 /// Exports `tw_handles::describe_parameter`.
 #[unsafe(no_mangle)]
-pub extern "C" fn yuglemit_program_parameter(
+pub extern "C" fn yuglemit_raw_program_parameter(
     alloc: Global,
     program: &mut Handle,
     procedure: usize,
     index: usize,
-    parameter: &mut Parameter,
+    numbers: &mut [u64],
 ) -> u8
     ensures kept { program.new.held ≡ program.old.held }
-    ensures is { IsParameter program.old.held procedure index parameter.old parameter.new result }
+    ensures is { IsParameter program.old.held procedure index numbers.old numbers.new result }
 {
-    tw_handles::describe_parameter(alloc, program, procedure, index, parameter)
+    tw_handles::describe_parameter(alloc, program, procedure, index, numbers)
 }
 
 /// Exports `tw_handles::read_needs`.
 #[unsafe(no_mangle)]
-pub extern "C" fn yuglemit_program_needs(
+pub extern "C" fn yuglemit_raw_program_needs(
     alloc: Global,
     program: &mut Handle,
-    needs: &mut Needs,
+    numbers: &mut [u64],
 ) -> u8
     ensures kept { program.new.held ≡ program.old.held }
-    ensures is { AreNeeds program.old.held needs.old needs.new result }
+    ensures is { AreNeeds program.old.held numbers.old numbers.new result }
 {
-    tw_handles::read_needs(alloc, program, needs)
+    tw_handles::read_needs(alloc, program, numbers)
 }
 
 /// Exports `tw_handles::source_name`.
@@ -235,7 +229,7 @@ pub extern "C" fn yuglemit_member_text_by_text(
 
 /// Exports `tw_handles::input_container`.
 #[unsafe(no_mangle)]
-pub extern "C" fn yuglemit_input_container(
+pub extern "C" fn yuglemit_raw_input_container(
     alloc: Global,
     inputs: &mut Handle,
     container: &mut Handle,

@@ -3,52 +3,53 @@
 //! * `yuglemit_session_text`: the output and the status of the command `tw` with these arguments and this input; a run is single-threaded. A handle
 //!   holds the output.
 //! * `yuglemit_session`: likewise, by arguments in lines, and with the output in the caller's buffer.
-//! * `yuglemit_verify`: only the verifier. It takes the bytes of a program, and its result is in numbers.
-//! * `yuglemit_load`, `yuglemit_run` and the calls on their handles: a program is loaded once, and run many times.
+//! * `yuglemit_raw_verify`: only the verifier. It takes the bytes of a program, and its result is in numbers.
+//! * `yuglemit_raw_load_source`, `yuglemit_raw_run` and the calls on their handles: a program is loaded once, and run many times.
+//!
+//! The calls named `yuglemit_raw_` are called by functions of `embed/yuglemit.h`, which pass structs as lists of numbers, and copies of the handles that
+//! a call only reads. So such a call writes nothing that another thread reads.
 //!
 //! No call starts a thread or waits for one, and no state is kept except in handles. `tw_calls` and `tw_handles` have the bodies.
 #![tactic(auto)]
 
 ghost use Rattle.std.specs.Prelude.{◌≡◌};
 ghost use Rattle.tw_calls.specs.SessionAnswers.{IsAnswerKept, IsAnswered};
-ghost use Rattle.tw_verdict.specs.Verdict.{IsVerdict};
 
 mod handles;
 mod reports;
 mod runs;
 
 pub use handles::{
-    yuglemit_container_free, yuglemit_container_new, yuglemit_input_container, yuglemit_input_int,
-    yuglemit_input_text, yuglemit_inputs_free, yuglemit_load, yuglemit_load_source,
-    yuglemit_member_int, yuglemit_member_int_by_text, yuglemit_member_text,
-    yuglemit_member_text_by_text, yuglemit_program_bounds, yuglemit_program_budget,
-    yuglemit_program_free, yuglemit_program_needs, yuglemit_program_parameter,
-    yuglemit_program_procedure, yuglemit_program_procedures, yuglemit_program_share,
+    yuglemit_container_free, yuglemit_container_new, yuglemit_input_int, yuglemit_input_text,
+    yuglemit_inputs_free, yuglemit_member_int, yuglemit_member_int_by_text, yuglemit_member_text,
+    yuglemit_member_text_by_text, yuglemit_program_free, yuglemit_raw_input_container,
+    yuglemit_raw_load_source, yuglemit_raw_program_bounds, yuglemit_raw_program_budget,
+    yuglemit_raw_program_needs, yuglemit_raw_program_parameter, yuglemit_raw_program_procedure,
+    yuglemit_raw_program_procedures, yuglemit_raw_program_share, yuglemit_raw_verify,
     yuglemit_source_name,
 };
 pub use reports::{
-    yuglemit_print_json, yuglemit_print_report, yuglemit_print_trace, yuglemit_report_ending,
-    yuglemit_report_find_int, yuglemit_report_find_text, yuglemit_report_free,
-    yuglemit_report_instructions, yuglemit_report_member, yuglemit_report_member_text,
-    yuglemit_report_output, yuglemit_report_subscript_text, yuglemit_report_text,
-    yuglemit_text_copy, yuglemit_text_free, yuglemit_text_length,
+    yuglemit_raw_print_json, yuglemit_raw_print_report, yuglemit_raw_print_trace,
+    yuglemit_raw_report_ending, yuglemit_raw_report_find_int, yuglemit_raw_report_find_text,
+    yuglemit_raw_report_instructions, yuglemit_raw_report_member, yuglemit_raw_report_member_text,
+    yuglemit_raw_report_members, yuglemit_raw_report_output, yuglemit_raw_report_subscript_text,
+    yuglemit_raw_report_text, yuglemit_raw_text_copy, yuglemit_raw_text_length,
+    yuglemit_report_free, yuglemit_text_free,
 };
 pub use runs::{
-    yuglemit_run, yuglemit_run_capped, yuglemit_run_within, yuglemit_stop_free,
-    yuglemit_stop_lower, yuglemit_stop_new, yuglemit_stop_raise, yuglemit_stop_share,
-    yuglemit_unfit_input,
+    yuglemit_raw_run, yuglemit_raw_stop_lower, yuglemit_raw_stop_raise, yuglemit_raw_stop_share,
+    yuglemit_raw_unfit_input, yuglemit_stop_free, yuglemit_stop_new,
 };
 use std::alloc::Global;
 use tw_handles::Handle;
-pub use tw_verdict::Verdict;
 
 /// The version: major, minor and patch, three digits each.
-const VERSION: u32 = 21_000;
+const VERSION: u32 = 22_000;
 
 /// Returns the version of the library, as `YUGLEMIT_VERSION_NUMBER` of the header it is made for.
 #[unsafe(no_mangle)]
 pub extern "C" fn yuglemit_version() -> u32
-    ensures { result ≡ 21000 }
+    ensures { result ≡ 22000 }
 {
     VERSION
 }
@@ -78,12 +79,4 @@ pub extern "C" fn yuglemit_session_text(
     ensures { IsAnswerKept words.now input.now output.old.held output.new.held result }
 {
     tw_calls::session_text(alloc, words, input, output)
-}
-
-/// Exports `tw_calls::verify`.
-#[unsafe(no_mangle)]
-pub extern "C" fn yuglemit_verify(alloc: Global, bytes: &[u8], verdict: &mut Verdict)
-    ensures { IsVerdict bytes.now verdict.new }
-{
-    tw_calls::verify(alloc, bytes, verdict);
 }

@@ -2,30 +2,31 @@
 
 ghost use Rattle.std.specs.Prelude.{◌≡◌};
 ghost use Rattle.tw_handles.specs.Finding.{IsPlace, IsTextPlace};
+ghost use Rattle.tw_handles.specs.Many.{AreMembers};
 ghost use Rattle.tw_handles.specs.Members.{IsMember, IsMemberText, IsSubscriptText};
 ghost use Rattle.tw_handles.specs.Reading.{IsEnding, IsOutput, IsOutputText};
 ghost use Rattle.tw_handles.specs.Texts.{IsInstructionCount, IsJsonPrinted, IsReportPrinted, IsTextCopied, IsTextLength, IsTracePrinted};
 ghost use Rattle.tw_types.specs.declared.value.Value.TheVariants as value;
 
 use std::alloc::Global;
-use tw_handles::{Ending, Handle, Item, Member};
+use tw_handles::{Handle, Item, Member};
 
 /// Exports `tw_handles::report_ending`.
 #[unsafe(no_mangle)]
-pub extern "C" fn yuglemit_report_ending(
+pub extern "C" fn yuglemit_raw_report_ending(
     alloc: Global,
     report: &mut Handle,
-    ending: &mut Ending,
+    numbers: &mut [u64],
 ) -> u8
     ensures kept { report.new.held ≡ report.old.held }
-    ensures is { IsEnding report.old.held ending.old ending.new result }
+    ensures is { IsEnding report.old.held numbers.old numbers.new result }
 {
-    tw_handles::report_ending(alloc, report, ending)
+    tw_handles::report_ending(alloc, report, numbers)
 }
 
 /// Exports `tw_handles::output`.
 #[unsafe(no_mangle)]
-pub extern "C" fn yuglemit_report_output(
+pub extern "C" fn yuglemit_raw_report_output(
     alloc: Global,
     report: &mut Handle,
     index: usize,
@@ -39,7 +40,7 @@ pub extern "C" fn yuglemit_report_output(
 
 /// Exports `tw_handles::output_text`.
 #[unsafe(no_mangle)]
-pub extern "C" fn yuglemit_report_text(
+pub extern "C" fn yuglemit_raw_report_text(
     alloc: Global,
     report: &mut Handle,
     index: usize,
@@ -53,7 +54,7 @@ pub extern "C" fn yuglemit_report_text(
 
 /// Exports `tw_handles::output_member`.
 #[unsafe(no_mangle)]
-pub extern "C" fn yuglemit_report_member(
+pub extern "C" fn yuglemit_raw_report_member(
     alloc: Global,
     report: &mut Handle,
     index: usize,
@@ -66,9 +67,24 @@ pub extern "C" fn yuglemit_report_member(
     tw_handles::output_member(alloc, report, index, place, member)
 }
 
+/// Exports `tw_handles::output_members`.
+#[unsafe(no_mangle)]
+pub extern "C" fn yuglemit_raw_report_members(
+    alloc: Global,
+    report: &mut Handle,
+    index: usize,
+    first: usize,
+    members: &mut [Member],
+) -> u8
+    ensures kept { report.new.held ≡ report.old.held }
+    ensures is { AreMembers report.old.held index first members.old members.new result }
+{
+    tw_handles::output_members(alloc, report, index, first, members)
+}
+
 /// Exports `tw_handles::member_text`.
 #[unsafe(no_mangle)]
-pub extern "C" fn yuglemit_report_member_text(
+pub extern "C" fn yuglemit_raw_report_member_text(
     alloc: Global,
     report: &mut Handle,
     index: usize,
@@ -83,7 +99,7 @@ pub extern "C" fn yuglemit_report_member_text(
 
 /// Exports `tw_handles::subscript_text`.
 #[unsafe(no_mangle)]
-pub extern "C" fn yuglemit_report_subscript_text(
+pub extern "C" fn yuglemit_raw_report_subscript_text(
     alloc: Global,
     report: &mut Handle,
     index: usize,
@@ -98,7 +114,7 @@ pub extern "C" fn yuglemit_report_subscript_text(
 
 /// Exports `tw_handles::find_int`.
 #[unsafe(no_mangle)]
-pub extern "C" fn yuglemit_report_find_int(
+pub extern "C" fn yuglemit_raw_report_find_int(
     alloc: Global,
     report: &mut Handle,
     index: usize,
@@ -113,7 +129,7 @@ pub extern "C" fn yuglemit_report_find_int(
 
 /// Exports `tw_handles::find_text`.
 #[unsafe(no_mangle)]
-pub extern "C" fn yuglemit_report_find_text(
+pub extern "C" fn yuglemit_raw_report_find_text(
     alloc: Global,
     report: &mut Handle,
     index: usize,
@@ -128,7 +144,7 @@ pub extern "C" fn yuglemit_report_find_text(
 
 /// Exports `tw_handles::instructions`.
 #[unsafe(no_mangle)]
-pub extern "C" fn yuglemit_report_instructions(
+pub extern "C" fn yuglemit_raw_report_instructions(
     alloc: Global,
     report: &mut Handle,
     count: &mut u64,
@@ -141,7 +157,11 @@ pub extern "C" fn yuglemit_report_instructions(
 
 /// Exports `tw_handles::print_report`.
 #[unsafe(no_mangle)]
-pub extern "C" fn yuglemit_print_report(alloc: Global, report: &mut Handle, text: &mut Handle) -> u8
+pub extern "C" fn yuglemit_raw_print_report(
+    alloc: Global,
+    report: &mut Handle,
+    text: &mut Handle,
+) -> u8
     ensures kept { report.new.held ≡ report.old.held }
     ensures is { IsReportPrinted report.old.held text.old.held text.new.held result }
 {
@@ -150,7 +170,11 @@ pub extern "C" fn yuglemit_print_report(alloc: Global, report: &mut Handle, text
 
 /// Exports `tw_handles::print_trace`.
 #[unsafe(no_mangle)]
-pub extern "C" fn yuglemit_print_trace(alloc: Global, report: &mut Handle, text: &mut Handle) -> u8
+pub extern "C" fn yuglemit_raw_print_trace(
+    alloc: Global,
+    report: &mut Handle,
+    text: &mut Handle,
+) -> u8
     ensures kept { report.new.held ≡ report.old.held }
     ensures is { IsTracePrinted report.old.held text.old.held text.new.held result }
 {
@@ -159,7 +183,11 @@ pub extern "C" fn yuglemit_print_trace(alloc: Global, report: &mut Handle, text:
 
 /// Exports `tw_handles::print_json`.
 #[unsafe(no_mangle)]
-pub extern "C" fn yuglemit_print_json(alloc: Global, report: &mut Handle, text: &mut Handle) -> u8
+pub extern "C" fn yuglemit_raw_print_json(
+    alloc: Global,
+    report: &mut Handle,
+    text: &mut Handle,
+) -> u8
     ensures kept { report.new.held ≡ report.old.held }
     ensures is { IsJsonPrinted report.old.held text.old.held text.new.held result }
 {
@@ -168,7 +196,11 @@ pub extern "C" fn yuglemit_print_json(alloc: Global, report: &mut Handle, text: 
 
 /// Exports `tw_handles::text_length`.
 #[unsafe(no_mangle)]
-pub extern "C" fn yuglemit_text_length(alloc: Global, text: &mut Handle, length: &mut usize) -> u8
+pub extern "C" fn yuglemit_raw_text_length(
+    alloc: Global,
+    text: &mut Handle,
+    length: &mut usize,
+) -> u8
     ensures kept { text.new.held ≡ text.old.held }
     ensures is { IsTextLength text.old.held length.old length.new result }
 {
@@ -177,7 +209,7 @@ pub extern "C" fn yuglemit_text_length(alloc: Global, text: &mut Handle, length:
 
 /// Exports `tw_handles::text_copy`.
 #[unsafe(no_mangle)]
-pub extern "C" fn yuglemit_text_copy(alloc: Global, text: &mut Handle, room: &mut [u8]) -> u8
+pub extern "C" fn yuglemit_raw_text_copy(alloc: Global, text: &mut Handle, room: &mut [u8]) -> u8
     ensures kept { text.new.held ≡ text.old.held }
     ensures is { IsTextCopied text.old.held room.old room.new result }
 {

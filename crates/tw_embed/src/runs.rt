@@ -1,12 +1,12 @@
 //! Exports the calls of `tw_handles` that run programs, and those on stop flags.
 
 ghost use Rattle.std.specs.Prelude.{◌≡◌};
-ghost use Rattle.tw_handles.specs.Running.{IsRun, IsRunCapped, IsRunWithin};
+ghost use Rattle.tw_handles.specs.Running.{IsRun};
 ghost use Rattle.tw_handles.specs.Stops.{IsRaised, IsStopMade, IsStopShared};
 ghost use Rattle.tw_handles.specs.Unfit.{IsUnfit};
 
 use std::alloc::Global;
-use tw_handles::{Handle, Options, RunCaps};
+use tw_handles::Handle;
 
 /// Exports `tw_handles::stop_new`.
 #[unsafe(no_mangle)]
@@ -18,75 +18,42 @@ pub extern "C" fn yuglemit_stop_new(alloc: Global, stop: &mut Handle) -> u8
 
 /// Exports `tw_handles::stop_share`.
 #[unsafe(no_mangle)]
-pub extern "C" fn yuglemit_stop_share(alloc: Global, stop: &mut Handle, other: &mut Handle) -> u8
+pub extern "C" fn yuglemit_raw_stop_share(
+    alloc: Global,
+    stop: &mut Handle,
+    other: &mut Handle,
+) -> u8
     ensures kept { stop.new.held ≡ stop.old.held }
-    ensures shared { IsStopShared stop.old.held other.old.held other.new.held result }
+    ensures is { IsStopShared stop.old.held other.old.held other.new.held result }
 {
     tw_handles::stop_share(alloc, stop, other)
 }
 
 /// Exports `tw_handles::stop_raise`.
 #[unsafe(no_mangle)]
-pub extern "C" fn yuglemit_stop_raise(alloc: Global, stop: &mut Handle) -> u8
+pub extern "C" fn yuglemit_raw_stop_raise(alloc: Global, stop: &mut Handle) -> u8
     ensures kept { stop.new.held ≡ stop.old.held }
-    ensures raised { IsRaised stop.old.held result }
+    ensures is { IsRaised stop.old.held result }
 {
     tw_handles::stop_raise(alloc, stop)
 }
 
 /// Exports `tw_handles::stop_lower`.
 #[unsafe(no_mangle)]
-pub extern "C" fn yuglemit_stop_lower(alloc: Global, stop: &mut Handle) -> u8
+pub extern "C" fn yuglemit_raw_stop_lower(alloc: Global, stop: &mut Handle) -> u8
     ensures kept { stop.new.held ≡ stop.old.held }
-    ensures lowered { IsRaised stop.old.held result }
+    ensures is { IsRaised stop.old.held result }
 {
     tw_handles::stop_lower(alloc, stop)
 }
 
 /// Exports `tw_handles::run`.
 #[unsafe(no_mangle)]
-pub extern "C" fn yuglemit_run(
+pub extern "C" fn yuglemit_raw_run(
     alloc: Global,
     program: &mut Handle,
     inputs: &mut Handle,
-    options: &Options,
-    stop: &mut Handle,
-    report: &mut Handle,
-) -> u8
-    ensures program { program.new.held ≡ program.old.held }
-    ensures inputs { inputs.new.held ≡ inputs.old.held }
-    ensures stop { stop.new.held ≡ stop.old.held }
-    ensures is { IsRun program.old.held inputs.old.held options.now stop.old.held report.old.held report.new.held result }
-{
-    tw_handles::run(alloc, program, inputs, options, stop, report)
-}
-
-/// Exports `tw_handles::run_within`.
-#[unsafe(no_mangle)]
-pub extern "C" fn yuglemit_run_within(
-    alloc: Global,
-    program: &mut Handle,
-    inputs: &mut Handle,
-    options: &Options,
-    caps: &RunCaps,
-    stop: &mut Handle,
-    report: &mut Handle,
-) -> u8
-    ensures program { program.new.held ≡ program.old.held }
-    ensures inputs { inputs.new.held ≡ inputs.old.held }
-    ensures stop { stop.new.held ≡ stop.old.held }
-    ensures is { IsRunWithin program.old.held inputs.old.held options.now caps.now stop.old.held report.old.held report.new.held result }
-{
-    tw_handles::run_within(alloc, program, inputs, options, caps, stop, report)
-}
-
-/// Exports `tw_handles::run_capped`.
-#[unsafe(no_mangle)]
-pub extern "C" fn yuglemit_run_capped(
-    alloc: Global,
-    program: &mut Handle,
-    inputs: &mut Handle,
-    options: &Options,
+    options: &[u64],
     caps: &[u64],
     stop: &mut Handle,
     report: &mut Handle,
@@ -94,14 +61,14 @@ pub extern "C" fn yuglemit_run_capped(
     ensures program { program.new.held ≡ program.old.held }
     ensures inputs { inputs.new.held ≡ inputs.old.held }
     ensures stop { stop.new.held ≡ stop.old.held }
-    ensures is { IsRunCapped program.old.held inputs.old.held options.now caps.now stop.old.held report.old.held report.new.held result }
+    ensures is { IsRun program.old.held inputs.old.held options.now caps.now stop.old.held report.old.held report.new.held result }
 {
-    tw_handles::run_capped(alloc, program, inputs, options, caps, stop, report)
+    tw_handles::run(alloc, program, inputs, options, caps, stop, report)
 }
 
 /// Exports `tw_handles::unfit_input`.
 #[unsafe(no_mangle)]
-pub extern "C" fn yuglemit_unfit_input(
+pub extern "C" fn yuglemit_raw_unfit_input(
     alloc: Global,
     program: &mut Handle,
     inputs: &mut Handle,

@@ -55,12 +55,12 @@ option_words None = []
 option_words (Some option) = option ∷ []
 
 -- returns whether the arguments say themselves how the program is read
-abbrev pub says_format : List (List ℕ) → Bool
-says_format words = has_word (codes "--text") words || has_word (codes "--names") words
+abbrev pub has_format : List (List ℕ) → Bool
+has_format words = has_word (codes "--text") words || has_word (codes "--names") words
 
 -- returns whether help is requested
-abbrev pub asks_help : List (List ℕ) → Bool
-asks_help words = has_word (codes "--help") words || has_word (codes "-h") words
+abbrev pub requests_help : List (List ℕ) → Bool
+requests_help words = has_word (codes "--help") words || has_word (codes "-h") words
 
 -- returns whether a run is drawn in place of a trace, which is neither in the program's file nor in one of its own
 abbrev pub draws_run : List ℕ → Bool → Option (List ℕ) → Bool
@@ -70,7 +70,7 @@ draws_run command untraced events = bytes_eq command (codes "picture") && (untra
 abbrev pub session_words : List ℕ → Option (List ℕ) → Bool → List ℕ → List (List ℕ) → List (List ℕ)
 session_words command None drawn program others = command ∷ others
 session_words command (Some path) drawn program others =
-    command_words command drawn ++ (option_words (option_of command (is_text path program && not (says_format others))) ++ others)
+    command_words command drawn ++ (option_words (option_of command (is_text path program && not (has_format others))) ++ others)
 
 -- ---- files of their own
 
@@ -126,7 +126,7 @@ separate_events command untraced n = file_beside (takes_input n) (events_name co
 
 -- returns whether any file is to be opened; for help, none is
 abbrev pub opens_files : List ℕ → Naming → Bool
-opens_files command n = (is_some n.program || (is_some (separate_inputs n) || is_some (separate_events command false n))) && not (asks_help n.others)
+opens_files command n = (is_some n.program || (is_some (separate_inputs n) || is_some (separate_events command false n))) && not (requests_help n.others)
 
 -- ---- what a session gets
 

@@ -4,7 +4,7 @@ ghost use Rattle.std.specs.Prelude.{◌≡◌, ◌++◌, ◌∷◌, [], Some, If
 ghost use Rattle.std.specs.Str.{bytes_eq};
 ghost use Rattle.std.specs.List.{list_any};
 ghost use Rattle.std.specs.Option.{option_map};
-ghost use Rattle.tw_files.specs.Input.{asks_help as asks_help_is, command_words as command_words_is, has_word as has_word_is, is_untraced as is_untraced_is, option_of as option_of_is, option_words, reads_trace as reads_trace_is, says_format as says_format_is, session_words as session_words_is};
+ghost use Rattle.tw_files.specs.Input.{requests_help as requests_help_is, command_words as command_words_is, has_word as has_word_is, is_untraced as is_untraced_is, option_of as option_of_is, option_words, reads_trace as reads_trace_is, has_format as has_format_is, session_words as session_words_is};
 
 use crate::format::is_text;
 use std::alloc::{AllocError, Global};
@@ -42,8 +42,8 @@ pub fn is_untraced(command: &str, program: &[u8], before: &[u8]) -> bool
     !reads_trace(command) || before.len() == program.len()
 }
 
-fn says_format(words: &[String]) -> bool
-    ensures { result ≡ says_format_is (map string_bytes words.now) }
+fn has_format(words: &[String]) -> bool
+    ensures { result ≡ has_format_is (map string_bytes words.now) }
 {
     has_word("--text", words) || has_word("--names", words)
 }
@@ -61,8 +61,8 @@ fn option_of(command: &str, is_text: bool) -> Option<&'static str>
 }
 
 /// Returns whether help is requested.
-pub fn asks_help(words: &[String]) -> bool
-    ensures { result ≡ asks_help_is (map string_bytes words.now) }
+pub fn requests_help(words: &[String]) -> bool
+    ensures { result ≡ requests_help_is (map string_bytes words.now) }
 {
     has_word("--help", words) || has_word("-h", words)
 }
@@ -116,7 +116,7 @@ fn file_words(
 ) -> Result<Vec<String>, AllocError>
     ensures { IfOk result (λ words. map string_bytes words.items ≡ session_words_is command.now (Some path.now) draws_run program.now (map string_bytes others.items)) }
 {
-    let is_text = is_text(alloc, path, program)? && !says_format(&others);
+    let is_text = is_text(alloc, path, program)? && !has_format(&others);
     let first = command_words(alloc, command, draws_run)?;
     with_others(alloc, first, option_of(command, is_text), others)
 }

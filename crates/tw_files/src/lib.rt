@@ -9,6 +9,5 @@ mod named_files;
 mod naming;
 mod opening;
 
-pub use arguments::asks_help;
-pub use naming::reads_program;
+pub use arguments::requests_help;
 pub use opening::{InputFiles, Misfit, NoInput, SessionInput, session_input, words_without_files};

@@ -5,7 +5,7 @@ ghost use Rattle.std.specs.Option.{option_map};
 ghost use Rattle.tw_files.specs.Input.{HasEventsTwice, HasInputsTwice, IsTwice, draws_run as draws_run_is, events_name as events_name_is, expects_trace as expects_trace_is, file_beside as file_beside_is, has_lines as has_lines_is, joined_inputs as joined_inputs_is, opens_files as opens_files_is, program_path as program_path_is, separate_events as separate_events_is, separate_inputs as separate_inputs_is, separate_lines as separate_lines_is, takes_input as takes_input_is, takes_program as takes_program_is};
 ghost use Rattle.tw_files.specs.Seen.{seen};
 
-use crate::arguments::{asks_help, has_word, reads_trace};
+use crate::arguments::{has_word, reads_trace, requests_help};
 use crate::joining::has_inputs;
 use crate::naming::Naming;
 use crate::opening::Misfit;
@@ -126,7 +126,7 @@ impl<'a> Naming<'a> {
     {
         (self.program.is_some()
             || (self.separate_inputs().is_some() || self.separate_events(command, false).is_some()))
-            && !asks_help(&self.others)
+            && !requests_help(&self.others)
     }
 
     fn inputs_twice(&self, program: &[u8]) -> Option<&'a str>

@@ -2,10 +2,11 @@
 
 ghost use Rattle.std.specs.Prelude.{◌≡◌, IfOk, List, ℕ, map, string_bytes};
 ghost use Rattle.std.specs.Option.{option_map};
-ghost use Rattle.tw_files.specs.Naming.{after_word, is_input as is_input_is, is_value as is_value_is, may_name as may_name_is, naming, naming_of, reads_program as reads_program_is, role, takes_inputs as takes_inputs_is, takes_number as takes_number_is};
+ghost use Rattle.tw_files.specs.Naming.{after_word, is_input as is_input_is, is_value as is_value_is, may_name as may_name_is, naming, naming_of, role};
 ghost use Rattle.tw_files.specs.Seen.{seen};
 
 use std::alloc::{AllocError, Global};
+use tw_cli::{ArgumentForm, is_option};
 
 /// The role of an argument.
 #[derive(Clone, Copy)]
@@ -35,18 +36,6 @@ pub struct Naming<'a> {
     pub events: Option<&'a str>,
 }
 
-/// Returns whether a command reads a program.
-pub fn reads_program(command: &str) -> bool
-    ensures { result ≡ reads_program_is command.now }
-{
-    command == "asm"
-        || command == "check"
-        || command == "disasm"
-        || command == "picture"
-        || command == "replay"
-        || command == "run"
-}
-
 fn is_input(word: &[u8]) -> bool
     ensures { result ≡ is_input_is word.now }
 {
@@ -68,33 +57,11 @@ fn may_name(word: &[u8]) -> bool
     }
 }
 
-fn takes_inputs(option: &str) -> bool
-    ensures { result ≡ takes_inputs_is option.now }
-{
-    option == "--inputs" || option == "--inputs-json" || option == "--each"
-}
-
-fn takes_number(option: &str) -> bool
-    ensures { result ≡ takes_number_is option.now }
-{
-    option == "--engines"
-        || option == "--servers"
-        || option == "--workers"
-        || option == "--jobs"
-        || option == "--limit"
-        || option == "--from"
-        || option == "--to"
-        || option == "--most-tasks"
-        || option == "--most-instructions"
-        || option == "--most-data"
-        || option == "--most-bytes"
-        || option == "--most-budget"
-}
-
 fn is_value(option: &str, word: &str) -> bool
     ensures { result ≡ is_value_is option.now word.now }
 {
-    takes_number(option) || (option == "--bounds" && (word == "main" || word == "all"))
+    is_option(ArgumentForm::Value, option)
+        || (is_option(ArgumentForm::ValueOrMain, option) && (word == "main" || word == "all"))
 }
 
 impl<'a> Naming<'a> {
@@ -103,9 +70,9 @@ impl<'a> Naming<'a> {
     {
         if !may_name(word.as_bytes()) {
             Role::Other
-        } else if takes_inputs(self.before) && self.inputs.is_none() {
+        } else if is_option(ArgumentForm::Inputs, self.before) && self.inputs.is_none() {
             Role::Inputs
-        } else if self.before == "--events" && self.events.is_none() {
+        } else if is_option(ArgumentForm::Trace, self.before) && self.events.is_none() {
             Role::Events
         } else if self.program.is_some() || is_value(self.before, word) {
             Role::Other

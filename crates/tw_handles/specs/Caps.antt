@@ -1,5 +1,5 @@
 -- Caps on the runs of a loaded program, and the bounds of its runs.
-use Rattle.std.specs.Prelude.{◌≡◌, ◌⊎◌, ◌&&◌, ◌||◌, ◌+◌, ◌<◌, ◌≤◌, ℕ, Bool, true, false, List, Option, Some, None, MatchOption, nat_le, nat_lt, length, slice_get, unwrap_or}
+use Rattle.std.specs.Prelude.{◌≡◌, ◌⊎◌, ◌&&◌, ◌||◌, ◌+◌, ◌<◌, ◌≤◌, ◌∷◌, [], ℕ, Bool, true, false, List, Option, Some, None, MatchOption, nat_le, nat_lt, length, slice_get, unwrap_or}
 use Rattle.tw_types.specs.declared.event.Event.{Event}
 use Rattle.tw_types.specs.declared.input.Input.{Input}
 use Rattle.tw_types.specs.Layout.{ActorCounts}
@@ -23,25 +23,13 @@ use Rattle.tw_verify.specs.Typed.{TypedProgram}
 use Rattle.tw_handles.specs.Asking.{Fails}
 use Rattle.tw_handles.specs.Codes.{done, no_limit, no_memory, no_program}
 use Rattle.tw_handles.specs.Loading.{program_in}
-use Rattle.tw_handles.specs.declared.bounds.RunBounds.{RunBounds}
+use Rattle.tw_handles.specs.Numbers.{filled}
 use Rattle.tw_handles.specs.declared.caps.AllCaps.{AllCaps}
-use Rattle.tw_handles.specs.declared.caps.RunCaps.{RunCaps}
 use Rattle.tw_handles.specs.declared.held.Held.{Held}
 
 -- ---- caps
 
 -- the greatest cap is none
-abbrev pub caps_of : RunCaps → AllCaps
-caps_of given = record {
-  tasks = given.tasks;
-  instructions = given.instructions;
-  «data» = given.«data»;
-  bytes = given.bytes;
-  budget = given.budget;
-  members = greatest_cap;
-  rules = greatest_cap;
-}
-
 abbrev pub listed_cap : List ℕ → ℕ → ℕ
 listed_cap numbers index = unwrap_or (slice_get numbers index) greatest_cap
 
@@ -110,26 +98,20 @@ number_of (AtMost n) = n
 number_of Over = 18446744073709551614
 number_of Endless = 18446744073709551615
 
-abbrev pub numbers_of : LimitedBounds → RunBounds
-numbers_of bounds = record {
-  tasks = number_of bounds.tasks;
-  instructions = number_of bounds.instructions;
-  «data» = number_of bounds.«data»;
-  members = number_of bounds.members;
-  rules = number_of bounds.rules;
-  bytes = number_of bounds.bytes;
-  events = number_of bounds.events;
-}
+-- returns the bounds of tasks, instructions, data, members, rules, bytes and events
+abbrev pub numbers_of : LimitedBounds → List ℕ
+numbers_of bounds =
+    number_of bounds.tasks ∷ number_of bounds.instructions ∷ number_of bounds.«data» ∷ number_of bounds.members ∷ number_of bounds.rules ∷ number_of bounds.bytes ∷ number_of bounds.events ∷ []
 
 -- holds if these are main's bounds, or the smaller of them and those of the limit, and each such run stays within them; or an allocation failed
-abbrev pub AreFound : TypedProgram → Option ℕ → RunBounds → RunBounds → ℕ → Type 0
+abbrev pub AreFound : TypedProgram → Option ℕ → List ℕ → List ℕ → ℕ → Type 0
 AreFound verified limit old new code =
-    ((bounds : LimitedBounds) × AreLeastBounds verified.program limit bounds × LeastRuns verified.program limit bounds × (new ≡ numbers_of bounds) × (code ≡ done)) ⊎ Fails no_memory old new code
+    ((bounds : LimitedBounds) × AreLeastBounds verified.program limit bounds × LeastRuns verified.program limit bounds × (new ≡ filled (numbers_of bounds) old) × (code ≡ done)) ⊎ Fails no_memory old new code
 
 -- holds if these are the bounds of all runs, by the limit 0, or of those with at most so many events, or there are no runs with such a limit
-abbrev pub AreBoundsIn : TypedProgram → ℕ → RunBounds → RunBounds → ℕ → Type 0
+abbrev pub AreBoundsIn : TypedProgram → ℕ → List ℕ → List ℕ → ℕ → Type 0
 AreBoundsIn verified limit old new code =
     ((limit ≡ 0) × AreFound verified None old new code) ⊎ (IsLimit limit × AreFound verified (Some limit) old new code) ⊎ ((1000000 < limit) × Fails no_limit old new code)
 
-abbrev pub AreBounds : Option Held → ℕ → RunBounds → RunBounds → ℕ → Type 0
+abbrev pub AreBounds : Option Held → ℕ → List ℕ → List ℕ → ℕ → Type 0
 AreBounds held limit old new code = MatchOption (program_in held) (Fails no_program old new code) (λ verified. AreBoundsIn verified limit old new code)

@@ -10,8 +10,12 @@ pub mod Containers
 pub mod Finding
 -- The contents of a handle. A program in it is the one that the bytes encode.
 pub mod Loading
+-- Many members of an output at once.
+pub mod Many
 -- Calls on the members of an output.
 pub mod Members
+-- Numbers that are written for C.
+pub mod Numbers
 -- Calls on a report.
 pub mod Reading
 -- Inputs and runs.

@@ -1,14 +1,16 @@
 -- The contents of a handle, and loading a program.
-use Rattle.std.specs.Prelude.{◌≡◌, ◌≢◌, ◌⊎◌, ℕ, Bool, true, false, List, [], Option, Some, None}
+use Rattle.std.specs.Prelude.{◌≡◌, ◌≢◌, ◌⊎◌, ◌<◌, ◌≤◌, ◌∷◌, ℕ, Bool, true, false, List, [], length, unwrap_or, Option, Some, None, slice_get}
 use Rattle.std.specs.Arc.{arc_value}
 use Rattle.tw_in_turn.specs.declared.run.StoppableResult.{StoppableResult}
 use Rattle.tw_types.specs.declared.input.Input.{Input}
-use Rattle.tw_verdict.specs.Reading.{HasRead}
-use Rattle.tw_verdict.specs.Source.{HasSource, IsSourceError, without_line}
-use Rattle.tw_verdict.specs.Verdict.{accepted}
+use Rattle.tw_verdict.specs.Source.{HasSource, IsSourceError, letter, without_line}
+use Rattle.tw_verdict.specs.Verdict.{IsVerdict, accepted}
 use Rattle.tw_verdict.specs.declared.format.Format.{Format}
 use Rattle.tw_verdict.specs.declared.text.SourceVerdict.{SourceVerdict}
+use Rattle.tw_verdict.specs.declared.verdict.Verdict.{Verdict}
 use Rattle.tw_verify.specs.Typed.{TypedProgram}
+use Rattle.tw_handles.specs.Codes.{loading_code, no_options}
+use Rattle.tw_handles.specs.Numbers.{filled}
 use Rattle.tw_handles.specs.declared.held.Held.{Held}
 use Rattle.tw_handles.specs.declared.held.Held.TheVariants.{Program, Inputs, Container, Report, Stop, Text}
 
@@ -52,14 +54,40 @@ stop_in (Some (Report left)) = None
 stop_in (Some (Stop flag)) = Some true
 stop_in (Some (Text text)) = None
 
--- holds if the handle holds the program of the bytes and the letter is 0, or the contents are unchanged
-abbrev pub IsLoaded : List ℕ → Option Held → Option Held → ℕ → Type 0
-IsLoaded bytes old new letter =
-    ((verified : TypedProgram) × HasRead bytes verified × (program_in new ≡ Some verified) × (letter ≡ 0))
-    ⊎ ((new ≡ old) × (letter ≢ 0))
-
 -- the handle holds the accepted program of the source; else its contents are as they were, and the verdict has the source's error
 abbrev pub IsSourceLoaded : Format → List ℕ → Option Held → Option Held → SourceVerdict → Type 0
 IsSourceLoaded form source old new verdict =
     ((verified : TypedProgram) × HasSource form source verified × (program_in new ≡ Some verified) × (verdict ≡ without_line (accepted verified.program)))
     ⊎ ((new ≡ old) × (verdict.verdict.letter ≢ 0) × IsSourceError form source verdict)
+
+-- the verdict H02
+abbrev pub too_long : SourceVerdict
+too_long = without_line (letter 72 2)
+
+-- holds if the source is loaded or rejected; or it has more bytes than these, which is H02
+abbrev pub IsWithinLength : Format → ℕ → List ℕ → Option Held → Option Held → SourceVerdict → Type 0
+IsWithinLength form most source old new verdict =
+    ((length source ≤ most) × IsSourceLoaded form source old new verdict) ⊎ ((most < length source) × (new ≡ old) × (verdict ≡ too_long))
+
+-- returns the greatest length of a source, 16 MiB if the list has none
+abbrev pub most_of : List ℕ → ℕ
+most_of options = unwrap_or (slice_get options 0) 16777216
+
+-- returns a verdict's letter, number, engines, workers, procedure and place, then its line, word and column
+abbrev pub verdict_numbers : SourceVerdict → List ℕ
+verdict_numbers v =
+    v.verdict.letter ∷ v.verdict.number ∷ v.verdict.engines ∷ v.verdict.workers ∷ v.verdict.procedure ∷ v.verdict.place ∷ v.line ∷ v.word ∷ v.column ∷ []
+
+-- the verdict's numbers are written, and this is its code
+abbrev pub IsPut : SourceVerdict → List ℕ → List ℕ → ℕ → Type 0
+IsPut verdict old new code = (new ≡ filled (verdict_numbers verdict) old) × (code ≡ loading_code verdict.verdict.letter)
+
+-- holds if the source is loaded or rejected, with its verdict; or there are more options than one
+abbrev pub IsLoading : Format → List ℕ → List ℕ → Option Held → Option Held → List ℕ → List ℕ → ℕ → Type 0
+IsLoading form options source old new before after code =
+    ((length options ≤ 1) × (verdict : SourceVerdict) × IsWithinLength form (most_of options) source old new verdict × IsPut verdict before after code)
+    ⊎ ((1 < length options) × (new ≡ old) × (after ≡ before) × (code ≡ no_options))
+
+-- holds if the verdict on the bytes is written
+abbrev pub IsVerified : List ℕ → List ℕ → List ℕ → ℕ → Type 0
+IsVerified bytes before after code = (verdict : Verdict) × IsVerdict bytes verdict × IsPut (without_line verdict) before after code

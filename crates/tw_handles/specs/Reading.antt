@@ -1,5 +1,5 @@
 -- Calls on a report: how the run ended, and its outputs.
-use Rattle.std.specs.Prelude.{◌≡◌, ◌≤◌, ◌<◌, ◌⊎◌, ◌++◌, ℕ, List, Option, Some, None, MatchOption, drop, length, pos, slice_get, if◌then◌else◌}
+use Rattle.std.specs.Prelude.{◌≡◌, ◌≤◌, ◌<◌, ◌⊎◌, ◌++◌, ◌∷◌, [], ℕ, List, Option, Some, None, MatchOption, drop, length, pos, slice_get, if◌then◌else◌}
 use Rattle.std.specs.FinMap as map
 use Rattle.std.specs.FinMap.{get}
 use Rattle.std.specs.Option.{option_and_then}
@@ -23,9 +23,9 @@ use Rattle.tw_types.specs.declared.value.Value.TheVariants as value
 use Rattle.tw_handles.specs.Asking.{Fails}
 use Rattle.tw_handles.specs.Codes.{done, no_index, no_report, no_room, no_text}
 use Rattle.tw_handles.specs.Loading.{report_in}
+use Rattle.tw_handles.specs.Numbers.{filled}
 use Rattle.tw_handles.specs.declared.held.Held.{Held}
 use Rattle.tw_handles.specs.declared.item.Item.{Item}
-use Rattle.tw_handles.specs.declared.report.Ending.{Ending}
 
 abbrev pub final_in : InTurnResult → FinalView
 final_in (left.Over final history) = final
@@ -61,11 +61,12 @@ abbrev pub end_status : StoppableResult → ℕ
 end_status (stoppable.Ended left) = end_in left
 end_status (stoppable.Stopped final history) = 8
 
-abbrev pub ending_of : StoppableResult → Ending
-ending_of left = record { events = length (history_of left).events; outputs = length (final_of left).outputs; status = end_status left }
+-- returns the numbers of events and of outputs, and the status
+abbrev pub ending_of : StoppableResult → List ℕ
+ending_of left = length (history_of left).events ∷ length (final_of left).outputs ∷ end_status left ∷ []
 
-abbrev pub IsEnding : Option Held → Ending → Ending → ℕ → Type 0
-IsEnding held old new code = MatchOption (report_in held) (Fails no_report old new code) (λ left. (new ≡ ending_of left) × (code ≡ done))
+abbrev pub IsEnding : Option Held → List ℕ → List ℕ → ℕ → Type 0
+IsEnding held old new code = MatchOption (report_in held) (Fails no_report old new code) (λ left. (new ≡ filled (ending_of left) old) × (code ≡ done))
 
 -- ---- a datum
 

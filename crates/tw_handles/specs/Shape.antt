@@ -1,5 +1,5 @@
 -- Calls on the procedures of a loaded program: kinds, parameters, names, and the actors that the program needs.
-use Rattle.std.specs.Prelude.{◌≡◌, ◌⊎◌, ℕ, List, IsUtf8, length, slice_get, Option, Some, None, MatchOption, if◌then◌else◌}
+use Rattle.std.specs.Prelude.{◌≡◌, ◌⊎◌, ◌∷◌, [], ℕ, List, IsUtf8, length, slice_get, Option, Some, None, MatchOption, if◌then◌else◌}
 use Rattle.std.specs.Option.{option_and_then}
 use Rattle.tw_code.specs.accepting.Needs.{needed}
 use Rattle.tw_code.specs.declared.procedure.Procedure.{Procedure}
@@ -16,27 +16,26 @@ use Rattle.tw_verify.specs.Typed.{TypedProgram}
 use Rattle.tw_handles.specs.Asking.{Fails}
 use Rattle.tw_handles.specs.Codes.{done, no_index, no_program, no_utf8}
 use Rattle.tw_handles.specs.Loading.{program_in}
+use Rattle.tw_handles.specs.Numbers.{filled}
 use Rattle.tw_handles.specs.Reading.{letter_of}
 use Rattle.tw_handles.specs.Texts.{IsTextMade}
 use Rattle.tw_handles.specs.declared.held.Held.{Held}
-use Rattle.tw_handles.specs.declared.shape.Needs.{Needs}
-use Rattle.tw_handles.specs.declared.shape.Parameter.{Parameter}
-use Rattle.tw_handles.specs.declared.shape.Section.{Section}
 
 -- returns c or l
 abbrev pub kind_letter : Kind → ℕ
 kind_letter Control = 99
 kind_letter Leaf = 108
 
-abbrev pub section_of : Procedure → Section
-section_of p = record { parameters = length p.params; kind = kind_letter p.kind }
+-- returns the number of parameters, and the kind
+abbrev pub section_of : Procedure → List ℕ
+section_of p = length p.params ∷ kind_letter p.kind ∷ []
 
 -- holds if this is the procedure with this index, or there is none
-abbrev pub IsSectionIn : TypedProgram → ℕ → Section → Section → ℕ → Type 0
+abbrev pub IsSectionIn : TypedProgram → ℕ → List ℕ → List ℕ → ℕ → Type 0
 IsSectionIn verified procedure old new code =
-    MatchOption (slice_get verified.program procedure) (Fails no_index old new code) (λ p. (new ≡ section_of p) × (code ≡ done))
+    MatchOption (slice_get verified.program procedure) (Fails no_index old new code) (λ p. (new ≡ filled (section_of p) old) × (code ≡ done))
 
-abbrev pub IsSection : Option Held → ℕ → Section → Section → ℕ → Type 0
+abbrev pub IsSection : Option Held → ℕ → List ℕ → List ℕ → ℕ → Type 0
 IsSection held procedure old new code =
     MatchOption (program_in held) (Fails no_program old new code) (λ verified. IsSectionIn verified procedure old new code)
 
@@ -58,32 +57,26 @@ by_inside (Some ty) = by_of ty
 abbrev pub members_of : Option NestedScalar → Option NestedScalar
 members_of ty = option_and_then element_of ty
 
-abbrev pub parameter_of : Param → Parameter
+-- returns the mode, the number of containers around the scalar, its letter, and those of the subscripts of the containers, outermost first
+abbrev pub parameter_of : Param → List ℕ
 parameter_of p =
-    record {
-      mode = mode_letter p.mode;
-      depth = depth_of p.ty;
-      scalar = letter_of p.ty.scalar;
-      by = by_of p.ty;
-      by_second = by_inside (element_of p.ty);
-      by_third = by_inside (members_of (element_of p.ty));
-    }
+    mode_letter p.mode ∷ depth_of p.ty ∷ letter_of p.ty.scalar ∷ by_of p.ty ∷ by_inside (element_of p.ty) ∷ by_inside (members_of (element_of p.ty)) ∷ []
 
 abbrev pub parameter_at : TypedProgram → ℕ → ℕ → Option Param
 parameter_at verified procedure index = option_and_then (λ (p : Procedure). slice_get p.params index) (slice_get verified.program procedure)
 
-abbrev pub IsParameterIn : TypedProgram → ℕ → ℕ → Parameter → Parameter → ℕ → Type 0
+abbrev pub IsParameterIn : TypedProgram → ℕ → ℕ → List ℕ → List ℕ → ℕ → Type 0
 IsParameterIn verified procedure index old new code =
-    MatchOption (parameter_at verified procedure index) (Fails no_index old new code) (λ p. (new ≡ parameter_of p) × (code ≡ done))
+    MatchOption (parameter_at verified procedure index) (Fails no_index old new code) (λ p. (new ≡ filled (parameter_of p) old) × (code ≡ done))
 
-abbrev pub IsParameter : Option Held → ℕ → ℕ → Parameter → Parameter → ℕ → Type 0
+abbrev pub IsParameter : Option Held → ℕ → ℕ → List ℕ → List ℕ → ℕ → Type 0
 IsParameter held procedure index old new code =
     MatchOption (program_in held) (Fails no_program old new code) (λ verified. IsParameterIn verified procedure index old new code)
 
-abbrev pub AreNeeds : Option Held → Needs → Needs → ℕ → Type 0
+abbrev pub AreNeeds : Option Held → List ℕ → List ℕ → ℕ → Type 0
 AreNeeds held old new code =
     MatchOption (program_in held) (Fails no_program old new code)
-    (λ verified. (new ≡ record { engines = needed Control verified.program; workers = needed Leaf verified.program }) × (code ≡ done))
+    (λ verified. (new ≡ filled (needed Control verified.program ∷ needed Leaf verified.program ∷ []) old) × (code ≡ done))
 
 -- holds for the name that a text gives the procedure of this number, empty if it gives none
 abbrev pub IsNameIn : List ℕ → ℕ → List ℕ → Type 0

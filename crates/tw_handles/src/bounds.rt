@@ -1,40 +1,22 @@
 //! The bounds of a loaded program's runs.
 
 ghost use Rattle.std.specs.Prelude.{◌≡◌, Some};
-ghost use Rattle.tw_handles.specs.Caps.{AreBounds, AreBoundsIn, AreFound, number_of as number_of_is, numbers_of as numbers_of_is};
+ghost use Rattle.tw_handles.specs.Caps.{AreBounds, AreBoundsIn, AreFound, number_of as number_of_is, numbers_of};
+ghost use Rattle.tw_handles.specs.Numbers.{filled};
 
 use crate::codes;
 use crate::handle::Handle;
 use crate::held::Held;
+use crate::numbers::put;
 use std::alloc::Global;
 use tw_bounds::{Bound, LimitedBounds, least_bounds};
 use tw_verify::Verified;
 
-/// The most that the runs of a program do, as C reads it. `OVER` is a number over 1,000,000,000,000, `NO_BOUND` no bound.
-#[repr(C)]
-#[derive(Clone, Copy)]
-pub struct RunBounds {
-    /// Tasks that are taken, main's included.
-    pub tasks: u64,
-    /// Instructions that are executed.
-    pub instructions: u64,
-    /// Data made by NEW.
-    pub data: u64,
-    /// Members that the store holds at any time, beyond those of the inputs.
-    pub members: u64,
-    /// Rules made by RULE.
-    pub rules: u64,
-    /// Bytes of the texts that the store holds at any time, beyond those of the inputs.
-    pub bytes: u64,
-    /// Events of the run.
-    pub events: u64,
-}
+/// A bound over 1,000,000,000,000.
+const OVER: u64 = u64::MAX - 1;
 
-impl RunBounds {
-    const OVER: u64 = u64::MAX - 1;
-
-    const NO_BOUND: u64 = u64::MAX;
-}
+/// No bound.
+const NO_BOUND: u64 = u64::MAX;
 
 /// The largest limit of events. The smallest is 1.
 const MOST_EVENTS: usize = 1_000_000;
@@ -44,54 +26,56 @@ fn number_of(bound: Bound) -> u64
 {
     match bound {
         Bound::AtMost(number) => number,
-        Bound::Over => RunBounds::OVER,
-        Bound::Endless => RunBounds::NO_BOUND,
+        Bound::Over => OVER,
+        Bound::Endless => NO_BOUND,
     }
 }
 
-fn numbers_of(bounds: LimitedBounds) -> RunBounds
-    ensures { result ≡ numbers_of_is bounds }
+/// Writes the bounds of tasks, instructions, data, members, rules, bytes and events.
+fn put_bounds(bounds: LimitedBounds, numbers: &mut [u64])
+    ensures { numbers.new ≡ filled (numbers_of bounds) numbers.old }
 {
-    RunBounds {
-        tasks: number_of(bounds.tasks),
-        instructions: number_of(bounds.instructions),
-        data: number_of(bounds.data),
-        members: number_of(bounds.members),
-        rules: number_of(bounds.rules),
-        bytes: number_of(bounds.bytes),
-        events: number_of(bounds.events),
-    }
+    let found = [
+        number_of(bounds.tasks),
+        number_of(bounds.instructions),
+        number_of(bounds.data),
+        number_of(bounds.members),
+        number_of(bounds.rules),
+        number_of(bounds.bytes),
+        number_of(bounds.events),
+    ];
+    put(&found, numbers);
 }
 
-fn find_bounds(alloc: Global, verified: &Verified, limit: Option<u32>, bounds: &mut RunBounds) -> u8
-    ensures { AreFound verified.now limit bounds.old bounds.new result }
+fn find_bounds(alloc: Global, verified: &Verified, limit: Option<u32>, numbers: &mut [u64]) -> u8
+    ensures { AreFound verified.now limit numbers.old numbers.new result }
 {
     match least_bounds(alloc, verified, limit) {
         Ok(found) => {
-            *bounds = numbers_of(found);
+            put_bounds(found, numbers);
             codes::DONE
         }
         Err(_) => codes::NO_MEMORY,
     }
 }
 
-fn bounds_in(alloc: Global, verified: &Verified, limit: usize, bounds: &mut RunBounds) -> u8
-    ensures { AreBoundsIn verified.now limit bounds.old bounds.new result }
+fn bounds_in(alloc: Global, verified: &Verified, limit: usize, numbers: &mut [u64]) -> u8
+    ensures { AreBoundsIn verified.now limit numbers.old numbers.new result }
 {
     if limit == 0 {
-        find_bounds(alloc, verified, None, bounds)
+        find_bounds(alloc, verified, None, numbers)
     } else if limit <= MOST_EVENTS {
-        find_bounds(alloc, verified, Some(limit as u32), bounds)
+        find_bounds(alloc, verified, Some(limit as u32), numbers)
     } else {
         codes::NO_LIMIT
     }
 }
 
-fn bounds_held(alloc: Global, held: &Held, limit: usize, bounds: &mut RunBounds) -> u8
-    ensures { AreBounds (Some held.now) limit bounds.old bounds.new result }
+fn bounds_held(alloc: Global, held: &Held, limit: usize, numbers: &mut [u64]) -> u8
+    ensures { AreBounds (Some held.now) limit numbers.old numbers.new result }
 {
     match held {
-        Held::Program(verified) => bounds_in(alloc, verified, limit, bounds),
+        Held::Program(verified) => bounds_in(alloc, verified, limit, numbers),
         Held::Inputs(_) | Held::Report(_) | Held::Stop(_) | Held::Container(_) | Held::Text(_) =>
             codes::NO_PROGRAM,
     }
@@ -99,19 +83,14 @@ fn bounds_held(alloc: Global, held: &Held, limit: usize, bounds: &mut RunBounds)
 
 /// Writes the bounds of the program's runs with at most `limit` events, or of all runs if `limit` is 0. Returns `NO_LIMIT` if it is over
 /// 1,000,000.
-pub fn program_bounds(
-    alloc: Global,
-    program: &mut Handle,
-    limit: usize,
-    bounds: &mut RunBounds,
-) -> u8
+pub fn program_bounds(alloc: Global, program: &mut Handle, limit: usize, numbers: &mut [u64]) -> u8
     ensures kept { program.new.held ≡ program.old.held }
-    ensures are { AreBounds program.old.held limit bounds.old bounds.new result }
+    ensures is { AreBounds program.old.held limit numbers.old numbers.new result }
 {
     let Some(whole) = program.take(alloc) else {
         return codes::NO_PROGRAM;
     };
-    let code = bounds_held(alloc, &whole, limit, bounds);
+    let code = bounds_held(alloc, &whole, limit, numbers);
     *program = Handle::of(whole);
     code
 }

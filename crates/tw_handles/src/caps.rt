@@ -3,30 +3,12 @@
 ghost use Rattle.std.specs.Prelude.{◌≡◌, IfOk, slice_get, true, unwrap_or};
 ghost use Rattle.tw_order.specs.Orders.{greatest_cap};
 ghost use Rattle.tw_program_output.specs.Admission.{is_within};
-ghost use Rattle.tw_handles.specs.Caps.{AreCompared, AreComparedIf, IsDecided, StaysWithin, are_within, caps_of, has_cap, listed_caps};
+ghost use Rattle.tw_handles.specs.Caps.{AreCompared, AreComparedIf, IsDecided, StaysWithin, are_within, has_cap, listed_caps};
 
 use std::alloc::{AllocError, Global};
 use tw_bounds::{Bound, LimitedBounds, largest_budget, least_bounds};
 use tw_order::EventLimit;
 use tw_verify::Verified;
-
-/// The first five caps, as a struct. `u64::MAX` is no cap.
-#[repr(C)]
-#[derive(Clone, Copy)]
-pub struct RunCaps {
-    /// The size of this struct, 48 bytes. A caller that knows another one gets an error.
-    pub size: usize,
-    /// Tasks that are taken.
-    pub tasks: u64,
-    /// Instructions that are executed.
-    pub instructions: u64,
-    /// Data made by NEW.
-    pub data: u64,
-    /// Bytes of the texts that the store holds at any time, beyond those of the inputs.
-    pub bytes: u64,
-    /// Instructions of one task.
-    pub budget: u64,
-}
 
 /// The most that a run may do. `u64::MAX` is no cap.
 #[derive(Clone, Copy)]
@@ -40,26 +22,6 @@ pub struct AllCaps {
     pub members: u64,
     /// Rules made by RULE.
     pub rules: u64,
-}
-
-impl RunCaps {
-    /// The size of this struct in bytes.
-    pub(crate) const SIZE: usize = 48;
-
-    /// Returns these caps, and none on members and rules.
-    pub(crate) fn caps(&self) -> AllCaps
-        ensures { result ≡ caps_of self.now }
-    {
-        AllCaps {
-            tasks: self.tasks,
-            instructions: self.instructions,
-            data: self.data,
-            bytes: self.bytes,
-            budget: self.budget,
-            members: u64::MAX,
-            rules: u64::MAX,
-        }
-    }
 }
 
 fn cap_at(numbers: &[u64], index: usize) -> u64

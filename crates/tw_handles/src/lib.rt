@@ -13,7 +13,9 @@ mod held;
 mod item;
 mod loading;
 mod loose;
+mod many;
 mod members;
+mod numbers;
 mod printing;
 mod program;
 mod report;
@@ -23,8 +25,8 @@ mod stopping;
 mod texts;
 mod unfit;
 
-pub use bounds::{RunBounds, program_bounds};
-pub use caps::{AllCaps, RunCaps};
+pub use bounds::program_bounds;
+pub use caps::AllCaps;
 pub use containers::{
     container_new, input_container, put_int, put_int_by_text, put_text, put_text_by_text,
 };
@@ -32,16 +34,14 @@ pub use finding::{find_int, find_text};
 pub use given::{input_int, input_text};
 pub use handle::Handle;
 pub use item::Item;
-pub use loading::{load, load_source};
+pub use loading::{load_source, verify};
+pub use many::output_members;
 pub use members::{Member, member_text, output_member, subscript_text};
 pub use printing::{instructions, print_json, print_report, print_trace};
 pub use program::{budget, procedures, share};
-pub use report::{Ending, output, output_text, report_ending};
-pub use running::{Options, run, run_capped, run_within};
-pub use shape::{
-    Needs, Parameter, Section, describe_parameter, describe_procedure, read_needs, source_name,
-};
+pub use report::{output, output_text, report_ending};
+pub use running::{RunOrder, run};
+pub use shape::{describe_parameter, describe_procedure, read_needs, source_name};
 pub use stopping::{stop_lower, stop_new, stop_raise, stop_share};
-pub use texts::{text_copy, text_handle, text_length};
-pub use tw_verdict::{SourceVerdict, Verdict};
+pub use texts::{take_text, text_copy, text_handle, text_length};
 pub use unfit::unfit_input;

@@ -1,16 +1,22 @@
-//! Loads programs.
+//! Loads programs, and verifies them.
 
 ghost use Rattle.std.specs.Prelude.{◌≡◌, IfOk, Some};
-ghost use Rattle.tw_handles.specs.Loading.{IsLoaded, IsSourceLoaded, program_in};
+ghost use Rattle.tw_handles.specs.Codes.{loading_code};
+ghost use Rattle.tw_handles.specs.Loading.{IsLoading, IsSourceLoaded, IsVerified, IsWithinLength, most_of as most_of_is, program_in, too_long as too_long_is, verdict_numbers};
+ghost use Rattle.tw_handles.specs.Numbers.{filled};
 ghost use Rattle.tw_verdict.specs.Format.{format_of as format_is};
-ghost use Rattle.tw_verdict.specs.Verdict.{IsVerdict};
 
+use crate::codes;
 use crate::handle::Handle;
 use crate::held::Held;
+use crate::numbers::put;
 use std::alloc::{AllocError, Global};
 use std::sync::Arc;
-use tw_verdict::{SourceVerdict, Verdict, format_of, read_bytes, read_source};
+use tw_verdict::{Format, SourceVerdict, Verdict, format_of, read_source, verdict_of};
 use tw_verify::Verified;
+
+/// The greatest length of a source, if the caller says none: that of a session.
+const USUAL_MOST: u64 = 16_777_216;
 
 /// Puts an accepted program into a handle.
 fn handle_of(alloc: Global, verified: Verified) -> Result<Handle, AllocError>
@@ -22,45 +28,123 @@ fn handle_of(alloc: Global, verified: Verified) -> Result<Handle, AllocError>
     }
 }
 
-/// Decodes and verifies the bytes of a program. If it is accepted, the handle holds it, and its former contents are freed.
-pub fn load(alloc: Global, bytes: &[u8], program: &mut Handle, verdict: &mut Verdict)
-    ensures verdict { IsVerdict bytes.now verdict.new }
-    ensures loaded { IsLoaded bytes.now program.old.held program.new.held verdict.new.letter }
+/// Reads and verifies a source. If it is accepted, the handle holds the program, and its former contents are freed.
+fn load(alloc: Global, format: Format, source: &[u8], program: &mut Handle) -> SourceVerdict
+    ensures { IsSourceLoaded format source.now program.old.held program.new.held result }
 {
-    let (found, reading) = read_bytes(alloc, bytes);
+    let (found, reading) = read_source(alloc, format, source);
     let Some(verified) = found else {
-        *verdict = reading;
-        return;
+        return reading;
     };
     match handle_of(alloc, verified) {
         Ok(handle) => {
             *program = handle;
-            *verdict = reading;
+            reading
         }
-        Err(_) => *verdict = Verdict::no_memory(),
+        Err(_) => SourceVerdict::no_memory(),
     }
 }
 
-/// Like `load`, for bytes, hex text or assembly text. The letter of a format is `b`, `h` or `t`; any other lets it be found.
+/// Returns the verdict on a source that is too long, H02.
+fn too_long() -> SourceVerdict
+    ensures { result ≡ too_long_is }
+{
+    let verdict = Verdict {
+        letter: b'H',
+        number: 2,
+        engines: 0,
+        workers: 0,
+        procedure: 0,
+        place: 0,
+    };
+    SourceVerdict {
+        verdict,
+        line: 0,
+        word: 0,
+        column: 0,
+    }
+}
+
+/// Like `load`, for a source that has at most so many bytes.
+fn load_within(
+    alloc: Global,
+    format: Format,
+    most: u64,
+    source: &[u8],
+    program: &mut Handle,
+) -> SourceVerdict
+    ensures { IsWithinLength format most source.now program.old.held program.new.held result }
+{
+    if source.len() as u64 > most {
+        too_long()
+    } else {
+        load(alloc, format, source, program)
+    }
+}
+
+/// Returns the first of the options of a load: the greatest length.
+fn most_of(options: &[u64]) -> u64
+    ensures { result ≡ most_of_is options.now }
+{
+    match options.get(0) {
+        Some(most) => *most,
+        None => USUAL_MOST,
+    }
+}
+
+/// Writes a verdict in numbers, and returns its code.
+fn put_verdict(verdict: SourceVerdict, numbers: &mut [u64]) -> u8
+    ensures numbers { numbers.new ≡ filled (verdict_numbers verdict) numbers.old }
+    ensures code { result ≡ loading_code verdict.verdict.letter }
+{
+    let at = verdict.verdict;
+    let found = [
+        at.letter as u64,
+        at.number as u64,
+        at.engines as u64,
+        at.workers as u64,
+        at.procedure as u64,
+        at.place as u64,
+        verdict.line as u64,
+        verdict.word as u64,
+        verdict.column as u64,
+    ];
+    put(&found, numbers);
+    codes::of_letter(at.letter)
+}
+
+/// Reads and verifies a program's bytes, hex text or assembly text. The letter of a format is `b`, `h` or `t`; any other lets it be found. `options`
+/// are the greatest length, 16 MiB if it is left out; a longer source is H02. If the program is accepted, the handle holds it, and its
+/// former contents are freed. The verdict is written in numbers, in the order of its fields. Returns `NO_OPTIONS` if there are more
+/// options.
 pub fn load_source(
     alloc: Global,
     source: &[u8],
     format: u8,
+    options: &[u64],
     program: &mut Handle,
-    verdict: &mut SourceVerdict,
-)
-    ensures { IsSourceLoaded (format_is format source.now) source.now program.old.held program.new.held verdict.new }
+    numbers: &mut [u64],
+) -> u8
+    ensures { IsLoading (format_is format source.now) options.now source.now program.old.held program.new.held numbers.old numbers.new result }
 {
-    let (found, reading) = read_source(alloc, format_of(format, source), source);
-    let Some(verified) = found else {
-        *verdict = reading;
-        return;
-    };
-    match handle_of(alloc, verified) {
-        Ok(handle) => {
-            *program = handle;
-            *verdict = reading;
-        }
-        Err(_) => *verdict = SourceVerdict::no_memory(),
+    if options.len() > 1 {
+        return codes::NO_OPTIONS;
     }
+    let format = format_of(format, source);
+    let verdict = load_within(alloc, format, most_of(options), source, program);
+    put_verdict(verdict, numbers)
+}
+
+/// Verifies the bytes of a program, and writes the verdict in numbers, without the position in a text.
+pub fn verify(alloc: Global, bytes: &[u8], numbers: &mut [u64]) -> u8
+    ensures { IsVerified bytes.now numbers.old numbers.new result }
+{
+    let verdict = verdict_of(alloc, bytes);
+    let at = SourceVerdict {
+        verdict,
+        line: 0,
+        word: 0,
+        column: 0,
+    };
+    put_verdict(at, numbers)
 }

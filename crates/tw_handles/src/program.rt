@@ -41,7 +41,7 @@ fn share_held(alloc: Global, held: &Held, other: &mut Handle) -> u8
 /// `program` holds none.
 pub fn share(alloc: Global, program: &mut Handle, other: &mut Handle) -> u8
     ensures kept { program.new.held ≡ program.old.held }
-    ensures shared { IsShared program.old.held other.old.held other.new.held result }
+    ensures is { IsShared program.old.held other.old.held other.new.held result }
 {
     let Some(whole) = program.take(alloc) else {
         return codes::NO_PROGRAM;

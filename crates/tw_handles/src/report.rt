@@ -1,28 +1,20 @@
 //! Calls that read a report.
 
 ghost use Rattle.std.specs.Prelude.{◌≡◌, Some};
-ghost use Rattle.tw_handles.specs.Reading.{IsOutput, IsOutputIn, IsOutputText, IsOutputTextIn, IsEnding, closing_status as closing_status_is, end_in as end_in_is, end_status as end_status_is, final_in as final_in_is, final_of as final_is, history_in as history_in_is, history_of as history_is, ending_of as ending_is};
+ghost use Rattle.tw_handles.specs.Reading.{IsOutput, IsOutputIn, IsOutputText, IsOutputTextIn, IsEnding, closing_status as closing_status_is, end_in as end_in_is, end_status as end_status_is, final_in as final_in_is, final_of as final_is, history_in as history_in_is, history_of as history_is, ending_of};
+ghost use Rattle.tw_handles.specs.Numbers.{filled};
 
 use crate::codes;
 use crate::handle::Handle;
 use crate::held::Held;
 use crate::item::{Item, item_of, value_of, write_text};
+use crate::numbers::put;
 use std::alloc::Global;
 use tw_in_turn::{InTurnResult, StoppableResult};
 use tw_pool::{Closing, Final, History};
 
 /// The status of a run that was stopped.
 const STOPPED: u8 = 8;
-
-/// The end of a run: its numbers of events and of outputs, and its status.
-#[repr(C)]
-#[derive(Clone, Copy)]
-pub struct Ending {
-    pub events: usize,
-    pub outputs: usize,
-    /// The exit status of `tw run`: 0 quiet, 3 stuck, 4 limit, 5 out of memory; 8 stopped.
-    pub status: u8,
-}
 
 fn final_in(left: &InTurnResult) -> &Final
     ensures { result.now ≡ final_in_is left.now }
@@ -116,22 +108,21 @@ fn end_status(left: &StoppableResult) -> u8
     }
 }
 
-fn ending_of(left: &StoppableResult) -> Ending
-    ensures { result ≡ ending_is left.now }
+/// Writes the numbers of events and of outputs, and the status: 0 quiet, 3 stuck, 4 limit, 5 out of memory; 8 stopped.
+fn ending_in(left: &StoppableResult, numbers: &mut [u64])
+    ensures { numbers.new ≡ filled (ending_of left.now) numbers.old }
 {
-    Ending {
-        events: history_of(left).len(),
-        outputs: final_of(left).outputs().len(),
-        status: end_status(left),
-    }
+    let events = history_of(left).len() as u64;
+    let outputs = final_of(left).outputs().len() as u64;
+    put(&[events, outputs, end_status(left) as u64], numbers);
 }
 
-fn ending_held(held: &Held, ending: &mut Ending) -> u8
-    ensures { IsEnding (Some held.now) ending.old ending.new result }
+fn ending_held(held: &Held, numbers: &mut [u64]) -> u8
+    ensures { IsEnding (Some held.now) numbers.old numbers.new result }
 {
     match held {
         Held::Report(left) => {
-            *ending = ending_of(left);
+            ending_in(left, numbers);
             codes::DONE
         }
         Held::Program(_) | Held::Inputs(_) | Held::Stop(_) | Held::Container(_) | Held::Text(_) =>
@@ -139,15 +130,15 @@ fn ending_held(held: &Held, ending: &mut Ending) -> u8
     }
 }
 
-/// Writes the end of a run.
-pub fn report_ending(alloc: Global, report: &mut Handle, ending: &mut Ending) -> u8
+/// Writes the end of a run in numbers: of events and of outputs, and the exit status of `tw run`, or 8 if it was stopped.
+pub fn report_ending(alloc: Global, report: &mut Handle, numbers: &mut [u64]) -> u8
     ensures kept { report.new.held ≡ report.old.held }
-    ensures is { IsEnding report.old.held ending.old ending.new result }
+    ensures is { IsEnding report.old.held numbers.old numbers.new result }
 {
     let Some(whole) = report.take(alloc) else {
         return codes::NO_REPORT;
     };
-    let code = ending_held(&whole, ending);
+    let code = ending_held(&whole, numbers);
     *report = Handle::of(whole);
     code
 }

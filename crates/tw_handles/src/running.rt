@@ -1,40 +1,70 @@
 //! Runs loaded programs.
 
-ghost use Rattle.std.specs.Prelude.{◌≡◌, None, Some, is_some, true};
-ghost use Rattle.tw_handles.specs.Running.{IsRun, IsRunAdmitted, IsRunBy, IsRunCapped, IsRunIfWithin, IsRunIn, IsRunOn, IsRunUntil, IsRunWith, IsRunWithin};
+ghost use Rattle.std.specs.Prelude.{◌≡◌, Some, is_some, true};
+ghost use Rattle.tw_handles.specs.Running.{IsRun, IsRunBy, IsRunIfWithin, IsRunIn, IsRunOn, IsRunUntil, IsRunWith, actors_at as actors_at_is, option_at as option_at_is, order_of as order_of_is, seed_of as seed_of_is};
 
-use crate::caps::{AllCaps, RunCaps, is_admitted};
+use crate::caps::{AllCaps, is_admitted};
 use crate::codes;
 use crate::handle::Handle;
 use crate::held::Held;
 use std::alloc::Global;
 use std::sync::atomic::AtomicU32;
 use tw_in_turn::run_until;
-use tw_pool::OpenError;
 use tw_types::{Input, Layout};
 use tw_verify::Verified;
 
-/// The size of `Options` in bytes.
-const OPTIONS_SIZE: usize = 24;
+/// The greatest number of actors that a layout may be asked for. None has so many.
+const MANY: u64 = 255;
 
-/// How a program is run.
-#[repr(C)]
+/// How a program is run, and the most that it may do.
 #[derive(Clone, Copy)]
-pub struct Options {
-    /// The size of this struct, 24 bytes. A caller that knows another one gets an error.
-    pub size: usize,
-    /// The most events.
+pub struct RunOrder {
     pub limit: usize,
     pub engines: u8,
     pub servers: u8,
     pub workers: u8,
+    pub seed: Option<u64>,
+    pub caps: AllCaps,
 }
 
-/// How a program is run, with caps if there are any.
-#[derive(Clone, Copy)]
-struct RunOrder {
-    options: Options,
-    caps: Option<AllCaps>,
+/// How many options there are.
+const OPTIONS: usize = 5;
+
+fn option_at(options: &[u64], index: usize, default: u64) -> u64
+    ensures { result ≡ option_at_is options.now index default }
+{
+    match options.get(index) {
+        Some(number) => *number,
+        None => default,
+    }
+}
+
+/// Returns a number of actors. One that is too large for any layout stays so.
+fn actors_at(options: &[u64], index: usize) -> u8
+    ensures { result ≡ actors_at_is options.now index }
+{
+    option_at(options, index, 1).min(MANY) as u8
+}
+
+/// Returns the seed of an option; 0 is none.
+fn seed_of(number: u64) -> Option<u64>
+    ensures { result ≡ seed_of_is number }
+{
+    if number == 0 { None } else { Some(number) }
+}
+
+/// Returns the order that the options and caps of a list give. Those that are left out are as usual.
+fn order_of(options: &[u64], caps: &[u64]) -> RunOrder
+    ensures { result ≡ order_of_is options.now caps.now }
+{
+    RunOrder {
+        limit: option_at(options, 0, 10_000) as usize,
+        engines: actors_at(options, 1),
+        servers: actors_at(options, 2),
+        workers: actors_at(options, 3),
+        seed: seed_of(option_at(options, 4, 0)),
+        caps: AllCaps::listed(caps),
+    }
 }
 
 /// Runs a program in this thread.
@@ -44,21 +74,22 @@ fn run_on(
     inputs: &[Input],
     layout: Layout,
     limit: usize,
+    seed: Option<u64>,
     stop: Option<&AtomicU32>,
     report: &mut Handle,
 ) -> u8
-    ensures { IsRunOn (is_some stop.entry) verified.now inputs.now layout limit report.old.held report.new.held result }
+    ensures { IsRunOn (is_some stop.entry) verified.now inputs.now layout limit seed report.old.held report.new.held result }
 {
-    let left = match run_until(alloc, verified, inputs, layout, limit, stop) {
+    let left = match run_until(alloc, verified, inputs, layout, limit, seed, stop) {
         Ok(left) => left,
-        Err(why) => return why.number(),
+        Err(why) => return codes::of_open(why),
     };
     match Handle::of_held(alloc, Held::Report(left)) {
         Ok(handle) => {
             *report = handle;
             codes::DONE
         }
-        Err(_) => OpenError::NoMemory.number(),
+        Err(_) => codes::NO_MEMORY,
     }
 }
 
@@ -69,35 +100,17 @@ fn run_if_within(
     inputs: &[Input],
     layout: Layout,
     limit: usize,
+    seed: Option<u64>,
     caps: AllCaps,
     stop: Option<&AtomicU32>,
     report: &mut Handle,
 ) -> u8
-    ensures { IsRunIfWithin (is_some stop.entry) verified.now inputs.now layout limit caps report.old.held report.new.held result }
+    ensures { IsRunIfWithin (is_some stop.entry) verified.now inputs.now layout limit seed caps report.old.held report.new.held result }
 {
     match is_admitted(alloc, verified, limit, caps) {
-        Ok(true) => run_on(alloc, verified, inputs, layout, limit, stop, report),
+        Ok(true) => run_on(alloc, verified, inputs, layout, limit, seed, stop, report),
         Ok(false) => codes::ABOVE_CAP,
-        Err(_) => codes::NO_RUN_MEMORY,
-    }
-}
-
-/// Runs a program, if it has no caps or is within them.
-fn run_admitted(
-    alloc: Global,
-    verified: &Verified,
-    inputs: &[Input],
-    layout: Layout,
-    order: RunOrder,
-    stop: Option<&AtomicU32>,
-    report: &mut Handle,
-) -> u8
-    ensures { IsRunAdmitted order.caps (is_some stop.entry) verified.now inputs.now layout order.options.limit report.old.held report.new.held result }
-{
-    let limit = order.options.limit;
-    match order.caps {
-        Some(caps) => run_if_within(alloc, verified, inputs, layout, limit, caps, stop, report),
-        None => run_on(alloc, verified, inputs, layout, limit, stop, report),
+        Err(_) => codes::NO_MEMORY,
     }
 }
 
@@ -112,9 +125,13 @@ fn run_in(
 ) -> u8
     ensures { IsRunIn (is_some stop.entry) verified.now inputs.now order report.old.held report.new.held result }
 {
-    let counts = order.options;
-    match Layout::new(counts.engines, counts.servers, counts.workers) {
-        Ok(layout) => run_admitted(alloc, verified, inputs, layout, order, stop, report),
+    match Layout::new(order.engines, order.servers, order.workers) {
+        Ok(layout) => {
+            let (limit, seed, caps) = (order.limit, order.seed, order.caps);
+            run_if_within(
+                alloc, verified, inputs, layout, limit, seed, caps, stop, report,
+            )
+        },
         Err(_) => codes::NO_LAYOUT,
     }
 }
@@ -251,65 +268,16 @@ fn run_until_stopped(
     code
 }
 
-/// Runs a loaded program in this thread, its actors in turn, until the run ends or the flag of `stop` is raised. A null handle is no flag. If
-/// the run is opened, `report` holds its result, and the former contents of `report` are freed. Otherwise returns `NO_OPTIONS`, `NO_STOP`,
-/// `NO_PROGRAM`, `NO_INPUTS`, `NO_LAYOUT` or the code of an `OpenError`.
+/// Runs a loaded program in this thread, its actors in turn, until the run ends or the flag of `stop` is raised. `options` are the limit, the
+/// numbers of engines, servers and workers, and the seed that decides the order of the turns, or 0; `caps` the most that the run may do, in the order of `AllCaps`. What they lack is as usual, and
+/// no cap. If the run is opened, `report` holds its result, and the former contents of `report` are freed. Otherwise returns
+/// `NO_OPTIONS`, `NO_STOP`, `NO_PROGRAM`, `NO_INPUTS`, `NO_LAYOUT`, the code of an `OpenError`, or `ABOVE_CAP` if a bound of the program's runs is above
+/// its cap. Each run that is opened is within the caps.
 pub fn run(
     alloc: Global,
     program: &mut Handle,
     inputs: &mut Handle,
-    options: &Options,
-    stop: &mut Handle,
-    report: &mut Handle,
-) -> u8
-    ensures program { program.new.held ≡ program.old.held }
-    ensures inputs { inputs.new.held ≡ inputs.old.held }
-    ensures stop { stop.new.held ≡ stop.old.held }
-    ensures is { IsRun program.old.held inputs.old.held options.now stop.old.held report.old.held report.new.held result }
-{
-    if options.size != OPTIONS_SIZE {
-        return codes::NO_OPTIONS;
-    }
-    let order = RunOrder {
-        options: *options,
-        caps: None,
-    };
-    run_until_stopped(alloc, program, inputs, order, stop, report)
-}
-
-/// Like `run`, but returns `ABOVE_CAP` if a bound of the program's runs is above its cap. Otherwise each run that the limit allows is within the
-/// caps.
-pub fn run_within(
-    alloc: Global,
-    program: &mut Handle,
-    inputs: &mut Handle,
-    options: &Options,
-    caps: &RunCaps,
-    stop: &mut Handle,
-    report: &mut Handle,
-) -> u8
-    ensures program { program.new.held ≡ program.old.held }
-    ensures inputs { inputs.new.held ≡ inputs.old.held }
-    ensures stop { stop.new.held ≡ stop.old.held }
-    ensures is { IsRunWithin program.old.held inputs.old.held options.now caps.now stop.old.held report.old.held report.new.held result }
-{
-    if options.size != OPTIONS_SIZE || caps.size != RunCaps::SIZE {
-        return codes::NO_OPTIONS;
-    }
-    let order = RunOrder {
-        options: *options,
-        caps: Some(caps.caps()),
-    };
-    run_until_stopped(alloc, program, inputs, order, stop, report)
-}
-
-/// Like `run_within`, with the caps as a list: tasks, instructions, data, bytes, budget, members and rules. A list may end earlier; one that is
-/// longer is an error, since its last caps are unknown.
-pub fn run_capped(
-    alloc: Global,
-    program: &mut Handle,
-    inputs: &mut Handle,
-    options: &Options,
+    options: &[u64],
     caps: &[u64],
     stop: &mut Handle,
     report: &mut Handle,
@@ -317,14 +285,17 @@ pub fn run_capped(
     ensures program { program.new.held ≡ program.old.held }
     ensures inputs { inputs.new.held ≡ inputs.old.held }
     ensures stop { stop.new.held ≡ stop.old.held }
-    ensures is { IsRunCapped program.old.held inputs.old.held options.now caps.now stop.old.held report.old.held report.new.held result }
+    ensures is { IsRun program.old.held inputs.old.held options.now caps.now stop.old.held report.old.held report.new.held result }
 {
-    if options.size != OPTIONS_SIZE || caps.len() > AllCaps::COUNT {
+    if options.len() > OPTIONS || caps.len() > AllCaps::COUNT {
         return codes::NO_OPTIONS;
     }
-    let order = RunOrder {
-        options: *options,
-        caps: Some(AllCaps::listed(caps)),
-    };
-    run_until_stopped(alloc, program, inputs, order, stop, report)
+    run_until_stopped(
+        alloc,
+        program,
+        inputs,
+        order_of(options, caps),
+        stop,
+        report,
+    )
 }

@@ -2,53 +2,20 @@
 
 ghost use Rattle.std.specs.Prelude.{◌≡◌, IfOk, Some};
 ghost use Rattle.tw_handles.specs.Texts.{IsTextMade};
-ghost use Rattle.tw_handles.specs.Shape.{AreNeeds, IsNameIn, IsNameRead, IsParameter, IsParameterIn, IsSection, IsSectionIn, by_inside as by_inside_is, by_of as by_of_is, kind_letter as kind_letter_is, members_of as members_of_is, mode_letter as mode_letter_is, parameter_at as parameter_at_is, parameter_of as parameter_of_is, section_of as section_of_is};
+ghost use Rattle.tw_handles.specs.Shape.{AreNeeds, IsNameIn, IsNameRead, IsParameter, IsParameterIn, IsSection, IsSectionIn, by_inside as by_inside_is, by_of as by_of_is, kind_letter as kind_letter_is, members_of as members_of_is, mode_letter as mode_letter_is, parameter_at as parameter_at_is, parameter_of, section_of};
+ghost use Rattle.tw_handles.specs.Numbers.{filled};
 
 use crate::codes;
 use crate::handle::Handle;
 use crate::held::Held;
 use crate::item::letter_of;
+use crate::numbers::put;
 use crate::texts::keep_text;
 use std::alloc::{AllocError, Global};
 use tw_code::Procedure;
 use tw_symbols::Symbols;
 use tw_types::{DataType, Kind, Mode, Param, Scalar};
 use tw_verify::Verified;
-
-/// A procedure, as C reads it.
-#[repr(C)]
-#[derive(Clone, Copy)]
-pub struct Section {
-    /// The number of parameters.
-    pub parameters: usize,
-    /// `c`: a control procedure; `l`: a leaf.
-    pub kind: u8,
-}
-
-/// A parameter, as C reads it.
-#[repr(C)]
-#[derive(Clone, Copy)]
-pub struct Parameter {
-    /// `v`: a value; `c`: a read right on a closed datum; `r`: a read right; `w`: a write right.
-    pub mode: u8,
-    /// The number of containers around the scalar.
-    pub depth: u8,
-    /// `i` or `t`: the type of the scalar inside all containers.
-    pub scalar: u8,
-    /// `i` or `t`: the type of the subscripts of the outermost container; 0 if there is none.
-    pub by: u8,
-    /// Likewise for the containers in it, and for those in these.
-    pub by_second: u8,
-    pub by_third: u8,
-}
-
-/// The actors that a program needs.
-#[repr(C)]
-#[derive(Clone, Copy)]
-pub struct Needs {
-    pub engines: u8,
-    pub workers: u8,
-}
 
 fn kind_letter(kind: Kind) -> u8
     ensures { result ≡ kind_letter_is kind }
@@ -59,51 +26,51 @@ fn kind_letter(kind: Kind) -> u8
     }
 }
 
-fn section_of(procedure: &Procedure) -> Section
-    ensures { result ≡ section_of_is procedure.now }
+/// Writes the number of parameters, and the letter of the kind.
+fn put_section(procedure: &Procedure, numbers: &mut [u64])
+    ensures { numbers.new ≡ filled (section_of procedure.now) numbers.old }
 {
-    Section {
-        parameters: procedure.params.as_slice().len(),
-        kind: kind_letter(procedure.kind),
-    }
+    let parameters = procedure.params.as_slice().len() as u64;
+    put(&[parameters, kind_letter(procedure.kind) as u64], numbers);
 }
 
-fn section_in(verified: &Verified, procedure: usize, section: &mut Section) -> u8
-    ensures { IsSectionIn verified.now procedure section.old section.new result }
+fn section_in(verified: &Verified, procedure: usize, numbers: &mut [u64]) -> u8
+    ensures { IsSectionIn verified.now procedure numbers.old numbers.new result }
 {
     match verified.program().procedures().get(procedure) {
         Some(found) => {
-            *section = section_of(found);
+            put_section(found, numbers);
             codes::DONE
         }
         None => codes::NO_INDEX,
     }
 }
 
-fn section_held(held: &Held, procedure: usize, section: &mut Section) -> u8
-    ensures { IsSection (Some held.now) procedure section.old section.new result }
+fn section_held(held: &Held, procedure: usize, numbers: &mut [u64]) -> u8
+    ensures { IsSection (Some held.now) procedure numbers.old numbers.new result }
 {
     match held {
-        Held::Program(verified) => section_in(verified, procedure, section),
+        Held::Program(verified) => section_in(verified, procedure, numbers),
         Held::Inputs(_) | Held::Report(_) | Held::Stop(_) | Held::Container(_) | Held::Text(_) =>
             codes::NO_PROGRAM,
     }
 }
 
-/// Describes a procedure. Returns `NO_INDEX` if there is no such procedure.
+/// Describes a procedure in numbers: how many parameters it has, and its kind, `c` control or `l` leaf. Returns `NO_INDEX` if there is no
+/// such procedure.
 pub fn describe_procedure(
     alloc: Global,
     program: &mut Handle,
     procedure: usize,
-    section: &mut Section,
+    numbers: &mut [u64],
 ) -> u8
     ensures kept { program.new.held ≡ program.old.held }
-    ensures is { IsSection program.old.held procedure section.old section.new result }
+    ensures is { IsSection program.old.held procedure numbers.old numbers.new result }
 {
     let Some(whole) = program.take(alloc) else {
         return codes::NO_PROGRAM;
     };
-    let code = section_held(&whole, procedure, section);
+    let code = section_held(&whole, procedure, numbers);
     *program = Handle::of(whole);
     code
 }
@@ -150,18 +117,20 @@ fn members_of(ty: Option<DataType>) -> Option<DataType>
     }
 }
 
-fn parameter_of(param: &Param) -> Parameter
-    ensures { result ≡ parameter_of_is param.now }
+/// Writes the letter of the mode, the number of containers around the scalar, the letter of that, and those of the subscripts of three containers.
+fn put_parameter(param: &Param, numbers: &mut [u64])
+    ensures { numbers.new ≡ filled (parameter_of param.now) numbers.old }
 {
     let ty = param.ty;
-    Parameter {
-        mode: mode_letter(param.mode),
-        depth: ty.depth(),
-        scalar: letter_of(ty.scalar()),
-        by: by_of(ty),
-        by_second: by_inside(ty.element()),
-        by_third: by_inside(members_of(ty.element())),
-    }
+    let found = [
+        mode_letter(param.mode) as u64,
+        ty.depth() as u64,
+        letter_of(ty.scalar()) as u64,
+        by_of(ty) as u64,
+        by_inside(ty.element()) as u64,
+        by_inside(members_of(ty.element())) as u64,
+    ];
+    put(&found, numbers);
 }
 
 fn parameter_at(verified: &Verified, procedure: usize, index: usize) -> Option<Param>
@@ -173,28 +142,23 @@ fn parameter_at(verified: &Verified, procedure: usize, index: usize) -> Option<P
     }
 }
 
-fn parameter_in(
-    verified: &Verified,
-    procedure: usize,
-    index: usize,
-    parameter: &mut Parameter,
-) -> u8
-    ensures { IsParameterIn verified.now procedure index parameter.old parameter.new result }
+fn parameter_in(verified: &Verified, procedure: usize, index: usize, numbers: &mut [u64]) -> u8
+    ensures { IsParameterIn verified.now procedure index numbers.old numbers.new result }
 {
     match parameter_at(verified, procedure, index) {
         Some(param) => {
-            *parameter = parameter_of(&param);
+            put_parameter(&param, numbers);
             codes::DONE
         }
         None => codes::NO_INDEX,
     }
 }
 
-fn parameter_held(held: &Held, procedure: usize, index: usize, parameter: &mut Parameter) -> u8
-    ensures { IsParameter (Some held.now) procedure index parameter.old parameter.new result }
+fn parameter_held(held: &Held, procedure: usize, index: usize, numbers: &mut [u64]) -> u8
+    ensures { IsParameter (Some held.now) procedure index numbers.old numbers.new result }
 {
     match held {
-        Held::Program(verified) => parameter_in(verified, procedure, index, parameter),
+        Held::Program(verified) => parameter_in(verified, procedure, index, numbers),
         Held::Inputs(_) | Held::Report(_) | Held::Stop(_) | Held::Container(_) | Held::Text(_) =>
             codes::NO_PROGRAM,
     }
@@ -206,26 +170,26 @@ pub fn describe_parameter(
     program: &mut Handle,
     procedure: usize,
     index: usize,
-    parameter: &mut Parameter,
+    numbers: &mut [u64],
 ) -> u8
     ensures kept { program.new.held ≡ program.old.held }
-    ensures is { IsParameter program.old.held procedure index parameter.old parameter.new result }
+    ensures is { IsParameter program.old.held procedure index numbers.old numbers.new result }
 {
     let Some(whole) = program.take(alloc) else {
         return codes::NO_PROGRAM;
     };
-    let code = parameter_held(&whole, procedure, index, parameter);
+    let code = parameter_held(&whole, procedure, index, numbers);
     *program = Handle::of(whole);
     code
 }
 
-fn needs_held(held: &Held, needs: &mut Needs) -> u8
-    ensures { AreNeeds (Some held.now) needs.old needs.new result }
+fn needs_held(held: &Held, numbers: &mut [u64]) -> u8
+    ensures { AreNeeds (Some held.now) numbers.old numbers.new result }
 {
     match held {
         Held::Program(verified) => {
             let (engines, workers) = verified.needs();
-            *needs = Needs { engines, workers };
+            put(&[engines as u64, workers as u64], numbers);
             codes::DONE
         }
         Held::Inputs(_) | Held::Report(_) | Held::Stop(_) | Held::Container(_) | Held::Text(_) =>
@@ -234,14 +198,14 @@ fn needs_held(held: &Held, needs: &mut Needs) -> u8
 }
 
 /// Writes how many engines and workers a run of a program needs.
-pub fn read_needs(alloc: Global, program: &mut Handle, needs: &mut Needs) -> u8
+pub fn read_needs(alloc: Global, program: &mut Handle, numbers: &mut [u64]) -> u8
     ensures kept { program.new.held ≡ program.old.held }
-    ensures is { AreNeeds program.old.held needs.old needs.new result }
+    ensures is { AreNeeds program.old.held numbers.old numbers.new result }
 {
     let Some(whole) = program.take(alloc) else {
         return codes::NO_PROGRAM;
     };
-    let code = needs_held(&whole, needs);
+    let code = needs_held(&whole, numbers);
     *program = Handle::of(whole);
     code
 }

@@ -1,6 +1,6 @@
 //! Texts that a handle holds.
 
-ghost use Rattle.std.specs.Prelude.{◌≡◌, IfOk, Some};
+ghost use Rattle.std.specs.Prelude.{◌≡◌, IfOk, Some, option_map};
 ghost use Rattle.tw_handles.specs.Texts.{IsTextCopied, IsTextKept, IsTextLength, text_in};
 
 use crate::codes;
@@ -26,6 +26,26 @@ pub(crate) fn keep_text(alloc: Global, made: Vec<u8>, text: &mut Handle) -> u8
             codes::DONE
         }
         Err(_) => codes::NO_MEMORY,
+    }
+}
+
+fn text_out(held: Held) -> Option<Vec<u8>>
+    ensures { option_map (λ v. v.items) result ≡ text_in (Some held) }
+{
+    match held {
+        Held::Text(text) => Some(text),
+        Held::Program(_) | Held::Inputs(_) | Held::Report(_) | Held::Stop(_) | Held::Container(_) =>
+            None,
+    }
+}
+
+/// Takes the text out of a handle, which is null then. For callers that aren't C.
+pub fn take_text(alloc: Global, text: &mut Handle) -> Option<Vec<u8>>
+    ensures { option_map (λ v. v.items) result ≡ text_in text.old.held }
+{
+    match text.take(alloc) {
+        Some(whole) => text_out(Box::into_inner(whole)),
+        None => None,
     }
 }
 

@@ -53,7 +53,7 @@ not_by_limit (Some Stopped) ended not = ended
 not_by_limit (Some Limit) ended not = not refl
 
 pub ends_by_itself : (verified : TypedProgram) (most : ℕ) → IsBoundedBy verified most → EndsByItself verified most
-ends_by_itself verified most is inputs layout limit final history given above left =
+ends_by_itself verified most is inputs layout limit seed final history given above left =
     not_by_limit final.closing left.3 (by left.0 left.2)
   where
     by : (p : PoolView) → IsLeftIn (opened verified inputs layout limit) p final history → final.closing ≡ Some Limit → ⊥

@@ -1,5 +1,5 @@
 -- The results of a pool whose run is over.
-use Rattle.std.proofs.Common.{◌≡◌, false, ap, subst, sym, ◌∙◌}
+use Rattle.std.proofs.Common.{◌≡◌, ℕ, Option, false, ap, subst, sym, ◌∙◌}
 use Rattle.tw_code.specs.machine.State.{State}
 use Rattle.tw_soundness.specs.EndsWell.{EndsWell}
 use Rattle.tw_pool.specs.Ends.{FinalView, IsShut}
@@ -20,8 +20,8 @@ module _ (pool first p : PoolView) (final : FinalView) (history : HistoryView) (
         ends_well = subst (λ (q : PoolView). EndsWell q.program.program shut.state) same (ends shut.state shut.has_state);
       }
 
-  pub left_over : first.stopped ≡ false → ComesTo pool IsOver p → IsGrown pool p → IsShut p final history → ((s : State) → HasState p s → EndsWell p.program.program s)
-      → (x : PoolView) × ComesTo first IsOver x × IsLeftIn first x final history × HasEnded final.closing
-  left_over on comes grown shut ends =
-      let over = subst (λ (q : PoolView). ComesTo q IsOver p) is comes in
-      (p, over, left_in grown shut ends, subst HasEnded (sym shut.closing) (ends_over first p on over shut.state shut.has_state))
+  pub left_over : (seed : Option ℕ) → first.stopped ≡ false → ComesTo seed pool IsOver p → IsGrown pool p → IsShut p final history → ((s : State) → HasState p s → EndsWell p.program.program s)
+      → (x : PoolView) × ComesTo seed first IsOver x × IsLeftIn first x final history × HasEnded final.closing
+  left_over seed on comes grown shut ends =
+      let over = subst (λ (q : PoolView). ComesTo seed q IsOver p) is comes in
+      (p, over, left_in grown shut ends, subst HasEnded (sym shut.closing) (ends_over seed first p on over shut.state shut.has_state))

@@ -1,4 +1,5 @@
 mod Bounded
+mod Drawing
 mod Frames
 mod Leaving
 mod Moving

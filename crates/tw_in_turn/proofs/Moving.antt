@@ -24,15 +24,15 @@ use Rattle.tw_pool.specs.declared.answer.Turn.{Turn}
 use Rattle.tw_pool.specs.declared.answer.Turn.TheVariants.{Over, Foreign, Owed, NoMemory, Run, Ended, Went, Idle}
 use Rattle.tw_pool.specs.Actors.{events_of}
 use Rattle.tw_pool.specs.PoolView.{PoolView, HasState, with_events}
-use Rattle.tw_pool.specs.Turns.{GoesFree, IsTurn, Lends, Makes, TakesBack, Turns, TurnsUnless, closing_at, closing_of, instr_after, is_last, lent_to, steps_of}
+use Rattle.tw_pool.specs.Turns.{Answers, GoesFree, IsTurn, Lends, Makes, TakesBack, Turns, TurnsUnless, closing_at, closing_of, instr_after, is_last, lent_to, steps_of}
 use Rattle.tw_pool.proofs.Counting.{AreBy, others_same}
 use Rattle.tw_pool.proofs.Lines.{whose_due}
 use Rattle.tw_host.specs.Sees.{IsAnswerOf, IsDoneOf}
 use Rattle.tw_host.proofs.Owning.{is_answer_of}
 use Rattle.tw_host.proofs.Turning as turning
-use Rattle.tw_in_turn.specs.InTurn.{ComesTo, GoesOn, Has, HasDone, HasEnded, IsAfter, IsOver, IsWorkOf, actor_after}
+use Rattle.tw_in_turn.specs.InTurn.{ComesTo, GoesOn, Has, HasDone, HasEnded, IsAfter, IsIdle, IsOver, IsWorkOf}
 use Rattle.tw_in_turn.specs.declared.rounds.End.{End as Stop}
-use Rattle.tw_in_turn.specs.Rounds.{Comes, IsGrown, IsIdle, IsTurned, Keeps}
+use Rattle.tw_in_turn.specs.Rounds.{Comes, IsGrown, IsTurned, Keeps}
 use Rattle.tw_in_turn.proofs.Frames as frames
 
 -- an event of rules or notices
@@ -312,7 +312,7 @@ module _ (old new : PoolView) (actor : Actor) (given : Option DoneView) (answer 
 
   -- ---- no event
 
-  new_length : length new.history ≡ length old.history + length turn.events
+  pub new_length : length new.history ≡ length old.history + length turn.events
   new_length = turning.longer old new actor given answer turn
 
   -- a step that isn't the last makes an event, or nothing changes and the actor is idle
@@ -330,6 +330,21 @@ module _ (old new : PoolView) (actor : Actor) (given : Option DoneView) (answer 
         record { state = s; has_state = turn.has_state; free = without_frame old s actor none; none_due = nothing; runs_on = runs_on },
       )
       by (refused a e) = absurd (subst GoesOn a on)
+
+  -- an idle actor makes no event
+  pub idle_answer : IsIdle old actor → Answers Idle [] answer turn.events
+  idle_answer i =
+      let same : i.state ≡ s = same_went i.state s (sym i.has_state ∙ turn.has_state) in
+      let runs_on : closing_at old s ≡ None = subst (λ (t : State). closing_at old t ≡ None) same i.runs_on in
+      let none : lent_to old s actor ≡ None = lent_none old s actor (subst (λ (t : State). get t.frames actor ≡ None) same i.free) in
+      let nothing : given ≡ None = subst (λ (job : Option JobView). HasDone job given) none (has s turn.has_state) in
+      let open_line = subst (λ (c : Option Closing). TurnsUnless c old s actor given answer turn.events) runs_on turn.is in
+      let free_line = subst (λ (job : Option JobView). Turns old s actor job given answer turn.events) none open_line in
+      by (subst (λ (t : State). (due : Event) → IsDueFree old.layout actor t due → ⊥) same i.none_due) (subst (λ (o : Option DoneView). Turns old s actor None o answer turn.events) nothing free_line)
+    where
+      by : ((due : Event) → IsDueFree old.layout actor s due → ⊥) → GoesFree old s actor answer turn.events → Answers Idle [] answer turn.events
+      by none (inl l) = absurd (none l.0 l.1)
+      by none (inr l) = l.1
 
   pub turned_is : length old.history ≤ old.limit → (kept : Option DoneView) (end : Option Stop) → Comes new actor answer kept end → IsTurned old actor new kept end
   turned_is low kept end comes = record {
@@ -366,11 +381,12 @@ module _ (old new : PoolView) (actor : Actor) (given : Option DoneView) (answer 
 
 -- ---- a run that is over
 
-never_stopped : (first : PoolView) (turns : ℕ) (p : PoolView) → first.stopped ≡ false → IsAfter first turns p → p.stopped ≡ false
-never_stopped first zero p on after = ap (λ (x : PoolView). x.stopped) after ∙ on
-never_stopped first (suc turns) p on (x, a, after, m, goes) = ap (λ (o : PoolView). o.stopped) m.turn.appended ∙ never_stopped first turns x on after
+module _ (seed : Option ℕ) (first : PoolView) where
+  never_stopped : (turns : ℕ) (p : PoolView) → first.stopped ≡ false → IsAfter seed first turns p → p.stopped ≡ false
+  never_stopped zero p on after = ap (λ (x : PoolView). x.stopped) after ∙ on
+  never_stopped (suc turns) p on (x, actor, a, after, next, m, goes) = ap (λ (o : PoolView). o.stopped) m.turn.appended ∙ never_stopped turns x on after
 
-pub ends_over : (first p : PoolView) → first.stopped ≡ false → (c : ComesTo first IsOver p) → (t : State) → HasState p t → HasEnded (closing_at p t)
-ends_over first p on c t at =
-    let m = c.last in
-    over_ends c.before p (actor_after first.layout c.turns) m.given c.answer m.turn m.has (never_stopped first c.turns c.before on c.after) c.is.0 c.is.1 t at
+  pub ends_over : (p : PoolView) → first.stopped ≡ false → (c : ComesTo seed first IsOver p) → (t : State) → HasState p t → HasEnded (closing_at p t)
+  ends_over p on c t at =
+      let m = c.last in
+      over_ends c.before p c.actor m.given c.answer m.turn m.has (never_stopped c.turns c.before on c.after) c.is.0 c.is.1 t at

@@ -23,8 +23,8 @@ use Rattle.tw_pool.specs.declared.answer.Closing.TheVariants.{Limit, Stopped}
 use Rattle.tw_pool.specs.declared.answer.Turn.{Turn}
 use Rattle.tw_pool.specs.PoolView.{PoolView}
 use Rattle.tw_pool.specs.Turns.{closing_of}
-use Rattle.tw_in_turn.specs.InTurn.{ComesTo, GoesOn, IsAfter, IsMove, actor_after}
-use Rattle.tw_in_turn.specs.Rounds.{AreKept, IsGrown, IsIdle, Keeps, MayTurn}
+use Rattle.tw_in_turn.specs.InTurn.{ComesTo, GoesOn, IsAfter, IsIdle, IsMove, actor_after}
+use Rattle.tw_in_turn.specs.Rounds.{AreKept, IsGrown, Keeps, MayTurn}
 
 -- ---- actors by their index
 
@@ -104,16 +104,16 @@ layout_same old new grown = ap (λ (p : PoolView). p.layout) grown.same
 
 -- ---- steps after steps
 
-whose : (first : PoolView) (layout : ActorCounts) (rounds index : ℕ) → first.layout ≡ layout → index < actor_count layout → actor_after first.layout (rounds * actor_count layout + index) ≡ actor_at layout index
-whose first layout rounds index is low = ap (λ (l : ActorCounts). actor_after l (rounds * actor_count layout + index)) is ∙ ap (actor_at layout) (mod-mul-add rounds (actor_count layout) index low)
+whose : (now : PoolView) (layout : ActorCounts) (rounds index : ℕ) → now.layout ≡ layout → index < actor_count layout → actor_at layout index ≡ actor_after now.layout (rounds * actor_count layout + index)
+whose now layout rounds index is low = sym (ap (λ (l : ActorCounts). actor_after l (rounds * actor_count layout + index)) is ∙ ap (actor_at layout) (mod-mul-add rounds (actor_count layout) index low))
 
 -- one turn more in a round
-pub one_more : (first now new : PoolView) (layout : ActorCounts) (rounds index : ℕ) (answer : Turn) → first.layout ≡ layout → index < actor_count layout
-    → IsAfter first (rounds * actor_count layout + index) now → IsMove now (actor_at layout index) answer new → GoesOn answer → IsAfter first (rounds * actor_count layout + (index + 1)) new
-one_more first now new layout rounds index answer is low after move on = subst (λ n. IsAfter first n new) next done
+pub one_more : (first now new : PoolView) (layout : ActorCounts) (rounds index : ℕ) (answer : Turn) → now.layout ≡ layout → index < actor_count layout
+    → IsAfter None first (rounds * actor_count layout + index) now → IsMove now (actor_at layout index) answer new → GoesOn answer → IsAfter None first (rounds * actor_count layout + (index + 1)) new
+one_more first now new layout rounds index answer is low after move on = subst (λ n. IsAfter None first n new) next done
   where
-    done : IsAfter first (suc (rounds * actor_count layout + index)) new
-    done = (now, answer, after, subst (λ (a : Actor). IsMove now a answer new) (sym (whose first layout rounds index is low)) move, on)
+    done : IsAfter None first (suc (rounds * actor_count layout + index)) new
+    done = (now, actor_at layout index, answer, after, whose now layout rounds index is low, move, on)
 
     next : suc (rounds * actor_count layout + index) ≡ rounds * actor_count layout + (index + 1)
     next = sum (rounds * actor_count layout)
@@ -122,20 +122,22 @@ one_more first now new layout rounds index answer is low after move on = subst (
         sum k = omega arith
 
 -- the last one
-pub the_last : (first now new : PoolView) (layout : ActorCounts) (rounds index : ℕ) (answer : Turn) (Answers : Turn → Type 0) → first.layout ≡ layout → index < actor_count layout
-    → IsAfter first (rounds * actor_count layout + index) now → IsMove now (actor_at layout index) answer new → Answers answer → ComesTo first Answers new
+pub the_last : (first now new : PoolView) (layout : ActorCounts) (rounds index : ℕ) (answer : Turn) (Answers : Turn → Type 0) → now.layout ≡ layout → index < actor_count layout
+    → IsAfter None first (rounds * actor_count layout + index) now → IsMove now (actor_at layout index) answer new → Answers answer → ComesTo None first Answers new
 the_last first now new layout rounds index answer Answers is low after move ends = record {
   turns = rounds * actor_count layout + index;
   before = now;
   after = after;
+  actor = actor_at layout index;
+  next = whose now layout rounds index is low;
   answer = answer;
-  last = subst (λ (a : Actor). IsMove now a answer new) (sym (whose first layout rounds index is low)) move;
+  last = move;
   is = ends;
 }
 
 -- all of a round
-pub whole_round : (first new : PoolView) (rounds count index : ℕ) → index ≡ count → IsAfter first (rounds * count + index) new → IsAfter first ((rounds + 1) * count) new
-whole_round first new rounds count index is after = subst (λ n. IsAfter first n new) (ap (λ k. rounds * count + k) is ∙ sym (ap (λ k. k * count) (add-one rounds) ∙ suc-mul rounds count)) after
+pub whole_round : (first new : PoolView) (rounds count index : ℕ) → index ≡ count → IsAfter None first (rounds * count + index) new → IsAfter None first ((rounds + 1) * count) new
+whole_round first new rounds count index is after = subst (λ n. IsAfter None first n new) (ap (λ k. rounds * count + k) is ∙ sym (ap (λ k. k * count) (add-one rounds) ∙ suc-mul rounds count)) after
 
 -- ---- an event in each round
 

@@ -1,12 +1,13 @@
 -- Two runs in one thread from one opening are equal, except for which of its notices a server delivers.
 use Rattle.std.proofs.Common.{◌≡◌, ◌≢◌, ◌⊎◌, ℕ, zero, suc, Bool, true, false, List, [], ◌∷◌, ◌++◌, append_assoc, Option, Some, None, refl, sym, ap, subst, ◌∙◌, inl, inr, append-nil}
-use Rattle.std.proofs.lemmas.Bool.{cases_eq}
+use Rattle.std.proofs.lemmas.Bool.{cases_eq, cases_order}
 use Rattle.std.proofs.lemmas.Option.{same_Some}
 use Rattle.tw_types.specs.declared.actor.Actor.{Actor}
 use Rattle.tw_types.specs.declared.actor.Actor.TheVariants.{Engine, Server, Worker}
 use Rattle.tw_types.specs.declared.event.Event.{Event}
 use Rattle.tw_types.specs.declared.event.Event.TheVariants.{Take, Local, Call, End, Ask, Deliver, Release}
 use Rattle.tw_types.specs.declared.notice.Notice.{Notice}
+use Rattle.tw_types.specs.Actor.{actor_count}
 use Rattle.tw_types.specs.Outcome.{NotEnabled, Went as Gone}
 use Rattle.tw_types.proofs.Outcomes.{same_went, went_first}
 use Rattle.tw_code.specs.declared.instr.Instr.{Instr}
@@ -22,7 +23,8 @@ use Rattle.tw_pool.specs.declared.answer.Turn.{Turn}
 use Rattle.tw_pool.specs.declared.answer.Turn.TheVariants.{Over, Foreign, Owed, NoMemory, Run, Ended, Went, Idle}
 use Rattle.tw_pool.specs.PoolView.{PoolView, with_events}
 use Rattle.tw_pool.specs.Turns.{GoesFree, Lends, Makes, TakesBack, Turns, TurnsUnless, closing_at, instr_after, is_last, lent_to, steps_of}
-use Rattle.tw_in_turn.specs.InTurn.{ComesTo, GoesOn, HasDone, IsAfter, IsMove, IsOver, IsWorkOf, actor_after}
+use Rattle.tw_in_turn.specs.Drawn.{place_for}
+use Rattle.tw_in_turn.specs.InTurn.{ComesTo, GoesOn, HasDone, IsAfter, IsDrawn, IsIdle, IsMove, IsNext, IsOver, IsWorkOf, actor_from}
 use Rattle.tw_in_turn.specs.Same.{AreSame, PartAtNotice, delivery}
 
 -- ---- results of jobs
@@ -236,28 +238,47 @@ leads_same old new other actor a b m n sa sb = by (move_same old new other actor
 abbrev PoolsSame : PoolView → PoolView → Type 0
 PoolsSame p q = (p ≡ q) ⊎ PartAtNotice p.history q.history
 
-after_same : (first : PoolView) (turns : ℕ) (p q : PoolView) → IsAfter first turns p → IsAfter first turns q → PoolsSame p q
-after_same first zero p q h k = inl (h ∙ sym k)
-after_same first (suc turns) p q (x, a, h, m, on) (y, b, k, n, goes) = by (after_same first turns x y h k)
-  where
-    actor : Actor
-    actor = actor_after first.layout turns
+-- two actors that make the next step from one pool
+drawn_same : (seed : ℕ) (p : PoolView) (turns : ℕ) (one other : Actor) → IsDrawn seed p turns one → IsDrawn seed p turns other → one ≡ other
+drawn_same seed p turns one other c d = elim (cases_order c.skipped d.skipped) as (λ _. one ≡ other) [
+  | inl same ↦ c.is ∙ (ap (actor_from p.layout (place_for seed turns (actor_count p.layout))) same ∙ sym d.is)
+  | inr (inl less) ↦ absurd (c.busy (subst (IsIdle p) (sym c.is) (d.idle c.skipped less)))
+  | inr (inr more) ↦ absurd (d.busy (subst (IsIdle p) (sym d.is) (c.idle d.skipped more)))
+]
 
+next_same : (seed : Option ℕ) (p : PoolView) (turns : ℕ) (one other : Actor) → IsNext seed p turns one → IsNext seed p turns other → one ≡ other
+next_same None p turns one other c d = c ∙ sym d
+next_same (Some seed) p turns one other c d = drawn_same seed p turns one other c d
+
+-- two next steps from one pool leave the same pool, or part there
+next_leads : (seed : Option ℕ) (p q new other : PoolView) (turns : ℕ) (u v : Actor) (a b : Turn) → p ≡ q → IsNext seed p turns u → IsNext seed q turns v
+    → IsMove p u a new → IsMove q v b other → IsNoFailure a → IsNoFailure b → LeadsSame a b new other
+next_leads seed p q new other turns u v a b same c d m n sa sb =
+    let actor : v ≡ u = next_same seed p turns v u (subst (λ (o : PoolView). IsNext seed o turns v) (sym same) d) c in
+    let move : IsMove p v b other = subst (λ (o : PoolView). IsMove o v b other) (sym same) n in
+    leads_same p new other u a b m (subst (λ (x : Actor). IsMove p x b other) actor move) sa sb
+
+after_same : (seed : Option ℕ) (first : PoolView) (turns : ℕ) (p q : PoolView) → IsAfter seed first turns p → IsAfter seed first turns q → PoolsSame p q
+after_same seed first zero p q h k = inl (h ∙ sym k)
+after_same seed first (suc turns) p q (x, u, a, h, c, m, on) (y, v, b, k, d, n, goes) = by (after_same seed first turns x y h k)
+  where
     by : PoolsSame x y → PoolsSame p q
-    by (inl same) = next (leads_same x p q actor a b m (subst (λ (o : PoolView). IsMove o actor b q) (sym same) n) (goes_without_failure a on) (goes_without_failure b goes))
+    by (inl same) = next (next_leads seed x y p q turns u v a b same c d m n (goes_without_failure a on) (goes_without_failure b goes))
       where
         next : LeadsSame a b p q → PoolsSame p q
         next (inl l) = inl l.1
         next (inr l) = inr l.2
-    by (inr part) = inr (subst (λ (h : List Event). PartAtNotice h q.history) (sym (history_of x p actor a m)) (subst (λ (k : List Event). PartAtNotice (x.history ++ m.turn.events) k) (sym (history_of y q actor b n)) (parts_on x.history y.history m.turn.events n.turn.events part)))
+    by (inr part) = inr (subst (λ (h : List Event). PartAtNotice h q.history) (sym (history_of x p u a m)) (subst (λ (k : List Event). PartAtNotice (x.history ++ m.turn.events) k) (sym (history_of y q v b n)) (parts_on x.history y.history m.turn.events n.turn.events part)))
 
 -- a later pool continues from an earlier one
-record GoesBy (first : PoolView) (turns : ℕ) (q : PoolView) : Type 0 where
+record GoesBy (seed : Option ℕ) (first : PoolView) (turns : ℕ) (q : PoolView) : Type 0 where
   before : PoolView
   next : PoolView
+  actor : Actor
   answer : Turn
-  after : IsAfter first turns before
-  move : IsMove before (actor_after first.layout turns) answer next
+  after : IsAfter seed first turns before
+  chosen : IsNext seed before turns actor
+  move : IsMove before actor answer next
   on : GoesOn answer
   more : List Event
   grown : q.history ≡ next.history ++ more
@@ -267,19 +288,22 @@ abbrev later_on : ℕ → ℕ → ℕ
 later_on zero turns = turns
 later_on (suc later) turns = suc (later_on later turns)
 
-goes_by : (first : PoolView) (turns later : ℕ) (q : PoolView) → IsAfter first (suc (later_on later turns)) q → GoesBy first turns q
-goes_by first turns zero q (x, a, h, m, on) = record { before = x; next = q; answer = a; after = h; move = m; on = on; more = []; grown = sym (append-nil q.history) }
-goes_by first turns (suc later) q (x, a, h, m, on) =
-    let g = goes_by first turns later x h in
+goes_by : (seed : Option ℕ) (first : PoolView) (turns later : ℕ) (q : PoolView) → IsAfter seed first (suc (later_on later turns)) q → GoesBy seed first turns q
+goes_by seed first turns zero q (x, u, a, h, c, m, on) =
+    record { before = x; next = q; actor = u; answer = a; after = h; chosen = c; move = m; on = on; more = []; grown = sym (append-nil q.history) }
+goes_by seed first turns (suc later) q (x, u, a, h, c, m, on) =
+    let g = goes_by seed first turns later x h in
     record {
       before = g.before;
       next = g.next;
+      actor = g.actor;
       answer = g.answer;
       after = g.after;
+      chosen = g.chosen;
       move = g.move;
       on = g.on;
       more = g.more ++ m.turn.events;
-      grown = history_of x q (actor_after first.layout (suc (later_on later turns))) a m ∙ (ap (λ es. es ++ m.turn.events) g.grown ∙ append_assoc g.next.history g.more m.turn.events);
+      grown = history_of x q u a m ∙ (ap (λ es. es ++ m.turn.events) g.grown ∙ append_assoc g.next.history g.more m.turn.events);
     }
 
 over_without_failure : (a : Turn) → IsOver a → IsNoFailure a
@@ -299,49 +323,41 @@ flipped h k (inr d) = inr (record {
   is_other = d.is;
 })
 
-module _ (first p q : PoolView) (c : ComesTo first IsOver p) (d : ComesTo first IsOver q) where
+module _ (seed : Option ℕ) (first p q : PoolView) (c : ComesTo seed first IsOver p) (d : ComesTo seed first IsOver q) where
   -- as many turns
   as_many : c.turns ≡ d.turns → AreSame p.history q.history
-  as_many is = by (after_same first d.turns c.before d.before (subst (λ n. IsAfter first n c.before) is c.after) d.after)
+  as_many is = by (after_same seed first d.turns c.before d.before (subst (λ n. IsAfter seed first n c.before) is c.after) d.after)
     where
-      actor : Actor
-      actor = actor_after first.layout d.turns
-
-      mine : IsMove c.before actor c.answer p
-      mine = subst (λ n. IsMove c.before (actor_after first.layout n) c.answer p) is c.last
-
       by : PoolsSame c.before d.before → AreSame p.history q.history
-      by (inl same) = next (leads_same c.before p q actor c.answer d.answer mine (subst (λ (o : PoolView). IsMove o actor d.answer q) (sym same) d.last) (over_without_failure c.answer c.is) (over_without_failure d.answer d.is))
+      by (inl same) = next (next_leads seed c.before d.before p q d.turns c.actor d.actor c.answer d.answer same (subst (λ n. IsNext seed c.before n c.actor) is c.next) d.next c.last d.last
+          (over_without_failure c.answer c.is) (over_without_failure d.answer d.is))
         where
           next : LeadsSame c.answer d.answer p q → AreSame p.history q.history
           next (inl l) = inl (ap (λ (o : PoolView). o.history) l.1)
           next (inr l) = inr l.2
-      by (inr part) = inr (subst (λ (h : List Event). PartAtNotice h q.history) (sym (history_of c.before p actor c.answer mine))
-          (subst (λ (k : List Event). PartAtNotice (c.before.history ++ mine.turn.events) k) (sym (history_of d.before q actor d.answer d.last)) (parts_on c.before.history d.before.history mine.turn.events d.last.turn.events part)))
+      by (inr part) = inr (subst (λ (h : List Event). PartAtNotice h q.history) (sym (history_of c.before p c.actor c.answer c.last))
+          (subst (λ (k : List Event). PartAtNotice (c.before.history ++ c.last.turn.events) k) (sym (history_of d.before q d.actor d.answer d.last)) (parts_on c.before.history d.before.history c.last.turn.events d.last.turn.events part)))
 
   -- fewer turns
   fewer : (later : ℕ) → d.turns ≡ suc (later_on later c.turns) → AreSame p.history q.history
-  fewer later is = by (after_same first c.turns c.before g.before c.after g.after)
+  fewer later is = by (after_same seed first c.turns c.before g.before c.after g.after)
     where
-      g : GoesBy first c.turns d.before
-      g = goes_by first c.turns later d.before (subst (λ n. IsAfter first n d.before) is d.after)
-
-      actor : Actor
-      actor = actor_after first.layout c.turns
+      g : GoesBy seed first c.turns d.before
+      g = goes_by seed first c.turns later d.before (subst (λ n. IsAfter seed first n d.before) is d.after)
 
       end : q.history ≡ g.next.history ++ (g.more ++ d.last.turn.events)
-      end = history_of d.before q (actor_after first.layout d.turns) d.answer d.last ∙ (ap (λ es. es ++ d.last.turn.events) g.grown ∙ append_assoc g.next.history g.more d.last.turn.events)
+      end = history_of d.before q d.actor d.answer d.last ∙ (ap (λ es. es ++ d.last.turn.events) g.grown ∙ append_assoc g.next.history g.more d.last.turn.events)
 
       end_before : q.history ≡ g.before.history ++ (g.move.turn.events ++ (g.more ++ d.last.turn.events))
-      end_before = end ∙ (ap (λ es. es ++ (g.more ++ d.last.turn.events)) (history_of g.before g.next actor g.answer g.move) ∙ append_assoc g.before.history g.move.turn.events (g.more ++ d.last.turn.events))
+      end_before = end ∙ (ap (λ es. es ++ (g.more ++ d.last.turn.events)) (history_of g.before g.next g.actor g.answer g.move) ∙ append_assoc g.before.history g.move.turn.events (g.more ++ d.last.turn.events))
 
       by : PoolsSame c.before g.before → AreSame p.history q.history
-      by (inl same) = absurd (next (leads_same c.before p g.next actor c.answer g.answer c.last (subst (λ (o : PoolView). IsMove o actor g.answer g.next) (sym same) g.move) (over_without_failure c.answer c.is) (goes_without_failure g.answer g.on)))
+      by (inl same) = absurd (next (next_leads seed c.before g.before p g.next c.turns c.actor g.actor c.answer g.answer same c.next g.chosen c.last g.move (over_without_failure c.answer c.is) (goes_without_failure g.answer g.on)))
         where
           next : LeadsSame c.answer g.answer p g.next → ⊥
           next (inl l) = subst GoesOn (sym l.0 ∙ c.is.1) g.on
           next (inr l) = let no_way : Over c.is.0 ≡ Went = sym c.is.1 ∙ l.0 in cc
-      by (inr part) = inr (subst (λ (h : List Event). PartAtNotice h q.history) (sym (history_of c.before p actor c.answer c.last))
+      by (inr part) = inr (subst (λ (h : List Event). PartAtNotice h q.history) (sym (history_of c.before p c.actor c.answer c.last))
           (subst (λ (k : List Event). PartAtNotice (c.before.history ++ c.last.turn.events) k) (sym end_before)
           (parts_on c.before.history g.before.history c.last.turn.events (g.move.turn.events ++ (g.more ++ d.last.turn.events)) part)))
 
@@ -367,10 +383,10 @@ order zero (suc n) = inr (inl (n, ap suc (later_zero n)))
 order (suc m) zero = inr (inr (m, ap suc (later_zero m)))
 order (suc m) (suc n) = order_on m n (order m n)
 
-pub one_run : (first p q : PoolView) → ComesTo first IsOver p → ComesTo first IsOver q → AreSame p.history q.history
-one_run first p q c d = by (order c.turns d.turns)
+pub one_run : (seed : Option ℕ) (first p q : PoolView) → ComesTo seed first IsOver p → ComesTo seed first IsOver q → AreSame p.history q.history
+one_run seed first p q c d = by (order c.turns d.turns)
   where
     by : Order c.turns d.turns → AreSame p.history q.history
-    by (inl is) = as_many first p q c d is
-    by (inr (inl less)) = fewer first p q c d less.0 less.1
-    by (inr (inr more)) = flipped q.history p.history (fewer first q p d c more.0 more.1)
+    by (inl is) = as_many seed first p q c d is
+    by (inr (inl less)) = fewer seed first p q c d less.0 less.1
+    by (inr (inr more)) = flipped q.history p.history (fewer seed first q p d c more.0 more.1)

@@ -38,5 +38,5 @@ HasEndedByItself (Some Limit) = ⊥
 -- holds if a run with a limit above the bound ends by itself, unless an allocation fails
 abbrev pub EndsByItself : TypedProgram → ℕ → Type 0
 EndsByItself verified most =
-    (inputs : List Input) (layout : ActorCounts) (limit : ℕ) (final : FinalView) (history : HistoryView) → AreInputsOf verified.program inputs → most < limit
-    → IsLeft (opened verified inputs layout limit) (left.Over final history) → HasEndedByItself final.closing
+    (inputs : List Input) (layout : ActorCounts) (limit : ℕ) (seed : Option ℕ) (final : FinalView) (history : HistoryView) → AreInputsOf verified.program inputs → most < limit
+    → IsLeft seed (opened verified inputs layout limit) (left.Over final history) → HasEndedByItself final.closing

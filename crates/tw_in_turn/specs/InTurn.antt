@@ -1,9 +1,12 @@
--- A run in one thread. Its actors make steps one after the other: engines, servers, workers, again and again. A job that an actor is
--- issued is run at once, and its `Done` is submitted with the actor's next step.
-use Rattle.std.specs.Prelude.{◌≡◌, ◌≤◌, ◌%◌, ℕ, zero, suc, Bool, true, false, length, Option, Some, None}
+-- A run in one thread. Its actors make steps one after the other: engines, servers, workers, again and again, or in an order that a seed
+-- decides. A job that an actor is issued is run at once, and its `Done` is submitted with the actor's next step.
+use Rattle.std.specs.Prelude.{◌≡◌, ◌<◌, ◌≤◌, ◌+◌, ◌%◌, ℕ, zero, suc, Bool, true, false, length, Option, Some, None}
+use Rattle.std.specs.FinMap.{get}
 use Rattle.tw_types.specs.declared.actor.Actor.{Actor}
+use Rattle.tw_types.specs.declared.event.Event.{Event}
 use Rattle.tw_types.specs.Actor.{actor_at, actor_count}
 use Rattle.tw_types.specs.Layout.{ActorCounts}
+use Rattle.tw_code.specs.machine.Due.{IsDueFree}
 use Rattle.tw_code.specs.machine.State.{State}
 use Rattle.tw_soundness.specs.EndsWell.{EndsWell}
 use Rattle.tw_frame.specs.Jobs.{DoneView, IsDone, JobView}
@@ -14,15 +17,42 @@ use Rattle.tw_pool.specs.declared.answer.Turn.TheVariants.{Over, Foreign, Owed, 
 use Rattle.tw_pool.specs.Ends.{FinalView, IsShut}
 use Rattle.tw_pool.specs.History.{HistoryView}
 use Rattle.tw_pool.specs.PoolView.{PoolView, HasState}
-use Rattle.tw_pool.specs.Turns.{IsTurn, lent_to}
+use Rattle.tw_pool.specs.Turns.{IsTurn, closing_at, lent_to}
+use Rattle.tw_in_turn.specs.Drawn.{place_for}
 use Rattle.tw_in_turn.specs.declared.run.InTurnResult.{InTurnResult}
 use Rattle.tw_in_turn.specs.declared.run.InTurnResult.TheVariants as left
 
--- ---- a step
+-- ---- the order of steps
 
--- returns the actor that makes the step after so many
+-- the actor has nothing to do there, and the run isn't over
+pub record IsIdle (p : PoolView) (actor : Actor) : Type 0 where
+  pub state : State
+  pub has_state : HasState p state
+  pub free : get state.frames actor ≡ None
+  pub none_due : (due : Event) → IsDueFree p.layout actor state due → ⊥
+  pub runs_on : closing_at p state ≡ None
+
+-- returns the actor that makes the step after so many, round by round
 abbrev pub actor_after : ActorCounts → ℕ → Actor
 actor_after layout turns = actor_at layout (turns % actor_count layout)
+
+-- returns the actor that is so many after an index; the first one follows the last
+abbrev pub actor_from : ActorCounts → ℕ → ℕ → Actor
+actor_from layout index skipped = actor_at layout ((index + skipped) % actor_count layout)
+
+-- the first actor that isn't idle, from the place on that a seed draws for the step
+pub record IsDrawn (seed : ℕ) (p : PoolView) (turns : ℕ) (actor : Actor) : Type 0 where
+  pub skipped : ℕ
+  pub is : actor ≡ actor_from p.layout (place_for seed turns (actor_count p.layout)) skipped
+  pub idle : (k : ℕ) → k < skipped → IsIdle p (actor_from p.layout (place_for seed turns (actor_count p.layout)) k)
+  pub busy : IsIdle p actor → ⊥
+
+-- holds for the actor that makes the step after so many, with a seed or none
+abbrev pub IsNext : Option ℕ → PoolView → ℕ → Actor → Type 0
+IsNext None p turns actor = actor ≡ actor_after p.layout turns
+IsNext (Some seed) p turns actor = IsDrawn seed p turns actor
+
+-- ---- a step
 
 -- the result of a job: local steps up to an instruction that isn't local, or up to one for which an allocation failed
 pub record IsWorkOf (job : JobView) (short : Bool) (done : DoneView) : Type 0 where
@@ -60,18 +90,20 @@ GoesOn Went = Unit {0}
 GoesOn Idle = Unit {0}
 
 -- holds for the pool after so many steps, from the first one on
-abbrev pub IsAfter : PoolView → ℕ → PoolView → Type 0
-IsAfter first zero p = p ≡ first
-IsAfter first (suc turns) p =
-    (before : PoolView) × (answer : Turn) × IsAfter first turns before × IsMove before (actor_after first.layout turns) answer p × GoesOn answer
+abbrev pub IsAfter : Option ℕ → PoolView → ℕ → PoolView → Type 0
+IsAfter seed first zero p = p ≡ first
+IsAfter seed first (suc turns) p =
+    (before : PoolView) × (actor : Actor) × (answer : Turn) × IsAfter seed first turns before × IsNext seed before turns actor × IsMove before actor answer p × GoesOn answer
 
 -- the step after some others, with a result for which `Answers` holds
-pub record ComesTo (first : PoolView) (Answers : Turn → Type 0) (p : PoolView) : Type 0 where
+pub record ComesTo (seed : Option ℕ) (first : PoolView) (Answers : Turn → Type 0) (p : PoolView) : Type 0 where
   pub turns : ℕ
   pub before : PoolView
-  pub after : IsAfter first turns before
+  pub after : IsAfter seed first turns before
+  pub actor : Actor
+  pub next : IsNext seed before turns actor
   pub answer : Turn
-  pub last : IsMove before (actor_after first.layout turns) answer p
+  pub last : IsMove before actor answer p
   pub is : Answers answer
 
 -- ---- how it ends
@@ -107,6 +139,6 @@ pub record IsLeftIn (first p : PoolView) (final : FinalView) (history : HistoryV
   pub ends_well : EndsWell first.program.program shut.state
 
 -- holds for a finished run, from its first pool on
-abbrev pub IsLeft : PoolView → InTurnResult → Type 0
-IsLeft first (left.Over final history) = (p : PoolView) × ComesTo first IsOver p × IsLeftIn first p final history × HasEnded final.closing
-IsLeft first (left.NoMemory final history) = (p : PoolView) × ComesTo first IsRefused p × IsLeftIn first p final history
+abbrev pub IsLeft : Option ℕ → PoolView → InTurnResult → Type 0
+IsLeft seed first (left.Over final history) = (p : PoolView) × ComesTo seed first IsOver p × IsLeftIn first p final history × HasEnded final.closing
+IsLeft seed first (left.NoMemory final history) = (p : PoolView) × ComesTo seed first IsRefused p × IsLeftIn first p final history

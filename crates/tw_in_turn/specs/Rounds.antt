@@ -1,22 +1,17 @@
 -- The results that are kept from step to step of a run in one thread.
 use Rattle.std.specs.Prelude.{◌≡◌, ◌≢◌, ◌<◌, ◌≤◌, ◌+◌, ◌*◌, ◌⊎◌, ℕ, Bool, true, false, List, [], length, get_or, Option, Some, None}
-use Rattle.std.specs.FinMap.{get}
 use Rattle.tw_types.specs.declared.actor.Actor.{Actor}
-use Rattle.tw_types.specs.declared.event.Event.{Event}
 use Rattle.tw_types.specs.Actor.{actor_at, actor_count}
-use Rattle.tw_types.specs.Layout.{IsLayout}
+use Rattle.tw_types.specs.Layout.{ActorCounts, IsLayout}
 use Rattle.tw_code.specs.accepting.Needs.{HasTargets}
-use Rattle.tw_code.specs.machine.Due.{IsDueFree}
-use Rattle.tw_code.specs.machine.State.{State}
 use Rattle.tw_frame.specs.Jobs.{DoneView}
 use Rattle.tw_pool.specs.declared.answer.Turn.{Turn}
-use Rattle.tw_pool.specs.PoolView.{PoolView, HasState}
-use Rattle.tw_pool.specs.Turns.{closing_at}
+use Rattle.tw_pool.specs.PoolView.{PoolView}
 use Rattle.tw_host.specs.Sees.{IsDoneOf}
 use Rattle.tw_in_turn.specs.declared.rounds.End.{End}
 use Rattle.tw_in_turn.specs.declared.rounds.End.TheVariants.{Over, NoMemory, Stopped}
 use Rattle.tw_in_turn.specs.Stopping.{IsSomeAfter}
-use Rattle.tw_in_turn.specs.InTurn.{ComesTo, GoesOn, Has, IsAfter, IsMove, IsOver, IsRefused}
+use Rattle.tw_in_turn.specs.InTurn.{ComesTo, GoesOn, Has, IsAfter, IsIdle, IsMove, IsOver, IsRefused}
 
 -- holds for the reason why no step follows this result; a stop is no result of a step
 abbrev pub Ends : End → Turn → Type 0
@@ -25,10 +20,10 @@ Ends NoMemory answer = IsRefused answer
 Ends Stopped answer = ⊥
 
 -- holds for the reason why no step follows those that lead to this pool
-abbrev pub EndsAt : PoolView → End → PoolView → Type 0
-EndsAt first Over p = ComesTo first IsOver p
-EndsAt first NoMemory p = ComesTo first IsRefused p
-EndsAt first Stopped p = IsSomeAfter first p
+abbrev pub EndsAt : Option ℕ → PoolView → End → PoolView → Type 0
+EndsAt seed first Over p = ComesTo seed first IsOver p
+EndsAt seed first NoMemory p = ComesTo seed first IsRefused p
+EndsAt seed first Stopped p = IsSomeAfter seed first p
 
 -- only with a stop flag a run is stopped
 abbrev pub MayStop : Bool → Option End → Type 0
@@ -44,14 +39,6 @@ pub record Keeps (p : PoolView) (actor : Actor) (given : Option DoneView) : Type
 abbrev pub Comes : PoolView → Actor → Turn → Option DoneView → Option End → Type 0
 Comes p actor answer kept None = GoesOn answer × Keeps p actor kept
 Comes p actor answer kept (Some end) = Ends end answer
-
--- the actor has nothing to do there, and the run isn't over
-pub record IsIdle (p : PoolView) (actor : Actor) : Type 0 where
-  pub state : State
-  pub has_state : HasState p state
-  pub free : get state.frames actor ≡ None
-  pub none_due : (due : Event) → IsDueFree p.layout actor state due → ⊥
-  pub runs_on : closing_at p state ≡ None
 
 -- only events are new
 pub record IsGrown (old new : PoolView) : Type 0 where
@@ -80,17 +67,21 @@ pub record MayTurn (p : PoolView) : Type 0 where
   pub stopped : p.stopped ≡ false
   pub within : length p.history ≤ p.limit
 
+-- returns how many steps so many rounds have: each actor's own, or with a seed one
+abbrev pub turns_in : Option ℕ → ActorCounts → ℕ → ℕ
+turns_in None layout rounds = rounds * actor_count layout
+turns_in (Some seed) layout rounds = rounds
+
 -- if a round isn't the last, there is some new event
-pub record GoesAround (old new : PoolView) (kept : List (Option DoneView)) : Type 0 where
+pub record GoesAround (seed : Option ℕ) (rounds : ℕ) (old new : PoolView) (kept : List (Option DoneView)) : Type 0 where
   pub more : length old.history < length new.history
   pub kept_is : AreKept new kept
-  pub after : (first : PoolView) (rounds : ℕ) → first.layout ≡ old.layout → IsAfter first (rounds * actor_count old.layout) old → IsAfter first ((rounds + 1) * actor_count old.layout) new
+  pub after : (first : PoolView) → IsAfter seed first (turns_in seed old.layout rounds) old → IsAfter seed first (turns_in seed old.layout (rounds + 1)) new
 
--- holds for the result of a round, one step for each actor
-abbrev pub ComesAround : PoolView → PoolView → List (Option DoneView) → Option End → Type 0
-ComesAround old new kept None = GoesAround old new kept
-ComesAround old new kept (Some end) =
-    (first : PoolView) (rounds : ℕ) → first.layout ≡ old.layout → IsAfter first (rounds * actor_count old.layout) old → EndsAt first end new
+-- holds for the result of a round after so many
+abbrev pub ComesAround : Option ℕ → ℕ → PoolView → PoolView → List (Option DoneView) → Option End → Type 0
+ComesAround seed rounds old new kept None = GoesAround seed rounds old new kept
+ComesAround seed rounds old new kept (Some end) = (first : PoolView) → IsAfter seed first (turns_in seed old.layout rounds) old → EndsAt seed first end new
 
 -- a pool before its first event, with this number of actors
 pub record IsOpened (p : PoolView) (count : ℕ) : Type 0 where

@@ -1,6 +1,7 @@
 //! Runs in one thread: the actors of a pool make their scheduling steps one after the other.
 #![tactic(auto)]
 
+mod drawn;
 mod rounds;
 mod run;
 mod theorems;

@@ -1,9 +1,10 @@
 //! Scheduling steps, round by round.
 
-ghost use Rattle.std.specs.Prelude.{◌≡◌, ◌≤◌, is_some, true};
+ghost use Rattle.std.specs.Prelude.{◌≡◌, ◌≤◌, None, Some, is_some, true, ℕ};
 ghost use Rattle.tw_types.specs.Actor.{is_in};
 ghost use Rattle.tw_in_turn.specs.Rounds.{AreKept, ComesAround, EndsAt, IsGrown, IsTurned, Keeps, MayStop, MayTurn};
 
+use crate::drawn::place_for;
 use std::alloc::Global;
 use std::sync::atomic::{AtomicU32, Ordering};
 use tw_frame::Done;
@@ -69,7 +70,7 @@ fn turn_round<'a>(
 ) -> Option<End>
     requires may { MayTurn pool.old }
     requires kept { AreKept pool.old kept.old }
-    ensures round { ComesAround pool.old pool.new kept.new result }
+    ensures round { (rounds : ℕ) → ComesAround None rounds pool.old pool.new kept.new result }
     ensures grown { IsGrown pool.old pool.new }
     ensures flag { MayStop (is_some stop.entry) result }
 {
@@ -86,22 +87,79 @@ fn turn_round<'a>(
     None
 }
 
+/// Makes the step of the first actor that isn't idle, from the place on that the seed draws for it, after so many steps. Looks at the
+/// stop flag before each actor.
+fn turn_drawn<'a>(
+    alloc: Global,
+    pool: &mut Pool<'a>,
+    kept: &mut [Option<Done<'a>>],
+    seed: u64,
+    steps: usize,
+    stop: Option<&AtomicU32>,
+) -> Option<End>
+    requires may { MayTurn pool.old }
+    requires kept { AreKept pool.old kept.old }
+    ensures round { ComesAround (Some seed) steps pool.old pool.new kept.new result }
+    ensures grown { IsGrown pool.old pool.new }
+    ensures flag { MayStop (is_some stop.entry) result }
+{
+    let layout = pool.layout();
+    let count = layout.actor_count();
+    let first = place_for(seed, steps as u64, count);
+    let events = pool.history().len();
+    for skipped in 0..count {
+        if is_raised(stop) {
+            return Some(End::Stopped);
+        }
+        let index = (first + skipped) % count;
+        if let Some(end) = turn_one(alloc, pool, layout.actor_at(index), &mut kept[index]) {
+            return Some(end);
+        }
+        if events < pool.history().len() {
+            return None;
+        }
+    }
+    unreachable!()
+}
+
+/// Makes the round after so many: a step for each actor, or with a seed one step.
+fn turn_next<'a>(
+    alloc: Global,
+    pool: &mut Pool<'a>,
+    kept: &mut [Option<Done<'a>>],
+    seed: Option<u64>,
+    rounds: usize,
+    stop: Option<&AtomicU32>,
+) -> Option<End>
+    requires may { MayTurn pool.old }
+    requires kept { AreKept pool.old kept.old }
+    ensures round { ComesAround seed rounds pool.old pool.new kept.new result }
+    ensures grown { IsGrown pool.old pool.new }
+    ensures flag { MayStop (is_some stop.entry) result }
+{
+    match seed {
+        None => turn_round(alloc, pool, kept, stop),
+        Some(seed) => turn_drawn(alloc, pool, kept, seed, rounds, stop),
+    }
+}
+
 /// Makes rounds until the run is over, an allocation fails or the stop flag is raised. Each round that isn't the last makes an event.
 pub(crate) fn turn_all<'a>(
     alloc: Global,
     pool: &mut Pool<'a>,
     kept: &mut [Option<Done<'a>>],
+    seed: Option<u64>,
     stop: Option<&AtomicU32>,
 ) -> End
     requires may { MayTurn pool.old }
     requires few { pool.old.limit ≤ 1000000 }
     requires kept { AreKept pool.old kept.old }
-    ensures ends { EndsAt pool.old result pool.new }
+    ensures ends { EndsAt seed pool.old result pool.new }
     ensures grown { IsGrown pool.old pool.new }
     ensures flag { result ≡ End.Stopped → is_some stop.entry ≡ true }
 {
-    for _round in 0..History::MOST_EVENTS + 1 {
-        if let Some(end) = turn_round(alloc, pool, kept, stop) {
+    for rounds in 0..History::MOST_EVENTS + 1 {
+        if let Some(end) = turn_next(alloc, pool, kept, seed, rounds, stop) {
             return end;
         }
     }

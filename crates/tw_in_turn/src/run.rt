@@ -45,17 +45,19 @@ fn nothing_kept<'a>(alloc: Global, count: usize) -> Result<Vec<Option<Done<'a>>>
 }
 
 /// Runs a program in this thread: engines, then servers, then workers make one step each, again and again, until the run is
-/// over, or until another thread has stored a number other than 0 in the stop flag.
+/// over, or until another thread has stored a number other than 0 in the stop flag. A seed decides another order of the steps, the same
+/// in each run.
 pub fn run_until(
     alloc: Global,
     verified: &Verified,
     inputs: &[Input],
     layout: Layout,
     limit: usize,
+    seed: Option<u64>,
     stop: Option<&AtomicU32>,
 ) -> Result<StoppableResult, OpenError>
     ensures allowed { IfOk result (λ _. MayOpen verified.now.program inputs.now layout limit) }
-    ensures left { IfOk result (IsLeftOrStopped (opened verified.now inputs.now layout limit)) }
+    ensures left { IfOk result (IsLeftOrStopped seed (opened verified.now inputs.now layout limit)) }
     ensures refused { IfErr result (IsRejection verified.now.program inputs.now layout limit) }
     ensures flag { IfOk result (λ left. IsStopped left → is_some stop.entry ≡ true) }
 {
@@ -64,7 +66,7 @@ pub fn run_until(
         let (_outcome, _history) = pool.shut();
         return Err(OpenError::NoMemory);
     };
-    let end = turn_all(alloc, &mut pool, kept.as_mut_slice(), stop);
+    let end = turn_all(alloc, &mut pool, kept.as_mut_slice(), seed, stop);
     let (outcome, history) = pool.shut();
     match end {
         End::Over => Ok(StoppableResult::Ended(InTurnResult::Over { outcome, history })),
@@ -80,12 +82,13 @@ pub fn run_in_turn(
     inputs: &[Input],
     layout: Layout,
     limit: usize,
+    seed: Option<u64>,
 ) -> Result<InTurnResult, OpenError>
     ensures allowed { IfOk result (λ _. MayOpen verified.now.program inputs.now layout limit) }
-    ensures left { IfOk result (IsLeft (opened verified.now inputs.now layout limit)) }
+    ensures left { IfOk result (IsLeft seed (opened verified.now inputs.now layout limit)) }
     ensures refused { IfErr result (IsRejection verified.now.program inputs.now layout limit) }
 {
-    match run_until(alloc, verified, inputs, layout, limit, None) {
+    match run_until(alloc, verified, inputs, layout, limit, seed, None) {
         Ok(StoppableResult::Ended(left)) => Ok(left),
         Ok(StoppableResult::Stopped { .. }) => unreachable!(),
         Err(why) => Err(why),

@@ -17,9 +17,8 @@ use Rattle.tw_types.specs.declared.value.Value.TheVariants as value
 use Rattle.tw_types.specs.Store.{Content, Unset, Set, Contains, Datum, Data}
 use Rattle.tw_types.specs.StoreCalls.{value_in}
 use Rattle.tw_types.specs.ValueOrder.{Subscript}
-use Rattle.tw_json_output.specs.Error.{before_error, error_json, from_error, listed_error_json}
 use Rattle.tw_json_output.specs.Outputs.{content_json, datum_json, datum_kind, key_of, kinds_json, members_json, output_json, outputs_json, scalar_json, value_json, with_members}
-use Rattle.tw_json_output.specs.Texts.{explanation_json, printed_json, strings_json, whole_json, with_code, with_status, without_feed}
+use Rattle.tw_json_output.specs.Texts.{explanation_json, lines_json, printed_json, whole_json, with_code, with_status, without_feed}
 use Rattle.tw_json_output.specs.declared.text_object.Printed.{Printed}
 use Rattle.tw_json_output.specs.declared.text_object.Printed.TheVariants.{Digits, Listing, Plain, Text}
 use Rattle.tw_json_output.specs.Run.{circle_json, link_json, run_json, run_members, size_json, with_circle, with_pending}
@@ -59,20 +58,11 @@ strings (t ∷ ts) = strings ts
 pub with_one : (status name : List ℕ) (value : json.Data) → has_float value ≡ false → members_have_float (with_status status name value) ≡ false
 with_one status name value fine = one_more name value (json.member (codes "status") (json.string status) json.no_members) fine refl
 
-pub of_error : (status text : List ℕ) → has_float (error_json status text) ≡ false
-of_error status text = with_one status (codes "error") (strings_json (lines (utf8_lossy text))) (strings (lines (utf8_lossy text)))
-
-pub of_listed_error : (text : List ℕ) → has_float (listed_error_json text) ≡ false
-of_listed_error text =
-    let printed = lines (utf8_lossy text) in
-    one_more (codes "listing") (strings_json (before_error printed)) (with_status (codes "refused") (codes "error") (strings_json (from_error printed))) (strings (before_error printed))
-    (with_one (codes "refused") (codes "error") (strings_json (from_error printed)) (strings (from_error printed)))
-
 pub of_printed : (printed : Printed) (text : List ℕ) → has_float (printed_json printed text) ≡ false
 of_printed Digits text = with_one (codes "assembled") (codes "bytes") (whole_json (without_feed text)) refl
 of_printed Plain text = with_one (codes "assembled") (codes "text") (whole_json text) refl
 of_printed Text text = with_one (codes "disassembled") (codes "text") (whole_json text) refl
-of_printed Listing text = with_one (codes "disassembled") (codes "listing") (strings_json (lines (utf8_lossy text))) (strings (lines (utf8_lossy text)))
+of_printed Listing text = with_one (codes "disassembled") (codes "listing") (lines_json text) (strings (lines (utf8_lossy text)))
 
 coded : (code : List ℕ) (ms : json.Members) → members_have_float ms ≡ false → members_have_float (with_code code ms) ≡ false
 coded [] ms before = before

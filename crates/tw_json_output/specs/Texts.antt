@@ -10,6 +10,10 @@ use Rattle.tw_json_output.specs.declared.text_object.Printed.TheVariants.{Digits
 abbrev pub strings_json : List (List ℕ) → json.Data
 strings_json texts = json.array (items_of (map json.string texts))
 
+-- returns the lines that are printed, as strings; bytes that aren't UTF-8 are replaced
+abbrev pub lines_json : List ℕ → json.Data
+lines_json text = strings_json (lines (utf8_lossy text))
+
 -- returns the members of an object with a status and one more value
 abbrev pub with_status : List ℕ → List ℕ → json.Data → json.Members
 with_status status name value = json.put name value (json.member (codes "status") (json.string status) json.no_members)
@@ -26,7 +30,7 @@ abbrev pub printed_members : Printed → List ℕ → json.Members
 printed_members Digits text = with_status (codes "assembled") (codes "bytes") (whole_json (without_feed text))
 printed_members Plain text = with_status (codes "assembled") (codes "text") (whole_json text)
 printed_members Text text = with_status (codes "disassembled") (codes "text") (whole_json text)
-printed_members Listing text = with_status (codes "disassembled") (codes "listing") (strings_json (lines (utf8_lossy text)))
+printed_members Listing text = with_status (codes "disassembled") (codes "listing") (lines_json text)
 
 -- returns the object of what `asm` or `disasm` prints
 abbrev pub printed_json : Printed → List ℕ → json.Data

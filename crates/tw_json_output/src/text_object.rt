@@ -6,7 +6,7 @@ ghost use Rattle.serde_json.specs.View.{members_view, view};
 ghost use Rattle.tw_json_output.specs.Run.{json_line};
 ghost use Rattle.tw_json_output.specs.Texts.{explanation_json, explanation_members, printed_json, printed_members, whole_json, with_code, with_status};
 
-use crate::error_object::lines_value;
+use crate::printed_lines::lines_value;
 use crate::run_object::line_of;
 use serde_json::{Map, Value as Json};
 use std::alloc::{AllocError, Global};

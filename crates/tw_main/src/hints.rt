@@ -3,8 +3,8 @@
 use std::io;
 use std::io::ErrorKind;
 use std::rt::Stderr;
-use tw_files::{Misfit, asks_help};
-use tw_session::{Close, Status};
+use tw_files::{Misfit, requests_help};
+use tw_session::{Close, ErrorCode, Failure, Position, Status};
 
 /// An answer to a command, as far as hints are about it.
 #[derive(Drop)]
@@ -12,8 +12,6 @@ pub struct Answered<'a> {
     /// Hints name the command so.
     pub name: &'a str,
     pub status: Status,
-    /// The line that may report an error, as far as it is kept.
-    pub line: &'a [u8],
     /// The arguments of the session.
     pub words: &'a [String],
     /// The file whose name promises symbolic assembly, if its text isn't symbolic.
@@ -59,6 +57,11 @@ pub fn complain_missing(stderr: &Stderr, word: &str) -> io::Result<()> {
     eprintln!(stderr; "tw: there is no file {word}, either")
 }
 
+/// Prints that there are no lines to answer.
+pub fn complain_lineless(stderr: &Stderr, name: &str) -> io::Result<()> {
+    eprintln!(stderr; "tw: --each needs lines of inputs: {name} run FILE --each LINES")
+}
+
 /// Prints that a terminal is read for a file's content.
 pub fn print_reading(stderr: &Stderr) -> io::Result<()> {
     eprintln!(stderr; "tw: reading standard input, which Ctrl-D ends")
@@ -66,7 +69,7 @@ pub fn print_reading(stderr: &Stderr) -> io::Result<()> {
 
 /// Prints that a terminal is read, unless help is requested.
 pub fn print_notice(stderr: &Stderr, words: &[String]) -> io::Result<()> {
-    if asks_help(words) {
+    if requests_help(words) {
         return Ok(());
     }
     eprintln!(stderr;
@@ -74,20 +77,30 @@ pub fn print_notice(stderr: &Stderr, words: &[String]) -> io::Result<()> {
     )
 }
 
-/// Returns the code of the error that a line reports, which may be JSON.
-fn code_of(line: &[u8]) -> Option<&str> {
-    let text = str::from_utf8(line).ok()?;
-    let mut words = text.split(' ');
-    let _kind = words.next()?;
-    let code = words.next()?.split('"').next()?;
-    match code.as_bytes() {
-        [b'A'..=b'Z', b'0'..=b'9', ..] => Some(code),
-        _ => None,
+/// Returns whether bytes look like no hex text of a program from their start on.
+fn holds_no_program(failure: &Failure) -> bool {
+    match (failure.code, failure.position) {
+        (Some(ErrorCode { letter, number }), position) => {
+            let code = (letter, number);
+            code == (b'H', 1) || (code == (b'F', 3) && position == Position::Byte(0))
+        }
+        (None, _) => false,
     }
 }
 
-fn print_error_hint(stderr: &Stderr, answered: &Answered<'_>) -> io::Result<()> {
-    let Some(code) = code_of(answered.line) else {
+/// Prints the command that explains a code. Those of traps have as many digits as they need.
+fn print_explain_hint(stderr: &Stderr, name: &str, code: ErrorCode) -> io::Result<()> {
+    let number = code.number;
+    if code.letter == b'C' {
+        return eprintln!(stderr; "tw: {name} explain C{number} says more");
+    }
+    let letter = char::from(code.letter);
+    let (tens, ones) = (number / 10, number % 10);
+    eprintln!(stderr; "tw: {name} explain {letter}{tens}{ones} says more")
+}
+
+fn print_error_hint(stderr: &Stderr, answered: &Answered<'_>, failure: &Failure) -> io::Result<()> {
+    let Some(code) = failure.code else {
         return Ok(());
     };
     if let Some(path) = answered.unnamed {
@@ -95,15 +108,17 @@ fn print_error_hint(stderr: &Stderr, answered: &Answered<'_>) -> io::Result<()> 
             "tw: {path} doesn't begin with a line `names`, so it is read as assembly text without names"
         )?;
     }
-    if answered.reads_input
-        && (code == "H01" || answered.line == b"refused F03 at byte 0".as_slice())
-    {
+    if answered.reads_input && holds_no_program(failure) {
         eprintln!(stderr;
             "tw: standard input holds no program as hex text; --text reads assembly text, and a command before a | may have failed"
         )?;
     }
-    let name = answered.name;
-    eprintln!(stderr; "tw: {name} explain {code} says more")
+    print_explain_hint(stderr, answered.name, code)
+}
+
+/// Returns whether the arguments request a timeline.
+fn draws(words: &[String]) -> bool {
+    words.iter().any(|word| word.as_str() == "picture" || word.as_str() == "--picture")
 }
 
 fn print_command_hint(stderr: &Stderr, name: &str, words: &[String]) -> io::Result<()> {
@@ -111,7 +126,7 @@ fn print_command_hint(stderr: &Stderr, name: &str, words: &[String]) -> io::Resu
         [command, ..] if command.as_str() == "explain" => {
             eprintln!(stderr; "tw: {name} explain lists the codes")
         }
-        [command, ..] if tw_files::reads_program(command.as_str()) => {
+        [command, ..] if tw_cli::reads_program(command.as_str()) => {
             eprintln!(stderr; "tw: {name} {command} --help lists its arguments")
         }
         _ => eprintln!(stderr; "tw: {name} --help lists the commands"),
@@ -121,11 +136,13 @@ fn print_command_hint(stderr: &Stderr, name: &str, words: &[String]) -> io::Resu
 /// Prints where to read more of an error, or what to do about a limit.
 pub fn print_hints(stderr: &Stderr, answered: &Answered<'_>) -> io::Result<()> {
     match answered.status {
-        Status::Ended(Close::Refused | Close::Trapped) => print_error_hint(stderr, answered),
-        Status::Ended(Close::CommandLine) => {
+        Status::Ended(Close::Refused(failure) | Close::Trapped(failure)) => {
+            print_error_hint(stderr, answered, &failure)
+        }
+        Status::Ended(Close::CommandLine | Close::Unreadable(_)) => {
             print_command_hint(stderr, answered.name, answered.words)
         }
-        Status::Ended(Close::Limit) if answered.line.starts_with(b"<svg") => {
+        Status::Ended(Close::Limit) if draws(answered.words) => {
             eprintln!(stderr;
                 "tw: the run reached its limit of events; --limit takes up to 1000000"
             )

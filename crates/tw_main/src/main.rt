@@ -3,7 +3,6 @@
 
 mod exit;
 mod hints;
-mod noted_writer;
 mod progress_printer;
 mod symbolic;
 mod system_files;

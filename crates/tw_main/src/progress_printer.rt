@@ -86,24 +86,18 @@ impl ProgressPrinter {
     }
 }
 
-/// Prints how many lines are answered after some seconds, how many that is a second, and how long the others take at this rate.
-fn print_lines(terminal: &Stderr, answered: u64, lines: u64, seconds: u64) -> io::Result<()> {
-    let others = lines.saturating_sub(answered);
-    let Some(left) = others.saturating_mul(seconds).checked_div(answered) else {
-        return eprint!(terminal; "{CLEAR}tw: no line answered so far");
-    };
+/// Prints how many lines are answered after some seconds, and how many that is a second.
+fn print_lines(terminal: &Stderr, answered: u64, seconds: u64) -> io::Result<()> {
     let tenths = answered.saturating_mul(10) / seconds.max(1);
     let (rate, tenth) = (tenths / 10, tenths % 10);
-    eprint!(terminal;
-        "{CLEAR}tw: {answered} of {lines} lines, {rate}.{tenth} a second, {left} seconds left"
-    )
+    eprint!(terminal; "{CLEAR}tw: {answered} lines so far, {rate}.{tenth} a second")
 }
 
 /// Prints how far work has got after some seconds, in place of what was printed before.
 fn print_so_far(terminal: &Stderr, so_far: SoFar, seconds: u64) -> io::Result<()> {
     match so_far {
         SoFar::Events(events) => eprint!(terminal; "{CLEAR}tw: {events} events so far"),
-        SoFar::Lines { answered, lines } => print_lines(terminal, answered, lines, seconds),
+        SoFar::Lines(answered) => print_lines(terminal, answered, seconds),
     }
 }
 

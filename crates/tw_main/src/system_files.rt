@@ -17,6 +17,7 @@ pub struct SystemFiles<'a, R> {
 }
 
 impl<'a, R> SystemFiles<'a, R> {
+    /// Makes them of the system and its streams.
     pub fn new(rt: &'a R, stdin: Stdin, stderr: Stderr) -> SystemFiles<'a, R> {
         SystemFiles { rt, stdin, stderr }
     }

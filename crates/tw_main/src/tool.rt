@@ -2,24 +2,24 @@
 
 use crate::exit::Exit;
 use crate::hints::{
-    Answered, complain_misfit, complain_missing, complain_unread, print_hints, print_notice,
+    Answered, complain_lineless, complain_misfit, complain_missing, complain_unread, print_hints,
+    print_notice,
 };
-use crate::noted_writer::NotedWriter;
 use crate::progress_printer::ProgressPrinter;
 use crate::symbolic::unnamed_path;
 use crate::system_files::SystemFiles;
 use std::alloc::{AllocError, Global};
-use std::io;
-use std::io::{ErrorKind, IsTerminal};
+use std::io::{ErrorKind, IsTerminal, Read};
 use std::rt::{Files, Stderr, Stdin, Stdout};
 use std::sync::Wait;
 use std::thread::Threads;
 use std::time::Clock;
-use tw_cli::rejects;
-use tw_files::{
-    InputFiles, NoInput, SessionInput, reads_program, session_input, words_without_files,
+use std::{fs, io};
+use tw_cli::{ArgumentForm, is_option, reads_program, rejects};
+use tw_files::{NoInput, SessionInput, session_input, words_without_files};
+use tw_session::{
+    Close, InStream, Status, complain, each_session, is_quiet, session, without_words,
 };
-use tw_session::{InStream, Status, complain, is_quiet, session, without_words};
 
 /// The standard streams.
 #[derive(Clone, Copy)]
@@ -39,19 +39,19 @@ fn words_of(alloc: Global, command: &str, others: &[String]) -> Result<Vec<Strin
     Ok(words)
 }
 
-/// Puts lines of inputs after a program.
-fn with_lines(mut program: Vec<u8>, lines: &[u8]) -> Result<Vec<u8>, AllocError> {
-    program.extend_from_slice(b"\ninputs\n")?;
-    program.extend_from_slice(lines)?;
-    Ok(program)
+/// Returns whether lines are to be answered.
+fn is_each(words: &[String]) -> bool {
+    words.iter().any(|word| word.as_str() == "--each")
+}
+
+/// Returns whether the name of a file follows an option.
+fn takes_file(option: &str) -> bool {
+    is_option(ArgumentForm::Inputs, option) || is_option(ArgumentForm::Trace, option)
 }
 
 /// Returns whether a word may be meant as an input: the command takes inputs, none has a file, and the word looks like no file's name.
 fn is_bare_word(command: &str, others: &[String], word: &str) -> bool {
-    let has_files = others.iter().any(|other| {
-        let other = other.as_str();
-        other == "--inputs" || other == "--inputs-json" || other == "--each" || other == "--events"
-    });
+    let has_files = others.iter().any(|other| takes_file(other.as_str()));
     let takes_inputs = command == "run" || command == "replay" || command == "picture";
     takes_inputs && !has_files && !word.contains('.') && !word.contains('/')
 }
@@ -66,8 +66,32 @@ pub struct Tool<'a, H> {
 }
 
 impl<'a, H: AllocGlobal + Files + Threads + Wait + Clock + Sync> Tool<'a, H> {
+    /// Makes the command, which messages name so.
     pub fn new(rt: &'a H, streams: Streams, name: &'a str) -> Tool<'a, H> {
         Tool { rt, streams, name }
+    }
+
+    /// Prints why arguments were rejected, and hints about the answer.
+    fn advise(&self, words: &[String], status: Status, unnamed: Option<&str>, reads_input: bool) {
+        let mut stderr = self.streams.stderr;
+        complain(self.rt.alloc(), status, words, &mut stderr);
+        if self.lacks_lines(words, status) {
+            let _printed = complain_lineless(&stderr, self.name);
+        }
+        let answered = Answered {
+            name: self.name,
+            status,
+            words,
+            unnamed,
+            reads_input,
+        };
+        let _printed = print_hints(&stderr, &answered);
+    }
+
+    /// Returns whether arguments were rejected only since there are no lines for `--each`.
+    fn lacks_lines(&self, words: &[String], status: Status) -> bool {
+        let was_rejected = status == Status::Ended(Close::CommandLine);
+        was_rejected && is_each(words) && matches!(rejects(self.rt.alloc(), words), Ok(false))
     }
 
     /// Holds a session, and prints hints about its answer. `unnamed` is the file whose name promises symbolic assembly, if its text isn't symbolic.
@@ -78,20 +102,10 @@ impl<'a, H: AllocGlobal + Files + Threads + Wait + Clock + Sync> Tool<'a, H> {
         unnamed: Option<&str>,
         reads_input: bool,
     ) -> Status {
-        let mut stderr = self.streams.stderr;
-        let mut writer = NotedWriter::new(self.streams.stdout, words);
-        let reporter = ProgressPrinter::new(stderr, is_quiet(words));
+        let mut writer = self.streams.stdout;
+        let reporter = ProgressPrinter::new(self.streams.stderr, is_quiet(words));
         let status = session(self.rt, &reporter, words, reader, &mut writer);
-        complain(self.rt.alloc(), status, words, &mut stderr);
-        let answered = Answered {
-            name: self.name,
-            status,
-            line: writer.line(),
-            words,
-            unnamed,
-            reads_input,
-        };
-        let _printed = print_hints(&stderr, &answered);
+        self.advise(words, status, unnamed, reads_input);
         status
     }
 
@@ -111,23 +125,24 @@ impl<'a, H: AllocGlobal + Files + Threads + Wait + Clock + Sync> Tool<'a, H> {
         self.hold(words, &mut reader, unnamed, false)
     }
 
-    /// Holds a session over a program and the lines of `--each`, which have a file of their own.
-    fn hold_over_lines(
-        &self,
-        others: &[String],
-        words: &[String],
-        program: Vec<u8>,
-        path: &str,
-    ) -> Exit {
-        let files = SystemFiles::new(self.rt, self.streams.stdin, self.streams.stderr);
-        match files.read_file(self.rt.alloc(), path) {
-            Ok(lines) => match with_lines(program, &lines) {
-                Ok(bytes) => Exit::Session(self.hold_over_bytes(others, words, &bytes)),
-                Err(_) => {
-                    let mut stdout = self.streams.stdout;
-                    Exit::Session(without_words(ErrorKind::OutOfMemory, &mut stdout))
-                }
-            },
+    /// Holds a session over a program and lines that are read one after the other.
+    fn answer_lines<R: Read>(&self, words: &[String], program: Vec<u8>, reader: &mut R) -> Status {
+        let unnamed = unnamed_path(words, &program);
+        let mut writer = self.streams.stdout;
+        let reporter = ProgressPrinter::new(self.streams.stderr, is_quiet(words));
+        let status = each_session(self.rt, &reporter, words, program, reader, &mut writer);
+        self.advise(words, status, unnamed, false);
+        status
+    }
+
+    /// Holds a session over a program and the file of the lines of `--each`; `-` is standard input.
+    fn hold_over_lines(&self, words: &[String], program: Vec<u8>, path: &str) -> Exit {
+        if path == "-" {
+            let mut stdin = self.streams.stdin;
+            return Exit::Session(self.answer_lines(words, program, &mut stdin));
+        }
+        match fs::open(self.rt, path) {
+            Ok(mut file) => Exit::Session(self.answer_lines(words, program, &mut file)),
             Err(error) => {
                 let _printed = complain_unread(&self.streams.stderr, path, &error);
                 Exit::Unread
@@ -140,7 +155,7 @@ impl<'a, H: AllocGlobal + Files + Threads + Wait + Clock + Sync> Tool<'a, H> {
         let words = made.words;
         match (made.bytes, made.lines) {
             (None, _) => Exit::Session(self.hold_over_input(&words)),
-            (Some(program), Some(path)) => self.hold_over_lines(others, &words, program, path),
+            (Some(program), Some(path)) => self.hold_over_lines(&words, program, path),
             (Some(bytes), None) => Exit::Session(self.hold_over_bytes(others, &words, &bytes)),
         }
     }

@@ -36,6 +36,8 @@ pub struct RunOrder {
     pub trace: bool,
     /// Whether all actors run in one thread.
     pub in_turn: bool,
+    /// The seed of another order of their steps in one thread, if there is one.
+    pub seed: Option<u64>,
     /// Main's inputs, one for each input argument, in their order.
     pub inputs: Items<Input>,
 }
@@ -55,6 +57,8 @@ pub struct RunOptions {
     pub trace: bool,
     /// Whether all actors run in one thread.
     pub in_turn: bool,
+    /// The seed of another order of their steps in one thread, if there is one.
+    pub seed: Option<u64>,
 }
 
 impl RunOptions {
@@ -68,6 +72,7 @@ impl RunOptions {
             caps: self.caps,
             trace: self.trace,
             in_turn: self.in_turn,
+            seed: self.seed,
             inputs,
         }
     }

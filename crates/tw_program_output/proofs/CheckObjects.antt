@@ -18,8 +18,7 @@ use Rattle.tw_bounds.specs.declared.limited.LimitedBounds.{LimitedBounds}
 use Rattle.tw_code.specs.accepting.Flow.{flows}
 use Rattle.tw_code.specs.accepting.Walk.{IsBudget}
 use Rattle.tw_json_output.proofs.Floats.{both, one_more, strings, with_one}
-use Rattle.tw_json_output.specs.Error.{lines_json}
-use Rattle.tw_json_output.specs.Texts.{whole_json, with_status}
+use Rattle.tw_json_output.specs.Texts.{lines_json, whole_json, with_status}
 use Rattle.tw_program_output.specs.Bounds.{limit_rows, run_rows}
 use Rattle.tw_copies.specs.declared.check.CopyInsertion.{CopyInsertion}
 use Rattle.tw_program_output.specs.EventOrder.{count_json, order_json, with_order}
@@ -138,11 +137,13 @@ order_fine (Some (Some at)) ms before =
     let one = one_more (codes "procedure") (count_json at.procedure) json.no_members refl refl in
     one_more (codes "order") (order_json (Some at)) ms (one_more (codes "place") (count_json at.place) procedure refl one) before
 
-pub check_fine : (names : List (List ℕ)) (each : Option RunBounds) (program : List Procedure) (objects : List json.Data) (engines workers : ℕ) (listing : Option (List ℕ)) (found : Option FoundBounds) (answer : Option (Option CopyInsertion))
-    → AreProcedureObjects names each 0 program objects → has_float (json.object (check_members objects engines workers listing found answer)) ≡ false
-check_fine names each program objects engines workers listing found answer are =
-    let listed = with_status (codes "accepted") (codes "procedures") (json.array (items_of objects)) in
-    let first = with_one (codes "accepted") (codes "procedures") (json.array (items_of objects)) (objects_fine names each 0 program objects are) in
+pub check_fine : (names : List (List ℕ)) (each : Option RunBounds) (program : List Procedure) (objects : List json.Data) (examples : List ℕ) (engines workers : ℕ) (listing : Option (List ℕ)) (found : Option FoundBounds) (answer : Option (Option CopyInsertion))
+    → AreProcedureObjects names each 0 program objects → has_float (json.object (check_members objects (lines_json examples) engines workers listing found answer)) ≡ false
+check_fine names each program objects examples engines workers listing found answer are =
+    let begun = with_status (codes "accepted") (codes "procedures") (json.array (items_of objects)) in
+    let listed = json.put (codes "inputs") (lines_json examples) begun in
+    let first = one_more (codes "inputs") (lines_json examples) begun (strings (lines (utf8_lossy examples)))
+    (with_one (codes "accepted") (codes "procedures") (json.array (items_of objects)) (objects_fine names each 0 program objects are)) in
     let engine = json.put (codes "engines") (count_json engines) json.no_members in
     let needs = one_more (codes "workers") (count_json workers) engine refl (one_more (codes "engines") (count_json engines) json.no_members refl refl) in
     let all = json.put (codes "needs") (needs_json engines workers) listed in

@@ -13,3 +13,4 @@ mod ReplyNames
 pub mod Admissions
 mod Circles
 pub mod CheckObjects
+mod ErrorObjects

@@ -1,6 +1,6 @@
 -- Details after the line with the reason why there is no program.
 use Rattle.std.proofs.Common.{◌≡◌, ◌≢◌, ◌++◌, ℕ, List, [], IsUtf8, inr, refl, sym}
-use Rattle.tw_program_output.proofs.ReplyNames.{Assembly, Hex, AreFaultDetails, AreParseErrorDetails, NoProgram, Refused, RepliesBySource, SpellsNone, Spoken as Reply, ExpandsTo, Versioned, append-nil, name_details, no_program_line, reply}
+use Rattle.tw_program_output.proofs.ReplyNames.{Assembly, Hex, AreFaultDetails, AreParseErrorDetails, NoProgram, RepliesBySource, SpellsNone, Spoken as Reply, ExpandsTo, Versioned, append-nil, failed_with, failure_of, name_details}
 use Rattle.tw_asm.specs.declared.fault.AsmFault.{AsmFault}
 use Rattle.tw_order.specs.declared.order.Source.{Source}
 use Rattle.tw_symbols.specs.declared.rejection.NameError.{NameError}
@@ -28,7 +28,7 @@ nothing_added input old NoMemory other unnamed source none = ([], refl, sym (app
 
 -- holds if a reply has the reason why there is none
 abbrev pub PrintsWhy : List ℕ → NoProgram → Reply → Type 0
-PrintsWhy input why r = (why ≢ NoMemory) × ((source : Source) → SpellsNone source input why → (more : List ℕ) × AreParseErrorDetails input why more × (r ≡ reply (no_program_line why ++ more) Refused))
+PrintsWhy input why r = (why ≢ NoMemory) × ((source : Source) → SpellsNone source input why → (more : List ℕ) × AreParseErrorDetails input why more × (r ≡ failed_with (failure_of why) more))
 
 pub none_printed : (source : Source) (input : List ℕ) (why : NoProgram) (Answers : Versioned → Reply → Type 0) (r : Reply) → (why ≢ NoMemory → SpellsNone source input why) → PrintsWhy input why r → RepliesBySource source input Answers r
 none_printed source input why Answers r none (other, printed) = let n = none other in let t = printed source n in inr (why, t.0, n, t.1, t.2)

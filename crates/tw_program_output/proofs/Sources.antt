@@ -84,7 +84,7 @@ some_head text procedure place number c none =
     let zero' = front_no_procedure c.before (Some (Code c.i) ∷ c.after) (subst HasNoHead c.parts none) in
     absurd (omega (arith, zero', c.procedure_is))
 
-pub other_details : (text : List ℕ) (which : VerifyError) (program : List Procedure) (procedure place : ℕ) (more : List ℕ) → (which ≡ rejection.MainShape → ⊥) → ArePlaceDetails text which program procedure place more
-    → AreTextDetails text which program procedure place more
-other_details text rejection.MainShape program procedure place more other h = absurd (other refl)
-other_details text which program procedure place more other h = h
+pub other_details : (text : List ℕ) (which : VerifyError) (program : List Procedure) (procedure place : ℕ) (at : Option ℕ) (more : List ℕ) → (which ≡ rejection.MainShape → ⊥)
+    → ArePlaceDetails text which program procedure place at more → AreTextDetails text which program procedure place at more
+other_details text rejection.MainShape program procedure place at more other h = absurd (other refl)
+other_details text which program procedure place at more other h = h

@@ -19,8 +19,9 @@ use Rattle.tw_bounds.specs.Limited.{IsLargestBudget}
 use Rattle.tw_bounds.specs.Runs.{instructions_in, tasks_in}
 use Rattle.tw_order.specs.declared.caps.Caps.{Caps}
 use Rattle.tw_order.specs.Orders.{greatest_cap}
-use Rattle.tw_program_output.specs.Reply.{Reply, reply}
-use Rattle.tw_program_output.specs.declared.close.Close.TheVariants.{Refused}
+use Rattle.tw_program_output.specs.Failure.{coded, failed_with}
+use Rattle.tw_program_output.specs.declared.failure.Position.TheVariants as position
+use Rattle.tw_program_output.specs.Reply.{Reply}
 
 -- holds for a bound up to the cap; no bound, or one over the largest, is within the greatest cap alone
 abbrev pub is_within : Bound → ℕ → Bool
@@ -77,4 +78,4 @@ pub record StaysWithinCaps (program : List Procedure) (limit : Option ℕ) (caps
 abbrev pub RepliesIfAdmitted : List Procedure → Option ℕ → Caps → Reply → Type 0 → Type 0
 RepliesIfAdmitted program limit caps r Admitted =
     (lines : List ℕ) × AreExcessLines (has_cap caps) program limit caps lines
-    × (((lines ≡ []) × StaysWithinCaps program limit caps × Admitted) ⊎ ((lines ≢ []) × (r ≡ reply (codes "refused O07\n" ++ lines) Refused)))
+    × (((lines ≡ []) × StaysWithinCaps program limit caps × Admitted) ⊎ ((lines ≢ []) × (r ≡ failed_with (coded 79 7 position.Nowhere) lines)))

@@ -17,11 +17,13 @@ use Rattle.tw_symbols.specs.Symbols.{AreSymbols, bracketed, name_at}
 use Rattle.tw_program_output.specs.Admission.{RepliesIfAdmitted}
 use Rattle.tw_program_output.specs.Bounds.{MayPrintBounds}
 use Rattle.tw_program_output.specs.EventOrder.{MayPrintOrder}
-use Rattle.tw_program_output.specs.Lines.{verify_line}
+use Rattle.tw_program_output.specs.Failure.{coded, failed_after}
+use Rattle.tw_program_output.specs.declared.failure.Failure.{Failure}
+use Rattle.tw_program_output.specs.declared.failure.Position.TheVariants as position
 use Rattle.tw_program_output.specs.Listing.{IsListing, IsRefusedListing}
 use Rattle.tw_program_output.specs.Reply.{Reply, reply}
 use Rattle.tw_program_output.specs.Text.{AreDetailsOf}
-use Rattle.tw_program_output.specs.declared.close.Close.TheVariants.{Success, Refused}
+use Rattle.tw_program_output.specs.declared.close.Close.TheVariants.{Success}
 use Rattle.tw_verify.specs.Rejection.{verify_error_code}
 use Rattle.tw_verify.specs.declared.rejection.VerifyError.{VerifyError}
 
@@ -72,9 +74,13 @@ abbrev pub IsListedBefore : Places → Option (List ℕ) → List Procedure → 
 IsListedBefore Hidden text program number procedure before = before ≡ []
 IsListedBefore Shown text program number procedure before = IsRefusedListing text program number procedure before
 
+-- returns the error of the verifier at a place, with the line in its details
+abbrev pub rejection : VerifyError → ℕ → ℕ → Option ℕ → Failure
+rejection which procedure place line = coded 86 (verify_error_code which) (position.Place procedure place line)
+
 -- holds for the reply to the first error, with what precedes and follows its line
 abbrev pub IsRefused : Places → Option (List ℕ) → List Procedure → Reply → Type 0
 IsRefused places text program r =
-    (which : VerifyError) × (procedure : ℕ) × (place : ℕ) × (before : List ℕ) × (more : List ℕ) × IsFirstRejection program (verify_error_code which) procedure place
-    × IsListedBefore places text program (verify_error_code which) procedure before × AreDetailsOf text which program procedure place more
-    × (r ≡ reply (before ++ (verify_line (verify_error_code which) procedure place ++ more)) Refused)
+    (which : VerifyError) × (procedure : ℕ) × (place : ℕ) × (line : Option ℕ) × (before : List ℕ) × (more : List ℕ) × IsFirstRejection program (verify_error_code which) procedure place
+    × IsListedBefore places text program (verify_error_code which) procedure before × AreDetailsOf text which program procedure place line more
+    × (r ≡ failed_after before (rejection which procedure place line) more)

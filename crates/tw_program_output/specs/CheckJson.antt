@@ -23,12 +23,13 @@ use Rattle.tw_order.specs.declared.check.BoundsOf.TheVariants.{NoBounds, OfMain,
 use Rattle.tw_order.specs.declared.check.CheckOrder.{CheckOrder}
 use Rattle.tw_order.specs.declared.form.Places.{Places}
 use Rattle.tw_order.specs.declared.form.Places.TheVariants.{Hidden, Shown}
-use Rattle.tw_json_output.specs.Error.{lines_json}
 use Rattle.tw_json_output.specs.Run.{json_line}
-use Rattle.tw_json_output.specs.Texts.{whole_json, with_status}
+use Rattle.tw_json_output.specs.Texts.{lines_json, whole_json, with_status}
 use Rattle.tw_program_output.specs.Bounds.{limit_rows, run_rows}
 use Rattle.tw_copies.specs.declared.check.CopyInsertion.{CopyInsertion}
 use Rattle.tw_program_output.specs.EventOrder.{MayBeChecked, count_json, with_order}
+use Rattle.tw_code.specs.machine.Opening.{main_params}
+use Rattle.tw_program_output.specs.Examples.{example_lines}
 use Rattle.tw_program_output.specs.Listing.{IsListing}
 use Rattle.tw_program_output.specs.declared.bounds_json.FoundBounds.{FoundBounds}
 use Rattle.tw_symbols.specs.Symbols.{AreSymbols, name_at}
@@ -140,9 +141,10 @@ abbrev pub with_listing : Option (List ℕ) → json.Members → json.Members
 with_listing None members = members
 with_listing (Some text) members = json.put (codes "listing") (lines_json text) members
 
-abbrev pub check_members : List json.Data → ℕ → ℕ → Option (List ℕ) → Option FoundBounds → Option (Option CopyInsertion) → json.Members
-check_members objects engines workers listing found answer =
-    with_order answer (with_found found (with_listing listing (json.put (codes "needs") (needs_json engines workers) (with_status (codes "accepted") (codes "procedures") (json.array (items_of objects))))))
+abbrev pub check_members : List json.Data → json.Data → ℕ → ℕ → Option (List ℕ) → Option FoundBounds → Option (Option CopyInsertion) → json.Members
+check_members objects inputs engines workers listing found answer =
+    with_order answer (with_found found (with_listing listing (json.put (codes "needs") (needs_json engines workers)
+    (json.put (codes "inputs") inputs (with_status (codes "accepted") (codes "procedures") (json.array (items_of objects)))))))
 
 -- holds for the listing, if it is requested
 abbrev pub MayBeListed : Places → Option (List ℕ) → List Procedure → Option (List ℕ) → Type 0
@@ -150,10 +152,14 @@ MayBeListed Hidden source program listing = listing ≡ None
 MayBeListed Shown source program None = ⊥
 MayBeListed Shown source program (Some text) = IsListing source program text
 
+-- returns words that encode inputs of the types that main takes, one for each
+abbrev pub inputs_json : List Procedure → json.Data
+inputs_json program = lines_json (example_lines (main_params program))
+
 -- holds for the line of an accepted program, with the names of the text
 abbrev pub IsCheckLine : CheckOrder → Option (List ℕ) → List Procedure → List ℕ → Type 0
 IsCheckLine order source program line =
     (names : List (List ℕ)) × (found : Option FoundBounds) × (objects : List json.Data) × (listing : Option (List ℕ)) × (answer : Option (Option CopyInsertion))
     × AreSymbols source names × MayBeFound order.bounds order.limit program found × AreProcedureObjects names (each_bounds order.bounds found) 0 program objects
     × MayBeListed order.places source program listing × MayBeChecked order.event_order program answer
-    × (line ≡ json_line (json.object (check_members objects (needed Control program) (needed Leaf program) listing found answer)))
+    × (line ≡ json_line (json.object (check_members objects (inputs_json program) (needed Control program) (needed Leaf program) listing found answer)))

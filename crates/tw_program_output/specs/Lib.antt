@@ -1,8 +1,10 @@
--- Output about programs. Replies are in Reply, lines of errors in Lines, text in Text and symbolic assembly in Names. Program has the program that is
+-- Output about programs. Replies are in Reply, errors in Failure and ErrorJson, text in Text and symbolic assembly in Names. Program has the program that is
 -- read and what is assembled, Inputs the inputs. Check has a check and its errors, CheckJson its JSON line, Bounds the bounds of runs, EventOrder whether the order of events may show, Admission the caps on them, Listing a program with its places.
 pub mod Input
 pub mod Reply
-pub mod Lines
+pub mod Failure
+pub mod ErrorJson
+pub mod Examples
 pub mod Program
 pub mod Names
 pub mod Text

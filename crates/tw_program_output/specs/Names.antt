@@ -1,5 +1,6 @@
 -- Output about symbolic assembly and its expanded text.
-use Rattle.std.specs.Prelude.{◌≡◌, ◌⊎◌, ◌++◌, ◌-◌, ℕ, Bool, false, if◌then◌else◌, List, [], codes, decimal, slice_get, Option, Some, None}
+use Rattle.std.specs.Prelude.{◌≡◌, ◌⊎◌, ◌==◌, ◌++◌, ◌-◌, ℕ, Bool, false, nat_eq, if◌then◌else◌, List, [], codes, slice_get, Option, Some, None}
+use Rattle.std.specs.List.{ends_with, list_any}
 use Rattle.std.specs.Str.{bytes_eq}
 use Rattle.std.specs.Str.Lines.{lines}
 use Rattle.tw_asm.specs.declared.fault.FaultNo.{FaultNo}
@@ -14,9 +15,11 @@ use Rattle.tw_symbols.specs.declared.rejection.NameNo.{NameNo}
 use Rattle.tw_symbols.specs.declared.rejection.NameNo.TheVariants as no
 use Rattle.tw_diagnostics.specs.Diagnostics.{IsTextReason}
 use Rattle.tw_lexer.specs.Shown.{shortened}
+use Rattle.tw_program_output.specs.Failure.{coded, failed_with}
+use Rattle.tw_program_output.specs.declared.failure.Position.TheVariants as position
 use Rattle.tw_program_output.specs.Reply.{Reply, reply}
 use Rattle.tw_program_output.specs.Text.{RepliesByUtf8}
-use Rattle.tw_program_output.specs.declared.close.Close.TheVariants.{Refused, Success}
+use Rattle.tw_program_output.specs.declared.close.Close.TheVariants.{Success}
 
 -- returns a line of a text, shortened if it is long, if there is one
 abbrev pub line_text : Option (List ℕ) → List ℕ
@@ -24,9 +27,6 @@ line_text None = []
 line_text (Some line) = shortened line ++ codes "\n"
 
 -- ---- a name error
-
-abbrev pub name_line : NameNo → ℕ → List ℕ
-name_line which line = codes "refused N0" ++ (decimal (name_number which) ++ (codes " at line " ++ (decimal line ++ codes "\n")))
 
 -- returns what a name means
 abbrev pub binding_words : Binding → List ℕ
@@ -45,25 +45,46 @@ expected_words asked.Number = codes "a number"
 expected_words asked.Procedure = codes "a procedure"
 expected_words asked.Nothing = codes "no name"
 
+-- returns how the mistake is usually mended, if it is a usual one
+abbrev pub kind_hint : Binding → Expected → List ℕ
+kind_hint (binding.Constant number) asked.Value = codes "; INT puts a constant into a register"
+kind_hint (binding.Constant number) asked.ValueArgument = codes "; INT puts a constant into a register"
+kind_hint (binding.Register bank.Value number by) asked.Number = codes "; a constant will do"
+kind_hint (binding.Register bank.Right number by) asked.Number = codes "; a priority comes before the target, as in PUT NAME 0 any NAME"
+kind_hint x asked.ValueArgument = codes "; arguments are in the order of the parameters"
+kind_hint x asked.RightArgument = codes "; arguments are in the order of the parameters"
+kind_hint x a = []
+
 abbrev pub kind_diagnostic : Binding → Expected → List ℕ
-kind_diagnostic x a = (codes "it is " ++ binding_words x) ++ ((codes ", " ++ expected_words a) ++ codes " is required")
+kind_diagnostic x a = (codes "it is " ++ binding_words x) ++ ((codes ", " ++ expected_words a) ++ (codes " is required" ++ kind_hint x a))
+
+-- returns which form a line lacks, by the word at which it ends to have one
+abbrev pub form_diagnostic : List ℕ → List ℕ
+form_diagnostic word =
+    if ends_with nat_eq word (codes ":") then codes "needs a type after it, and in a line proc a mode before that: val, closed, ref or write" else
+    if list_any (λ b. b == 58) word then codes "a blank follows the colon" else
+    codes "expected const NAME = NUMBER, or let NAME = REGISTER; there are no expressions"
 
 abbrev pub fixed_diagnostic : NameNo → List ℕ
-fixed_diagnostic no.Form = codes "expected const NAME = NUMBER, let NAME = REGISTER, or NAME: with a mode or type after it"
 fixed_diagnostic no.NoName = codes "this can't be a name"
 fixed_diagnostic no.Twice = codes "the name is taken"
-fixed_diagnostic no.Listed = codes "its register has a name already"
+fixed_diagnostic no.Listed = codes "its register has a name already; a procedure has one line regs"
 fixed_diagnostic no.Unknown = codes "the name means nothing here"
 fixed_diagnostic no.Limit = codes "there is no register left for it"
 fixed_diagnostic other = []
 
-abbrev pub name_diagnostic : NameNo → List ℕ
-name_diagnostic (no.Kind x a) = kind_diagnostic x a
-name_diagnostic other = fixed_diagnostic other
+abbrev pub name_diagnostic : List ℕ → NameNo → List ℕ
+name_diagnostic word no.Form = form_diagnostic word
+name_diagnostic word (no.Kind x a) = kind_diagnostic x a
+name_diagnostic word other = fixed_diagnostic other
+
+-- returns what is between a word and what is wrong with it; a word may have a colon at its end
+abbrev pub separator : List ℕ → List ℕ
+separator word = if ends_with nat_eq word (codes ":") then codes " " else codes ": "
 
 -- returns the line as it was written, and the word with what is wrong with it
 abbrev pub name_details : List ℕ → NameNo → ℕ → List ℕ → List ℕ
-name_details text which line word = line_text (slice_get (lines text) (line - 1)) ++ (shortened word ++ (codes ": " ++ (name_diagnostic which ++ codes "\n")))
+name_details text which line word = line_text (slice_get (lines text) (line - 1)) ++ (shortened word ++ (separator word ++ (name_diagnostic word which ++ codes "\n")))
 
 -- ---- a fault of the expanded text
 
@@ -93,4 +114,4 @@ AreFaultDetails text which line more =
 abbrev pub RepliesByPlain : List ℕ → Reply → Type 0
 RepliesByPlain text r =
     RepliesByUtf8 text (((plain : List ℕ) × ExpandsTo text plain × (r ≡ reply plain Success))
-    ⊎ ((rejection : Rejection) × IsFirstRejection text rejection × (r ≡ reply (name_line rejection.no rejection.line ++ name_details text rejection.no rejection.line rejection.word) Refused))) r
+    ⊎ ((rejection : Rejection) × IsFirstRejection text rejection × (r ≡ failed_with (coded 78 (name_number rejection.no) (position.Line rejection.line)) (name_details text rejection.no rejection.line rejection.word)))) r

@@ -14,16 +14,18 @@ use Rattle.tw_order.specs.declared.form.Assembling.TheVariants as assembling
 use Rattle.tw_order.specs.declared.order.Source.{Source}
 use Rattle.tw_order.specs.declared.order.Source.TheVariants.{Hex, Assembly}
 use Rattle.tw_asm.specs.declared.fault.FaultNo.{FaultNo}
-use Rattle.tw_symbols.specs.Answers.{seen_rejection}
+use Rattle.tw_symbols.specs.Answers.{name_number, seen_rejection}
 use Rattle.tw_symbols.specs.Expansion.{IsFirstRejection, ExpandsTo}
-use Rattle.tw_program_output.specs.Lines.{asm_line, fault_line}
+use Rattle.tw_program_output.specs.Failure.{coded, failed, failed_with}
 use Rattle.tw_program_output.specs.Input.{digits_in}
-use Rattle.tw_program_output.specs.Names.{AreFaultDetails, RepliesByPlain, name_details, name_line}
+use Rattle.tw_program_output.specs.Names.{AreFaultDetails, RepliesByPlain, name_details}
 use Rattle.tw_program_output.specs.Reply.{Reply, reply}
 use Rattle.tw_program_output.specs.Text.{RepliesByUtf8}
 use Rattle.tw_program_output.specs.declared.program.NoProgram.{NoProgram}
 use Rattle.tw_program_output.specs.declared.program.NoProgram.TheVariants.{NotHex, NotUtf8, Bytes, Text, Named, NoMemory}
-use Rattle.tw_program_output.specs.declared.close.Close.TheVariants.{Refused, Success}
+use Rattle.tw_program_output.specs.declared.close.Close.TheVariants.{Success}
+use Rattle.tw_program_output.specs.declared.failure.Failure.{Failure}
+use Rattle.tw_program_output.specs.declared.failure.Position.TheVariants as position
 
 -- holds if the expanded text encodes the program
 abbrev pub SpellsText : List ℕ → Versioned → Type 0
@@ -52,15 +54,16 @@ SpellsNone Assembly input (Text f) = IsUtf8 input × TextHasFault input f.no f.l
 SpellsNone Assembly input (Named f) = IsUtf8 input × IsFirstRejection input (seen_rejection f)
 SpellsNone Assembly input NoMemory = ⊥
 
-abbrev pub no_program_line : NoProgram → List ℕ
-no_program_line NotHex = codes "refused H01\n"
-no_program_line NotUtf8 = codes "refused H03\n"
-no_program_line (Bytes f) = fault_line (fault.fault_number f.no) f.offset
-no_program_line (Text f) = asm_line (asm.fault_number f.no) f.line
-no_program_line (Named f) = name_line f.no f.line
-no_program_line NoMemory = codes "memory\n"
+-- returns the error
+abbrev pub failure_of : NoProgram → Failure
+failure_of NotHex = coded 72 1 position.Nowhere
+failure_of NotUtf8 = coded 72 3 position.Nowhere
+failure_of (Bytes f) = coded 70 (fault.fault_number f.no) (position.Byte f.offset)
+failure_of (Text f) = coded 65 (asm.fault_number f.no) (position.Line f.line)
+failure_of (Named f) = coded 78 (name_number f.no) (position.Line f.line)
+failure_of NoMemory = coded 77 0 position.Nowhere
 
--- holds for what follows that line: the line of a rejected text, and the reason
+-- holds for what follows its first line: the line of a rejected text, and the reason
 abbrev pub AreParseErrorDetails : List ℕ → NoProgram → List ℕ → Type 0
 AreParseErrorDetails input NotHex more = more ≡ []
 AreParseErrorDetails input NotUtf8 more = more ≡ []
@@ -73,13 +76,13 @@ AreParseErrorDetails input NoMemory more = more ≡ []
 abbrev pub RepliesBySource : Source → List ℕ → (Versioned → Reply → Type 0) → Reply → Type 0
 RepliesBySource source input Answers r =
     ((program : Versioned) × Spells source input program × Answers program r)
-    ⊎ ((why : NoProgram) × (more : List ℕ) × SpellsNone source input why × AreParseErrorDetails input why more × (r ≡ reply (no_program_line why ++ more) Refused))
+    ⊎ ((why : NoProgram) × (more : List ℕ) × SpellsNone source input why × AreParseErrorDetails input why more × (r ≡ failed_with (failure_of why) more))
 
 -- like `RepliesBySource`, for an assembly text whose bytes are requested: it has no names, and an error prints only its line
 abbrev pub RepliesByText : List ℕ → (Versioned → Reply → Type 0) → Reply → Type 0
 RepliesByText input Answers r =
     RepliesByUtf8 input (((program : Versioned) × SpellsProgram program input × Answers program r)
-    ⊎ ((which : FaultNo) × (line : ℕ) × HasFault input which line × (r ≡ reply (asm_line (asm.fault_number which) line) Refused))) r
+    ⊎ ((which : FaultNo) × (line : ℕ) × HasFault input which line × (r ≡ failed (coded 65 (asm.fault_number which) (position.Line line))))) r
 
 -- returns the text as it is written, if the program was read from one
 abbrev pub source_text : Source → List ℕ → Option (List ℕ)

@@ -12,14 +12,15 @@ use Rattle.tw_diagnostics.specs.LineRole.{IsFirstHead}
 use Rattle.tw_lexer.specs.Shown.{shortened}
 use Rattle.tw_verify.specs.declared.rejection.VerifyError.{VerifyError}
 use Rattle.tw_verify.specs.declared.rejection.VerifyError.TheVariants as rejection
-use Rattle.tw_program_output.specs.Reply.{Reply, reply}
-use Rattle.tw_program_output.specs.declared.close.Close.TheVariants.{Refused}
+use Rattle.tw_program_output.specs.Failure.{coded, failed}
+use Rattle.tw_program_output.specs.declared.failure.Position.TheVariants as position
+use Rattle.tw_program_output.specs.Reply.{Reply}
 
 -- ---- a text
 
 -- holds if what is to be text is UTF-8, and this is the reply to it; or if it isn't UTF-8
 abbrev pub RepliesByUtf8 : List ℕ → Type 0 → Reply → Type 0
-RepliesByUtf8 bytes Answers r = (IsUtf8 bytes × Answers) ⊎ ((IsUtf8 bytes → ⊥) × (r ≡ reply (codes "refused H03\n") Refused))
+RepliesByUtf8 bytes Answers r = (IsUtf8 bytes × Answers) ⊎ ((IsUtf8 bytes → ⊥) × (r ≡ failed (coded 72 3 position.Nowhere)))
 
 -- ---- the line of a rejected place
 
@@ -55,26 +56,26 @@ IsPlaceText (Some text) procedure place more = IsPlaceLine text procedure place 
 
 -- ---- details of an error
 
--- holds for the line from which the instruction at the rejected place comes, as it is written, with its procedure's name; then for the reason, in
+-- holds for the line from which the instruction at the rejected place comes, with its number, as it is written, with its procedure's name; then for the reason, in
 -- which the register has its name beside it
-abbrev pub ArePlaceDetails : List ℕ → VerifyError → List Procedure → ℕ → ℕ → List ℕ → Type 0
-ArePlaceDetails text which program procedure place more =
+abbrev pub ArePlaceDetails : List ℕ → VerifyError → List Procedure → ℕ → ℕ → Option ℕ → List ℕ → Type 0
+ArePlaceDetails text which program procedure place at more =
     (plain : List ℕ) × (number : ℕ) × (line : List ℕ) × (numbers : List (List ℕ)) × (reason : List ℕ) × (printed : List ℕ) × (names : List (List ℕ))
     × ExpandsTo text plain × ComesFrom plain procedure place number × IsLineOf text number line
     × AreOrigins plain program numbers × PrintsReason which numbers program procedure place reason × IsWithName text number reason printed × AreNames text names
-    × (more ≡ line_in_text (name_at names procedure) number line ++ printed)
+    × (at ≡ Some number) × (more ≡ line_in_text (name_at names procedure) number line ++ printed)
 
 -- holds for the line that begins main, and what is wrong with its shape
-abbrev pub AreMainDetails : List ℕ → List Procedure → List ℕ → Type 0
-AreMainDetails text program more =
+abbrev pub AreMainDetails : List ℕ → List Procedure → Option ℕ → List ℕ → Type 0
+AreMainDetails text program at more =
     (plain : List ℕ) × (number : ℕ) × (line : List ℕ) × (main : Procedure) × ExpandsTo text plain × IsFirstHead plain number × IsLineOf text number line
-    × (slice_get program 0 ≡ Some main) × (more ≡ text_line number line ++ shape_line main.kind main.params)
+    × (slice_get program 0 ≡ Some main) × (at ≡ Some number) × (more ≡ text_line number line ++ shape_line main.kind main.params)
 
-abbrev pub AreTextDetails : List ℕ → VerifyError → List Procedure → ℕ → ℕ → List ℕ → Type 0
-AreTextDetails text rejection.MainShape program procedure place more = AreMainDetails text program more
-AreTextDetails text which program procedure place more = ArePlaceDetails text which program procedure place more
+abbrev pub AreTextDetails : List ℕ → VerifyError → List Procedure → ℕ → ℕ → Option ℕ → List ℕ → Type 0
+AreTextDetails text rejection.MainShape program procedure place at more = AreMainDetails text program at more
+AreTextDetails text which program procedure place at more = ArePlaceDetails text which program procedure place at more
 
--- holds for the details of an error; without a text there are none
-abbrev pub AreDetailsOf : Option (List ℕ) → VerifyError → List Procedure → ℕ → ℕ → List ℕ → Type 0
-AreDetailsOf None which program procedure place more = more ≡ []
-AreDetailsOf (Some text) which program procedure place more = AreTextDetails text which program procedure place more
+-- holds for the details of an error, and the number of the line in them; without a text there are none
+abbrev pub AreDetailsOf : Option (List ℕ) → VerifyError → List Procedure → ℕ → ℕ → Option ℕ → List ℕ → Type 0
+AreDetailsOf None which program procedure place at more = (at ≡ None) × (more ≡ [])
+AreDetailsOf (Some text) which program procedure place at more = AreTextDetails text which program procedure place at more

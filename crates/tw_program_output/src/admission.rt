@@ -1,10 +1,12 @@
 //! Rejects programs whose bounds are above a cap.
 
-ghost use Rattle.std.specs.Prelude.{◌≡◌, ◌++◌, [], true, IfOk, OnOk, codes};
+ghost use Rattle.std.specs.Prelude.{◌≡◌, ◌++◌, [], true, IfOk, OnOk};
 ghost use Rattle.tw_program_output.specs.Admission.{AreExcessLines, StaysWithinCaps, excess, excess_bound, excess_line, excess_lines, has_cap, is_within};
+ghost use Rattle.tw_program_output.specs.Failure.{coded, failed_with};
 ghost use Rattle.tw_program_output.specs.Reply.{reply};
+ghost use Rattle.tw_program_output.specs.declared.failure.Position.TheVariants as position;
 
-use crate::close::Close;
+use crate::failure::{Failure, Position, put_failure_line};
 use crate::reply::{Reply, refused_by};
 use std::alloc::{AllocError, Global};
 use tw_bounds::{Bound, LimitedBounds, largest_budget, least_bounds};
@@ -147,10 +149,11 @@ pub fn excess_text(
 
 /// Returns the reply to a program that isn't admitted, with these lines.
 pub fn excess_reply(alloc: Global, lines: &[u8]) -> Result<Reply, AllocError>
-    ensures { IfOk result (λ r. reply r.text.items r.close ≡ reply (codes "refused O07\n" ++ lines.now) Close.Refused) }
+    ensures { IfOk result (λ r. reply r.text.items r.close ≡ failed_with (coded 79 7 position.Nowhere) lines.now) }
 {
+    let failure = Failure::coded(b'O', 7, Position::Nowhere);
     let mut text = Vec::new(alloc);
-    put(&mut text, "refused O07\n")?;
+    put_failure_line(alloc, &mut text, failure)?;
     text.extend_from_slice(lines)?;
-    Ok(refused_by(text))
+    Ok(refused_by(text, failure))
 }

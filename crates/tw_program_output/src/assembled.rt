@@ -3,16 +3,16 @@
 ghost use Rattle.std.specs.Prelude.{◌≡◌, IfOk};
 ghost use Rattle.tw_asm.specs.Fault.{fault_number};
 ghost use Rattle.tw_order.specs.declared.order.Source.TheVariants.{Assembly};
-ghost use Rattle.tw_program_output.specs.Lines.{asm_line};
+ghost use Rattle.tw_program_output.specs.Failure.{coded, failed};
 ghost use Rattle.tw_program_output.specs.Program.{IsWritten, RepliesByAssembling, RepliesBySource, RepliesByText};
 ghost use Rattle.tw_program_output.specs.Reply.{reply};
-ghost use Rattle.tw_program_output.specs.declared.close.Close.TheVariants.{Refused};
+ghost use Rattle.tw_program_output.specs.declared.failure.Position.TheVariants as position;
 
 use crate::close::Close;
-use crate::lines::put_asm_line;
+use crate::failure::{Failure, Position};
 use crate::names::plain_reply;
 use crate::program::{parse_error_reply, read_program};
-use crate::reply::{Reply, not_utf8_reply, refused_by};
+use crate::reply::{Reply, failed_reply, not_utf8_reply};
 use std::alloc::{AllocError, Global};
 use tw_asm::{AsmFault, assemble};
 use tw_binary::encode;
@@ -37,11 +37,10 @@ fn hex_reply(alloc: Global, program: &Program) -> Result<Reply, AllocError>
 
 /// Returns the line of a text's first fault.
 fn fault_reply(alloc: Global, fault: AsmFault) -> Result<Reply, AllocError>
-    ensures { IfOk result (λ r. reply r.text.items r.close ≡ reply (asm_line (fault_number fault.no) fault.line) Refused) }
+    ensures { IfOk result (λ r. reply r.text.items r.close ≡ failed (coded 65 (fault_number fault.no) (position.Line fault.line))) }
 {
-    let mut text = Vec::new(alloc);
-    put_asm_line(alloc, &mut text, fault.no.number(), fault.line)?;
-    Ok(refused_by(text))
+    let position = Position::Line(fault.line);
+    failed_reply(alloc, Failure::coded(b'A', fault.no.number(), position))
 }
 
 /// Returns the program of an assembly text as hex digits, or the text's first fault.

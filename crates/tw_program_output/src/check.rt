@@ -2,7 +2,8 @@
 
 ghost use Rattle.std.specs.Prelude.{◌≡◌, ◌++◌, ℕ, List, IfOk, OnOk, decimal};
 ghost use Rattle.tw_code.specs.accepting.WellTyped.{IsFirstRejection};
-ghost use Rattle.tw_program_output.specs.Check.{AreProcedureLines, IsCheckText, IsChecked, IsRefused, IsInForm, IsPrintedByCheck, RepliesByCheck, IsListedBefore, kind_text, needs_line, procedure_line};
+ghost use Rattle.tw_program_output.specs.Check.{AreProcedureLines, IsCheckText, IsChecked, IsRefused, IsInForm, IsPrintedByCheck, RepliesByCheck, IsListedBefore, kind_text, needs_line, procedure_line, rejection};
+ghost use Rattle.tw_program_output.specs.Failure.{after};
 ghost use Rattle.tw_order.specs.declared.form.Places.TheVariants.{Shown};
 ghost use Rattle.tw_symbols.specs.Symbols.{name_at};
 ghost use Rattle.tw_program_output.specs.Listing.{IsListing, IsRefusedListing};
@@ -15,7 +16,7 @@ use crate::bounds::put_requested_bounds;
 use crate::check_json::check_line;
 use crate::close::Close;
 use crate::event_order::put_requested_order;
-use crate::lines::put_verify_line;
+use crate::failure::{Failure, Position, put_failure_line};
 use crate::listing::{refused_text, typed_text};
 use crate::reply::{Reply, refused_by};
 use crate::source::{SourceText, put_rejection_details, symbols_of};
@@ -222,6 +223,20 @@ fn text_before(
     }
 }
 
+/// Returns the error of a program that isn't accepted, after so many bytes of a listing.
+fn failure_at(refused: &Refused, line: Option<usize>, before: usize) -> Failure
+    ensures { result ≡ after before (rejection refused.now.no refused.now.procedure refused.now.place line) }
+{
+    let position = Position::Place {
+        procedure: refused.procedure,
+        place: refused.place,
+        line,
+    };
+    let mut failure = Failure::coded(b'V', refused.no.number(), position);
+    failure.before = before;
+    failure
+}
+
 /// Returns the reply to a program that isn't accepted.
 pub fn rejection_reply(
     alloc: Global,
@@ -234,13 +249,8 @@ pub fn rejection_reply(
     ensures { IfOk result (λ r. IsRefused places (text_of source.now) refused.now.program.procedures (reply r.text.items r.close)) }
 {
     let mut text = text_before(alloc, source, places, refused)?;
-    put_verify_line(
-        alloc,
-        &mut text,
-        refused.no.number(),
-        refused.procedure,
-        refused.place,
-    )?;
-    put_rejection_details(alloc, &mut text, source, refused)?;
-    Ok(refused_by(text))
+    let before = text.len();
+    put_failure_line(alloc, &mut text, failure_at(refused, None, before))?;
+    let line = put_rejection_details(alloc, &mut text, source, refused)?;
+    Ok(refused_by(text, failure_at(refused, line, before)))
 }

@@ -8,9 +8,11 @@ ghost use Rattle.tw_program_output.specs.Source.{MayBeSource, text_of};
 use crate::bounds_json::{FoundBounds, bounds_value, found_bounds, put_found};
 use crate::check::accepted_listing;
 use crate::event_order::{order_answer, put_order_value};
+use crate::examples::example_lines;
 use crate::source::{SourceText, symbols_of};
 use serde_json::{Map, Value as Json};
 use std::alloc::{AllocError, Global};
+use tw_code::main_params;
 use tw_copies::CopyInsertion;
 use tw_json_output::{line_of, lines_value, members_with, text_value};
 use tw_order::{BoundsOf, CheckOrder, Places};
@@ -197,15 +199,17 @@ fn put_listing(
 fn check_members(
     alloc: Global,
     procedures: Vec<Json>,
+    inputs: Json,
     needs: (u8, u8),
     listing: &Option<Vec<u8>>,
     found: &Option<FoundBounds>,
     answer: Option<Option<CopyInsertion>>,
 ) -> Result<Map<String, Json>, AllocError>
     ensures { IfOk result (λ members. members_view members.entries
-        ≡ check_members (map view procedures.items) needs.0 needs.1 (option_map (λ t. t.items) listing.now) found.now answer) }
+        ≡ check_members (map view procedures.items) (view inputs) needs.0 needs.1 (option_map (λ t. t.items) listing.now) found.now answer) }
 {
     let mut members = members_with(alloc, "accepted", "procedures", Json::from(procedures))?;
+    serde_json::put(&mut members, alloc, "inputs", inputs)?;
     let needs = needs_value(alloc, needs.0, needs.1)?;
     serde_json::put(&mut members, alloc, "needs", needs)?;
     put_listing(alloc, &mut members, listing)?;
@@ -229,8 +233,10 @@ pub(crate) fn check_line(
     let answer = order_answer(alloc, order.event_order, verified)?;
     let procedures = procedure_values(alloc, &names, order.bounds, &found, verified)?;
     let listing = requested_listing(alloc, source, order.places, verified)?;
+    let examples = example_lines(alloc, main_params(verified.program().procedures()))?;
+    let inputs = lines_value(alloc, &examples)?;
     let needs = verified.needs();
-    let members = check_members(alloc, procedures, needs, &listing, &found, answer)?;
+    let members = check_members(alloc, procedures, inputs, needs, &listing, &found, answer)?;
     let line = line_of(alloc, &Json::Object(members))?;
     Ok(line.into_bytes())
 }

@@ -5,17 +5,17 @@ ghost use Rattle.std.specs.Str.Lines.{lines};
 ghost use Rattle.clap.specs.Words.{Text};
 ghost use Rattle.tw_inputs.specs.InputWords.{IsRefusedWord, RefusedWord, refused_word};
 ghost use Rattle.tw_inputs.specs.WordErrors.{IsInputReason};
-ghost use Rattle.tw_program_output.specs.Inputs.{PrintsInputWord, before_inputs, after_inputs, words_in};
+ghost use Rattle.tw_program_output.specs.Inputs.{PrintsInputWord, before_inputs, after_inputs, fault_position, input_word_line, unreadable, words_in};
 ghost use Rattle.tw_program_output.specs.Parts.{after_in, after_line, seen};
 ghost use Rattle.tw_program_output.specs.Reply.{reply};
 ghost use Rattle.tw_program_output.specs.declared.inputs.Section.TheVariants as section;
 
 use crate::close::Close;
-use crate::lines::put_input_word_line;
+use crate::failure::{Failure, Position};
 use crate::reply::Reply;
 use std::alloc::{AllocError, Global};
-use tw_inputs::WordError;
-use tw_lexer::put;
+use tw_inputs::{Place, WordError};
+use tw_lexer::{put, put_numbered};
 
 /// A section of what is read, by its lines.
 #[derive(Clone, Copy)]
@@ -100,6 +100,14 @@ pub fn input_parts<'a>(alloc: Global, text: &'a str) -> Result<InputParts<'a>, A
     Ok(parts)
 }
 
+/// Adds the first line about an input word that can't be parsed; the words count from 1.
+fn put_input_word_line(alloc: Global, out: &mut Vec<u8>, number: usize) -> Result<(), AllocError>
+    ensures { OnOk result (out.new.items ≡ out.old.items ++ input_word_line number) }
+{
+    put_numbered(alloc, out, "input word ", number)?;
+    put(out, " refused\n")
+}
+
 /// Returns the reply with the number of the input word that can't be parsed, and the line with the reason.
 pub fn input_word_reply(alloc: Global, number: usize, reason: &[u8]) -> Result<Reply, AllocError>
     ensures { IfOk result (λ r. PrintsInputWord (refused_word number reason.now) (reply r.text.items r.close)) }
@@ -109,8 +117,28 @@ pub fn input_word_reply(alloc: Global, number: usize, reason: &[u8]) -> Result<R
     text.extend_from_slice(reason)?;
     Ok(Reply {
         text,
-        close: Close::CommandLine,
+        close: Close::Unreadable(Failure::uncoded(Position::Input(number))),
     })
+}
+
+fn fault_position(place: Place) -> Position
+    ensures { result ≡ fault_position place }
+{
+    match place {
+        Place::Text | Place::Array => Position::Nowhere,
+        Place::Item(number) => Position::Input(number),
+    }
+}
+
+/// Returns the reply with these lines of a fault in JSON inputs.
+pub fn unreadable_reply(text: Vec<u8>, place: Place) -> Reply
+    ensures { reply result.text.items result.close ≡ unreadable place text.items }
+{
+    let failure = Failure::uncoded(fault_position(place));
+    Reply {
+        text,
+        close: Close::Unreadable(failure),
+    }
 }
 
 /// Returns the reply to input words of which one can't be parsed.

@@ -1,20 +1,21 @@
 //! Output about symbolic assembly and its expanded text.
 
-ghost use Rattle.std.specs.Prelude.{◌≡◌, ◌++◌, ◌-◌, ℕ, List, IfOk, OnOk, codes, decimal, option_map, slice_get};
+ghost use Rattle.std.specs.Prelude.{◌≡◌, ◌++◌, ◌-◌, ℕ, List, IfOk, OnOk, codes, option_map, slice_get};
 ghost use Rattle.std.specs.Str.Lines.{lines};
 ghost use Rattle.tw_diagnostics.specs.Diagnostics.{IsTextReason};
 ghost use Rattle.tw_symbols.specs.Answers.{seen_rejection};
 ghost use Rattle.tw_symbols.specs.Expansion.{IsFirstRejection, ExpandsTo};
-ghost use Rattle.tw_program_output.specs.Names.{AreFaultDetails, RepliesByPlain, expected_words, fixed_diagnostic, is_same_line, kind_diagnostic, line_text, name_details, name_line, name_diagnostic, binding_words, written_text};
+ghost use Rattle.tw_program_output.specs.Names.{AreFaultDetails, RepliesByPlain, expected_words, fixed_diagnostic, form_diagnostic, is_same_line, kind_diagnostic, kind_hint, line_text, name_details, name_diagnostic, binding_words, separator, written_text};
 ghost use Rattle.tw_lexer.specs.Shown.{shortened};
 ghost use Rattle.tw_program_output.specs.Reply.{reply};
 
 use crate::close::Close;
+use crate::failure::{Failure, Position, put_failure_line};
 use crate::reply::{Reply, fixed_reply, not_utf8_reply, refused_by};
 use std::alloc::{AllocError, Global};
 use tw_asm::AsmFault;
 use tw_diagnostics::put_text_diagnostic;
-use tw_lexer::{line_numbered, put, put_both, put_numbered, put_shortened};
+use tw_lexer::{line_numbered, put, put_both, put_shortened};
 use tw_symbols::{Bank, Binding, Expected, NameError, NameNo, expanded_text};
 
 /// Adds the line with this number, shortened if it is long, if the text has one.
@@ -28,20 +29,6 @@ fn put_line(out: &mut Vec<u8>, text: &str, number: usize) -> Result<(), AllocErr
         }
         None => Ok(()),
     }
-}
-
-/// Adds the line of a name error.
-pub fn put_name_line(
-    alloc: Global,
-    out: &mut Vec<u8>,
-    rejection: NameError<'_>,
-) -> Result<(), AllocError>
-    ensures { OnOk result (out.new.items ≡ out.old.items ++ name_line rejection.entry.no rejection.entry.line) }
-{
-    let number = usize::from(rejection.no.number());
-    put_numbered(alloc, out, "refused N0", number)?;
-    put_numbered(alloc, out, " at line ", rejection.line)?;
-    put(out, "\n")
 }
 
 fn binding_words(binding: Binding) -> &'static str
@@ -67,46 +54,84 @@ fn expected_words(asked: Expected) -> &'static str
     }
 }
 
+/// Returns how the mistake is usually mended, if it is a usual one.
+fn kind_hint(binding: Binding, asked: Expected) -> &'static str
+    ensures { result.now ≡ kind_hint binding asked }
+{
+    match (binding, asked) {
+        (Binding::Constant(_), Expected::Value | Expected::ValueArgument) => {
+            "; INT puts a constant into a register"
+        }
+        (Binding::Register(Bank::Value, _, _), Expected::Number) => "; a constant will do",
+        (Binding::Register(Bank::Right, _, _), Expected::Number) => {
+            "; a priority comes before the target, as in PUT NAME 0 any NAME"
+        }
+        (_, Expected::ValueArgument | Expected::RightArgument) => {
+            "; arguments are in the order of the parameters"
+        }
+        _ => "",
+    }
+}
+
 /// Adds what a name means, and what is required in its place.
 fn put_kind(out: &mut Vec<u8>, binding: Binding, asked: Expected) -> Result<(), AllocError>
     ensures { OnOk result (out.new.items ≡ out.old.items ++ kind_diagnostic binding asked) }
 {
     put_both(out, "it is ", binding_words(binding))?;
     put_both(out, ", ", expected_words(asked))?;
-    put(out, " is required")
+    put_both(out, " is required", kind_hint(binding, asked))
+}
+
+/// Says which form a line lacks, by the word at which it ends to have one.
+fn form_diagnostic(word: &[u8]) -> &'static str
+    ensures { result.now ≡ form_diagnostic word.now }
+{
+    if word.ends_with(b":") {
+        "needs a type after it, and in a line proc a mode before that: val, closed, ref or write"
+    } else if word.contains(&b':') {
+        "a blank follows the colon"
+    } else {
+        "expected const NAME = NUMBER, or let NAME = REGISTER; there are no expressions"
+    }
 }
 
 fn fixed_diagnostic(no: NameNo) -> &'static str
     ensures { result.now ≡ fixed_diagnostic no }
 {
     match no {
-        NameNo::Form =>
-            "expected const NAME = NUMBER, let NAME = REGISTER, or NAME: with a mode or type after it",
         NameNo::NoName => "this can't be a name",
         NameNo::Twice => "the name is taken",
-        NameNo::Listed => "its register has a name already",
+        NameNo::Listed => "its register has a name already; a procedure has one line regs",
         NameNo::Unknown => "the name means nothing here",
         NameNo::Limit => "there is no register left for it",
-        NameNo::Kind(_, _) | NameNo::NoMemory => "",
+        NameNo::Form | NameNo::Kind(_, _) | NameNo::NoMemory => "",
     }
 }
 
 /// Adds what is wrong with a word.
-fn put_diagnostic(out: &mut Vec<u8>, no: NameNo) -> Result<(), AllocError>
-    ensures { OnOk result (out.new.items ≡ out.old.items ++ name_diagnostic no) }
+fn put_diagnostic(out: &mut Vec<u8>, word: &[u8], no: NameNo) -> Result<(), AllocError>
+    ensures { OnOk result (out.new.items ≡ out.old.items ++ name_diagnostic word.now no) }
 {
     match no {
+        NameNo::Form => put(out, form_diagnostic(word)),
         NameNo::Kind(binding, asked) => put_kind(out, binding, asked),
         _ => put(out, fixed_diagnostic(no)),
     }
 }
 
+/// Returns what is between a word and what is wrong with it. A word may have a colon at its end.
+fn separator(word: &[u8]) -> &'static str
+    ensures { result.now ≡ separator word.now }
+{
+    if word.ends_with(b":") { " " } else { ": " }
+}
+
 fn put_word_diagnostic(out: &mut Vec<u8>, word: &[u8], no: NameNo) -> Result<(), AllocError>
-    ensures { OnOk result (out.new.items ≡ out.old.items ++ (shortened word.now ++ (codes ": " ++ (name_diagnostic no ++ codes "\n")))) }
+    ensures { OnOk result (out.new.items ≡ out.old.items ++ (shortened word.now ++ (separator word.now ++ (name_diagnostic word.now no ++ codes "\n")))) }
 {
     put_shortened(out, word)?;
-    put(out, ": ")?;
-    put_diagnostic(out, no)?;
+    put(out, separator(word))?;
+    put_diagnostic(out, word, no)?;
     put(out, "\n")
 }
 
@@ -183,10 +208,11 @@ pub fn put_fault_details(
 fn named_reply(alloc: Global, text: &str, rejection: NameError<'_>) -> Result<Reply, AllocError>
     ensures { IfOk result (λ r. IsFirstRejection text.now (seen_rejection rejection.entry) → RepliesByPlain text.now (reply r.text.items r.close)) }
 {
+    let failure = Failure::coded(b'N', rejection.no.number(), Position::Line(rejection.line));
     let mut out = Vec::new(alloc);
-    put_name_line(alloc, &mut out, rejection)?;
+    put_failure_line(alloc, &mut out, failure)?;
     put_name_details(&mut out, text, rejection)?;
-    Ok(refused_by(out))
+    Ok(refused_by(out, failure))
 }
 
 /// Returns the expanded text, or the first name error.

@@ -1,6 +1,6 @@
 //! Reads a program.
 
-ghost use Rattle.std.specs.Prelude.{◌≡◌, ◌≢◌, ◌++◌, ℕ, List, Err, Ok, Some, IfErr, IfOk, IsUtf8, OnOk, string_bytes};
+ghost use Rattle.std.specs.Prelude.{◌≡◌, ◌≢◌, ◌++◌, ℕ, List, Err, Ok, Some, IfErr, IfOk, IsUtf8, MatchOption, OnOk, string_bytes};
 ghost use Rattle.tw_asm.specs.Answers.{HasFault};
 ghost use Rattle.tw_asm.specs.Spelling.{SpellsProgram};
 ghost use Rattle.tw_asm.specs.declared.fault.AsmFault.{AsmFault as TextFault};
@@ -10,17 +10,17 @@ ghost use Rattle.tw_asm.specs.Origins.{AreOrigins};
 ghost use Rattle.tw_symbols.specs.Expansion.{ExpandsTo};
 ghost use Rattle.tw_symbols.specs.declared.rejection.NameNo.TheVariants as no;
 ghost use Rattle.tw_program_output.specs.Names.{AreFaultDetails, name_details};
-ghost use Rattle.tw_program_output.specs.Program.{AreParseErrorDetails, Spells, SpellsNone, SpellsText, no_program_line, source_text};
+ghost use Rattle.tw_program_output.specs.Failure.{failed_with};
+ghost use Rattle.tw_program_output.specs.Program.{AreParseErrorDetails, Spells, SpellsNone, SpellsText, failure_of, source_text};
 ghost use Rattle.tw_program_output.specs.Reply.{reply};
 ghost use Rattle.tw_program_output.specs.Source.{MayBeSource, text_of};
 ghost use Rattle.tw_binary.specs.declared.fault.Fault.{Fault as ByteFault};
 ghost use Rattle.tw_binary.specs.Reading.{program_of};
 ghost use Rattle.tw_program_output.specs.declared.program.NoProgram.TheVariants.{Bytes, Named, NoMemory, Text};
-ghost use Rattle.tw_program_output.specs.declared.close.Close.TheVariants.{Refused};
 
 use crate::digits::digits;
-use crate::lines::{put_asm_line, put_fault_line};
-use crate::names::{put_fault_details, put_name_details, put_name_line};
+use crate::failure::{Failure, Position, put_failure_line};
+use crate::names::{put_fault_details, put_name_details};
 use crate::reply::{Reply, refused_by};
 use crate::source::SourceText;
 use hex::FromHexError;
@@ -28,7 +28,6 @@ use std::alloc::{AllocError, Global};
 use tw_asm::{AsmFault, LinedProgram, assemble_lined};
 use tw_binary::{Fault, FaultNo, decode};
 use tw_code::Program;
-use tw_lexer::put;
 use tw_order::Source;
 use tw_symbols::{NameError, NameNo, expanded_text};
 
@@ -206,16 +205,26 @@ pub fn read_program<'a>(
     }
 }
 
-fn put_no_program(alloc: Global, out: &mut Vec<u8>, why: NoProgram<'_>) -> Result<(), AllocError>
-    ensures { OnOk result ((why.entry ≢ NoMemory) × (out.new.items ≡ out.old.items ++ no_program_line why.entry)) }
+/// Returns the error of input that encodes no program, unless an allocation failed.
+fn failure_of(why: NoProgram<'_>) -> Option<Failure>
+    ensures { MatchOption result (why.entry ≡ NoMemory) (λ f. (why.entry ≢ NoMemory) × (f ≡ failure_of why.entry)) }
 {
     match why {
-        NoProgram::NotHex => put(out, "refused H01\n"),
-        NoProgram::NotUtf8 => put(out, "refused H03\n"),
-        NoProgram::Bytes(fault) => put_fault_line(alloc, out, fault.no.number(), fault.offset),
-        NoProgram::Text(fault) => put_asm_line(alloc, out, fault.no.number(), fault.line),
-        NoProgram::Named(rejection) => put_name_line(alloc, out, rejection),
-        NoProgram::NoMemory => Err(AllocError),
+        NoProgram::NotHex => Some(Failure::coded(b'H', 1, Position::Nowhere)),
+        NoProgram::NotUtf8 => Some(Failure::coded(b'H', 3, Position::Nowhere)),
+        NoProgram::Bytes(fault) => {
+            let position = Position::Byte(fault.offset);
+            Some(Failure::coded(b'F', fault.no.number(), position))
+        }
+        NoProgram::Text(fault) => {
+            let position = Position::Line(fault.line);
+            Some(Failure::coded(b'A', fault.no.number(), position))
+        }
+        NoProgram::Named(error) => {
+            let position = Position::Line(error.line);
+            Some(Failure::coded(b'N', error.no.number(), position))
+        }
+        NoProgram::NoMemory => None,
     }
 }
 
@@ -271,10 +280,13 @@ pub fn parse_error_reply(
     why: NoProgram<'_>,
 ) -> Result<Reply, AllocError>
     ensures { IfOk result (λ r. (why.entry ≢ NoMemory) × ((source : ReadAs) → SpellsNone source input.now why.entry
-        → (more : List ℕ) × AreParseErrorDetails input.now why.entry more × (reply r.text.items r.close ≡ reply (no_program_line why.entry ++ more) Refused))) }
+        → (more : List ℕ) × AreParseErrorDetails input.now why.entry more × (reply r.text.items r.close ≡ failed_with (failure_of why.entry) more))) }
 {
+    let Some(failure) = failure_of(why) else {
+        return Err(AllocError);
+    };
     let mut text = Vec::new(alloc);
-    put_no_program(alloc, &mut text, why)?;
+    put_failure_line(alloc, &mut text, failure)?;
     put_parse_error_details(alloc, &mut text, input, why)?;
-    Ok(refused_by(text))
+    Ok(refused_by(text, failure))
 }

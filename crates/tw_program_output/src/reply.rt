@@ -1,9 +1,12 @@
 //! Replies of a session.
 
-ghost use Rattle.std.specs.Prelude.{◌≡◌, IfOk, codes};
+ghost use Rattle.std.specs.Prelude.{◌≡◌, IfOk};
+ghost use Rattle.tw_program_output.specs.Failure.{coded, failed};
 ghost use Rattle.tw_program_output.specs.Reply.{reply};
+ghost use Rattle.tw_program_output.specs.declared.failure.Position.TheVariants as position;
 
 use crate::close::Close;
+use crate::failure::{Failure, Position, put_failure_line};
 use std::alloc::{AllocError, Global};
 use tw_lexer::put;
 
@@ -14,13 +17,13 @@ pub struct Reply {
     pub close: Close,
 }
 
-/// Returns the reply that rejects with this text.
-pub fn refused_by(text: Vec<u8>) -> Reply
-    ensures { reply result.text.items result.close ≡ reply text.items Close.Refused }
+/// Returns the reply that rejects with this text, of this error.
+pub fn refused_by(text: Vec<u8>, failure: Failure) -> Reply
+    ensures { reply result.text.items result.close ≡ reply text.items (Close.Refused failure) }
 {
     Reply {
         text,
-        close: Close::Refused,
+        close: Close::Refused(failure),
     }
 }
 
@@ -33,9 +36,18 @@ pub fn fixed_reply(alloc: Global, line: &str, close: Close) -> Result<Reply, All
     Ok(Reply { text, close })
 }
 
+/// Returns the reply that has only the first line of an error.
+pub fn failed_reply(alloc: Global, failure: Failure) -> Result<Reply, AllocError>
+    ensures { IfOk result (λ r. reply r.text.items r.close ≡ failed failure) }
+{
+    let mut text = Vec::new(alloc);
+    put_failure_line(alloc, &mut text, failure)?;
+    Ok(refused_by(text, failure))
+}
+
 /// Returns the reply to bytes that are to be text and aren't UTF-8.
 pub fn not_utf8_reply(alloc: Global) -> Result<Reply, AllocError>
-    ensures { IfOk result (λ r. reply r.text.items r.close ≡ reply (codes "refused H03\n") Close.Refused) }
+    ensures { IfOk result (λ r. reply r.text.items r.close ≡ failed (coded 72 3 position.Nowhere)) }
 {
-    fixed_reply(alloc, "refused H03\n", Close::Refused)
+    failed_reply(alloc, Failure::coded(b'H', 3, Position::Nowhere))
 }

@@ -188,44 +188,46 @@ fn put_diagnostic(
     put_with_name(alloc, out, source.text, number, &reason)
 }
 
-/// Adds the line from which the rejected instruction comes, and why it is rejected.
+/// Adds the line from which the rejected instruction comes, and why it is rejected. Returns the number of the line.
 fn put_place_details(
     alloc: Global,
     out: &mut Vec<u8>,
     source: &SourceText<'_>,
     refused: &Refused,
-) -> Result<(), AllocError>
-    ensures { OnOk result (IsSourceAt source.now refused.now.program.procedures refused.now.procedure refused.now.place
-        → (more : List ℕ) × ArePlaceDetails source.now.text.now refused.now.no refused.now.program.procedures refused.now.procedure refused.now.place more × (out.new.items ≡ out.old.items ++ more)) }
+) -> Result<Option<usize>, AllocError>
+    ensures { IfOk result (λ at. IsSourceAt source.now refused.now.program.procedures refused.now.procedure refused.now.place
+        → (more : List ℕ) × ArePlaceDetails source.now.text.now refused.now.no refused.now.program.procedures refused.now.procedure refused.now.place at more × (out.new.items ≡ out.old.items ++ more)) }
 {
     let Some((number, line)) = source_line(source, refused.procedure, refused.place) else {
-        return Ok(());
+        return Ok(None);
     };
     let names = Symbols::of(alloc, source.text)?;
     put_line_in(alloc, out, names.procedure(refused.procedure), number, line)?;
-    put_diagnostic(alloc, out, source, number, refused)
+    put_diagnostic(alloc, out, source, number, refused)?;
+    Ok(Some(number))
 }
 
-/// Adds the line that begins main, and what is wrong with its shape.
+/// Adds the line that begins main, and what is wrong with its shape. Returns the number of the line.
 fn put_head_details(
     alloc: Global,
     out: &mut Vec<u8>,
     source: &SourceText<'_>,
     main: &Procedure,
-) -> Result<(), AllocError>
+) -> Result<Option<usize>, AllocError>
     requires { length main.now.params < 99 }
-    ensures { OnOk result ((procedure place number : ℕ) → ComesFrom (plain_of source.now) procedure place number → ExpandsTo source.now.text.now (plain_of source.now)
+    ensures { IfOk result (λ at. (procedure place number : ℕ) → ComesFrom (plain_of source.now) procedure place number → ExpandsTo source.now.text.now (plain_of source.now)
         → (first : ℕ) × (line : List ℕ) × IsFirstHead (plain_of source.now) first × IsLineOf source.now.text.now first line
-        × (out.new.items ≡ out.old.items ++ (text_line first line ++ shape_line main.now.kind main.now.params))) }
+        × (at ≡ Some first) × (out.new.items ≡ out.old.items ++ (text_line first line ++ shape_line main.now.kind main.now.params))) }
 {
     let Some(number) = head_line(alloc, source.plain())? else {
-        return Ok(());
+        return Ok(None);
     };
     let Some(line) = trimmed_line(source.text, number) else {
-        return Ok(());
+        return Ok(None);
     };
     put_text_line(alloc, out, number, line)?;
-    put_main_diagnostic(alloc, out, main)
+    put_main_diagnostic(alloc, out, main)?;
+    Ok(Some(number))
 }
 
 /// Adds the details of an error in main's shape.
@@ -234,13 +236,13 @@ fn put_main_details(
     out: &mut Vec<u8>,
     source: &SourceText<'_>,
     refused: &Refused,
-) -> Result<(), AllocError>
-    ensures { OnOk result (IsSourceAt source.now refused.now.program.procedures refused.now.procedure refused.now.place
-        → (more : List ℕ) × AreMainDetails source.now.text.now refused.now.program.procedures more × (out.new.items ≡ out.old.items ++ more)) }
+) -> Result<Option<usize>, AllocError>
+    ensures { IfOk result (λ at. IsSourceAt source.now refused.now.program.procedures refused.now.procedure refused.now.place
+        → (more : List ℕ) × AreMainDetails source.now.text.now refused.now.program.procedures at more × (out.new.items ≡ out.old.items ++ more)) }
 {
     match refused.program.procedures().first() {
         Some(main) => put_head_details(alloc, out, source, main),
-        None => Ok(()),
+        None => Ok(None),
     }
 }
 
@@ -250,9 +252,9 @@ fn put_text_details(
     out: &mut Vec<u8>,
     source: &SourceText<'_>,
     refused: &Refused,
-) -> Result<(), AllocError>
-    ensures { OnOk result (IsSourceAt source.now refused.now.program.procedures refused.now.procedure refused.now.place
-        → (more : List ℕ) × AreTextDetails source.now.text.now refused.now.no refused.now.program.procedures refused.now.procedure refused.now.place more × (out.new.items ≡ out.old.items ++ more)) }
+) -> Result<Option<usize>, AllocError>
+    ensures { IfOk result (λ at. IsSourceAt source.now refused.now.program.procedures refused.now.procedure refused.now.place
+        → (more : List ℕ) × AreTextDetails source.now.text.now refused.now.no refused.now.program.procedures refused.now.procedure refused.now.place at more × (out.new.items ≡ out.old.items ++ more)) }
 {
     match refused.no {
         VerifyError::MainShape => put_main_details(alloc, out, source, refused),
@@ -260,18 +262,18 @@ fn put_text_details(
     }
 }
 
-/// Adds the details of an error, to be printed after its line. Without a text there are none.
+/// Adds the details of an error, to be printed after its first line, and returns the number of the line in them. Without a text there are none.
 pub fn put_rejection_details(
     alloc: Global,
     out: &mut Vec<u8>,
     source: &Option<SourceText<'_>>,
     refused: &Refused,
-) -> Result<(), AllocError>
-    ensures { OnOk result (MayBeSourceAt source.now refused.now.program.procedures refused.now.procedure refused.now.place
-        → (more : List ℕ) × AreDetailsOf (text_of source.now) refused.now.no refused.now.program.procedures refused.now.procedure refused.now.place more × (out.new.items ≡ out.old.items ++ more)) }
+) -> Result<Option<usize>, AllocError>
+    ensures { IfOk result (λ at. MayBeSourceAt source.now refused.now.program.procedures refused.now.procedure refused.now.place
+        → (more : List ℕ) × AreDetailsOf (text_of source.now) refused.now.no refused.now.program.procedures refused.now.procedure refused.now.place at more × (out.new.items ≡ out.old.items ++ more)) }
 {
     match source {
         Some(source) => put_text_details(alloc, out, source, refused),
-        None => Ok(()),
+        None => Ok(None),
     }
 }

@@ -1,6 +1,6 @@
 -- Details after replies about programs that were read from a text.
 use Rattle.std.proofs.Common.{◌≡◌, ◌≢◌, ◌≤◌, ◌++◌, ◌∙◌, ℕ, suc, List, [], ◌∷◌, length, Option, Some, None, refl, sym, ap, subst}
-use Rattle.tw_replay_output.proofs.ReplayNames.{◌>>=◌, AreShort, ClosesBy, Event, Input, AreEndingDetails, IsUndrawn, MayBeSource, MayPrintCircle, NotEnabled, Outcome, PlainView, Procedure, Spoken as Reply, Start, State, PrintsCircle, Trap, Went, append-nil, open_error_code, opening_line, rejection_of, reply}
+use Rattle.tw_replay_output.proofs.ReplayNames.{◌>>=◌, AreShort, ClosesBy, Event, Input, AreEndingDetails, IsUndrawn, MayBeSource, MayPrintCircle, NotEnabled, Outcome, PlainView, Procedure, Spoken as Reply, Start, State, PrintsCircle, Trap, Went, Position, append-nil, coded, failed, failed_with, open_error_code, rejection_of, reply, uncoded}
 use Rattle.tw_types.specs.declared.ending.Ending.{Ending}
 use Rattle.tw_types.specs.declared.ending.Ending.TheVariants.{Quiet, Stuck}
 use Rattle.tw_types.specs.Layout.{ActorCounts}
@@ -12,7 +12,13 @@ use Rattle.tw_order.specs.declared.runs.Answer.TheVariants.{Json, Numbers, Pictu
 use Rattle.tw_order.specs.declared.range.EventRange.{EventRange}
 use Rattle.tw_machine.specs.declared.rejection.OpenError.{OpenError}
 use Rattle.tw_machine.specs.declared.rejection.OpenError.TheVariants as opening
-use Rattle.tw_replay_output.specs.Opening.{AreOpeningDetails}
+use Rattle.std.specs.Prelude.{Bool, MatchBool, codes, false, true}
+use Rattle.tw_types.specs.Cause.{cause_number}
+use Rattle.tw_code.specs.machine.Inputs.{has_fitting_inputs, has_input_count}
+use Rattle.tw_program_output.specs.Failure.{code_text, failure_line, position_text}
+use Rattle.tw_program_output.specs.declared.failure.Failure.{Failure}
+use Rattle.tw_program_output.specs.declared.failure.Position.TheVariants as position
+use Rattle.tw_replay_output.specs.Opening.{AreOpeningDetails, PrintsInputs, PrintsUnfit, count_line}
 use Rattle.tw_replay_output.specs.Replay.{ByOutcome, IsAnswer, IsNumbered, AreRejectionDetails, AreReportDetails, after_event, close_of, played, played_from}
 use Rattle.tw_program_output.specs.declared.source.SourceText.{SourceText}
 use Rattle.tw_program_output.specs.declared.close.Close.{Close}
@@ -22,30 +28,49 @@ use Rattle.tw_program_output.specs.declared.close.Close.TheVariants as close
 
 -- holds for the reply to this error, with its details
 abbrev pub IsUnopened : Option (List ℕ) → List Procedure → List Input → OpenError → Reply → Type 0
-IsUnopened text program inputs why r = (more : List ℕ) × AreRejectionDetails text program inputs why more × (r ≡ reply (opening_line (open_error_code why) ++ more) close.Refused)
+IsUnopened text program inputs why r = (at : Position) × (more : List ℕ) × AreRejectionDetails text program inputs why at more × (r ≡ failed_with (coded 79 (open_error_code why) at) more)
 
 pub main_refused : (text : Option (List ℕ)) (program : List Procedure) (inputs : List Input) (why : OpenError) (number : ℕ) (r : Reply) → why ≡ opening.MainShape → number ≡ open_error_code why
-    → r ≡ reply (opening_line number) close.Refused → (why ≢ opening.NoMemory) × IsUnopened text program inputs why r
+    → r ≡ failed (coded 79 number position.Nowhere) → (why ≢ opening.NoMemory) × IsUnopened text program inputs why r
 main_refused text program inputs opening.MainShape number r is at h =
-    ((λ e. absurd cc), ([], refl, h ∙ ap (λ (n : ℕ). reply (opening_line n) close.Refused) at ∙ ap (λ (t : List ℕ). reply t close.Refused) (sym (append-nil (opening_line (open_error_code opening.MainShape))))))
+    let f = coded 79 (open_error_code opening.MainShape) position.Nowhere in
+    ((λ e. absurd cc), (position.Nowhere, [], (refl, refl), h ∙ ap (λ (n : ℕ). failed (coded 79 n position.Nowhere)) at ∙ ap (λ (t : List ℕ). reply t (close.Refused f)) (sym (append-nil (failure_line f)))))
 main_refused text program inputs opening.InputCount number r is at h = absurd cc
 main_refused text program inputs opening.InputType number r is at h = absurd cc
 main_refused text program inputs opening.NoMemory number r is at h = absurd cc
 
 pub inputs_refused : (text : Option (List ℕ)) (program : List Procedure) (inputs : List Input) (why : OpenError) (number : ℕ) (r : Reply) → (why ≡ opening.MainShape → ⊥) → (why ≡ opening.NoMemory → ⊥) → number ≡ open_error_code why
-    → ((more : List ℕ) × AreOpeningDetails text program inputs more × (r ≡ reply (opening_line number ++ more) close.Refused)) → (why ≢ opening.NoMemory) × IsUnopened text program inputs why r
-inputs_refused text program inputs opening.MainShape number r main memory at h = absurd (main refl)
-inputs_refused text program inputs opening.NoMemory number r main memory at h = absurd (memory refl)
-inputs_refused text program inputs opening.InputCount number r main memory at (more, answered, is) = (memory, (more, answered, is ∙ ap (λ (n : ℕ). reply (opening_line n ++ more) close.Refused) at))
-inputs_refused text program inputs opening.InputType number r main memory at (more, answered, is) = (memory, (more, answered, is ∙ ap (λ (n : ℕ). reply (opening_line n ++ more) close.Refused) at))
+    → ((at : Position) × (more : List ℕ) × AreOpeningDetails text program inputs at more × (r ≡ failed_with (coded 79 number at) more)) → (why ≢ opening.NoMemory) × IsUnopened text program inputs why r
+inputs_refused text program inputs opening.MainShape number r main memory same h = absurd (main refl)
+inputs_refused text program inputs opening.NoMemory number r main memory same h = absurd (memory refl)
+inputs_refused text program inputs opening.InputCount number r main memory same (at, more, answered, is) = (memory, (at, more, answered, is ∙ ap (λ (n : ℕ). failed_with (coded 79 n at) more) same))
+inputs_refused text program inputs opening.InputType number r main memory same (at, more, answered, is) = (memory, (at, more, answered, is ∙ ap (λ (n : ℕ). failed_with (coded 79 n at) more) same))
+
+-- the first line doesn't say which input is wrong
+said_nowhere : (program : List Procedure) (inputs : List Input) (at : Position) (text : List ℕ) → PrintsInputs program inputs at text → position_text at ≡ []
+said_nowhere program inputs at text h = by_count (has_input_count program inputs) h
+  where
+    by_fit : (b : Bool) → MatchBool b ((at ≡ position.Nowhere) × (text ≡ [])) (PrintsUnfit program inputs at text) → position_text at ≡ []
+    by_fit true (is, empty) = ap position_text is
+    by_fit false h = ap position_text h.4
+
+    by_count : (b : Bool) → MatchBool b (MatchBool (has_fitting_inputs program inputs) ((at ≡ position.Nowhere) × (text ≡ [])) (PrintsUnfit program inputs at text)) ((at ≡ position.Nowhere) × (text ≡ count_line program inputs)) → position_text at ≡ []
+    by_count true h = by_fit (has_fitting_inputs program inputs) h
+    by_count false (is, counted) = ap position_text is
+
+pub same_first_line : (text : Option (List ℕ)) (program : List Procedure) (inputs : List Input) (number : ℕ) (at : Position) (more : List ℕ) → AreOpeningDetails text program inputs at more
+    → failure_line (coded 79 number position.Nowhere) ≡ failure_line (coded 79 number at)
+same_first_line None program inputs number at more (is, empty) = ap (λ (p : Position). failure_line (coded 79 number p)) (sym is)
+same_first_line (Some text) program inputs number at more h =
+    ap (λ (t : List ℕ). codes "refused " ++ (code_text (record { letter = 79; number = number }) ++ (t ++ codes "\n"))) (sym (said_nowhere program inputs at more h))
 
 -- ---- how a replay closes
 
-refused_unstuck : close.Refused ≡ close.Stuck → ⊥
-refused_unstuck e = absurd cc
+refused_unstuck : (f : Failure) → close.Refused f ≡ close.Stuck → ⊥
+refused_unstuck f e = absurd cc
 
-trapped_unstuck : close.Trapped ≡ close.Stuck → ⊥
-trapped_unstuck e = absurd cc
+trapped_unstuck : (f : Failure) → close.Trapped f ≡ close.Stuck → ⊥
+trapped_unstuck f e = absurd cc
 
 success_unstuck : close.Success ≡ close.Stuck → ⊥
 success_unstuck e = absurd cc
@@ -53,8 +78,8 @@ success_unstuck e = absurd cc
 outcome_closes : (program : List Procedure) (layout : ActorCounts) (number : ℕ) (events : List Event) → ((next : State) → ClosesBy (run program layout events next) (played program layout (suc number) events next).close) → (o : Outcome State)
     → ClosesBy (o >>= λ next. run program layout events next) (after_event number o (λ next. played program layout (suc number) events next)).close
 outcome_closes program layout number events more (Went next) = more next
-outcome_closes program layout number events more NotEnabled = refused_unstuck
-outcome_closes program layout number events more (Trap cause) = trapped_unstuck
+outcome_closes program layout number events more NotEnabled = refused_unstuck (uncoded (position.Event number))
+outcome_closes program layout number events more (Trap cause) = trapped_unstuck (coded 67 (cause_number cause) (position.Event number))
 
 played_closes : (program : List Procedure) (layout : ActorCounts) (number : ℕ) (events : List Event) (s : State) → ClosesBy (run program layout events s) (played program layout number events s).close
 unfolding run played

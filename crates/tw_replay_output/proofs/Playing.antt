@@ -1,6 +1,6 @@
 -- Events, one after the other, in a replay and in a timeline.
 use Rattle.std.proofs.Common.{◌≡◌, ◌+◌, ◌<◌, ◌≤◌, ℕ, zero, suc, List, [], ◌∷◌, ◌++◌, length, length-take, get_or, drop, take, Option, Some, None, refl, sym, ap, subst, ◌∙◌, add-one, drop-cons, arith}
-use Rattle.tw_replay_output.proofs.ReplayNames.{◌>>=◌, AllByRecursion, AreShort, Event, Input, IsShort, IsFirstError, NotEnabled, Outcome, PlainView, Procedure, Refused, Spoken as Reply, State, Trap, Trapped, Versioned, Went, drop_all, not_enabled_line, rejection_of, reply, size_of, take_all, take_more, trap_line}
+use Rattle.tw_replay_output.proofs.ReplayNames.{◌>>=◌, AllByRecursion, AreShort, Event, Input, IsShort, IsFirstError, NotEnabled, Outcome, PlainView, Procedure, Refused, Spoken as Reply, State, Trap, Trapped, Versioned, Went, coded, drop_all, not_enabled_line, rejection_of, reply, size_of, take_all, take_more, trap_line, uncoded}
 use Rattle.tw_types.specs.declared.cause.Cause.{Cause}
 use Rattle.tw_types.specs.declared.event.Event.TheVariants.{Take, Local, Call, End, Ask, Deliver, Release}
 use Rattle.tw_types.specs.Cause.{cause_number}
@@ -18,6 +18,7 @@ use Rattle.tw_timeline.specs.declared.timeline_builder.TimelineBuilder.{Timeline
 use Rattle.tw_timeline.specs.History.{HasFew, IsTrail}
 use Rattle.tw_timeline.proofs.History.{trail_length}
 use Rattle.tw_report.specs.Events.{IsEvent}
+use Rattle.tw_program_output.specs.declared.failure.Position.TheVariants as position
 use Rattle.tw_replay_output.specs.Replay.{ByOutcome, IsAnswered, IsPicture, IsReplayed, OpensOr, after_event, opened, played, played_from, state_reply}
 use Rattle.tw_replay_output.proofs.Behinds.{IsUnopened}
 
@@ -42,12 +43,12 @@ went_on program program' layout layout' events i event s t r p l inside is went 
     ∙ sym (here program layout events i event s inside is ∙ by_outcome (i + 1) (step program layout event s) (Went t) (λ next. played program layout (i + 1 + 1) (drop (i + 1) events) next) went) ∙ before
 
 not_enabled : (program : List Procedure) (layout : ActorCounts) (events : List Event) (i : ℕ) (event : Event) (s : State) (r : Reply) → i < length events → event ≡ get_or events i event → step program layout event s ≡ NotEnabled
-    → played program layout (i + 1) (drop i events) s ≡ r → reply (not_enabled_line (i + 1)) Refused ≡ r
+    → played program layout (i + 1) (drop i events) s ≡ r → reply (not_enabled_line (i + 1)) (Refused (uncoded (position.Event (i + 1)))) ≡ r
 not_enabled program layout events i event s r inside is stopped before =
     sym (here program layout events i event s inside is ∙ by_outcome (i + 1) (step program layout event s) NotEnabled (λ next. played program layout (i + 1 + 1) (drop (i + 1) events) next) stopped) ∙ before
 
 trapped : (program : List Procedure) (layout : ActorCounts) (events : List Event) (i : ℕ) (event : Event) (s : State) (cause : Cause) (r : Reply) → i < length events → event ≡ get_or events i event → step program layout event s ≡ Trap cause
-    → played program layout (i + 1) (drop i events) s ≡ r → reply (trap_line (cause_number cause) (i + 1)) Trapped ≡ r
+    → played program layout (i + 1) (drop i events) s ≡ r → reply (trap_line (cause_number cause) (i + 1)) (Trapped (coded 67 (cause_number cause) (position.Event (i + 1)))) ≡ r
 trapped program layout events i event s cause r inside is stopped before =
     sym (here program layout events i event s inside is ∙ by_outcome (i + 1) (step program layout event s) (Trap cause) (λ next. played program layout (i + 1 + 1) (drop (i + 1) events) next) stopped) ∙ before
 

@@ -21,7 +21,8 @@ pub use Rattle.tw_machine.specs.PlainView.{PlainView}
 pub use Rattle.tw_symbols.specs.Expansion.{ExpandsTo}
 pub use Rattle.tw_replay_output.specs.Circle.{DoesRule, AreEndingDetails, IsMade, Start, PrintRules, PrintsCircle, PrintsRule, reached_from, rule_line, rule_text}
 pub use Rattle.tw_replay_output.specs.Counted.{AreShort, IsCounting, IsShort}
-pub use Rattle.tw_program_output.specs.Lines.{opening_line}
+pub use Rattle.tw_program_output.specs.Failure.{coded, failed, failed_with, uncoded}
+pub use Rattle.tw_program_output.specs.declared.failure.Position.{Position}
 pub use Rattle.tw_program_output.specs.Program.{RepliesBySource, source_text}
 pub use Rattle.tw_replay_output.specs.Replay.{AreBudgets, AreKnownBudgets, IsAnswer, AreAnswerDetails, IsAnswered, IsCounted, IsNumbered, RepliesByHistory, RepliesByLines, close_of, opened, played, played_from, start_of, state_reply}
 pub use Rattle.tw_program_output.specs.Reply.{Reply as Spoken, reply}

@@ -36,7 +36,9 @@ use Rattle.tw_timeline.specs.Xml.{xml_text}
 use Rattle.tw_symbols.specs.Symbols.{AreSymbols}
 use Rattle.tw_report.specs.History.{AreParts, IsTraceOf, lines_in}
 use Rattle.tw_report.specs.Lines.{history_line, not_enabled_line, trap_line}
-use Rattle.tw_program_output.specs.Lines.{opening_line}
+use Rattle.tw_program_output.specs.Failure.{coded, failed_with, uncoded}
+use Rattle.tw_program_output.specs.declared.failure.Position.{Position}
+use Rattle.tw_program_output.specs.declared.failure.Position.TheVariants as position
 use Rattle.tw_report.specs.Report.{state_report}
 use Rattle.tw_stats.specs.Text.{AreNumbers}
 use Rattle.tw_replay_output.specs.Circle.{AreEndingDetails, Start, reached_from}
@@ -61,8 +63,8 @@ state_reply program s = reply (state_report program s) (close_of (machine.ending
 -- returns the reply after the event with this number; if it failed, its own
 abbrev pub after_event : ℕ → Outcome State → (State → Reply) → Reply
 after_event number (Went s) next = next s
-after_event number NotEnabled next = reply (not_enabled_line number) Refused
-after_event number (Trap cause) next = reply (trap_line (cause_number cause) number) Trapped
+after_event number NotEnabled next = reply (not_enabled_line number) (Refused (uncoded (position.Event number)))
+after_event number (Trap cause) next = reply (trap_line (cause_number cause) number) (Trapped (coded 67 (cause_number cause) (position.Event number)))
 
 -- returns the reply to the events from this number on, up to the first that fails
 unfoldable pub played : List Procedure → ActorCounts → ℕ → List Event → State → Reply
@@ -163,14 +165,14 @@ AreAnswerDetails (Some text) answer start events more = AreReportDetails answer 
 -- ---- the program and its inputs
 
 -- holds for the details of an error in the inputs; if main doesn't have its shape, there are none
-abbrev pub AreRejectionDetails : Option (List ℕ) → List Procedure → List Input → OpenError → List ℕ → Type 0
-AreRejectionDetails text program inputs MainShape more = more ≡ []
-AreRejectionDetails text program inputs why more = AreOpeningDetails text program inputs more
+abbrev pub AreRejectionDetails : Option (List ℕ) → List Procedure → List Input → OpenError → Position → List ℕ → Type 0
+AreRejectionDetails text program inputs MainShape at more = (at ≡ position.Nowhere) × (more ≡ [])
+AreRejectionDetails text program inputs why at more = AreOpeningDetails text program inputs at more
 
 -- holds for the reply to a program that isn't opened, else like `Answers`
 abbrev pub OpensOr : Option (List ℕ) → List Procedure → List Input → Option OpenError → Type 0 → Reply → Type 0
 OpensOr text program inputs None Answers r = Answers
-OpensOr text program inputs (Some why) Answers r = (more : List ℕ) × AreRejectionDetails text program inputs why more × (r ≡ reply (opening_line (open_error_code why) ++ more) Refused)
+OpensOr text program inputs (Some why) Answers r = (at : Position) × (more : List ℕ) × AreRejectionDetails text program inputs why at more × (r ≡ failed_with (coded 79 (open_error_code why) at) more)
 
 abbrev pub start_of : ReplayOrder → Versioned → Start
 start_of order program = record { program = program.procedures; inputs = order.inputs; layout = order.layout }
@@ -195,7 +197,7 @@ IsReplayed text order program events r =
 abbrev pub RepliesByLines : Option (List ℕ) → ReplayOrder → List (List ℕ) → Versioned → Reply → Type 0
 RepliesByLines text order lines program r =
     ((events : List Event) × IsTraceOf lines (Ok events) × IsReplayed text order program events r)
-    ⊎ ((line : ℕ) × IsTraceOf lines (Err line) × (r ≡ reply (history_line line) Refused))
+    ⊎ ((line : ℕ) × IsTraceOf lines (Err line) × (r ≡ reply (history_line line) (Refused (coded 69 1 (position.Line line)))))
 
 -- holds if the part after the line `events` is UTF-8, and this is the reply to what precedes it and to the trace's lines; or if it isn't UTF-8
 abbrev pub RepliesByHistory : List ℕ → (List ℕ → List (List ℕ) → Reply → Type 0) → Reply → Type 0

@@ -5,8 +5,9 @@ ghost use Rattle.tw_types.specs.Given.{given_by, members_by};
 ghost use Rattle.tw_code.specs.machine.Inputs.{has_fitting_inputs, input_params, rises};
 ghost use Rattle.tw_code.specs.machine.Opening.{main_params};
 ghost use Rattle.tw_diagnostics.specs.Words.{type_text};
-ghost use Rattle.tw_replay_output.specs.Opening.{AreOpeningDetails, PrintsInputs, PrintsUnfit, count_line, excess_text, members_text, type_given, unfit_text};
-ghost use Rattle.tw_program_output.specs.Lines.{opening_line};
+ghost use Rattle.tw_replay_output.specs.Opening.{AreOpeningDetails, PrintsInputs, PrintsUnfit, count_line, counts_line, excess_text, has_twice, has_twice_after, members_text, such_text, type_given, unfit_text};
+ghost use Rattle.tw_program_output.specs.Examples.{example_word};
+ghost use Rattle.tw_program_output.specs.Failure.{coded, failed_with};
 ghost use Rattle.tw_program_output.specs.Reply.{reply};
 ghost use Rattle.tw_program_output.specs.Source.{text_of};
 
@@ -15,7 +16,9 @@ use tw_code::{
     MAX_MEMBERS, Procedure, has_fitting_inputs, has_input_count, input_count, main_params, rises,
 };
 use tw_diagnostics::put_type;
-use tw_program_output::{Close, Reply, SourceText, put_opening_line, refused_by};
+use tw_program_output::{
+    Failure, Position, Reply, SourceText, example_word, put_examples, put_failure_line, refused_by,
+};
 use tw_report::{put, put_numbered};
 use tw_types::{AsValue, DataType, Input, Param};
 
@@ -36,16 +39,29 @@ fn input_param(program: &[Procedure], index: usize) -> Option<Param>
     None
 }
 
+/// Adds words that encode the inputs of these parameters, if some take one.
+fn put_such(out: &mut Vec<u8>, params: &[Param]) -> Result<(), AllocError>
+    ensures { OnOk result (out.new.items ≡ out.old.items ++ such_text params.now) }
+{
+    if input_count(params) == 0 {
+        return Ok(());
+    }
+    put(out, ", such as")?;
+    put_examples(out, params, " ", "")
+}
+
+/// Adds how many inputs are given, how many these parameters require, and which.
 fn put_counts(
     alloc: Global,
     out: &mut Vec<u8>,
     given: usize,
-    asked: usize,
+    params: &[Param],
 ) -> Result<(), AllocError>
-    ensures { OnOk result (out.new.items ≡ out.old.items ++ (codes "inputs given: " ++ (decimal given ++ (codes ", required: " ++ (decimal asked ++ codes "\n"))))) }
+    ensures { OnOk result (out.new.items ≡ out.old.items ++ counts_line given params.now) }
 {
     put_numbered(alloc, out, "inputs given: ", given)?;
-    put_numbered(alloc, out, ", required: ", asked)?;
+    put_numbered(alloc, out, ", required: ", input_count(params))?;
+    put_such(out, params)?;
     put(out, "\n")
 }
 
@@ -57,7 +73,7 @@ fn put_count_line(
 ) -> Result<(), AllocError>
     ensures { OnOk result (out.new.items ≡ out.old.items ++ count_line program.now inputs.now) }
 {
-    put_counts(alloc, out, inputs.len(), input_count(main_params(program)))
+    put_counts(alloc, out, inputs.len(), main_params(program))
 }
 
 /// Returns the type of an input. There always is one.
@@ -74,6 +90,30 @@ fn type_given(input: &Input) -> Option<DataType>
     }
 }
 
+/// Like `has_twice`, after a subscript.
+fn has_twice_after<K: AsValue, V: AsValue>(first: &K, members: &[(K, V)]) -> bool
+    ensures { result ≡ has_twice_after (K.value first.now) (members_by K.value V.value members.now) }
+{
+    let mut before = first;
+    for (subscript, _) in members {
+        if !before.as_value().is_before(subscript.as_value()) {
+            return !subscript.as_value().is_before(before.as_value());
+        }
+        before = subscript;
+    }
+    false
+}
+
+/// Returns whether the first subscript that isn't greater than the one before is the same.
+fn has_twice<K: AsValue, V: AsValue>(members: &[(K, V)]) -> bool
+    ensures { result ≡ has_twice (members_by K.value V.value members.now) }
+{
+    match members.split_first() {
+        Some((first, others)) => has_twice_after(&first.0, others),
+        None => false,
+    }
+}
+
 /// Returns the limit that members exceed.
 fn members_text<K: AsValue, V: AsValue>(members: &[(K, V)]) -> &'static str
     ensures { result.now ≡ members_text (members_by K.value V.value members.now) }
@@ -82,6 +122,8 @@ fn members_text<K: AsValue, V: AsValue>(members: &[(K, V)]) -> &'static str
         " has more than 1000 members\n"
     } else if rises(members) {
         " has a text of more than 4096 bytes\n"
+    } else if has_twice(members) {
+        " has a subscript twice\n"
     } else {
         " has subscripts that don't rise\n"
     }
@@ -100,14 +142,16 @@ fn excess_text(input: &Input) -> &'static str
     }
 }
 
-/// Adds what type an input has, and which one is required.
+/// Adds what type an input has, which one is required, and a word for one of that.
 fn put_types(out: &mut Vec<u8>, given: DataType, asked: DataType) -> Result<(), AllocError>
-    ensures { OnOk result (out.new.items ≡ out.old.items ++ (codes " is " ++ (type_text given ++ (codes ", required: " ++ (type_text asked ++ codes "\n"))))) }
+    ensures { OnOk result (out.new.items ≡ out.old.items ++ (codes " is " ++ (type_text given ++ (codes ", required: " ++ (type_text asked ++ (codes ", such as " ++ (example_word asked ++ codes "\n"))))))) }
 {
     put(out, " is ")?;
     put_type(out, given)?;
     put(out, ", required: ")?;
     put_type(out, asked)?;
+    put(out, ", such as ")?;
+    put(out, example_word(asked))?;
     put(out, "\n")
 }
 
@@ -142,71 +186,70 @@ pub fn first_unfit(program: &[Procedure], inputs: &[Input]) -> Option<usize>
     None
 }
 
-/// Adds the first input that doesn't fit its parameter.
+/// Adds the first input that doesn't fit its parameter, and returns which it is.
 fn put_unfit(
     alloc: Global,
     out: &mut Vec<u8>,
     program: &[Procedure],
     inputs: &[Input],
-) -> Result<(), AllocError>
-    ensures { OnOk result (has_fitting_inputs program.now inputs.now ≡ false
-        → (text : List ℕ) × PrintsUnfit program.now inputs.now text × (out.new.items ≡ out.old.items ++ text)) }
+) -> Result<Position, AllocError>
+    ensures { IfOk result (λ at. has_fitting_inputs program.now inputs.now ≡ false
+        → (text : List ℕ) × PrintsUnfit program.now inputs.now at text × (out.new.items ≡ out.old.items ++ text)) }
 {
     let Some(index) = first_unfit(program, inputs) else {
-        return Ok(());
+        return Ok(Position::Nowhere);
     };
     let Some(param) = input_param(program, index) else {
-        return Ok(());
+        return Ok(Position::Nowhere);
     };
     let Some(input) = inputs.get(index) else {
-        return Ok(());
+        return Ok(Position::Nowhere);
     };
     put_numbered(alloc, out, "input ", index + 1)?;
-    put_unfit_text(out, param.ty, input)
+    put_unfit_text(out, param.ty, input)?;
+    Ok(Position::Input(index + 1))
 }
 
-/// Adds why these inputs aren't those that main takes, if they aren't.
+/// Adds why these inputs aren't those that main takes, if they aren't. Returns which input is wrong.
 fn put_inputs_diagnostic(
     alloc: Global,
     out: &mut Vec<u8>,
     program: &[Procedure],
     inputs: &[Input],
-) -> Result<(), AllocError>
-    ensures { OnOk result ((text : List ℕ) × PrintsInputs program.now inputs.now text × (out.new.items ≡ out.old.items ++ text)) }
+) -> Result<Position, AllocError>
+    ensures { IfOk result (λ at. (text : List ℕ) × PrintsInputs program.now inputs.now at text × (out.new.items ≡ out.old.items ++ text)) }
 {
     if !has_input_count(program, inputs) {
-        put_count_line(alloc, out, program, inputs)
+        put_count_line(alloc, out, program, inputs)?;
+        Ok(Position::Nowhere)
     } else if has_fitting_inputs(program, inputs) {
-        Ok(())
+        Ok(Position::Nowhere)
     } else {
         put_unfit(alloc, out, program, inputs)
     }
 }
 
-/// Adds the details of a failed opening. Without a text there are none.
+/// Adds the details of a failed opening, and returns which input is wrong. Without a text there are none.
 fn put_opening_details(
     alloc: Global,
     out: &mut Vec<u8>,
     source: &Option<SourceText<'_>>,
     program: &[Procedure],
     inputs: &[Input],
-) -> Result<(), AllocError>
-    ensures { OnOk result ((more : List ℕ) × AreOpeningDetails (text_of source.now) program.now inputs.now more × (out.new.items ≡ out.old.items ++ more)) }
+) -> Result<Position, AllocError>
+    ensures { IfOk result (λ at. (more : List ℕ) × AreOpeningDetails (text_of source.now) program.now inputs.now at more × (out.new.items ≡ out.old.items ++ more)) }
 {
     match source {
         Some(_) => put_inputs_diagnostic(alloc, out, program, inputs),
-        None => Ok(()),
+        None => Ok(Position::Nowhere),
     }
 }
 
-/// Returns the reply to a program that isn't opened, without a diagnostic of its inputs.
-pub fn opening_reply(alloc: Global, number: u8) -> Result<Reply, AllocError>
-    requires { number < 100 }
-    ensures { IfOk result (λ r. reply r.text.items r.close ≡ reply (opening_line number) Close.Refused) }
+/// Returns the error of a program that isn't opened.
+pub fn opening_failure(number: u8, position: Position) -> Failure
+    ensures { result ≡ coded 79 number position }
 {
-    let mut text = Vec::new(alloc);
-    put_opening_line(&mut text, number)?;
-    Ok(refused_by(text))
+    Failure::coded(b'O', number, position)
 }
 
 /// Returns the reply to a program that isn't opened with these inputs.
@@ -217,12 +260,11 @@ pub fn inputs_refused_reply(
     program: &[Procedure],
     inputs: &[Input],
 ) -> Result<Reply, AllocError>
-    requires { number < 100 }
-    ensures { IfOk result (λ r. (more : List ℕ) × AreOpeningDetails (text_of source.now) program.now inputs.now more
-        × (reply r.text.items r.close ≡ reply (opening_line number ++ more) Close.Refused)) }
+    ensures { IfOk result (λ r. (at : Position) × (more : List ℕ) × AreOpeningDetails (text_of source.now) program.now inputs.now at more
+        × (reply r.text.items r.close ≡ failed_with (coded 79 number at) more)) }
 {
     let mut text = Vec::new(alloc);
-    put_opening_line(&mut text, number)?;
-    put_opening_details(alloc, &mut text, source, program, inputs)?;
-    Ok(refused_by(text))
+    put_failure_line(alloc, &mut text, opening_failure(number, Position::Nowhere))?;
+    let position = put_opening_details(alloc, &mut text, source, program, inputs)?;
+    Ok(refused_by(text, opening_failure(number, position)))
 }

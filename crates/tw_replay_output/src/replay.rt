@@ -13,6 +13,8 @@ ghost use Rattle.std.specs.Str.Lines.{lines};
 ghost use Rattle.tw_order.specs.Orders.{replay_with};
 ghost use Rattle.tw_replay_output.specs.Counted.{AreShort};
 ghost use Rattle.tw_program_output.specs.Inputs.{RepliesByInputs, RepliesByWords, before_inputs, after_inputs, words_in};
+ghost use Rattle.tw_program_output.specs.Failure.{coded, uncoded};
+ghost use Rattle.tw_program_output.specs.declared.failure.Position.TheVariants as position;
 ghost use Rattle.tw_program_output.specs.Program.{RepliesBySource, source_text};
 ghost use Rattle.tw_program_output.specs.Source.{MayBeSource, text_of};
 ghost use Rattle.tw_stats.specs.Kept.{IsFirst};
@@ -30,8 +32,8 @@ use tw_inputs::inputs_of;
 use tw_machine::{Plain, Stopped};
 use tw_order::{Answer, ReplayOptions, ReplayOrder, Source};
 use tw_program_output::{
-    Close, ReadProgram, Reply, SourceText, input_parts, not_utf8_reply, parse_error_reply,
-    read_program, refused_by, refused_words_reply, symbols_of,
+    Close, Failure, Position, ReadProgram, Reply, SourceText, input_parts, not_utf8_reply,
+    parse_error_reply, read_program, refused_by, refused_words_reply, symbols_of,
 };
 use tw_report::{
     HistoryFault, cut_history, put_history_line, put_not_enabled_line, put_trap_line, read_history,
@@ -60,22 +62,23 @@ fn state_reply(alloc: Global, plain: &Plain) -> Result<Reply, AllocError>
 
 /// Returns the reply that the event with this number isn't enabled.
 fn not_enabled_reply(alloc: Global, event: usize) -> Result<Reply, AllocError>
-    ensures { IfOk result (λ r. reply r.text.items r.close ≡ reply (not_enabled_line event) Close.Refused) }
+    ensures { IfOk result (λ r. reply r.text.items r.close ≡ reply (not_enabled_line event) (Close.Refused (uncoded (position.Event event)))) }
 {
     let mut text = Vec::new(alloc);
     put_not_enabled_line(alloc, &mut text, event)?;
-    Ok(refused_by(text))
+    Ok(refused_by(text, Failure::uncoded(Position::Event(event))))
 }
 
 /// Returns the reply that the event with this number traps.
 fn trap_reply(alloc: Global, cause: Cause, event: usize) -> Result<Reply, AllocError>
-    ensures { IfOk result (λ r. reply r.text.items r.close ≡ reply (trap_line (cause_number cause) event) Close.Trapped) }
+    ensures { IfOk result (λ r. reply r.text.items r.close ≡ reply (trap_line (cause_number cause) event) (Close.Trapped (coded 67 (cause_number cause) (position.Event event)))) }
 {
+    let failure = Failure::coded(b'C', cause.number(), Position::Event(event));
     let mut text = Vec::new(alloc);
     put_trap_line(alloc, &mut text, cause.number(), event)?;
     Ok(Reply {
         text,
-        close: Close::Trapped,
+        close: Close::Trapped(failure),
     })
 }
 
@@ -190,11 +193,11 @@ fn events_reply(
 
 /// Returns the reply that a line of the trace isn't known.
 fn line_reply(alloc: Global, line: usize) -> Result<Reply, AllocError>
-    ensures { IfOk result (λ r. reply r.text.items r.close ≡ reply (history_line line) Close.Refused) }
+    ensures { IfOk result (λ r. reply r.text.items r.close ≡ reply (history_line line) (Close.Refused (coded 69 1 (position.Line line)))) }
 {
     let mut text = Vec::new(alloc);
     put_history_line(alloc, &mut text, line)?;
-    Ok(refused_by(text))
+    Ok(refused_by(text, Failure::coded(b'E', 1, Position::Line(line))))
 }
 
 /// Reads the trace, and replays it on the program.

@@ -6,7 +6,7 @@ ghost use Rattle.tw_code.specs.format.Program.{Versioned};
 ghost use Rattle.tw_code.specs.machine.Ending.{ending};
 ghost use Rattle.tw_code.specs.machine.State.{State};
 ghost use Rattle.tw_machine.specs.Opening.{open_error_code, rejection_of};
-ghost use Rattle.tw_program_output.specs.Lines.{opening_line};
+ghost use Rattle.tw_program_output.specs.Failure.{coded, failed_with};
 ghost use Rattle.tw_replay_output.specs.Circle.{AreEndingDetails, Start, reached_from};
 ghost use Rattle.tw_replay_output.specs.Replay.{ByOutcome, IsAnswer, AreAnswerDetails, IsAnswered, AreRejectionDetails, AreReportDetails, opened, start_of};
 ghost use Rattle.tw_program_output.specs.Reply.{reply};
@@ -15,12 +15,12 @@ ghost use Rattle.tw_replay_output.specs.Stuck.{CanPrintCircle, ClosesBy, IsStart
 ghost use Rattle.tw_symbols.specs.Symbols.{AreSymbols};
 ghost use Rattle.tw_replay_output.specs.Counted.{AreShort};
 
-use crate::opening::{inputs_refused_reply, opening_reply};
+use crate::opening::{inputs_refused_reply, opening_failure};
 use crate::stuck::put_stuck;
 use std::alloc::{AllocError, Global};
 use tw_machine::{OpenError, OpenRefused};
 use tw_order::{Answer, ReplayOrder};
-use tw_program_output::{Close, Reply, SourceText};
+use tw_program_output::{Close, Position, Reply, SourceText, failed_reply};
 use tw_types::Event;
 
 /// Returns the reply to a program that isn't opened.
@@ -30,13 +30,16 @@ pub fn unopened_reply(
     order: &ReplayOrder,
     refused: &OpenRefused,
 ) -> Result<Reply, AllocError>
-    ensures { IfOk result (λ r. (refused.now.no ≢ OpenError.NoMemory) × ((more : List ℕ)
-        × AreRejectionDetails (text_of source.now) refused.now.program.procedures order.now.inputs refused.now.no more
-        × (reply r.text.items r.close ≡ reply (opening_line (open_error_code refused.now.no) ++ more) Close.Refused))) }
+    ensures { IfOk result (λ r. (refused.now.no ≢ OpenError.NoMemory) × ((at : Position) × (more : List ℕ)
+        × AreRejectionDetails (text_of source.now) refused.now.program.procedures order.now.inputs refused.now.no at more
+        × (reply r.text.items r.close ≡ failed_with (coded 79 (open_error_code refused.now.no) at) more))) }
 {
     match refused.no {
         OpenError::NoMemory => Err(AllocError),
-        OpenError::MainShape => opening_reply(alloc, refused.no.number()),
+        OpenError::MainShape => {
+            let failure = opening_failure(refused.no.number(), Position::Nowhere);
+            failed_reply(alloc, failure)
+        }
         _ => inputs_refused_reply(
             alloc,
             source,

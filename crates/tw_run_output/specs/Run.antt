@@ -27,6 +27,8 @@ use Rattle.tw_run_output.specs.Ends.{end_report}
 use Rattle.tw_run_output.specs.Json.{run_line}
 use Rattle.tw_program_output.specs.declared.close.Close.{Close}
 use Rattle.tw_program_output.specs.declared.close.Close.TheVariants as close
+use Rattle.tw_program_output.specs.declared.failure.Position.TheVariants as position
+use Rattle.tw_program_output.specs.Failure.{uncoded}
 use Rattle.tw_replay_output.specs.Circle.{Start, PrintsCircle}
 use Rattle.tw_replay_output.specs.Replay.{AreBudgets}
 
@@ -39,7 +41,7 @@ abbrev pub close_of : Closing → Close
 close_of Quiet = close.Success
 close_of (Stuck rules) = close.Stuck
 close_of Limit = close.Limit
-close_of Stopped = close.Refused
+close_of Stopped = close.Refused (uncoded position.Nowhere)
 
 -- returns the line after `limit`, if the program was read from a text: how many events the run has, and how many one may have
 abbrev pub limit_details : Option (List ℕ) → RunOrder → Closing → List ℕ

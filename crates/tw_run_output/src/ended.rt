@@ -23,7 +23,7 @@ use tw_code::Program;
 use tw_machine::Plain;
 use tw_order::{EventRange, RunAnswer, RunOrder};
 use tw_pool::{Closing, Final, History};
-use tw_program_output::{Close, Reply, SourceText, symbols_of};
+use tw_program_output::{Close, Failure, Position, Reply, SourceText, symbols_of};
 use tw_replay_output::{Counting, budgets_of, count, draw, put_bytes};
 use tw_report::{put, put_event_line, put_numbered};
 use tw_types::Event;
@@ -37,7 +37,7 @@ fn close_of(closing: Closing) -> Close
         Closing::Quiet => Close::Success,
         Closing::Stuck(_) => Close::Stuck,
         Closing::Limit => Close::Limit,
-        Closing::Stopped => Close::Refused,
+        Closing::Stopped => Close::Refused(Failure::uncoded(Position::Nowhere)),
     }
 }
 

@@ -4,3 +4,4 @@ pub mod Answering
 pub mod Ran
 pub mod Replies
 mod SessionNames
+pub mod Ending

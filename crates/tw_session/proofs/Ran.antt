@@ -80,5 +80,5 @@ pub in_threads : (program : List Procedure) (order : RunOrder) (history : List E
 in_threads program order history threads = subst (λ b. IsOrdered b program order history) (sym threads) tt
 
 -- single-threaded, the trace is the one that the actors make
-pub in_turn : (verified : TypedProgram) (order : RunOrder) (p : PoolView) → order.in_turn ≡ true → ComesTo (opened verified order.inputs order.layout order.limit) IsOver p → IsOrdered order.in_turn verified.program order p.history
+pub in_turn : (verified : TypedProgram) (order : RunOrder) (p : PoolView) → order.in_turn ≡ true → ComesTo order.seed (opened verified order.inputs order.layout order.limit) IsOver p → IsOrdered order.in_turn verified.program order p.history
 in_turn verified order p turns comes = subst (λ b. IsOrdered b verified.program order p.history) (sym turns) (record { verified = verified; is = refl; last = p; comes = comes; made = refl })

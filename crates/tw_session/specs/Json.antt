@@ -1,5 +1,5 @@
 -- Replies as JSON.
-use Rattle.std.specs.Prelude.{ℕ, Bool, true, false, List, codes, if◌then◌else◌}
+use Rattle.std.specs.Prelude.{ℕ, Bool, List, if◌then◌else◌, is_some}
 use Rattle.tw_order.specs.declared.runs.Answer.{Answer}
 use Rattle.tw_order.specs.declared.runs.Answer.TheVariants as answer
 use Rattle.tw_order.specs.declared.form.Assembling.{Assembling}
@@ -21,9 +21,9 @@ use Rattle.tw_order.specs.declared.form.Form.{Form}
 use Rattle.tw_order.specs.declared.form.Form.TheVariants as form
 use Rattle.tw_json_output.specs.declared.text_object.Printed.{Printed}
 use Rattle.tw_json_output.specs.declared.text_object.Printed.TheVariants as printed
-use Rattle.tw_json_output.specs.Error.{error_json, listed_error_json}
 use Rattle.tw_json_output.specs.Run.{json_line}
 use Rattle.tw_json_output.specs.Texts.{explanation_json, printed_json}
+use Rattle.tw_program_output.specs.ErrorJson.{error_json, failure_in, listed_error_json}
 use Rattle.tw_program_output.specs.Reply.{Reply, reply}
 use Rattle.tw_program_output.specs.declared.close.Close.{Close}
 use Rattle.tw_program_output.specs.declared.close.Close.TheVariants as close
@@ -88,27 +88,14 @@ rendering_of (Each source order) = Plain
 
 -- returns whether a reply that closes so is of an error
 abbrev pub is_error : Close → Bool
-is_error close.Success = false
-is_error close.Refused = true
-is_error close.CommandLine = true
-is_error close.Stuck = false
-is_error close.Limit = false
-is_error close.Trapped = true
-
-abbrev pub error_status : Close → List ℕ
-error_status close.Success = codes "refused"
-error_status close.Refused = codes "refused"
-error_status close.CommandLine = codes "refused"
-error_status close.Stuck = codes "refused"
-error_status close.Limit = codes "refused"
-error_status close.Trapped = codes "trap"
+is_error close = is_some (failure_in close)
 
 -- return an error, and any other reply, in the requested form
 abbrev pub error_reply : Rendering → Reply → Reply
 error_reply Plain r = r
-error_reply Errors r = reply (json_line (error_json (error_status r.close) r.text)) r.close
-error_reply ListedErrors r = reply (json_line (listed_error_json r.text)) r.close
-error_reply (Whole made) r = reply (json_line (error_json (error_status r.close) r.text)) r.close
+error_reply Errors r = reply (json_line (error_json r)) r.close
+error_reply ListedErrors r = reply (json_line (listed_error_json r)) r.close
+error_reply (Whole made) r = reply (json_line (error_json r)) r.close
 
 abbrev pub output_reply : Rendering → Reply → Reply
 output_reply Plain r = r

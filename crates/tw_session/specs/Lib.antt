@@ -5,5 +5,6 @@ pub mod Status
 pub mod Run
 pub mod Json
 pub mod Session
+pub mod Each
 -- The definitions for private clauses: what the code keeps before a program is run.
 pub mod ProgramAction

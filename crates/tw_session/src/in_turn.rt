@@ -34,7 +34,7 @@ fn left_reply(
     verified: Verified,
     left: InTurnResult,
 ) -> Result<Reply, AllocError>
-    requires left { IsLeft (opened verified order.now.inputs order.now.layout order.now.limit) left }
+    requires left { IsLeft order.now.seed (opened verified order.now.inputs order.now.layout order.now.limit) left }
     requires turns { order.now.in_turn ≡ true }
     requires inputs { AreInputsOf verified.program order.now.inputs }
     requires source { MayBeSource source.now verified.program }
@@ -63,7 +63,8 @@ pub fn reply_single_threaded(
     ensures { IfOk result (λ r. RepliesByOpening (text_of source.now) verified.program order.now (reply r.text.items r.close)) }
 {
     let inputs = order.inputs.as_slice();
-    match run_in_turn(alloc, &verified, inputs, order.layout, order.limit.events()) {
+    let limit = order.limit.events();
+    match run_in_turn(alloc, &verified, inputs, order.layout, limit, order.seed) {
         Ok(left) => left_reply(alloc, source, order, verified, left),
         Err(OpenError::NoMemory) => Err(AllocError),
         Err(why) => inputs_refused_reply(

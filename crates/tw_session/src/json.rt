@@ -1,18 +1,18 @@
 //! Replies as JSON.
 
 ghost use Rattle.std.specs.Prelude.{◌≡◌, IfOk, string_bytes};
-ghost use Rattle.tw_json_output.specs.Error.{error_json, listed_error_json};
 ghost use Rattle.tw_json_output.specs.Run.{json_line};
+ghost use Rattle.tw_program_output.specs.ErrorJson.{error_json, listed_error_json};
 ghost use Rattle.tw_program_output.specs.Reply.{reply};
-ghost use Rattle.tw_session.specs.Json.{assembled_as, checked_as, disassembled_as, error_reply, error_status, explained_reply, in_form, in_json, inputs_rendering, is_error, output_reply, program_rendering, rendering_of, replayed_as, run_as_json, verified_rendering};
+ghost use Rattle.tw_session.specs.Json.{assembled_as, checked_as, disassembled_as, error_reply, explained_reply, in_form, in_json, inputs_rendering, is_error, output_reply, program_rendering, rendering_of, replayed_as, run_as_json, verified_rendering};
 
 use std::alloc::{AllocError, Global};
 use tw_cli::Explained;
-use tw_json_output::{Printed, error_line, explanation_line, listed_error_line, printed_line};
+use tw_json_output::{Printed, explanation_line, printed_line};
 use tw_order::{
     Answer, Assembling, Form, InputsOrder, Order, Places, ProgramOrder, RunAnswer, VerifiedOrder,
 };
-use tw_program_output::{Close, Reply};
+use tw_program_output::{Close, Reply, error_line, failure_in, listed_error_line};
 
 /// The form that a reply's text takes.
 #[derive(Clone, Copy)]
@@ -129,21 +129,7 @@ pub fn rendering_of(order: &Order) -> Rendering
 fn is_error(close: Close) -> bool
     ensures { result ≡ is_error close }
 {
-    match close {
-        Close::Refused | Close::CommandLine | Close::Trapped => true,
-        Close::Success | Close::Stuck | Close::Limit => false,
-    }
-}
-
-fn error_status(close: Close) -> &'static str
-    ensures { result.now ≡ error_status close }
-{
-    match close {
-        Close::Trapped => "trap",
-        Close::Refused | Close::CommandLine | Close::Success | Close::Stuck | Close::Limit => {
-            "refused"
-        }
-    }
+    failure_in(close).is_some()
 }
 
 /// Returns the reply of this line.
@@ -158,17 +144,17 @@ fn line_reply(line: String, close: Close) -> Reply
 
 /// Returns the object of an error.
 fn error_object(alloc: Global, text: &Reply) -> Result<Reply, AllocError>
-    ensures { IfOk result (λ r. reply r.text.items r.close ≡ reply (json_line (error_json (error_status text.now.close) text.now.text.items)) text.now.close) }
+    ensures { IfOk result (λ r. reply r.text.items r.close ≡ reply (json_line (error_json (reply text.now.text.items text.now.close))) text.now.close) }
 {
-    let line = error_line(alloc, error_status(text.close), &text.text)?;
+    let line = error_line(alloc, text)?;
     Ok(line_reply(line, text.close))
 }
 
 /// Returns the object of an error that may come after a listing.
 fn listed_error(alloc: Global, text: &Reply) -> Result<Reply, AllocError>
-    ensures { IfOk result (λ r. reply r.text.items r.close ≡ reply (json_line (listed_error_json text.now.text.items)) text.now.close) }
+    ensures { IfOk result (λ r. reply r.text.items r.close ≡ reply (json_line (listed_error_json (reply text.now.text.items text.now.close))) text.now.close) }
 {
-    let line = listed_error_line(alloc, &text.text)?;
+    let line = listed_error_line(alloc, text)?;
     Ok(line_reply(line, text.close))
 }
 

@@ -15,7 +15,7 @@ use tw_code::{Program, main_params};
 use tw_each::line_parts;
 use tw_inputs::{NoInputs, Place, Scratch, fault_text, read_inputs};
 use tw_order::{ProgramOrder, RunOptions, Source, VerifiedOrder};
-use tw_program_output::{Close, Reply, SourceText, not_utf8_reply};
+use tw_program_output::{Reply, SourceText, not_utf8_reply, unreadable_reply};
 use tw_types::{Input, Items, Param};
 
 /// A run with the inputs that a JSON text has.
@@ -50,10 +50,7 @@ fn fault_reply(
     ensures { IfOk result (λ r. PrintsFault place (reply r.text.items r.close)) }
 {
     let text = fault_text(alloc, params, json, place, 1, scratch)?;
-    Ok(Reply {
-        text,
-        close: Close::CommandLine,
-    })
+    Ok(unreadable_reply(text, place))
 }
 
 /// Returns the inputs that a JSON text has for these parameters.

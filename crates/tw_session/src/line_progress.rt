@@ -11,10 +11,6 @@ pub struct LineProgress<'a> {
 
 impl<'a> Progress for LineProgress<'a> {
     fn so_far(&self) -> Option<SoFar> {
-        let now = self.count.so_far()?;
-        Some(SoFar::Lines {
-            answered: now.answered,
-            lines: now.lines,
-        })
+        Some(SoFar::Lines(self.count.so_far()?))
     }
 }

@@ -14,7 +14,7 @@ ghost use Rattle.tw_program_output.specs.Program.{RepliesBySource, source_text};
 ghost use Rattle.tw_program_output.specs.Reply.{reply};
 ghost use Rattle.tw_session.specs.Run.{RepliesByOpening};
 ghost use Rattle.tw_program_output.specs.Source.{MayBeSource, text_of};
-ghost use Rattle.tw_session.specs.Session.{MayReply, MayReplyText, RepliesByInput, RepliesByProgram, RepliesWithInputs};
+ghost use Rattle.tw_session.specs.Session.{MayReply, MayReplyText, RepliesByInput, RepliesByProgram, RepliesWithInputs, excessive_reply as excessive_reply_is};
 
 use crate::in_turn::reply_single_threaded;
 use crate::input::MOST_BYTES;
@@ -27,11 +27,11 @@ use std::alloc::{AllocError, Global};
 use std::sync::Wait;
 use std::thread::{Threads, join};
 use std::time::Clock;
-use tw_each::{Answering, InOneThread, InThreads, LineCount, each_reply};
+use tw_each::{Answering, InOneThread, InThreads, LineCount, each_reply, too_long_reply};
 use tw_inputs::inputs_of;
 use tw_order::{InputsOrder, Order, ProgramOrder, RunOptions, Source, VerifiedOrder};
 use tw_program_output::{
-    Close, ReadProgram, Reply, SourceText, assembled_reply, fixed_reply, input_parts,
+    Failure, Position, ReadProgram, Reply, SourceText, assembled_reply, failed_reply, input_parts,
     not_utf8_reply, parse_error_reply, read_program, refused_words_reply,
 };
 use tw_replay_output::{replay_inputs_reply, replay_reply};
@@ -150,6 +150,16 @@ fn ordered_step<A: Answering>(
     }
 }
 
+/// Returns the reply to too many bytes. Its form is that of other errors before `in_form`.
+fn excessive_reply(alloc: Global, order: &Order) -> Result<Reply, AllocError>
+    ensures { IfOk result (λ r. reply r.text.items r.close ≡ excessive_reply_is order.now) }
+{
+    match order {
+        Order::Each(..) => too_long_reply(alloc),
+        _ => failed_reply(alloc, Failure::coded(b'H', 2, Position::Nowhere)),
+    }
+}
+
 /// Returns the step of an order and the bytes that were read. The error is that an allocation fails.
 fn step_of<A: Answering>(
     alloc: Global,
@@ -161,7 +171,7 @@ fn step_of<A: Answering>(
     ensures { IfOk result (Comes (IsInTurn order) (MayReplyText order input.items)) }
 {
     if input.len() > MOST_BYTES {
-        let reply = fixed_reply(alloc, "refused H02\n", Close::Refused)?;
+        let reply = excessive_reply(alloc, &order)?;
         Ok(OrderAction::Finished(reply))
     } else {
         ordered_step(alloc, answering, order, input)

@@ -16,7 +16,7 @@ use std::time::Clock;
 use tw_host::Closed;
 use tw_order::RunOrder;
 use tw_pool::{Closing, OpenError};
-use tw_program_output::{Close, Reply, SourceText, fixed_reply};
+use tw_program_output::{Failure, Position, Reply, SourceText, failed_reply};
 use tw_replay_output::inputs_refused_reply;
 use tw_run_output::ended_reply;
 use tw_verify::Verified;
@@ -40,7 +40,7 @@ pub fn stop_reason(closing: Option<Closing>) -> Option<Closing>
 fn threads_reply(alloc: Global) -> Result<Reply, AllocError>
     ensures { IfOk result (λ r. reply r.text.items r.close ≡ threads_refused) }
 {
-    fixed_reply(alloc, "refused X01\n", Close::Refused)
+    failed_reply(alloc, Failure::coded(b'X', 1, Position::Nowhere))
 }
 
 /// Returns the reply of a run whose seats were all returned.

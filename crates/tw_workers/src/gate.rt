@@ -12,8 +12,8 @@ use tw_types::Actor;
 pub enum SoFar {
     /// A run has this many events.
     Events(u64),
-    /// This many of all lines of inputs are answered.
-    Lines { answered: u64, lines: u64 },
+    /// This many lines of inputs are answered.
+    Lines(u64),
 }
 
 /// Progress of work that other threads do: of a run, or of the runs of many lines.

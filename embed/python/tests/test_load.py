@@ -108,8 +108,9 @@ class Loading(unittest.TestCase):
 class Slow:
     """A library that takes five seconds to load a program."""
 
-    def yuglemit_load_source(self, *words: object) -> None:
+    def yuglemit_raw_load_source(self, *words: object) -> int:
         time.sleep(5)
+        return 0
 
 
 class Large(unittest.TestCase):

@@ -113,6 +113,32 @@ def threads_left(expected: int) -> int:
     return threading.active_count()
 
 
+# Two tasks insert their members at one subscript, each by its copy.
+RACE = """
+proc control write cont int
+regs int int
+INT v0 1
+INT v1 2
+DUPW d1 d0
+DUPW d2 d0
+PUT 1 0 any 1 0
+PUT 1 0 any 2 1
+DROPW d0
+RET
+proc leaf write cont int val int
+regs int int
+NEW d1 d2 int
+STORE d1 v0
+INS d0 v1 d2 taken
+JMP done
+taken:
+DROPR d2
+done:
+DROPW d0
+RET
+"""
+
+
 class Programs(unittest.TestCase):
     def test_what_is_known_before_a_run(self) -> None:
         program = yuglemit.load(EXAMPLES / "mapreduce.twn")
@@ -280,6 +306,18 @@ class Reports(unittest.TestCase):
         text = "proc control write int write cont int\nregs\nNEW d2 d3 int\nRULE 1 0 any 3 2 0 1\nRET\n\nproc leaf closed int write int write int write cont int\nregs int\nDROPR d0\nSTORE d1 v0\nSTORE d2 v0\nDROPW d3\nRET\n"
         report = yuglemit.load(text).run()
         self.assertEqual((report.end, report.outputs, report.unfinished), ("stuck", [None, {}], [0, 1]))
+
+    def test_seeds(self) -> None:
+        """A seed gives its order again; the tasks of this program compete for one subscript, so two seeds give two results."""
+        program = yuglemit.load(RACE)
+        orders = [program.run(workers=2, seed=seed) for seed in (1, 1, 4, 2**64 - 1)]
+        self.assertEqual([report.outputs for report in orders], [[{0: 1}], [{0: 1}], [{0: 2}], [{0: 1}]])
+        self.assertEqual(orders[0].trace, orders[1].trace)
+        self.assertNotEqual(orders[0].trace, orders[2].trace)
+        self.assertEqual(program.replay(orders[2].trace, workers=2).outputs, [{0: 2}])
+        for seed in (0, 2**64, -1):
+            with self.assertRaises(ValueError):
+                program.run(seed=seed)
 
     def test_numbers_trace_and_timeline(self) -> None:
         program = yuglemit.load(example("pipeline.twn"))

@@ -7,7 +7,7 @@ import ctypes
 
 import yuglemit
 from common import DOUBLE
-from yuglemit._library import Handle, RawVerdict, library, short
+from yuglemit._library import Handle, library, numbers, short
 
 
 def read_too_far() -> None:
@@ -17,7 +17,8 @@ def read_too_far() -> None:
     allocator.malloc.restype = ctypes.c_void_p
     block = ctypes.c_void_p(allocator.malloc(ctypes.c_size_t(len(program) - 1)))
     ctypes.memmove(block, program, len(program) - 1)
-    library().yuglemit_verify(ctypes.cast(block, ctypes.c_char_p), len(program), ctypes.byref(RawVerdict()))
+    verdict = numbers(*[0] * 9)
+    library().yuglemit_raw_verify(ctypes.cast(block, ctypes.c_char_p), len(program), verdict, len(verdict))
     allocator.free(block)
 
 

@@ -34,8 +34,6 @@ def texted(text: str) -> bytes:
 
 def refused(verdict: _native.Verdict) -> Exception:
     """Returns the error of a program's bytes that aren't accepted, with the text that `tw check` writes."""
-    if verdict.letter == "M":
-        return MemoryError("yuglemit: out of memory")
     where = f" at byte {verdict.place}" if verdict.letter == "F" else f" in procedure {verdict.procedure} at place {verdict.place}"
     return Refused(f"refused {verdict.letter}{verdict.number:02}{where if verdict.letter in 'FV' else ''}\n")
 

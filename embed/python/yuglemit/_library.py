@@ -18,57 +18,6 @@ class Handle(ctypes.Structure):
     _fields_ = [("at", ctypes.c_void_p)]
 
 
-class RawVerdict(ctypes.Structure):
-    """The verifier's answer, as the library writes it."""
-
-    _fields_ = [
-        ("letter", ctypes.c_uint8),
-        ("number", ctypes.c_uint8),
-        ("engines", ctypes.c_uint8),
-        ("workers", ctypes.c_uint8),
-        ("procedure", ctypes.c_size_t),
-        ("place", ctypes.c_size_t),
-    ]
-
-
-class SourceVerdict(ctypes.Structure):
-    """The answer to a source, with the position in its text."""
-
-    _fields_ = [("verdict", RawVerdict), ("line", ctypes.c_size_t), ("word", ctypes.c_size_t), ("column", ctypes.c_size_t)]
-
-
-class Options(ctypes.Structure):
-    """The options of a run."""
-
-    _fields_ = [
-        ("size", ctypes.c_size_t),
-        ("limit", ctypes.c_size_t),
-        ("engines", ctypes.c_uint8),
-        ("servers", ctypes.c_uint8),
-        ("workers", ctypes.c_uint8),
-    ]
-
-
-class RawBounds(ctypes.Structure):
-    """The most that runs do, as the library writes it."""
-
-    _fields_ = [
-        ("tasks", ctypes.c_uint64),
-        ("instructions", ctypes.c_uint64),
-        ("data", ctypes.c_uint64),
-        ("members", ctypes.c_uint64),
-        ("rules", ctypes.c_uint64),
-        ("bytes", ctypes.c_uint64),
-        ("events", ctypes.c_uint64),
-    ]
-
-
-class Ending(ctypes.Structure):
-    """How a run ended."""
-
-    _fields_ = [("events", ctypes.c_size_t), ("outputs", ctypes.c_size_t), ("status", ctypes.c_uint8)]
-
-
 class Item(ctypes.Structure):
     """A datum of a report."""
 
@@ -88,23 +37,9 @@ class Member(ctypes.Structure):
     _fields_ = [("subscript", Item), ("value", Item)]
 
 
-class RawProcedure(ctypes.Structure):
-    """A procedure of a program."""
-
-    _fields_ = [("parameters", ctypes.c_size_t), ("kind", ctypes.c_uint8)]
-
-
-class RawParameter(ctypes.Structure):
-    """A parameter of a procedure."""
-
-    _fields_ = [
-        ("mode", ctypes.c_uint8),
-        ("depth", ctypes.c_uint8),
-        ("scalar", ctypes.c_uint8),
-        ("by", ctypes.c_uint8),
-        ("by_second", ctypes.c_uint8),
-        ("by_third", ctypes.c_uint8),
-    ]
+def numbers(*values: int) -> "ctypes.Array[ctypes.c_uint64]":
+    """Returns the fields of a struct of the library after its size: a call takes them as a list of numbers, and how many there are."""
+    return (ctypes.c_uint64 * len(values))(*values)
 
 
 def _place() -> str:
@@ -128,46 +63,50 @@ _BYTES = (ctypes.c_char_p, ctypes.c_size_t)
 _ROOM = (ctypes.c_void_p, ctypes.c_size_t)
 _KINDS = ("program", "inputs", "container", "stop", "report", "text")
 
-# The types of calls that release the GIL, and of those that keep it. The latter return 0 or the letter of an error. A run may be either.
+_NUMBERS = (ctypes.POINTER(ctypes.c_uint64), ctypes.c_size_t)
+_SIZE = ctypes.c_size_t
+
+# A run of a program: inputs, options, caps, stop flag, report.
+_RUN = (_AT, _AT, *_NUMBERS, *_NUMBERS, _AT, _AT)
+
+# The types of calls that release the GIL, and of those that keep it. The latter return 0 or the code of an error. A run may be either.
 _LONG_CALLS: Dict[str, Tuple[Any, Sequence[Any]]] = {
-    "session": (ctypes.c_size_t, (*_BYTES, *_BYTES, *_ROOM, ctypes.POINTER(ctypes.c_uint8))),
+    "session": (_SIZE, (*_BYTES, *_BYTES, *_ROOM, ctypes.POINTER(ctypes.c_uint8))),
     "session_text": (ctypes.c_uint8, (*_BYTES, *_BYTES, _AT)),
-    "verify": (None, (*_BYTES, ctypes.POINTER(RawVerdict))),
-    "load_source": (None, (*_BYTES, ctypes.c_uint8, _AT, ctypes.POINTER(SourceVerdict))),
-    "run_capped": (ctypes.c_uint8, (_AT, _AT, ctypes.POINTER(Options), ctypes.POINTER(ctypes.c_uint64), ctypes.c_size_t, _AT, _AT)),
-    "print_report": (ctypes.c_uint8, (_AT, _AT)),
-    "print_trace": (ctypes.c_uint8, (_AT, _AT)),
-    "print_json": (ctypes.c_uint8, (_AT, _AT)),
+    "raw_verify": (ctypes.c_uint8, (*_BYTES, *_NUMBERS)),
+    "raw_load_source": (ctypes.c_uint8, (*_BYTES, ctypes.c_uint8, *_NUMBERS, _AT, *_NUMBERS)),
+    "raw_run": (ctypes.c_uint8, _RUN),
+    "raw_print_report": (ctypes.c_uint8, (_AT, _AT)),
+    "raw_print_trace": (ctypes.c_uint8, (_AT, _AT)),
+    "raw_print_json": (ctypes.c_uint8, (_AT, _AT)),
 }
 _SHORT_CALLS: Dict[str, Sequence[Any]] = {
-    "program_share": (_AT, _AT),
-    "program_procedures": (_AT, ctypes.POINTER(ctypes.c_size_t)),
-    "program_procedure": (_AT, ctypes.c_size_t, ctypes.POINTER(RawProcedure)),
-    "program_parameter": (_AT, ctypes.c_size_t, ctypes.c_size_t, ctypes.POINTER(RawParameter)),
-    "program_budget": (_AT, ctypes.c_size_t, ctypes.POINTER(ctypes.c_uint64)),
-    "program_bounds": (_AT, ctypes.c_size_t, ctypes.POINTER(RawBounds)),
+    "raw_program_procedures": (_AT, ctypes.POINTER(_SIZE)),
+    "raw_program_procedure": (_AT, _SIZE, *_NUMBERS),
+    "raw_program_parameter": (_AT, _SIZE, _SIZE, *_NUMBERS),
+    "raw_program_budget": (_AT, _SIZE, ctypes.POINTER(ctypes.c_uint64)),
+    "raw_program_bounds": (_AT, _SIZE, *_NUMBERS),
     "input_int": (_AT, ctypes.c_int64),
     "input_text": (_AT, *_BYTES),
-    "input_container": (_AT, _AT),
+    "raw_input_container": (_AT, _AT),
     "container_new": (_AT, ctypes.c_uint8, ctypes.c_uint8),
     "member_int": (_AT, ctypes.c_int64, ctypes.c_int64),
     "member_text": (_AT, ctypes.c_int64, *_BYTES),
     "member_int_by_text": (_AT, *_BYTES, ctypes.c_int64),
     "member_text_by_text": (_AT, *_BYTES, *_BYTES),
     "stop_new": (_AT,),
-    "stop_share": (_AT, _AT),
-    "stop_raise": (_AT,),
-    "run_capped": _LONG_CALLS["run_capped"][1],
-    "unfit_input": (_AT, _AT, ctypes.POINTER(ctypes.c_size_t)),
-    "report_ending": (_AT, ctypes.POINTER(Ending)),
-    "report_output": (_AT, ctypes.c_size_t, ctypes.POINTER(Item)),
-    "report_member": (_AT, ctypes.c_size_t, ctypes.c_size_t, ctypes.POINTER(Member)),
-    "report_text": (_AT, ctypes.c_size_t, *_ROOM),
-    "report_member_text": (_AT, ctypes.c_size_t, ctypes.c_size_t, *_ROOM),
-    "report_subscript_text": (_AT, ctypes.c_size_t, ctypes.c_size_t, *_ROOM),
-    "report_instructions": (_AT, ctypes.POINTER(ctypes.c_uint64)),
-    "text_length": (_AT, ctypes.POINTER(ctypes.c_size_t)),
-    "text_copy": (_AT, *_ROOM),
+    "raw_stop_raise": (_AT,),
+    "raw_run": _RUN,
+    "raw_unfit_input": (_AT, _AT, ctypes.POINTER(_SIZE)),
+    "raw_report_ending": (_AT, *_NUMBERS),
+    "raw_report_output": (_AT, _SIZE, ctypes.POINTER(Item)),
+    "raw_report_members": (_AT, _SIZE, _SIZE, ctypes.POINTER(Member), _SIZE),
+    "raw_report_text": (_AT, _SIZE, *_ROOM),
+    "raw_report_member_text": (_AT, _SIZE, _SIZE, *_ROOM),
+    "raw_report_subscript_text": (_AT, _SIZE, _SIZE, *_ROOM),
+    "raw_report_instructions": (_AT, ctypes.POINTER(ctypes.c_uint64)),
+    "raw_text_length": (_AT, ctypes.POINTER(_SIZE)),
+    "raw_text_copy": (_AT, *_ROOM),
 }
 
 
@@ -179,7 +118,19 @@ def _typed(library: ctypes.CDLL, name: str, returned: Any, types: Sequence[Any])
     call.argtypes, call.restype = types, returned
 
 
+def _check_processor() -> None:
+    """Raises ImportError on a processor that would end the process at the library's first instruction that it lacks. A wheel has no tag for that."""
+    try:
+        flags = Path("/proc/cpuinfo").read_text(encoding="ascii", errors="replace").partition("\nflags")[2].partition("\n")[0].split()
+    except OSError:
+        return
+    missing = [name for name in ("sse4_2", "popcnt") if flags and name not in flags]
+    if missing:
+        raise ImportError(f"the library is for x86-64-v2, and this processor lacks {' and '.join(missing)}")
+
+
 def _opened(kind: Callable[[str], ctypes.CDLL]) -> ctypes.CDLL:
+    _check_processor()
     try:
         return kind(_place())
     except OSError as why:

@@ -26,8 +26,6 @@ def _needs_of(verdict: _native.Verdict) -> Needs:
 
 def _explained(verdict: _native.Verdict, words: list[str], source: bytes) -> Exception:
     """Returns the error of a text that isn't accepted, with the diagnostic that a command writes."""
-    if verdict.letter == "M":
-        return MemoryError("yuglemit: out of memory")
     try:
         ask(words, source, _native.is_long_source(source))
     except Refused as why:

@@ -122,6 +122,7 @@ def map(
     servers: int = 1,
     workers: int = 1,
     limit: int = DEFAULT_LIMIT,
+    seed: Optional[int] = None,
     most_tasks: Optional[int] = None,
     most_instructions: Optional[int] = None,
     most_data: Optional[int] = None,
@@ -169,7 +170,7 @@ def map(
     [None, TypeError("input 1: expected an int, got str 'x'")]
     """
     caps = (most_tasks, most_instructions, most_data, most_bytes, most_budget, most_members, most_rules)
-    options = options_of(layout_of(engines, servers, workers, limit, *caps), trace, text, line, stop, timeout)
+    options = options_of(layout_of(engines, servers, workers, limit, *caps, seed=seed), trace, text, line, stop, timeout)
     if on_broken not in ("raise", "here"):
         raise ValueError(f'on_broken: expected "raise" or "here", got {shown(on_broken, with_type=False)}')
     if executor is not None and not callable(getattr(executor, "submit", None)):

@@ -1,8 +1,8 @@
 # SPDX-License-Identifier: Apache-2.0
 """Calls the library. Only this module and `_library` know how it is called.
 
-A program that is loaded is kept by the library as a handle, and so are inputs, reports and stop flags (embed/yuglemit.h). A handle is used by
-one call at a time. Runs, sessions and loading release the GIL; brief runs and other short calls keep it, since they take less time than a thread
+A program that is loaded is kept by the library as a handle, and so are inputs, reports and stop flags (embed/yuglemit.h). Once it is made, any
+number of threads use a handle at once. Runs, sessions and loading release the GIL; brief runs and other short calls keep it, since they take less time than a thread
 needs to get it again.
 """
 
@@ -12,20 +12,7 @@ import ctypes
 import threading
 from typing import Any, Callable, Dict, List, NamedTuple, Optional, Sequence, Tuple, TypeVar, Union
 
-from ._library import (
-    Ending,
-    Handle,
-    Item,
-    Member,
-    Options,
-    RawBounds,
-    RawParameter,
-    RawProcedure,
-    RawVerdict,
-    SourceVerdict,
-    library,
-    short,
-)
+from ._library import Handle, Item, Member, library, numbers, short
 
 Answer = Tuple[int, bytes]
 Result = TypeVar("Result")
@@ -65,12 +52,13 @@ class Given(NamedTuple):
 
 
 class Layout(NamedTuple):
-    """How many engines, servers and workers a run has, its most events, and its caps; None is no cap."""
+    """How many engines, servers and workers a run has, its most events, its seed or 0, and its caps; None is no cap."""
 
     engines: int
     servers: int
     workers: int
     limit: int
+    seed: int = 0
     most_tasks: Optional[int] = None
     most_instructions: Optional[int] = None
     most_data: Optional[int] = None
@@ -93,12 +81,18 @@ class Ran(NamedTuple):
 
 
 class RunError(Exception):
-    """Says that a run isn't begun: `code` is the number of the error O01 to O04 or O07, or the letter of an error of the call. `input` is the
+    """Says that a run isn't begun: `code` is what the call returned, and `number` that of the error O01 to O04 or O07, or None. `input` is the
     number of the input that doesn't fit, from 1, if the error is O02."""
 
     def __init__(self, code: int, input_: Optional[int] = None) -> None:
-        super().__init__(f"O{code:02}" if code < 32 else chr(code))
         self.code, self.input = code, input_
+        self.number = code - _RUN_CODES if _RUN_CODES < code <= _ABOVE_CAP else None
+        super().__init__(f"code {code}" if self.number is None else f"O{self.number:02}")
+
+
+# Codes of the library (yuglemit_code of embed/yuglemit.h). That of O01 is 201, and so on.
+_RUN_CODES = 200
+_INPUT_TYPE, _NO_MEMORY, _ABOVE_CAP, _NO_END, _REJECTED = 202, 205, 207, 227, 229
 
 
 # ---- Handles
@@ -117,6 +111,11 @@ class _Owner:
     def __del__(self) -> None:
         self._free(self.handle)
 
+    def seen(self) -> Any:
+        """Returns where a copy of the handle is, for a call that only reads it: the call may write the copy, and nothing that other threads
+        read."""
+        return ctypes.byref(Handle(self.handle.at))
+
 
 def _owner(kind: str) -> _Owner:
     return _Owner(getattr(short(), f"yuglemit_{kind}_free"))
@@ -124,65 +123,45 @@ def _owner(kind: str) -> _Owner:
 
 def _done(code: int) -> None:
     """Raises the error of a call, if there is one. The callers rule out all but a failed allocation."""
-    if code == ord("M"):
+    if code == _NO_MEMORY:
         raise MemoryError("yuglemit: out of memory")
     if code:
-        raise RuntimeError(f"yuglemit: a call returned the error {chr(code)}")
-
-
-# Handles that several threads use, for calls that keep the GIL. A signal handler may set a flag while the same thread has the lock.
-_shared = threading.RLock()
+        raise RuntimeError(f"yuglemit: a call returned the code {code}")
 
 
 class Loaded:
-    """A program that the library keeps. Each run takes a handle of its own, which the next run uses again."""
+    """A program that the library keeps, for all threads."""
 
     def __init__(self, root: _Owner) -> None:
-        self._root = root
-        self._idle: List[_Owner] = []
-
-    def take(self) -> _Owner:
-        """Returns a handle for one run."""
-        try:
-            return self._idle.pop()
-        except IndexError:
-            other = _owner("program")
-            with _shared:
-                _done(short().yuglemit_program_share(self._root.at, other.at))
-            return other
-
-    def give(self, handle: _Owner) -> None:
-        """Keeps a handle for the next run."""
-        self._idle.append(handle)
+        self.root = root
 
     def bounds(self, limit: int) -> List[int]:
         """Returns the bounds of runs with at most so many events, or of all runs if it is 0: tasks, instructions, data, members, rules, bytes,
         events. One over 1,000,000,000,000 is OVER, and none NO_BOUND."""
-        found = RawBounds()
-        with _shared:
-            _done(short().yuglemit_program_bounds(self._root.at, limit, ctypes.byref(found)))
-        return [found.tasks, found.instructions, found.data, found.members, found.rules, found.bytes, found.events]
+        found = numbers(*[0] * 7)
+        _done(short().yuglemit_raw_program_bounds(self.root.seen(), limit, found, len(found)))
+        return list(found)
 
     def heads(self) -> List[Head]:
         """Returns its procedures, main first."""
         count = ctypes.c_size_t()
-        with _shared:
-            _done(short().yuglemit_program_procedures(self._root.at, ctypes.byref(count)))
-            return [self._head(number) for number in range(count.value)]
+        _done(short().yuglemit_raw_program_procedures(self.root.seen(), ctypes.byref(count)))
+        return [self._head(number) for number in range(count.value)]
 
     def _head(self, number: int) -> Head:
-        found, budget = RawProcedure(), ctypes.c_uint64()
-        _done(short().yuglemit_program_procedure(self._root.at, number, ctypes.byref(found)))
-        _done(short().yuglemit_program_budget(self._root.at, number, ctypes.byref(budget)))
-        parameters = [self._parameter(number, index) for index in range(found.parameters)]
-        return Head("control" if found.kind == ord("c") else "leaf", parameters, budget.value)
+        found, budget = numbers(0, 0), ctypes.c_uint64()
+        _done(short().yuglemit_raw_program_procedure(self.root.seen(), number, found, len(found)))
+        _done(short().yuglemit_raw_program_budget(self.root.seen(), number, ctypes.byref(budget)))
+        count, kind = found
+        parameters = [self._parameter(number, index) for index in range(count)]
+        return Head("control" if kind == ord("c") else "leaf", parameters, budget.value)
 
     def _parameter(self, number: int, index: int) -> Tuple[str, str]:
-        found = RawParameter()
-        _done(short().yuglemit_program_parameter(self._root.at, number, index, ctypes.byref(found)))
-        around = (found.by, found.by_second, found.by_third)[: found.depth]
-        outer = "".join("tcont " if by == ord("t") else "cont " for by in around)
-        return _MODES[found.mode], outer + ("text" if found.scalar == ord("t") else "int")
+        found = numbers(*[0] * 6)
+        _done(short().yuglemit_raw_program_parameter(self.root.seen(), number, index, found, len(found)))
+        mode, depth, scalar, *around = found
+        outer = "".join("tcont " if by == ord("t") else "cont " for by in around[:depth])
+        return _MODES[mode], outer + ("text" if scalar == ord("t") else "int")
 
 
 _MODES = {ord("v"): "val", ord("c"): "closed", ord("r"): "ref", ord("w"): "write"}
@@ -195,10 +174,10 @@ def _no_report() -> None:
 class Kept:
     """A report that the library keeps, which it prints without another run. A pickled one is None where it arrives."""
 
-    __slots__ = ("_report", "_lock")
+    __slots__ = ("_report",)
 
     def __init__(self, report: _Owner) -> None:
-        self._report, self._lock = report, threading.Lock()
+        self._report = report
 
     def __reduce__(self) -> Tuple[Callable[[], None], Tuple[()]]:
         return _no_report, ()
@@ -206,9 +185,8 @@ class Kept:
     def printed(self, what: str) -> Optional[str]:
         """Returns the "report", the "trace" or the "json" line; a run that was broken off has no such line."""
         text = _owner("text")
-        with self._lock:
-            code = getattr(library(), f"yuglemit_print_{what}")(self._report.at, text.at)
-        if code == ord("E"):
+        code = getattr(library(), f"yuglemit_raw_print_{what}")(self._report.seen(), text.at)
+        if code == _NO_END:
             return None
         _done(code)
         return _read_text(text).decode()
@@ -216,9 +194,9 @@ class Kept:
 
 def _read_text(text: _Owner) -> bytes:
     length = ctypes.c_size_t()
-    _done(short().yuglemit_text_length(text.at, ctypes.byref(length)))
+    _done(short().yuglemit_raw_text_length(text.seen(), ctypes.byref(length)))
     room = ctypes.create_string_buffer(length.value or 1)
-    _done(short().yuglemit_text_copy(text.at, room, length.value))
+    _done(short().yuglemit_raw_text_copy(text.seen(), room, length.value))
     return ctypes.string_at(room, length.value)
 
 
@@ -226,30 +204,28 @@ class Flag:
     """Stops one run, from another thread or from a signal handler."""
 
     def __init__(self) -> None:
-        self.of_run, self._other = _owner("stop"), _owner("stop")
+        self.of_run = _owner("stop")
         _done(short().yuglemit_stop_new(self.of_run.at))
-        _done(short().yuglemit_stop_share(self.of_run.at, self._other.at))
 
     def set(self) -> None:
         """Ends the run before its next event."""
-        with _shared:
-            _done(short().yuglemit_stop_raise(self._other.at))
+        _done(short().yuglemit_raw_stop_raise(self.of_run.seen()))
 
 
 def load(source: bytes, format_: str) -> Tuple[Verdict, Optional[Loaded]]:
     """Verifies a program, and keeps it if it is accepted. The format is "b" for bytes, "h" for hex text, "t" for assembly text. A long one gives
     way to Ctrl-C, and continues in its thread."""
-    root, verdict = _owner("program"), SourceVerdict()
+    root, verdict, usual = _owner("program"), numbers(*[0] * 9), numbers()
 
-    def call() -> None:
-        library().yuglemit_load_source(source, len(source), ord(format_), root.at, ctypes.byref(verdict))
+    def call() -> int:
+        code = library().yuglemit_raw_load_source(source, len(source), ord(format_), usual, len(usual), root.at, verdict, len(verdict))
+        return int(code)
 
-    if is_long_source(source) and threading.current_thread() is threading.main_thread():
-        _aside(call)
-    else:
-        call()
-    answer = _verdict_of(verdict.verdict)._replace(column=verdict.column)
-    return answer, None if answer.letter else Loaded(root)
+    is_aside = is_long_source(source) and threading.current_thread() is threading.main_thread()
+    code = _aside(call) if is_aside else call()
+    if code != _REJECTED:
+        _done(code)
+    return _verdict_of(verdict), Loaded(root) if code == 0 else None
 
 
 def is_long_source(source: bytes) -> bool:
@@ -257,8 +233,9 @@ def is_long_source(source: bytes) -> bool:
     return len(source) > 500_000
 
 
-def _verdict_of(raw: RawVerdict) -> Verdict:
-    return Verdict(chr(raw.letter) if raw.letter else "", raw.number, raw.engines, raw.workers, raw.procedure, raw.place)
+def _verdict_of(found: Sequence[int]) -> Verdict:
+    letter, number, engines, workers, procedure, place, _line, _word, column = found
+    return Verdict(chr(letter) if letter else "", number, engines, workers, procedure, place, column)
 
 
 # ---- Runs
@@ -276,7 +253,7 @@ def _add_container(inputs: _Owner, kind: str, members: List[Tuple[Scalar, Scalar
     add = getattr(short(), f"yuglemit_member_{inner}" + ("_by_text" if by == "t" else ""))
     for subscript, member in members:
         _done(add(container.at, *_words(subscript), *_words(member)))
-    _done(short().yuglemit_input_container(inputs.at, container.at))
+    _done(short().yuglemit_raw_input_container(inputs.at, container.at))
 
 
 def _words(value: Scalar) -> Tuple[Any, ...]:
@@ -301,25 +278,22 @@ def _inputs_of(given: Sequence[Given]) -> _Owner:
 
 def _call_run(calls: ctypes.CDLL, program: Loaded, inputs: _Owner, layout: Layout, stop: Optional[Flag]) -> _Owner:
     """Makes a run by calls that release the GIL or keep it, and returns the handle of its report."""
-    options = Options(ctypes.sizeof(Options), layout.limit, layout.engines, layout.servers, layout.workers)
-    most = [NO_CAP if cap is None else cap for cap in layout[4:]]
-    caps = (ctypes.c_uint64 * len(most))(*most)
-    flag = stop.of_run.at if stop is not None else ctypes.byref(Handle())
-    report, own = _owner("report"), program.take()
-    code = calls.yuglemit_run_capped(own.at, inputs.at, ctypes.byref(options), caps, len(most), flag, report.at)
-    unfit = _unfit_input(own, inputs) if code == 2 else None
-    program.give(own)
-    if code in (5, ord("M")):
+    options = numbers(layout.limit, layout.engines, layout.servers, layout.workers, layout.seed)
+    caps = numbers(*(NO_CAP if cap is None else cap for cap in layout[5:]))
+    flag = stop.of_run.seen() if stop is not None else ctypes.byref(Handle())
+    report, given = _owner("report"), (program.root.seen(), inputs.seen())
+    code = calls.yuglemit_raw_run(*given, options, len(options), caps, len(caps), flag, report.at)
+    if code == _NO_MEMORY:
         raise MemoryError("yuglemit: out of memory")
     if code:
-        raise RunError(code, unfit)
+        raise RunError(code, _unfit_input(*given) if code == _INPUT_TYPE else None)
     return report
 
 
-def _unfit_input(program: _Owner, inputs: _Owner) -> Optional[int]:
+def _unfit_input(*given: Any) -> Optional[int]:
     """Returns the number of the first input that doesn't fit main, from 1."""
     index = ctypes.c_size_t()
-    code = short().yuglemit_unfit_input(program.at, inputs.at, ctypes.byref(index))
+    code = short().yuglemit_raw_unfit_input(*given, ctypes.byref(index))
     return None if code else index.value + 1
 
 
@@ -339,47 +313,64 @@ def run(program: Loaded, given: Sequence[Given], layout: Layout, stop: Optional[
 
 def _ran(report: _Owner) -> Ran:
     """Reads a report."""
-    ending, instructions = Ending(), ctypes.c_uint64()
-    _done(short().yuglemit_report_ending(report.at, ctypes.byref(ending)))
-    _done(short().yuglemit_report_instructions(report.at, ctypes.byref(instructions)))
+    ending, instructions = numbers(0, 0, 0), ctypes.c_uint64()
+    _done(short().yuglemit_raw_report_ending(report.seen(), ending, len(ending)))
+    _done(short().yuglemit_raw_report_instructions(report.seen(), ctypes.byref(instructions)))
+    events, count, status = ending
     outputs: List[Output] = []
     unfinished: List[int] = []
-    for number in range(ending.outputs):
+    for number in range(count):
         item = Item()
-        _done(short().yuglemit_report_output(report.at, number, ctypes.byref(item)))
+        _done(short().yuglemit_raw_report_output(report.seen(), number, ctypes.byref(item)))
         outputs.append(_output(report, number, item))
         if item.kind not in b"it" and not (item.kind == ord("c") and item.closed):
             unfinished.append(number)
-    return Ran(ENDS[ending.status], ending.events, instructions.value, outputs, unfinished, Kept(report))
+    return Ran(ENDS[status], events, instructions.value, outputs, unfinished, Kept(report))
 
 
 def _output(report: _Owner, number: int, item: Item) -> Output:
     if item.kind != ord("c"):
         return _scalar(item, "text", report, number)
-    members: Dict[Scalar, Optional[Scalar]] = {}
-    member = Member()
-    for place in range(item.length):
-        _done(short().yuglemit_report_member(report.at, number, place, ctypes.byref(member)))
-        subscript = _scalar(member.subscript, "subscript_text", report, number, place)
-        assert subscript is not None
-        members[subscript] = _scalar(member.value, "member_text", report, number, place)
-    return members
+    return _members(report, number, item)
+
+
+# A member as the library writes it, in words: number, length and kind of the subscript, and of the value.
+_WORDS = ctypes.sizeof(Member) // 8
+
+
+def _members(report: _Owner, number: int, item: Item) -> Dict[Scalar, Optional[Scalar]]:
+    """Reads the members of an output by one call, and each text of them by another. Numbers are taken from their array at once."""
+    room = bytearray(ctypes.sizeof(Member) * item.length)
+    if not room:
+        return {}
+    found = (Member * item.length).from_buffer(room)
+    _done(short().yuglemit_raw_report_members(report.seen(), number, 0, found, item.length))
+    words = memoryview(room).cast("q")
+    subscripts: Sequence[Scalar] = words[0::_WORDS].tolist()
+    if item.by == ord("t"):
+        subscripts = [_text(found[place].subscript, "subscript_text", report, number, place) for place in range(item.length)]
+    values: Sequence[Optional[Scalar]] = words[3::_WORDS].tolist()
+    if any(kind & 255 != ord("i") for kind in words[5::_WORDS].tolist()):
+        values = [_scalar(found[place].value, "member_text", report, number, place) for place in range(item.length)]
+    return dict(zip(subscripts, values))
 
 
 def _scalar(item: Item, call: str, report: _Owner, *places: int) -> Optional[Scalar]:
     """Returns an item's number, or its text, which a call writes; None if the item is unset."""
     if item.kind == ord("i"):
         return int(item.number)
-    if item.kind != ord("t"):
-        return None
+    return _text(item, call, report, *places) if item.kind == ord("t") else None
+
+
+def _text(item: Item, call: str, report: _Owner, *places: int) -> str:
     room = ctypes.create_string_buffer(item.length or 1)
-    _done(getattr(short(), f"yuglemit_report_{call}")(report.at, *places, room, item.length))
+    _done(getattr(short(), f"yuglemit_raw_report_{call}")(report.seen(), *places, room, item.length))
     return room.raw[: item.length].decode()
 
 
 # ---- Sessions
 
-_NO_MEMORY = 5
+_MEMORY_STATUS = 5
 _FIRST_ROOM = 1 << 16
 
 
@@ -387,7 +378,7 @@ def _session(words: Sequence[str], data: bytes) -> Answer:
     """Makes a session with words that have no NUL, since each ends with one."""
     ended, output = "".join(word + "\0" for word in words).encode(), _owner("text")
     status = library().yuglemit_session_text(ended, len(ended), data, len(data), output.at)
-    return status, b"memory\n" if status == _NO_MEMORY else _read_text(output)
+    return status, b"memory\n" if status == _MEMORY_STATUS else _read_text(output)
 
 
 def _session_by_lines(words: Sequence[str], data: bytes) -> Answer:
@@ -449,6 +440,8 @@ def session(words: Sequence[str], data: bytes = b"", long: bool = False) -> Answ
 
 def verify(program: bytes) -> Verdict:
     """Returns what the verifier says of a program's bytes."""
-    verdict = RawVerdict()
-    library().yuglemit_verify(program, len(program), ctypes.byref(verdict))
+    verdict = numbers(*[0] * 9)
+    code = library().yuglemit_raw_verify(program, len(program), verdict, len(verdict))
+    if code != _REJECTED:
+        _done(code)
     return _verdict_of(verdict)

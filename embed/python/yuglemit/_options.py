@@ -12,6 +12,7 @@ from ._listing import DEFAULT_LIMIT
 from ._stop import Stop
 
 MOST_EVENTS = 1_000_000
+MOST_SEED = 2**64 - 1
 
 
 class RunOptions(NamedTuple):
@@ -72,6 +73,7 @@ def layout_of(
     most_budget: Optional[int] = None,
     most_members: Optional[int] = None,
     most_rules: Optional[int] = None,
+    seed: Optional[int] = None,
 ) -> _native.Layout:
     """Returns the layout of a run, or raises the error that says which number is out of its range."""
     counts = (within("engines", engines, 4), within("servers", servers, 4), within("workers", workers, 16))
@@ -84,7 +86,8 @@ def layout_of(
         _cap("most_members", most_members),
         _cap("most_rules", most_rules),
     )
-    return _native.Layout(*counts, within("limit", limit, MOST_EVENTS), *caps)
+    chosen = 0 if seed is None else within("seed", seed, MOST_SEED)
+    return _native.Layout(*counts, within("limit", limit, MOST_EVENTS), chosen, *caps)
 
 
 def options_of(

@@ -147,6 +147,7 @@ class Program(metaclass=Shown):
         servers: int = 1,
         workers: int = 1,
         limit: int = DEFAULT_LIMIT,
+        seed: Optional[int] = None,
         most_tasks: Optional[int] = None,
         most_instructions: Optional[int] = None,
         most_data: Optional[int] = None,
@@ -164,7 +165,7 @@ class Program(metaclass=Shown):
 
         The run makes at most `limit` events. If a bound of such runs, or the greatest budget, is above its cap (`most_tasks` and so on), nothing is
         run, and Refused has the code O07. Its actors take turns in the caller's thread, so the same run has the same events each time;
-        other threads continue meanwhile. `trace`, `text` and `line` say what the report keeps when it is pickled.
+        `seed`, from 1 to 2**64 - 1, decides another order of the turns. Other threads continue meanwhile. `trace`, `text` and `line` say what the report keeps when it is pickled.
 
         `stop` ends the run before its next event when another thread sets it, and so does `timeout` after so many seconds; then `end` is "stopped".
         Ctrl-C stops a run too. An event takes up to the greatest budget, which `most_budget` bounds; after Ctrl-C a leaf may work on for some
@@ -185,7 +186,7 @@ class Program(metaclass=Shown):
         [42]
         """
         caps = (most_tasks, most_instructions, most_data, most_bytes, most_budget, most_members, most_rules)
-        return self._run(inputs, options_of(layout_of(engines, servers, workers, limit, *caps), trace, text, line, stop, timeout))
+        return self._run(inputs, options_of(layout_of(engines, servers, workers, limit, *caps, seed=seed), trace, text, line, stop, timeout))
 
     async def run_async(
         self,
@@ -194,6 +195,7 @@ class Program(metaclass=Shown):
         servers: int = 1,
         workers: int = 1,
         limit: int = DEFAULT_LIMIT,
+        seed: Optional[int] = None,
         most_tasks: Optional[int] = None,
         most_instructions: Optional[int] = None,
         most_data: Optional[int] = None,
@@ -211,7 +213,7 @@ class Program(metaclass=Shown):
         import asyncio
 
         caps = (most_tasks, most_instructions, most_data, most_bytes, most_budget, most_members, most_rules)
-        options = options_of(layout_of(engines, servers, workers, limit, *caps), trace, text, line, stop, timeout)
+        options = options_of(layout_of(engines, servers, workers, limit, *caps, seed=seed), trace, text, line, stop, timeout)
         flag = _native.Flag()
         try:
             return await asyncio.get_running_loop().run_in_executor(None, partial(self._run, inputs, options, flag))
@@ -244,16 +246,16 @@ class Program(metaclass=Shown):
 
     def _error(self, why: _native.RunError, layout: _native.Layout) -> Exception:
         """Returns the error of a run that can't begin, with the text that `tw run` writes."""
-        if why.code >= 32:
+        if why.number is None:
             return RuntimeError(f"yuglemit: a run returned the error {why}")
-        lines = self._excess(layout) if why.code == 7 else [f"input {why.input}\n"] if why.input else []
+        lines = self._excess(layout) if why.number == 7 else [f"input {why.input}\n"] if why.input else []
         return Refused(f"refused {why}\n" + "".join(lines))
 
     def _excess(self, layout: _native.Layout) -> Iterator[str]:
         """Yields a line for each bound of a run that is above its cap."""
         numbers = dict(zip(_BOUNDS, self._kept.bounds(layout.limit)), budget=self.bounds.greatest)
         words = {_native.OVER: "bound over 1000000000000", _native.NO_BOUND: "no bound"}
-        for name, most in zip(layout._fields[4:], layout[4:]):
+        for name, most in zip(layout._fields[5:], layout[5:]):
             kind = name[len("most_") :]
             number = numbers[kind]
             if most is not None and most < _native.NO_CAP and (number > most or number in words):

@@ -75,7 +75,7 @@ def read_circle(text: str) -> List[Wait]:
 
 def _caps(layout: Layout) -> Tuple[str, ...]:
     """Returns the options of `tw run` for the caps, which has none for members and rules."""
-    given = ((name, most) for name, most in zip(layout._fields[4:9], layout[4:9]) if most is not None)
+    given = ((name, most) for name, most in zip(layout._fields[5:10], layout[5:10]) if most is not None)
     return tuple(word for name, most in given for word in (f"--{name.replace('_', '-')}", str(most)))
 
 

@@ -1,7 +1,34 @@
 // SPDX-License-Identifier: Apache-2.0
 use std::fmt::{self, Display, Formatter};
 
-use crate::raw::SourceVerdict;
+/// Says why a run can't begin.
+#[derive(Clone, Copy, Debug, PartialEq, Eq)]
+#[non_exhaustive]
+pub enum RunError {
+    /// O01: there are more or fewer inputs than main takes.
+    InputCount,
+    /// O02: an input doesn't fit its parameter of main.
+    InputType,
+    /// O03: the program needs more engines or workers.
+    NoActor,
+    /// O04: the limit isn't from 1 to 1,000,000.
+    Limit,
+    /// O07: a bound of the program is above its cap.
+    AboveCap,
+}
+
+impl RunError {
+    /// Returns the number after the letter O, which `tw explain O01` explains.
+    pub fn number(self) -> u8 {
+        match self {
+            RunError::InputCount => 1,
+            RunError::InputType => 2,
+            RunError::NoActor => 3,
+            RunError::Limit => 4,
+            RunError::AboveCap => 7,
+        }
+    }
+}
 
 /// Says why a program isn't loaded, or why a run can't begin.
 #[derive(Clone, Debug, PartialEq, Eq)]
@@ -9,8 +36,8 @@ use crate::raw::SourceVerdict;
 pub enum Error {
     /// The program isn't accepted.
     Refused(Refused),
-    /// A run can't begin: the number after the letter O, which `tw explain O01` explains.
-    Run(u8),
+    /// A run can't begin.
+    Run(RunError),
     /// A run can't begin, O02: the input of this index, from 0, is the first that doesn't fit its parameter of main.
     Unfit(usize),
     /// Engines and servers are 1 to 4, workers 1 to 16.
@@ -27,6 +54,7 @@ pub enum Error {
 
 /// Says where a program has an error. Numbers are 0 where the error has none.
 #[derive(Clone, Copy, Debug, PartialEq, Eq)]
+#[non_exhaustive]
 pub struct Refused {
     /// `F` no program, `V` the verifier, `A` assembly text, `N` names, `H` hex text.
     pub letter: char,
@@ -42,10 +70,11 @@ pub struct Refused {
 }
 
 impl Refused {
-    pub(crate) fn of(raw: &SourceVerdict) -> Refused {
-        let verdict = &raw.verdict;
-        let (procedure, place) = (verdict.procedure, verdict.place);
-        Refused { letter: verdict.letter.into(), number: verdict.number, procedure, place, line: raw.line, word: raw.word, column: raw.column }
+    /// Takes the numbers of a verdict, in the order of `yuglemit_verdict`.
+    pub(crate) fn of(verdict: &[u64; 9]) -> Refused {
+        let [letter, number, _, _, procedure, place, line, word, column] = *verdict;
+        let [procedure, place, line, word, column] = [procedure, place, line, word, column].map(|number| number as usize);
+        Refused { letter: (letter as u8).into(), number: number as u8, procedure, place, line, word, column }
     }
 
     /// Returns the code that `tw explain` takes, as `V04`.
@@ -70,7 +99,7 @@ impl Display for Error {
     fn fmt(&self, f: &mut Formatter<'_>) -> fmt::Result {
         match self {
             Error::Refused(refused) => refused.fmt(f),
-            Error::Run(number) => write!(f, "refused O{number:02}"),
+            Error::Run(why) => write!(f, "refused O{:02}", why.number()),
             Error::Unfit(index) => write!(f, "refused O02 at input {}", index + 1),
             Error::NoLayout => f.write_str("engines and servers are 1 to 4, workers 1 to 16"),
             Error::NoIndex => f.write_str("there is none of this index"),

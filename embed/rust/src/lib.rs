@@ -20,8 +20,8 @@
 //! # Ok::<(), yuglemit::Error>(())
 //! ```
 //!
-//! A [`Program`], a [`Report`] and a [`Stop`] may be sent to another thread, and are used by one thread at a time; [`Program::share`] and
-//! [`Stop::share`] make one for another thread. A call needs 64 KiB of free stack.
+//! A [`Program`], a [`Report`] and a [`Stop`] may be sent to another thread, and any number of threads may use one at once. A call needs 64 KiB of
+//! free stack.
 mod error;
 mod program;
 mod raw;
@@ -30,9 +30,9 @@ mod session;
 mod stop;
 mod value;
 
-pub use error::{Error, Refused};
-pub use program::{Bound, Bounds, Caps, Format, Mode, Options, Parameter, Procedure, Program};
+pub use error::{Error, Refused, RunError};
+pub use program::{Bound, Bounds, Caps, Format, MOST_BYTES, Mode, Options, Parameter, Procedure, Program};
 pub use report::{End, Report};
-pub use session::{Reply, Verdict, explain, session, verify};
+pub use session::{Reply, explain, session, verify};
 pub use stop::Stop;
 pub use value::{Container, IntoScalar, Scalar, Type, Value};

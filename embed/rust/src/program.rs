@@ -1,9 +1,10 @@
 // SPDX-License-Identifier: Apache-2.0
 use crate::raw::{self, OfInputs, OfProgram, Owner, done};
-use crate::{Error, Refused, Report, Stop, Type, Value};
+use crate::{Error, Refused, Report, RunError, Stop, Type, Value};
 
 /// The format of a program's source.
 #[derive(Clone, Copy, Debug, Default, PartialEq, Eq)]
+#[non_exhaustive]
 pub enum Format {
     /// Bytes begin with `TWB`, hex text has only digits and white space, and anything else is assembly text.
     #[default]
@@ -14,8 +15,9 @@ pub enum Format {
     Text,
 }
 
-/// The most that a run may do. A program with a bound above a cap isn't run: `Error::Run(7)`.
+/// The most that a run may do. A program with a bound above a cap isn't run: [`RunError::AboveCap`].
 #[derive(Clone, Copy, Debug, Default, PartialEq, Eq)]
+#[non_exhaustive]
 pub struct Caps {
     /// Tasks that are taken.
     pub tasks: Option<u64>,
@@ -63,6 +65,7 @@ impl Bound {
 
 /// The most that runs do, whatever the inputs, the layout and the order of events.
 #[derive(Clone, Copy, Debug, PartialEq, Eq)]
+#[non_exhaustive]
 pub struct Bounds {
     /// Tasks that are taken, main's included.
     pub tasks: Bound,
@@ -79,14 +82,17 @@ pub struct Bounds {
     pub events: Bound,
 }
 
-/// How a run is made.
+/// How a run is made. Begin with the default, and change what you need: later versions have more fields.
 #[derive(Clone, Copy)]
+#[non_exhaustive]
 pub struct Options<'a> {
     /// The most events, 1 to 1,000,000.
     pub limit: usize,
     pub engines: u8,
     pub servers: u8,
     pub workers: u8,
+    /// Decides the order of the turns; without it the actors take turns.
+    pub seed: Option<std::num::NonZeroU64>,
     pub caps: Caps,
     /// Ends the run when it is raised.
     pub stop: Option<&'a Stop>,
@@ -94,12 +100,13 @@ pub struct Options<'a> {
 
 impl Default for Options<'_> {
     fn default() -> Self {
-        Options { limit: 10_000, engines: 1, servers: 1, workers: 1, caps: Caps::default(), stop: None }
+        Options { limit: 10_000, engines: 1, servers: 1, workers: 1, seed: None, caps: Caps::default(), stop: None }
     }
 }
 
 /// How a parameter is held.
 #[derive(Clone, Copy, Debug, PartialEq, Eq)]
+#[non_exhaustive]
 pub enum Mode {
     Value,
     /// A read right on a closed datum.
@@ -110,8 +117,8 @@ pub enum Mode {
 }
 
 impl Mode {
-    fn of(letter: u8) -> Mode {
-        match letter {
+    fn of(letter: u64) -> Mode {
+        match letter as u8 {
             b'v' => Mode::Value,
             b'c' => Mode::Closed,
             b'r' => Mode::Read,
@@ -122,6 +129,7 @@ impl Mode {
 
 /// A parameter: a scalar inside containers, of each of which `by` has the type of the subscripts, the outermost first.
 #[derive(Clone, Debug, PartialEq, Eq)]
+#[non_exhaustive]
 pub struct Parameter {
     pub mode: Mode,
     pub by: Vec<Type>,
@@ -130,12 +138,16 @@ pub struct Parameter {
 
 /// A procedure, which runs on an engine if it is a control procedure, else on a worker.
 #[derive(Clone, Debug, PartialEq, Eq)]
+#[non_exhaustive]
 pub struct Procedure {
     pub is_control: bool,
     pub parameters: Vec<Parameter>,
 }
 
-/// A program that is verified.
+/// The greatest length of a source in bytes, if nothing is said: 16 MiB.
+pub const MOST_BYTES: u64 = 16_777_216;
+
+/// A program that is verified. Any number of threads may run it at once.
 pub struct Program {
     owner: Owner<OfProgram>,
     engines: u8,
@@ -159,20 +171,24 @@ impl Program {
 
     /// Loads a program of this format.
     pub fn load_as(source: impl AsRef<[u8]>, format: Format) -> Result<Program, Error> {
+        Program::load_within(source, format, MOST_BYTES)
+    }
+
+    /// Loads a program of this format and of at most so many bytes. A longer source is refused, H02.
+    pub fn load_within(source: impl AsRef<[u8]>, format: Format, most_bytes: u64) -> Result<Program, Error> {
         let (source, owner) = (source.as_ref(), Owner::new());
-        let mut found = raw::SourceVerdict::default();
-        unsafe { raw::yuglemit_load_source(source.as_ptr(), source.len(), format.letter(), owner.at(), &mut found) };
-        match found.verdict.letter {
-            0 => Ok(Program { owner, engines: found.verdict.engines, workers: found.verdict.workers }),
-            b'M' => Err(Error::NoMemory),
-            _ => Err(Error::Refused(Refused::of(&found))),
+        let mut verdict = [0; 9];
+        let (numbers, count) = (verdict.as_mut_ptr(), verdict.len());
+        match unsafe { raw::yuglemit_raw_load_source(source.as_ptr(), source.len(), format.letter(), &most_bytes, 1, owner.at(), numbers, count) } {
+            raw::code::REJECTED => Err(Error::Refused(Refused::of(&verdict))),
+            code => done(code).map(|()| Program { owner, engines: verdict[2] as u8, workers: verdict[3] as u8 }),
         }
     }
 
-    /// Makes another of the same program, for another thread. The program isn't copied.
+    /// Makes another of the same program. The program isn't copied.
     pub fn share(&self) -> Result<Program, Error> {
         let owner = Owner::new();
-        done(unsafe { raw::yuglemit_program_share(self.owner.at(), owner.at()) })?;
+        done(unsafe { raw::yuglemit_raw_program_share(&mut self.owner.seen(), owner.at()) })?;
         Ok(Program { owner, ..*self })
     }
 
@@ -188,23 +204,24 @@ impl Program {
 
     fn procedure_count(&self) -> Result<usize, Error> {
         let mut count = 0;
-        done(unsafe { raw::yuglemit_program_procedures(self.owner.at(), &mut count) })?;
+        done(unsafe { raw::yuglemit_raw_program_procedures(&mut self.owner.seen(), &mut count) })?;
         Ok(count)
     }
 
     fn procedure(&self, number: usize) -> Result<Procedure, Error> {
-        let mut found = raw::Procedure::default();
-        done(unsafe { raw::yuglemit_program_procedure(self.owner.at(), number, &mut found) })?;
-        let parameters = (0..found.parameters).map(|index| self.parameter(number, index)).collect::<Result<_, _>>()?;
-        Ok(Procedure { is_control: found.kind == b'c', parameters })
+        let mut found = [0; 2];
+        done(unsafe { raw::yuglemit_raw_program_procedure(&mut self.owner.seen(), number, found.as_mut_ptr(), found.len()) })?;
+        let [count, kind] = found;
+        let parameters = (0..count as usize).map(|index| self.parameter(number, index)).collect::<Result<_, _>>()?;
+        Ok(Procedure { is_control: kind == u64::from(b'c'), parameters })
     }
 
     fn parameter(&self, number: usize, index: usize) -> Result<Parameter, Error> {
-        let mut found = raw::Parameter::default();
-        done(unsafe { raw::yuglemit_program_parameter(self.owner.at(), number, index, &mut found) })?;
-        let by = [found.by, found.by_second, found.by_third];
-        let by = by.into_iter().filter(|letter| *letter != 0).map(Type::of).collect();
-        Ok(Parameter { mode: Mode::of(found.mode), by, scalar: Type::of(found.scalar) })
+        let mut found = [0; 6];
+        done(unsafe { raw::yuglemit_raw_program_parameter(&mut self.owner.seen(), number, index, found.as_mut_ptr(), found.len()) })?;
+        let [mode, _, scalar, by @ ..] = found;
+        let by = by.into_iter().filter(|letter| *letter != 0).map(|letter| Type::of(letter as u8)).collect();
+        Ok(Parameter { mode: Mode::of(mode), by, scalar: Type::of(scalar as u8) })
     }
 
     /// Returns for each procedure the most instructions that one of its tasks executes.
@@ -214,7 +231,7 @@ impl Program {
 
     fn budget(&self, procedure: usize) -> Result<u64, Error> {
         let mut most = 0;
-        done(unsafe { raw::yuglemit_program_budget(self.owner.at(), procedure, &mut most) })?;
+        done(unsafe { raw::yuglemit_raw_program_budget(&mut self.owner.seen(), procedure, &mut most) })?;
         Ok(most)
     }
 
@@ -225,13 +242,13 @@ impl Program {
 
     /// Returns the bounds of runs with at most `limit` events, 1 to 1,000,000.
     pub fn bounds_within(&self, limit: usize) -> Result<Bounds, Error> {
-        if limit == 0 { Err(Error::Run(4)) } else { self.bounds_by(limit) }
+        if limit == 0 { Err(Error::Run(RunError::Limit)) } else { self.bounds_by(limit) }
     }
 
     fn bounds_by(&self, limit: usize) -> Result<Bounds, Error> {
-        let mut found = raw::Bounds::default();
-        done(unsafe { raw::yuglemit_program_bounds(self.owner.at(), limit, &mut found) })?;
-        let raw::Bounds { tasks, instructions, data, members, rules, bytes, events } = found;
+        let mut found = [0; 7];
+        done(unsafe { raw::yuglemit_raw_program_bounds(&mut self.owner.seen(), limit, found.as_mut_ptr(), found.len()) })?;
+        let [tasks, instructions, data, members, rules, bytes, events] = found;
         Ok(Bounds {
             tasks: Bound::of(tasks),
             instructions: Bound::of(instructions),
@@ -252,14 +269,17 @@ impl Program {
     pub fn run_with(&self, inputs: &[Value], options: &Options) -> Result<Report, Error> {
         let values = Owner::<OfInputs>::new();
         inputs.iter().try_for_each(|value| value.append(&values))?;
-        let Options { limit, engines, servers, workers, caps, stop } = *options;
-        let raw_options = raw::Options { size: size_of::<raw::Options>(), limit, engines, servers, workers };
+        let Options { limit, engines, servers, workers, seed, caps, stop } = *options;
+        let options = [limit as u64, engines.into(), servers.into(), workers.into(), seed.map_or(0, |seed| seed.get())];
         let (none, report) = (Owner::new(), Owner::new());
         let stop = stop.map_or(&none, |stop| &stop.owner);
         let caps = caps.raw();
-        let (program, inputs) = (self.owner.at(), values.at());
-        match unsafe { raw::yuglemit_run_capped(program, inputs, &raw_options, caps.as_ptr(), caps.len(), stop.at(), report.at()) } {
-            2 => Err(self.unfit(&values)),
+        let code = unsafe {
+            let (program, inputs, stop) = (&mut self.owner.seen(), &mut values.seen(), &mut stop.seen());
+            raw::yuglemit_raw_run(program, inputs, options.as_ptr(), options.len(), caps.as_ptr(), caps.len(), stop, report.at())
+        };
+        match code {
+            raw::code::INPUT_TYPE => Err(self.unfit(&values)),
             code => done(code).and_then(|()| Report::of(report)),
         }
     }
@@ -267,7 +287,7 @@ impl Program {
     /// Returns the error O02 of these inputs.
     fn unfit(&self, values: &Owner<OfInputs>) -> Error {
         let mut index = 0;
-        let found = done(unsafe { raw::yuglemit_unfit_input(self.owner.at(), values.at(), &mut index) });
+        let found = done(unsafe { raw::yuglemit_raw_unfit_input(&mut self.owner.seen(), &mut values.seen(), &mut index) });
         found.map_or_else(|why| why, |()| Error::Unfit(index))
     }
 }

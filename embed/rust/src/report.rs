@@ -1,9 +1,10 @@
 // SPDX-License-Identifier: Apache-2.0
-use crate::raw::{self, Ending, Handle, Item, OfReport, OfText, Owner, done, kept_text};
+use crate::raw::{self, Handle, Item, Member, OfReport, OfText, Owner, done, kept_text};
 use crate::{Container, Error, Scalar, Type, Value};
 
 /// How a run ended.
 #[derive(Clone, Copy, Debug, PartialEq, Eq)]
+#[non_exhaustive]
 pub enum End {
     /// No rule and no task is left.
     Quiet,
@@ -15,56 +16,61 @@ pub enum End {
     Stopped,
 }
 
-/// The report of a run.
+/// The report of a run. Any number of threads may read it at once.
 pub struct Report {
     owner: Owner<OfReport>,
-    ending: Ending,
+    end: End,
+    events: usize,
+    outputs: usize,
 }
 
 // Each pointer below is a local's or an owner's own.
 
 impl Report {
     pub(crate) fn of(owner: Owner<OfReport>) -> Result<Report, Error> {
-        let mut ending = Ending::default();
-        done(unsafe { raw::yuglemit_report_ending(owner.at(), &mut ending) })?;
-        if ending.status == 5 { Err(Error::NoMemory) } else { Ok(Report { owner, ending }) }
+        let mut ending = [0; 3];
+        done(unsafe { raw::yuglemit_raw_report_ending(&mut owner.seen(), ending.as_mut_ptr(), ending.len()) })?;
+        let [events, outputs, status] = ending.map(|number| number as usize);
+        let end = match status {
+            0 => End::Quiet,
+            3 => End::Stuck,
+            4 => End::Limit,
+            5 => return Err(Error::NoMemory),
+            _ => End::Stopped,
+        };
+        Ok(Report { owner, end, events, outputs })
     }
 
     /// Returns how the run ended.
     pub fn end(&self) -> End {
-        match self.ending.status {
-            0 => End::Quiet,
-            3 => End::Stuck,
-            4 => End::Limit,
-            _ => End::Stopped,
-        }
+        self.end
     }
 
     /// Returns how many events the run had.
     pub fn events(&self) -> usize {
-        self.ending.events
+        self.events
     }
 
     /// Returns how many instructions the run executed; the greatest number if they were more.
     pub fn instructions(&self) -> Result<u64, Error> {
         let mut count = 0;
-        done(unsafe { raw::yuglemit_report_instructions(self.owner.at(), &mut count) })?;
+        done(unsafe { raw::yuglemit_raw_report_instructions(&mut self.owner.seen(), &mut count) })?;
         Ok(count)
     }
 
     /// Returns the report as `tw run` prints that of a program's bytes. The run isn't made again. If it was stopped, it ends with `running`.
     pub fn text(&self) -> Result<String, Error> {
-        self.printed(|text| unsafe { raw::yuglemit_print_report(self.owner.at(), text) })
+        self.printed(|text| unsafe { raw::yuglemit_raw_print_report(&mut self.owner.seen(), text) })
     }
 
     /// Returns the events as `tw run --trace` prints them.
     pub fn trace(&self) -> Result<String, Error> {
-        self.printed(|text| unsafe { raw::yuglemit_print_trace(self.owner.at(), text) })
+        self.printed(|text| unsafe { raw::yuglemit_raw_print_trace(&mut self.owner.seen(), text) })
     }
 
     /// Returns the line of `tw run --json`, which a run that was stopped hasn't.
     pub fn json(&self) -> Result<String, Error> {
-        self.printed(|text| unsafe { raw::yuglemit_print_json(self.owner.at(), text) })
+        self.printed(|text| unsafe { raw::yuglemit_raw_print_json(&mut self.owner.seen(), text) })
     }
 
     /// Returns the text that a call puts into a handle.
@@ -76,7 +82,7 @@ impl Report {
 
     /// Returns all outputs of main.
     pub fn outputs(&self) -> Result<Vec<Value>, Error> {
-        (0..self.ending.outputs).map(|output| self.output(output)).collect()
+        (0..self.outputs).map(|output| self.output(output)).collect()
     }
 
     /// Returns an output of main.
@@ -85,7 +91,7 @@ impl Report {
         if item.kind == b'c' {
             return Ok(Value::Container(self.container(output, &item)?));
         }
-        let text = |at, room, length| unsafe { raw::yuglemit_report_text(at, output, room, length) };
+        let text = |at, room, length| unsafe { raw::yuglemit_raw_report_text(at, output, room, length) };
         Ok(self.scalar(&item, text)?.map_or(Value::Unset, Value::from))
     }
 
@@ -99,8 +105,8 @@ impl Report {
     pub fn member(&self, output: usize, subscript: impl Into<Scalar>) -> Result<Option<Value>, Error> {
         let (subscript, mut place) = (subscript.into(), 0);
         let found = match &subscript {
-            Scalar::Int(number) => unsafe { raw::yuglemit_report_find_int(self.owner.at(), output, *number, &mut place) },
-            Scalar::Text(text) => unsafe { raw::yuglemit_report_find_text(self.owner.at(), output, text.as_ptr(), text.len(), &mut place) },
+            Scalar::Int(number) => unsafe { raw::yuglemit_raw_report_find_int(&mut self.owner.seen(), output, *number, &mut place) },
+            Scalar::Text(text) => unsafe { raw::yuglemit_raw_report_find_text(&mut self.owner.seen(), output, text.as_ptr(), text.len(), &mut place) },
         };
         match done(found) {
             Ok(()) => Ok(Some(self.member_at(output, place)?.1.map_or(Value::Unset, Value::from))),
@@ -111,21 +117,28 @@ impl Report {
 
     fn item(&self, output: usize) -> Result<Item, Error> {
         let mut item = Item::default();
-        done(unsafe { raw::yuglemit_report_output(self.owner.at(), output, &mut item) })?;
+        done(unsafe { raw::yuglemit_raw_report_output(&mut self.owner.seen(), output, &mut item) })?;
         Ok(item)
     }
 
     fn container(&self, output: usize, item: &Item) -> Result<Container, Error> {
-        let members = (0..item.length).map(|place| self.member_at(output, place)).collect::<Result<_, _>>()?;
+        let mut found = vec![Member::default(); item.length];
+        done(unsafe { raw::yuglemit_raw_report_members(&mut self.owner.seen(), output, 0, found.as_mut_ptr(), found.len()) })?;
+        let members = found.iter().enumerate().map(|(place, member)| self.member_of(output, place, member)).collect::<Result<_, _>>()?;
         Ok(Container { by: Type::of(item.by), of: Type::of(item.scalar), members })
     }
 
     fn member_at(&self, output: usize, place: usize) -> Result<(Scalar, Option<Scalar>), Error> {
-        let mut member = raw::Member::default();
-        done(unsafe { raw::yuglemit_report_member(self.owner.at(), output, place, &mut member) })?;
-        let text = |at, room, length| unsafe { raw::yuglemit_report_subscript_text(at, output, place, room, length) };
+        let mut member = Member::default();
+        done(unsafe { raw::yuglemit_raw_report_member(&mut self.owner.seen(), output, place, &mut member) })?;
+        self.member_of(output, place, &member)
+    }
+
+    /// Returns a member that was read, with its texts.
+    fn member_of(&self, output: usize, place: usize, member: &Member) -> Result<(Scalar, Option<Scalar>), Error> {
+        let text = |at, room, length| unsafe { raw::yuglemit_raw_report_subscript_text(at, output, place, room, length) };
         let subscript = self.scalar(&member.subscript, text)?.ok_or(Error::NoIndex)?;
-        let text = |at, room, length| unsafe { raw::yuglemit_report_member_text(at, output, place, room, length) };
+        let text = |at, room, length| unsafe { raw::yuglemit_raw_report_member_text(at, output, place, room, length) };
         Ok((subscript, self.scalar(&member.value, text)?))
     }
 
@@ -135,7 +148,7 @@ impl Report {
             b'i' => Ok(Some(Scalar::Int(item.number))),
             b't' => {
                 let mut room = vec![0; item.length];
-                done(text(self.owner.at(), room.as_mut_ptr(), room.len()))?;
+                done(text(&mut self.owner.seen(), room.as_mut_ptr(), room.len()))?;
                 Ok(Some(Scalar::Text(String::from_utf8(room).expect("texts are UTF-8"))))
             }
             _ => Ok(None),

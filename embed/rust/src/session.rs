@@ -1,23 +1,13 @@
 // SPDX-License-Identifier: Apache-2.0
-use crate::raw::{self, OfText, Owner, kept_text, yuglemit_session_text, yuglemit_verify};
+use crate::raw::{self, OfText, Owner, done, kept_text, yuglemit_session_text};
+use crate::{Error, Refused};
 
 /// The output of the command `tw`, and its exit status.
 #[derive(Clone, Debug, PartialEq, Eq)]
+#[non_exhaustive]
 pub struct Reply {
     pub status: u8,
     pub text: Vec<u8>,
-}
-
-/// The verifier's answer to a program's bytes.
-#[derive(Clone, Copy, Debug, PartialEq, Eq)]
-pub enum Verdict {
-    /// Its targets need so many engines and workers.
-    Accepted { engines: u8, workers: u8 },
-    /// The verifier's first error.
-    Refused { number: u8, procedure: usize, place: usize },
-    /// The bytes are no program.
-    NoProgram { number: u8, byte: usize },
-    NoMemory,
 }
 
 /// The status that leaves the handle as it was.
@@ -50,15 +40,17 @@ pub fn explain(code: &str) -> Option<String> {
     (is_code && reply.status == 0).then(|| String::from_utf8(reply.text).expect("texts are UTF-8"))
 }
 
-/// Verifies a program's bytes.
-pub fn verify(bytes: &[u8]) -> Verdict {
-    let mut verdict = raw::Verdict::default();
-    // The pointer is the slice's own, and nothing else has the verdict.
-    unsafe { yuglemit_verify(bytes.as_ptr(), bytes.len(), &mut verdict) };
-    match verdict.letter {
-        0 => Verdict::Accepted { engines: verdict.engines, workers: verdict.workers },
-        b'V' => Verdict::Refused { number: verdict.number, procedure: verdict.procedure, place: verdict.place },
-        b'F' => Verdict::NoProgram { number: verdict.number, byte: verdict.place },
-        _ => Verdict::NoMemory,
+/// Verifies a program's bytes, and returns how many engines and workers its targets need.
+///
+/// ```
+/// let Err(yuglemit::Error::Refused(refused)) = yuglemit::verify(b"TWB") else { panic!() };
+/// assert_eq!((refused.code().as_str(), refused.place), ("F03", 3));
+/// ```
+pub fn verify(bytes: &[u8]) -> Result<(u8, u8), Error> {
+    let mut verdict = [0; 9];
+    // The pointers are the slice's own, and the local's.
+    match unsafe { raw::yuglemit_raw_verify(bytes.as_ptr(), bytes.len(), verdict.as_mut_ptr(), verdict.len()) } {
+        raw::code::REJECTED => Err(Error::Refused(Refused::of(&verdict))),
+        code => done(code).map(|()| (verdict[2] as u8, verdict[3] as u8)),
     }
 }

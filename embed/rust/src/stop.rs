@@ -2,15 +2,17 @@
 use crate::Error;
 use crate::raw::{self, OfStop, Owner, done};
 
-/// Stops runs: give one to [`Options`](crate::Options), and raise one that shares its flag in another thread.
+/// Stops runs: give one to [`Options`](crate::Options), and raise it in another thread.
 ///
 /// ```
 /// use yuglemit::{End, Options, Program, Stop};
 ///
 /// let endless = Program::load("proc control\nregs\nPUT 0 0 any\nRET\n")?;
 /// let stop = Stop::new()?;
-/// stop.share()?.raise();
-/// let report = endless.run_with(&[], &Options { stop: Some(&stop), ..Options::default() })?;
+/// let mut options = Options::default();
+/// options.stop = Some(&stop);
+/// stop.raise();
+/// let report = endless.run_with(&[], &options)?;
 /// assert_eq!((report.end(), report.events()), (End::Stopped, 0));
 /// # Ok::<(), yuglemit::Error>(())
 /// ```
@@ -28,20 +30,20 @@ impl Stop {
         Ok(Stop { owner })
     }
 
-    /// Makes another of the same flag, for another thread.
+    /// Makes another of the same flag.
     pub fn share(&self) -> Result<Stop, Error> {
         let owner = Owner::new();
-        done(unsafe { raw::yuglemit_stop_share(self.owner.at(), owner.at()) })?;
+        done(unsafe { raw::yuglemit_raw_stop_share(&mut self.owner.seen(), owner.at()) })?;
         Ok(Stop { owner })
     }
 
     /// Ends the runs that have the flag before their next events, and those that begin with it.
     pub fn raise(&self) {
-        done(unsafe { raw::yuglemit_stop_raise(self.owner.at()) }).expect("a flag can be raised");
+        done(unsafe { raw::yuglemit_raw_stop_raise(&mut self.owner.seen()) }).expect("a flag can be raised");
     }
 
     /// Lets later runs go on.
     pub fn lower(&self) {
-        done(unsafe { raw::yuglemit_stop_lower(self.owner.at()) }).expect("a flag can be lowered");
+        done(unsafe { raw::yuglemit_raw_stop_lower(&mut self.owner.seen()) }).expect("a flag can be lowered");
     }
 }

@@ -156,7 +156,7 @@ impl Container {
         for (by, member) in &self.members {
             self.add(&container, by, member.as_ref().ok_or(Error::NoInput)?)?;
         }
-        done(unsafe { raw::yuglemit_input_container(inputs.at(), container.at()) })
+        done(unsafe { raw::yuglemit_raw_input_container(inputs.at(), container.at()) })
     }
 
     /// Adds a member; a map has its subscripts in the order that the library asks for.

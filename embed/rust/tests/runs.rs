@@ -4,7 +4,7 @@ use std::collections::BTreeMap;
 use std::fs;
 use std::thread;
 
-use yuglemit::{Bound, Bounds, Caps, Container, End, Error, Format, Mode, Options, Parameter, Program, Stop, Type, Value, Verdict, session};
+use yuglemit::{Bound, Bounds, Caps, Container, End, Error, Format, Mode, Options, Parameter, Program, RunError, Stop, Type, Value, session};
 
 const ENDLESS: &str = "proc control\nregs int int\nINT v1 1\nREPEAT 5\nREPEAT 1000\nADD v0 v0 v1 no\nno:\nEND\nEND\nPUT 0 0 any\nRET\n";
 /// Inserts a text by a text: the member is a text, and its subscript another.
@@ -22,6 +22,13 @@ fn sized(kind: &str) -> Program {
     let version = if kind.starts_with("tcont") { "version 2\n" } else { "" };
     let text = format!("{version}proc control closed {kind} write int\nregs int\nSIZE v0 d0\nDROPR d0\nSTORE d1 v0\nRET\n");
     Program::load(text).expect("it is accepted")
+}
+
+/// Options with these caps.
+fn capped(caps: Caps) -> Options<'static> {
+    let mut options = Options::default();
+    options.caps = caps;
+    options
 }
 
 /// Loads an example of the repository; a crate without one has none.
@@ -104,11 +111,12 @@ fn what_is_no_input() {
     mixed.members.insert("a".into(), Some(1.into()));
     assert_eq!(sized("cont int").run(&[Value::Container(mixed)]).err(), Some(Error::NoInput));
     assert_eq!(same("int").run(&[Value::Unset]).err(), Some(Error::NoInput));
-    assert_eq!(same("int").run(&[]).err(), Some(Error::Run(1)));
+    assert_eq!(same("int").run(&[]).err(), Some(Error::Run(RunError::InputCount)));
     assert_eq!(same("int").run(&["7".into()]).err(), Some(Error::Unfit(0)));
     let two = Program::load("proc control closed int closed text\nregs\nDROPR d0\nDROPR d1\nRET\n").expect("it is accepted");
     assert_eq!(two.run(&[7.into(), 7.into()]).err().map(|why| why.to_string()).as_deref(), Some("refused O02 at input 2"));
-    let wide = Options { workers: 17, ..Options::default() };
+    let mut wide = Options::default();
+    wide.workers = 17;
     assert_eq!(same("int").run_with(&[7.into()], &wide).err(), Some(Error::NoLayout));
 }
 
@@ -116,18 +124,11 @@ fn what_is_no_input() {
 fn bounds_are_numbers() -> Result<(), Error> {
     // docs/FORMAT.md has those of pipeline.tw, whose budgets are 6; it has neither members nor texts.
     let Some(program) = example("pipeline.twn") else { return Ok(()) };
-    let bounds = |tasks, instructions, data, rules, events| Bounds {
-        tasks: Bound::AtMost(tasks),
-        instructions: Bound::AtMost(instructions),
-        data: Bound::AtMost(data),
-        members: Bound::AtMost(0),
-        rules: Bound::AtMost(rules),
-        bytes: Bound::AtMost(0),
-        events: Bound::AtMost(events),
-    };
-    assert_eq!(program.bounds()?, bounds(4, 24, 2, 3, 37));
-    assert_eq!(program.bounds_within(3)?, bounds(3, 18, 2, 3, 3));
-    assert_eq!((program.bounds_within(0), program.bounds_within(1_000_001)), (Err(Error::Run(4)), Err(Error::Run(4))));
+    let listed = |it: Bounds| [it.tasks, it.instructions, it.data, it.members, it.rules, it.bytes, it.events];
+    assert_eq!(listed(program.bounds()?), [4, 24, 2, 0, 3, 0, 37].map(Bound::AtMost));
+    assert_eq!(listed(program.bounds_within(3)?), [3, 18, 2, 0, 3, 0, 3].map(Bound::AtMost));
+    let over = Err(Error::Run(RunError::Limit));
+    assert_eq!((program.bounds_within(0), program.bounds_within(1_000_001)), (over.clone(), over));
     let endless = Program::load(ENDLESS)?;
     assert_eq!((endless.bounds()?.tasks, endless.bounds_within(5)?.tasks), (Bound::Endless, Bound::AtMost(5)));
     // 2,000 leaves of 800,000,000 instructions and more each.
@@ -145,19 +146,22 @@ fn bounds_are_numbers() -> Result<(), Error> {
 #[test]
 fn caps_admit_programs() -> Result<(), Error> {
     let Some(program) = example("pipeline.twn") else { return Ok(()) };
-    let run = |caps, limit| program.run_with(&[39.into()], &Options { caps, limit, ..Options::default() }).map(|report| report.end());
-    let exact = Caps { tasks: Some(4), instructions: Some(24), data: Some(2), bytes: Some(0), budget: Some(6), members: Some(0), rules: Some(3) };
-    assert_eq!(run(exact, 10_000), Ok(End::Quiet));
-    assert_eq!(run(Caps { tasks: None, ..exact }, 10_000), Ok(End::Quiet));
-    let smaller = [
-        Caps { tasks: Some(3), ..exact },
-        Caps { instructions: Some(23), ..exact },
-        Caps { data: Some(1), ..exact },
-        Caps { budget: Some(5), ..exact },
-        Caps { rules: Some(2), ..exact },
-    ];
+    let run = |caps, limit| {
+        let mut options = capped(caps);
+        options.limit = limit;
+        program.run_with(&[39.into()], &options).map(|report| report.end())
+    };
+    let with = |tasks, instructions, data, budget, rules| {
+        let mut caps = Caps::default();
+        (caps.tasks, caps.instructions, caps.data) = (tasks, Some(instructions), Some(data));
+        (caps.bytes, caps.budget, caps.members, caps.rules) = (Some(0), Some(budget), Some(0), Some(rules));
+        caps
+    };
+    assert_eq!(run(with(Some(4), 24, 2, 6, 3), 10_000), Ok(End::Quiet));
+    assert_eq!(run(with(None, 24, 2, 6, 3), 10_000), Ok(End::Quiet));
+    let smaller = [with(Some(3), 24, 2, 6, 3), with(Some(4), 23, 2, 6, 3), with(Some(4), 24, 1, 6, 3), with(Some(4), 24, 2, 5, 3), with(Some(4), 24, 2, 6, 2)];
     for caps in smaller {
-        assert_eq!(run(caps, 10_000), Err(Error::Run(7)), "{caps:?}");
+        assert_eq!(run(caps, 10_000), Err(Error::Run(RunError::AboveCap)), "{caps:?}");
     }
     assert_eq!(run(smaller[0], 3), Ok(End::Limit));
     Ok(())
@@ -167,15 +171,17 @@ fn caps_admit_programs() -> Result<(), Error> {
 fn caps_on_texts() -> Result<(), Error> {
     let program = Program::load(MEMBER)?;
     let run = |most| {
-        let caps = Caps { bytes: Some(most), ..Caps::default() };
-        program.run_with(&[], &Options { caps, ..Options::default() }).map(|report| report.end())
+        let mut caps = Caps::default();
+        caps.bytes = Some(most);
+        program.run_with(&[], &capped(caps)).map(|report| report.end())
     };
-    assert_eq!((run(8192), run(8191)), (Ok(End::Quiet), Err(Error::Run(7))));
+    assert_eq!((run(8192), run(8191)), (Ok(End::Quiet), Err(Error::Run(RunError::AboveCap))));
     let run = |most| {
-        let caps = Caps { members: Some(most), ..Caps::default() };
-        program.run_with(&[], &Options { caps, ..Options::default() }).map(|report| report.end())
+        let mut caps = Caps::default();
+        caps.members = Some(most);
+        program.run_with(&[], &capped(caps)).map(|report| report.end())
     };
-    assert_eq!((run(1), run(0)), (Ok(End::Quiet), Err(Error::Run(7))));
+    assert_eq!((run(1), run(0)), (Ok(End::Quiet), Err(Error::Run(RunError::AboveCap))));
     Ok(())
 }
 
@@ -189,7 +195,7 @@ fn errors_say_where() {
     assert_eq!((refused.code().as_str(), refused.line, refused.word, refused.column), ("N04", 4, 4, 9));
     let why: Box<dyn std::error::Error> = Program::load_as("", Format::Bytes).err().expect("it is no program").into();
     assert_eq!(why.to_string(), "refused F03 at byte 0");
-    assert_eq!(yuglemit::verify(b""), Verdict::NoProgram { number: 3, byte: 0 });
+    assert_eq!(yuglemit::verify(b"").map_err(|why| why.to_string()), Err("refused F03 at byte 0".into()));
 }
 
 #[test]
@@ -207,16 +213,50 @@ fn programs_are_shared_by_threads() -> Result<(), Error> {
 }
 
 #[test]
+fn threads_read_one_program_and_one_report() -> Result<(), Error> {
+    let (program, report) = (same("int"), same("text").run(&["é".into()])?);
+    let works = |number: i64| {
+        let ran = program.run(&[number.into()]).and_then(|it| it.output(0)) == Ok(Value::Int(number));
+        ran && report.outputs() == Ok(vec!["é".into()]) && report.text().is_ok_and(|text| text == "out 0 text \"é\"\nquiet\n")
+    };
+    thread::scope(|threads| {
+        let all: Vec<_> = (0..8).map(|number| threads.spawn(move || (0..100).all(|k| works(number + k)))).collect();
+        assert!(all.into_iter().all(|it| it.join().expect("a thread ends")));
+    });
+    Ok(())
+}
+
+#[test]
+fn a_source_has_a_greatest_length() -> Result<(), Error> {
+    let text = "proc control\nregs\nRET\n";
+    Program::load_within(text, Format::Any, text.len() as u64)?;
+    let Err(Error::Refused(refused)) = Program::load_within(text, Format::Any, text.len() as u64 - 1) else { panic!("it is accepted") };
+    assert_eq!(refused.to_string(), "refused H02");
+    Ok(())
+}
+
+#[test]
+fn containers_are_read_at_once() -> Result<(), Error> {
+    let text = "proc control write cont int\nregs int int\nINT v1 1\nREPEAT 300\nNEW d1 d2 int\nSTORE d1 v0\nINS d0 v0 d2 have\nJMP next\nhave:\nDROPR d2\n\
+                next:\nADD v0 v0 v1 too_large\ntoo_large:\nEND\nDROPW d0\nRET\n";
+    let Value::Container(found) = Program::load(text)?.run(&[])?.output(0)? else { panic!("it is a container") };
+    assert!(found.members.len() == 300 && found.members.iter().all(|(by, of)| Some(by) == of.as_ref()));
+    Ok(())
+}
+
+#[test]
 fn another_thread_stops_a_run() -> Result<(), Error> {
     let (program, stop) = (Program::load(ENDLESS)?, Stop::new()?);
     let other = stop.share()?;
-    let options = Options { limit: 1_000_000, stop: Some(&stop), ..Options::default() };
+    let mut options = Options::default();
+    (options.limit, options.stop) = (1_000_000, Some(&stop));
     let thread = thread::spawn(move || other.raise());
     let report = program.run_with(&[], &options)?;
     thread.join().expect("a thread ends");
     assert!(report.end() == End::Stopped && report.events() < 1_000_000);
     stop.lower();
-    let report = program.run_with(&[], &Options { limit: 20, ..options })?;
+    options.limit = 20;
+    let report = program.run_with(&[], &options)?;
     assert_eq!((report.end(), report.events()), (End::Limit, 20));
     Ok(())
 }
@@ -245,7 +285,9 @@ fn reports_are_printed() -> Result<(), Error> {
     assert!(report.trace()?.starts_with("events\n") && report.json()?.contains("\"outputs\":[7]"));
     let stop = Stop::new()?;
     stop.raise();
-    let report = program.run_with(&[7.into()], &Options { stop: Some(&stop), ..Options::default() })?;
+    let mut options = Options::default();
+    options.stop = Some(&stop);
+    let report = program.run_with(&[7.into()], &options)?;
     assert_eq!((report.json(), report.instructions()?), (Err(Error::NoEnd), 0));
     Ok(())
 }
@@ -253,13 +295,12 @@ fn reports_are_printed() -> Result<(), Error> {
 #[test]
 fn procedures_have_parameters() -> Result<(), Error> {
     let main = sized("tcont text").procedures()?.swap_remove(0);
-    let input = Parameter { mode: Mode::Closed, by: vec![Type::Text], scalar: Type::Text };
-    let output = Parameter { mode: Mode::Write, by: vec![], scalar: Type::Int };
-    assert_eq!((main.is_control, main.parameters), (true, vec![input, output]));
+    let listed = |parameters: &[Parameter]| parameters.iter().map(|it| (it.mode, it.by.clone(), it.scalar)).collect::<Vec<_>>();
+    assert!(main.is_control);
+    assert_eq!(listed(&main.parameters), [(Mode::Closed, vec![Type::Text], Type::Text), (Mode::Write, vec![], Type::Int)]);
     let second = "proc control val int ref int\nregs int\nDROPR d0\nRET\n";
     let two = Program::load(format!("proc control\nregs int\nNEW d0 d1 int\nSTORE d0 v0\nPUT 1 0 any 0 1\nRET\n{second}"))?;
-    let of_int = |mode| Parameter { mode, by: vec![], scalar: Type::Int };
-    assert_eq!(two.procedures()?[1].parameters, [of_int(Mode::Value), of_int(Mode::Read)]);
+    assert_eq!(listed(&two.procedures()?[1].parameters), [Mode::Value, Mode::Read].map(|mode| (mode, vec![], Type::Int)));
     let leaf = Program::load("proc control\nregs\nPUT 1 0 any\nRET\nproc leaf\nregs\nRET\n")?;
     assert_eq!(leaf.procedures()?.iter().map(|it| it.is_control).collect::<Vec<_>>(), [true, false]);
     Ok(())

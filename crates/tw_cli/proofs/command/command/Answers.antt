@@ -1,4 +1,4 @@
-use Rattle.tw_cli.specs.CommandLine.{command_line}
+use Rattle.tw_cli.specs.Rows.{command_line}
 use Rattle.tw_cli.proofs.command.command.Goals as goal
 
 pub returns : goal.returns

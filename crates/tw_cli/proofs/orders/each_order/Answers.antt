@@ -8,10 +8,10 @@ pub returns-then-each_excludes-clause-refused : goal.returns-then-each_excludes-
 returns-then-each_excludes-clause-refused c =
     let rows = rows_of (found_of c.args.matches.now) in
     let o = c.requires.options in
-    has_conflict _ (run_asked rows) (each_refused rows o.numbers o.capped o.picture c.requires.each (sym c.each_excludes.ensures ∙ c.if-each_excludes.true))
+    has_conflict _ (run_asked rows) (each_refused rows o.numbers o.capped o.picture o.seeds c.requires.each (sym c.each_excludes.ensures ∙ c.if-each_excludes.true))
 
 pub returns-in_default-clause-refused : goal.returns-in_default-clause-refused
 returns-in_default-clause-refused c =
     let rows = rows_of (found_of c.args.matches.now) in
     let o = c.requires.options in
-    has_fault _ (run_asked rows) (jobs_refused rows o.numbers o.capped o.picture c.requires.each (sym c.each_excludes.ensures ∙ c.if-each_excludes.false) (sym c.in_default.ensures))
+    has_fault _ (run_asked rows) (jobs_refused rows o.numbers o.capped o.picture o.seeds c.requires.each (sym c.each_excludes.ensures ∙ c.if-each_excludes.false) (sym c.in_default.ensures))

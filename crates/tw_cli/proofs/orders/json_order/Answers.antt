@@ -8,4 +8,4 @@ pub returns-then-json_excludes-clause-refused : goal.returns-then-json_excludes-
 returns-then-json_excludes-clause-refused c =
     let rows = rows_of (found_of c.args.matches.now) in
     let o = c.requires.options in
-    has_conflict _ (run_asked rows) (json_refused rows o.numbers o.capped o.picture c.requires.single c.requires.json (sym c.json_excludes.ensures ∙ c.if-json_excludes.true))
+    has_conflict _ (run_asked rows) (json_refused rows o.numbers o.capped o.picture o.seeds c.requires.single c.requires.json (sym c.json_excludes.ensures ∙ c.if-json_excludes.true))

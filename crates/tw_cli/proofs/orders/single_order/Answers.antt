@@ -8,4 +8,4 @@ pub returns-then-names_jobs-clause-refused : goal.returns-then-names_jobs-clause
 returns-then-names_jobs-clause-refused c =
     let rows = rows_of (found_of c.args.matches.now) in
     let o = c.requires.options in
-    has_conflict _ (run_asked rows) (jobs_alone_refused rows o.numbers o.capped o.picture c.requires.single c.requires.words (sym c.names_jobs.ensures ∙ c.if-names_jobs.true))
+    has_conflict _ (run_asked rows) (jobs_alone_refused rows o.numbers o.capped o.picture o.seeds c.requires.single c.requires.words (sym c.names_jobs.ensures ∙ c.if-names_jobs.true))

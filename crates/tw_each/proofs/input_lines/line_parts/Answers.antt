@@ -4,7 +4,7 @@ use Rattle.std.proofs.lemmas.List.{map-append}
 use Rattle.std.proofs.lemmas.Iterator.Consumers.{YieldsList-at, YieldsList-end}
 use Rattle.std.proofs.lemmas.Iterator.Splits.{YieldsList-from_lines}
 use Rattle.tw_each.specs.InputLines.{Parts, after_line, after_lines, parts, seen}
-use Rattle.tw_each.proofs.InputLines.{one_more, program_read}
+use Rattle.tw_each.proofs.InputLines.{has_read, one_more, program_read}
 use Rattle.tw_each.proofs.input_lines.line_parts.Goals as goal
 
 pub loop-line-preserved : goal.loop-line-preserved
@@ -20,4 +20,4 @@ returns c =
     let t = YieldsList-end road c.loop-line.yielded _ c.loop-line.yielded_by _ _ c.in-None.is c.next.ensures.steps in
     let all : seen c.loop-line.parts ≡ after_lines (parts false [] []) (lines c.args.text.now) = c.loop-line.invariant ∙ ap (after_lines (parts false [] [])) t.0 in
     let read = program_read [] (lines c.args.text.now) in
-    record { program = ap (λ (p : Parts). p.program) all ∙ read.0; rest = ap (λ (p : Parts). p.lines) all ∙ read.1 }
+    record { has = ap (λ (p : Parts). p.has_inputs) all ∙ has_read [] (lines c.args.text.now); program = ap (λ (p : Parts). p.program) all ∙ read.0; rest = ap (λ (p : Parts). p.lines) all ∙ read.1 }

@@ -7,4 +7,4 @@ pub returns-in-Ok-of_held : goal.returns-in-Ok-of_held
 returns-in-Ok-of_held c = inl (c.in-Ok.left, ap report_in c.in-Ok-of_held.ensures, c.in-Ok.ensures.allowed, c.in-Ok.ensures.left, c.in-Ok.ensures.flag, refl)
 
 pub returns-in-Err-of_held : goal.returns-in-Err-of_held
-returns-in-Err-of_held c = inr (NoMemory, c.in-Ok.ensures.allowed, (refl, c.number-in-Err-of_held.ensures))
+returns-in-Err-of_held c = inr (NoMemory, c.in-Ok.ensures.allowed, (refl, refl))

@@ -1,4 +1,4 @@
-use Rattle.std.proofs.Common.{◌≡◌, ◌≢◌, ◌<◌, ◌+◌, ◌*◌, ◌∙◌, Option, ap, arith, get_or, subst, sym}
+use Rattle.std.proofs.Common.{◌≡◌, ◌≢◌, ◌<◌, ◌+◌, ◌*◌, ◌∙◌, Option, None, ap, arith, get_or, subst, sym}
 use Rattle.tw_types.specs.declared.actor.Actor.{Actor}
 use Rattle.tw_types.specs.Actor.{actor_at, actor_count}
 use Rattle.tw_types.specs.Layout.{ActorCounts}
@@ -26,7 +26,7 @@ turn_one-requires-clause-keeps c =
     subst (λ (a : Actor). Keeps now a (get_or c.loop-index.kept index default)) (sym actor_now) (inv.kept_is.each index default low_now)
 
 pub returns-in-Some-clause-round : goal.returns-in-Some-clause-round
-returns-in-Some-clause-round c = λ start rounds is after.
+returns-in-Some-clause-round c = λ rounds start after.
     let first = c.args.pool.now in
     let now = c.loop-index.pool in
     let index = c.loop-index.index in
@@ -38,8 +38,8 @@ returns-in-Some-clause-round c = λ start rounds is after.
     let actor_is : c.actor_at-actor.result ≡ actor_at first.layout index = c.actor_at-actor.ensures.is ∙ ap (λ (l : ActorCounts). actor_at l index) c.layout-layout.ensures in
     let actor_now : c.actor_at-actor.result ≡ actor_at now.layout index = actor_is ∙ ap (λ (l : ActorCounts). actor_at l index) (sym same) in
     let t = c.in-Some.ensures in
-    ends_at start c.in-Some.end c.turn_one.new.pool
-    (rounding.the_last start now c.turn_one.new.pool first.layout rounds index t.answer (Ends c.in-Some.end) is low (inv.after start rounds is after) (subst (λ (a : Actor). IsMove now a t.answer c.turn_one.new.pool) actor_is t.move) t.comes)
+    ends_at None start c.in-Some.end c.turn_one.new.pool
+    (rounding.the_last start now c.turn_one.new.pool first.layout rounds index t.answer (Ends c.in-Some.end) same low (inv.after start rounds after) (subst (λ (a : Actor). IsMove now a t.answer c.turn_one.new.pool) actor_is t.move) t.comes)
 
 pub loop-index-preserved : goal.loop-index-preserved
 loop-index-preserved c =
@@ -61,12 +61,12 @@ loop-index-preserved c =
       grown = rounding.grown_twice first now new inv.grown t.grown;
       kept_is = rounding.kept_again now new c.loop-index.kept index c.turn_one.new.kept (rounding.layout_same now new t.grown) low_now inv.kept_is (subst (λ (a : Actor). Keeps new a c.turn_one.new.kept) actor_now t.comes.1)
           (subst (λ (a : Actor). (other : Actor) (its : Option DoneView) → other ≢ a → Keeps now other its → Keeps new other its) actor_now t.others);
-      after = λ start rounds is after. rounding.one_more start now new first.layout rounds index t.answer is low (inv.after start rounds is after) (subst (λ (a : Actor). IsMove now a t.answer new) actor_is t.move) on;
+      after = λ start rounds after. rounding.one_more start now new first.layout rounds index t.answer same low (inv.after start rounds after) (subst (λ (a : Actor). IsMove now a t.answer new) actor_is t.move) on;
       more = rounding.more_again first now new index inv.more (subst (λ (a : Actor). rounding.OneMore now new a) actor_now more);
     }
 
 pub returns-clause-round : goal.returns-clause-round
-returns-clause-round c =
+returns-clause-round c = λ rounds.
     let first = c.args.pool.now in
     let now = c.loop-index.pool in
     let index = c.loop-index.index in
@@ -78,12 +78,12 @@ returns-clause-round c =
     record {
       more = rounding.round_grows first now index may (end ∙ ap actor_count (sym same)) inv.more;
       kept_is = inv.kept_is;
-      after = λ start rounds is after. rounding.whole_round start now rounds (actor_count first.layout) index end (inv.after start rounds is after);
+      after = λ start after. rounding.whole_round start now rounds (actor_count first.layout) index end (inv.after start rounds after);
     }
 
 pub returns-then-is_raised-clause-round : goal.returns-then-is_raised-clause-round
-returns-then-is_raised-clause-round c = λ start rounds is after.
-    (rounds * actor_count c.args.pool.now.layout + c.loop-index.index, c.loop-index.invariant.after start rounds is after)
+returns-then-is_raised-clause-round c = λ rounds start after.
+    (rounds * actor_count c.args.pool.now.layout + c.loop-index.index, c.loop-index.invariant.after start rounds after)
 
 pub returns-in-Some-clause-flag : goal.returns-in-Some-clause-flag
 returns-in-Some-clause-flag c = λ e. absurd (subst (λ (end : End). Ends end c.in-Some.ensures.answer) e c.in-Some.ensures.comes)

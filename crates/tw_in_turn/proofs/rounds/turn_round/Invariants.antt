@@ -1,4 +1,4 @@
-use Rattle.std.proofs.Common.{◌≡◌, ◌+◌, ◌*◌, ℕ}
+use Rattle.std.proofs.Common.{◌+◌, ◌*◌, ℕ, None}
 use Rattle.tw_types.specs.Actor.{actor_count}
 use Rattle.tw_pool.specs.PoolView.{PoolView}
 use Rattle.tw_in_turn.specs.InTurn.{IsAfter}
@@ -10,6 +10,6 @@ abbrev pub invariant-loop-index : goal.invariant-loop-index
 invariant-loop-index l = record {
   grown : IsGrown l.fn.pool l.pool;
   kept_is : AreKept l.pool l.kept;
-  after : (first : PoolView) (rounds : ℕ) → first.layout ≡ l.fn.pool.layout → IsAfter first (rounds * actor_count l.fn.pool.layout) l.fn.pool → IsAfter first (rounds * actor_count l.fn.pool.layout + l.index) l.pool;
+  after : (first : PoolView) (rounds : ℕ) → IsAfter None first (rounds * actor_count l.fn.pool.layout) l.fn.pool → IsAfter None first (rounds * actor_count l.fn.pool.layout + l.index) l.pool;
   more : MoreOrIdle l.fn.pool l.pool l.index;
 }

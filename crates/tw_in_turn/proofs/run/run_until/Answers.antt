@@ -19,14 +19,14 @@ turn_all-end-requires-clause-kept c =
 pub returns-in-Over-clause-left : goal.returns-in-Over-clause-left
 returns-in-Over-clause-left c =
     let p = c.turn_all-end.new.pool in
-    left_over c.in_ok-pool.pool (opened c.args.verified.now c.args.inputs.now c.args.layout c.args.limit) p c.shut-outcome-2.result.0 c.shut-outcome-2.result.1 c.in_ok-pool.ensures.opened refl c.in-Over.ensures.ends c.turn_all-end.ensures.grown c.shut-outcome-2.ensures.left c.shut-outcome-2.ensures.ends_well
+    left_over c.in_ok-pool.pool (opened c.args.verified.now c.args.inputs.now c.args.layout c.args.limit) p c.shut-outcome-2.result.0 c.shut-outcome-2.result.1 c.in_ok-pool.ensures.opened c.args.seed refl c.in-Over.ensures.ends c.turn_all-end.ensures.grown c.shut-outcome-2.ensures.left c.shut-outcome-2.ensures.ends_well
 
 pub returns-in-NoMemory-clause-left : goal.returns-in-NoMemory-clause-left
 returns-in-NoMemory-clause-left c =
     let p = c.turn_all-end.new.pool in
     let first = opened c.args.verified.now c.args.inputs.now c.args.layout c.args.limit in (
       p,
-      subst (λ (q : PoolView). ComesTo q IsRefused p) c.in_ok-pool.ensures.opened c.in-NoMemory.ensures.ends,
+      subst (λ (q : PoolView). ComesTo c.args.seed q IsRefused p) c.in_ok-pool.ensures.opened c.in-NoMemory.ensures.ends,
       left_in c.in_ok-pool.pool first p c.shut-outcome-2.result.0 c.shut-outcome-2.result.1 c.in_ok-pool.ensures.opened c.turn_all-end.ensures.grown c.shut-outcome-2.ensures.left c.shut-outcome-2.ensures.ends_well,
     )
 
@@ -35,6 +35,6 @@ returns-clause-left c =
     let p = c.turn_all-end.new.pool in
     let first = opened c.args.verified.now c.args.inputs.now c.args.layout c.args.limit in (
       p,
-      subst (λ (q : PoolView). IsSomeAfter q p) c.in_ok-pool.ensures.opened c.in-Stopped.ensures.ends,
+      subst (λ (q : PoolView). IsSomeAfter c.args.seed q p) c.in_ok-pool.ensures.opened c.in-Stopped.ensures.ends,
       left_in c.in_ok-pool.pool first p c.shut-outcome-2.result.0 c.shut-outcome-2.result.1 c.in_ok-pool.ensures.opened c.turn_all-end.ensures.grown c.shut-outcome-2.ensures.left c.shut-outcome-2.ensures.ends_well,
     )

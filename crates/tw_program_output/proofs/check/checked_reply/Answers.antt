@@ -1,9 +1,9 @@
-use Rattle.std.proofs.Common.{◌≡◌, ◌==◌, ◌++◌, ◌∙◌, ℕ, List, ap, codes, inl, inr, refl}
+use Rattle.std.proofs.Common.{◌≡◌, ◌==◌, ◌∙◌, ℕ, ap, inl, inr, refl}
 use Rattle.tw_program_output.specs.Check.{RepliesByCheck}
 use Rattle.tw_program_output.specs.Reply.{reply}
-use Rattle.tw_program_output.specs.declared.close.Close.TheVariants.{Refused}
+use Rattle.tw_program_output.specs.declared.failure.Position.TheVariants as position
 use Rattle.tw_program_output.proofs.Admissions.{no_lines, some_lines}
-use Rattle.tw_program_output.proofs.ReplyNames.{IfOk-weaker, Reply, text_of}
+use Rattle.tw_program_output.proofs.ReplyNames.{IfOk-weaker, Reply, coded, failed_with, text_of}
 use Rattle.tw_program_output.proofs.check.checked_reply.Goals as goal
 
 pub returns-then-is_empty : goal.returns-then-is_empty
@@ -15,7 +15,7 @@ pub returns : goal.returns
 returns c =
     let lines = c.in_ok-lines.lines in
     let some = some_lines lines.items c.is_empty.result (c.is_empty.ensures ∙ ap (λ (n : ℕ). n == 0) lines.ok.0) c.if-is_empty.false in
-    IfOk-weaker c.excess_reply.result (λ (r : Reply). reply r.text.items r.close ≡ reply (codes "refused O07\n" ++ c.deref.result.now) Refused)
+    IfOk-weaker c.excess_reply.result (λ (r : Reply). reply r.text.items r.close ≡ failed_with (coded 79 7 position.Nowhere) c.deref.result.now)
     (λ (r : Reply). RepliesByCheck c.args.order (text_of c.args.source.now) c.args.verified.now.program (reply r.text.items r.close))
-    (λ r h. (lines.items, c.in_ok-lines.ensures.lines, inr (some, h ∙ ap (λ (text : List ℕ). reply (codes "refused O07\n" ++ text) Refused) c.deref.ensures.value)))
+    (λ r h. (lines.items, c.in_ok-lines.ensures.lines, inr (some, h ∙ ap (failed_with (coded 79 7 position.Nowhere)) c.deref.ensures.value)))
     c.excess_reply.ensures

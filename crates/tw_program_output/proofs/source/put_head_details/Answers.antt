@@ -1,5 +1,5 @@
-use Rattle.std.proofs.Common.{◌++◌, ◌∙◌, ℕ, List, ap, append_assoc, subst, sym}
-use Rattle.tw_program_output.proofs.ReplyNames.{ComesFrom, ExpandsTo, on_ok_weaker, text_line}
+use Rattle.std.proofs.Common.{◌++◌, ◌∙◌, ℕ, List, ap, append_assoc, refl, subst, sym}
+use Rattle.tw_program_output.proofs.ReplyNames.{ComesFrom, ExpandsTo, text_line}
 use Rattle.tw_diagnostics.specs.Reasons.{shape_line}
 use Rattle.tw_diagnostics.specs.LineRole.{IsFirstHead}
 use Rattle.tw_program_output.proofs.Sources.{head_there, some_head}
@@ -20,9 +20,7 @@ returns-in_default-trimmed_line c = λ procedure place number comes expands.
     absurd (head_there text plain c.in-Some.number (subst (λ (t : List ℕ). ExpandsTo text t) (sym c.plain.ensures) expands) head c.in_default-trimmed_line.ensures)
 
 pub returns : goal.returns
-returns c =
-    on_ok_weaker c.put_main_diagnostic.result
-    (λ e procedure place number comes expands.
+returns c = λ procedure place number comes expands.
     let main = c.args.main.now in
     let first = c.in-Some.number in
     let line = text_line first c.in-Some-trimmed_line.line.now in
@@ -32,5 +30,7 @@ returns c =
       c.in-Some-trimmed_line.line.now,
       subst (λ (t : List ℕ). IsFirstHead t first) c.plain.ensures head,
       c.in-Some-trimmed_line.ensures,
-      e ∙ ap (λ (t : List ℕ). t ++ shape_line main.kind main.params) c.in_ok-put_text_line.ensures ∙ append_assoc c.args.out.now.items line (shape_line main.kind main.params),
-    )) c.put_main_diagnostic.ensures
+      refl,
+      c.in_ok-put_main_diagnostic.ensures ∙ ap (λ (t : List ℕ). t ++ shape_line main.kind main.params) c.in_ok-put_text_line.ensures
+          ∙ append_assoc c.args.out.now.items line (shape_line main.kind main.params),
+    )

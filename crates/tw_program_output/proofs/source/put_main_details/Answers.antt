@@ -1,6 +1,6 @@
 use Rattle.std.proofs.Common.{◌++◌, ◌∙◌, List, ap, refl, sym}
 use Rattle.std.specs.List.{slice_get}
-use Rattle.tw_program_output.proofs.ReplyNames.{Procedure, on_ok_weaker, plain_of, text_line}
+use Rattle.tw_program_output.proofs.ReplyNames.{IfOk-weaker, Procedure, plain_of, text_line}
 use Rattle.tw_asm.proofs.Taking.{no_first}
 use Rattle.tw_diagnostics.specs.Reasons.{shape_line}
 use Rattle.tw_program_output.proofs.Sources.{none_there, some_origin}
@@ -11,12 +11,12 @@ returns-in-Some c =
     let refused = c.args.refused.now in
     let main = c.in-Some.main.now in
     let first = ap (λ (ps : List Procedure). slice_get ps 0) (sym c.procedures.ensures.is) ∙ sym c.in-Some.ensures.value in
-    on_ok_weaker c.put_head_details.result
-    (λ printed is.
+    IfOk-weaker c.put_head_details.result _ _
+    (λ at printed is.
     let plain = plain_of c.args.source.now in
     let origin = some_origin plain refused.program.procedures c.args.source.now.lines.procedures refused.procedure refused.place is.0 is.1 in
     let head = printed refused.procedure refused.place origin.0 origin.1 is.2 in
-    (text_line head.0 head.1 ++ shape_line main.kind main.params, (plain, head.0, head.1, main, is.2, head.2, head.3, first, refl), head.4)) c.put_head_details.ensures
+    (text_line head.0 head.1 ++ shape_line main.kind main.params, (plain, head.0, head.1, main, is.2, head.2, head.3, first, head.4, refl), head.5)) c.put_head_details.ensures
 
 pub returns-in-None : goal.returns-in-None
 returns-in-None c = λ is.

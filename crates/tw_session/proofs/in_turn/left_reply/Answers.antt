@@ -11,7 +11,7 @@ pub ended_reply-requires : goal.ended_reply-requires
 ended_reply-requires c =
     let verified = c.args.verified in
     let order = c.args.order.now in
-    let is_over = subst (λ (x : InTurnResult). IsLeft (opened verified order.inputs order.layout order.limit) x) c.in-Over.is c.requires.left in
+    let is_over = subst (λ (x : InTurnResult). IsLeft order.seed (opened verified order.inputs order.layout order.limit) x) c.in-Over.is c.requires.left in
     let p = is_over.0 in
     let left = is_over.2 in
     record {
@@ -24,7 +24,7 @@ pub returns-in-Some : goal.returns-in-Some
 returns-in-Some c =
     let verified = c.args.verified in
     let order = c.args.order.now in
-    let is_over = subst (λ (x : InTurnResult). IsLeft (opened verified order.inputs order.layout order.limit) x) c.in-Over.is c.requires.left in
+    let is_over = subst (λ (x : InTurnResult). IsLeft order.seed (opened verified order.inputs order.layout order.limit) x) c.in-Over.is c.requires.left in
     let p = is_over.0 in
     let left = is_over.2 in
     replied c.ended_reply.result (text_of c.args.source.now) verified.program order c.in-Over.outcome c.in-Over.history.events c.in-Some.closing
@@ -34,5 +34,5 @@ returns-in-Some c =
 pub unreachable-requires : goal.unreachable-requires
 unreachable-requires c =
     let order = c.args.order.now in
-    let over = subst (λ (x : InTurnResult). IsLeft (opened c.args.verified order.inputs order.layout order.limit) x) c.in-Over.is c.requires.left in
+    let over = subst (λ (x : InTurnResult). IsLeft order.seed (opened c.args.verified order.inputs order.layout order.limit) x) c.in-Over.is c.requires.left in
     c.stop_reason.ensures.none c.in-None.is (subst HasEnded (sym c.closing.ensures) over.3)

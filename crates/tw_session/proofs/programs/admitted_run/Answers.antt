@@ -1,6 +1,6 @@
-use Rattle.std.proofs.Common.{◌==◌, ◌++◌, ◌∙◌, ℕ, List, ap, codes, inl, inr, refl}
-use Rattle.tw_program_output.specs.Reply.{reply}
-use Rattle.tw_program_output.specs.declared.close.Close.TheVariants.{Refused}
+use Rattle.std.proofs.Common.{◌==◌, ◌∙◌, ℕ, ap, inl, inr, refl}
+use Rattle.tw_program_output.specs.Failure.{coded, failed_with}
+use Rattle.tw_program_output.specs.declared.failure.Position.TheVariants as position
 use Rattle.tw_program_output.proofs.Admissions.{no_lines, some_lines}
 use Rattle.tw_session.proofs.programs.admitted_run.Goals as goal
 
@@ -11,4 +11,4 @@ returns-then-is_empty c =
 
 pub returns : goal.returns
 returns c =
-    (c.in_ok-lines.lines.items, c.in_ok-lines.ensures.lines, inr (some_lines c.in_ok-lines.lines.items c.is_empty.result (c.is_empty.ensures ∙ ap (λ (n : ℕ). n == 0) c.in_ok-lines.lines.ok.0) c.if-is_empty.false, c.in_ok-reply.ensures ∙ ap (λ (text : List ℕ). reply (codes "refused O07\n" ++ text) Refused) c.deref.ensures.value))
+    (c.in_ok-lines.lines.items, c.in_ok-lines.ensures.lines, inr (some_lines c.in_ok-lines.lines.items c.is_empty.result (c.is_empty.ensures ∙ ap (λ (n : ℕ). n == 0) c.in_ok-lines.lines.ok.0) c.if-is_empty.false, c.in_ok-reply.ensures ∙ ap (failed_with (coded 79 7 position.Nowhere)) c.deref.ensures.value))

@@ -1,0 +1,127 @@
+-- Bytes that are read, and answers that are written.
+use Rattle.std.proofs.Common.{◌≡◌, ◌+◌, ◌==◌, ◌++◌, ◌||◌, ◌∙◌, ℕ, Bool, true, false, List, [], ◌∷◌, Option, None, Some, IfSome, Result, Ok, Err, arith, ap, append_assoc, drop, get_or, inl, inr, length, refl, subst, sym, take}
+use Rattle.std.specs.Prelude.{MatchBool, nat_lt}
+use Rattle.std.proofs.lemmas.Bool.Decides.{when_true}
+use Rattle.std.proofs.lemmas.Bool.{cases_lt, lt-ltb}
+use Rattle.std.proofs.lemmas.List.{append-nil, length-take-le, take_all}
+use Rattle.std.specs.Io.KnownBytes.{Appends, Consumes, IsAtEnd, Keeps}
+use Rattle.tw_program_output.specs.Input.{most_bytes}
+use Rattle.tw_each.specs.Answers.{AreAnswers, IsLine, IsShortLine, Way, numbered, too_long, unread_line}
+use Rattle.tw_each.specs.Stream.{Adds, AnswersAll, AnswersLast, AreSomeWritten, AreWritten, IsAt, Stops, begun_line, ended_lines, kept, lines_in}
+use Rattle.tw_each.specs.declared.stream.AnsweredLines.{AnsweredLines}
+use Rattle.tw_each.specs.declared.stream.StreamError.{StreamError}
+use Rattle.tw_each.specs.declared.stream.StreamError.TheVariants.{NoMemory, Read, Write}
+use Rattle.tw_each.proofs.LineAnswers.{answers_joined}
+
+-- ---- known bytes
+
+pub nothing_appended : (old : Option (List ℕ)) → Appends old old []
+nothing_appended None = tt
+nothing_appended (Some xs) = sym (append-nil xs)
+
+pub appended_on : (old mid new : Option (List ℕ)) (xs ys : List ℕ) → Appends old mid xs → Appends mid new ys → Appends old new (xs ++ ys)
+appended_on None mid new xs ys p q = tt
+appended_on (Some o) None new xs ys p q = absurd p
+appended_on (Some o) (Some m) None xs ys p q = absurd q
+appended_on (Some o) (Some m) (Some n) xs ys p q = q ∙ ap (λ (l : List ℕ). l ++ ys) p ∙ append_assoc o xs ys
+
+pub appended_kept : (old mid new : Option (List ℕ)) (xs : List ℕ) → Appends old mid xs → Keeps mid new → Appends old new xs
+appended_kept None mid new xs p q = tt
+appended_kept (Some o) None new xs p q = absurd p
+appended_kept (Some o) (Some m) None xs p q = absurd q
+appended_kept (Some o) (Some m) (Some n) xs p q = q ∙ p
+
+pub nothing_consumed : (from : Option (List ℕ)) → Consumes from from []
+nothing_consumed None = tt
+nothing_consumed (Some xs) = refl
+
+pub consumed_on : (from mid left : Option (List ℕ)) (xs ys : List ℕ) → Consumes from mid xs → Consumes mid left ys → Consumes from left (xs ++ ys)
+consumed_on None mid left xs ys p q = tt
+consumed_on (Some f) None left xs ys p q = absurd p
+consumed_on (Some f) (Some m) None xs ys p q = absurd q
+consumed_on (Some f) (Some m) (Some l) xs ys p q = p ∙ ap (λ (t : List ℕ). xs ++ t) q ∙ sym (append_assoc xs ys l)
+
+pub consumed_kept : (from mid left : Option (List ℕ)) (xs : List ℕ) → Consumes from mid xs → Keeps mid left → Consumes from left xs
+consumed_kept None mid left xs p q = tt
+consumed_kept (Some f) None left xs p q = absurd p
+consumed_kept (Some f) (Some m) None xs p q = absurd q
+consumed_kept (Some f) (Some m) (Some l) xs p q = p ∙ ap (λ (t : List ℕ). xs ++ t) (sym q)
+
+-- at the end all bytes were read
+pub all_consumed : (P : List ℕ → Type 0) (from left : Option (List ℕ)) (xs : List ℕ) → Consumes from left xs → IsAtEnd left → P xs → IfSome from P
+all_consumed P None left xs p e h = tt
+all_consumed P (Some f) None xs p e h = absurd p
+all_consumed P (Some f) (Some l) xs p e h = subst P (sym (p ∙ ap (λ (t : List ℕ). xs ++ t) e ∙ append-nil xs)) h
+
+pub keeps_same : (known : Option (List ℕ)) → Keeps known known
+keeps_same None = tt
+keeps_same (Some xs) = refl
+
+-- ---- answers that are written
+
+pub none_written : (w : Way) (before : ℕ) (old : Option (List ℕ)) → AreWritten w before [] old old false
+none_written w before old = ([], (refl, refl), nothing_appended old)
+
+none_of : (w : Way) (before : ℕ) (lines : List (List ℕ)) (old : Option (List ℕ)) → AreSomeWritten w before lines old old
+none_of w before lines old = ([], lines, false, refl, none_written w before old)
+
+-- an error before the first write
+pub stops_first : (w : Way) (before : ℕ) (lines : List (List ℕ)) (old : Option (List ℕ)) (why : StreamError) → Stops w before lines old old why
+stops_first w before lines old Read = none_of w before lines old
+stops_first w before lines old Write = tt
+stops_first w before lines old NoMemory = none_of w before lines old
+
+pub written_on : (w : Way) (before : ℕ) (first more : List (List ℕ)) (old mid new : Option (List ℕ)) (refused bad : Bool) → AreWritten w before first old mid refused
+    → AreWritten w (before + length first) more mid new bad → AreWritten w before (first ++ more) old new (refused || bad)
+written_on w before first more old mid new refused bad (text, are, added) (rest, others, also) =
+    (text ++ rest, answers_joined w before first more text rest refused bad are others, appended_on old mid new text rest added also)
+
+some_on : (w : Way) (before : ℕ) (first more : List (List ℕ)) (old mid new : Option (List ℕ)) (refused : Bool) → AreWritten w before first old mid refused
+    → AreSomeWritten w (before + length first) more mid new → AreSomeWritten w before (first ++ more) old new
+some_on w before first more old mid new refused here (next, others, bad, same, there) =
+    (first ++ next, others, refused || bad, ap (λ (ls : List (List ℕ)). first ++ ls) same ∙ sym (append_assoc first next others), written_on w before first next old mid new refused bad here there)
+
+-- an error after some answers
+pub stops_on : (w : Way) (before : ℕ) (first more : List (List ℕ)) (old mid new : Option (List ℕ)) (refused : Bool) (why : StreamError) → AreWritten w before first old mid refused
+    → Stops w (before + length first) more mid new why → Stops w before (first ++ more) old new why
+stops_on w before first more old mid new refused Read here there = some_on w before first more old mid new refused here there
+stops_on w before first more old mid new refused Write here there = tt
+stops_on w before first more old mid new refused NoMemory here there = some_on w before first more old mid new refused here there
+
+-- an error of which the lines after those that were read are no matter
+pub stops_within : (w : Way) (before : ℕ) (lines more : List (List ℕ)) (old new : Option (List ℕ)) (why : StreamError) → Stops w before lines old new why → Stops w before (lines ++ more) old new why
+stops_within w before lines more old new Read (first, others, refused, same, h) = (first, others ++ more, refused, ap (λ (ls : List (List ℕ)). ls ++ more) same ∙ append_assoc first others more, h)
+stops_within w before lines more old new Write h = tt
+stops_within w before lines more old new NoMemory (first, others, refused, same, h) = (first, others ++ more, refused, ap (λ (ls : List (List ℕ)). ls ++ more) same ∙ append_assoc first others more, h)
+
+-- ---- a line of which only a part is kept
+
+pub kept_line : (w : Way) (n : ℕ) (line answer : List ℕ) (refused : Bool) → IsLine w n (kept line) answer refused → IsLine w n line answer refused
+kept_line w n line answer refused h = elim (cases_lt most_bytes (length line)) [
+  | inr short ↦ subst (λ (l : List ℕ). IsLine w n l answer refused) (take_all (most_bytes + 1) line (omega (arith, short))) h
+  | inl long ↦
+      let cut : nat_lt most_bytes (length (kept line)) ≡ true = lt-ltb most_bytes (length (kept line)) (omega (arith, length-take-le (most_bytes + 1) line (omega (arith, long)))) in
+      let answered = when_true ((answer ≡ numbered n (unread_line too_long)) × (refused ≡ true)) (IsShortLine w n (kept line) answer refused) cut h in
+      subst (λ (b : Bool). MatchBool b ((answer ≡ numbered n (unread_line too_long)) × (refused ≡ true)) (IsShortLine w n line answer refused)) (sym (lt-ltb most_bytes (length line) long)) answered
+]
+
+kept_written : (w : Way) (before : ℕ) (line : List ℕ) (lines : List (List ℕ)) (old new : Option (List ℕ)) (refused : Bool) → AreWritten w before (kept line ∷ lines) old new refused → AreWritten w before (line ∷ lines) old new refused
+kept_written w before line lines old new refused (text, (first, rest, bad, others, is, are, text_is, refused_is), added) =
+    (text, (first, rest, bad, others, kept_line w (before + 1) line first bad is, are, text_is, refused_is), added)
+
+kept_some : (w : Way) (before : ℕ) (line : List ℕ) (lines : List (List ℕ)) (old new : Option (List ℕ)) → AreSomeWritten w before (kept line ∷ lines) old new → AreSomeWritten w before (line ∷ lines) old new
+kept_some w before line lines old new ([], others, refused, same, h) = ([], line ∷ lines, refused, refl, h)
+kept_some w before line lines old new (l ∷ first, others, refused, same, h) =
+    let rest : lines ≡ first ++ others = ap (drop 1) same in
+    let is : l ≡ kept line = sym (ap (λ (ls : List (List ℕ)). get_or ls 0 []) same) in
+    (line ∷ first, others, refused, ap (λ (ls : List (List ℕ)). line ∷ ls) rest, kept_written w before line first old new refused (subst (λ (k : List ℕ). AreWritten w before (k ∷ first) old new refused) is h))
+
+pub kept_stops : (w : Way) (before : ℕ) (line : List ℕ) (lines : List (List ℕ)) (old new : Option (List ℕ)) (why : StreamError) → Stops w before (kept line ∷ lines) old new why → Stops w before (line ∷ lines) old new why
+kept_stops w before line lines old new Read h = kept_some w before line lines old new h
+kept_stops w before line lines old new Write h = tt
+kept_stops w before line lines old new NoMemory h = kept_some w before line lines old new h
+
+pub kept_adds : (w : Way) (answered : AnsweredLines) (line : List ℕ) (lines : List (List ℕ)) (old new : Option (List ℕ)) (result : Result AnsweredLines StreamError) → Adds w answered (kept line ∷ lines) old new result
+    → Adds w answered (line ∷ lines) old new result
+kept_adds w answered line lines old new (Ok now) (number, (bad, is, h)) = (number, (bad, is, kept_written w answered.number line lines old new bad h))
+kept_adds w answered line lines old new (Err why) h = kept_stops w answered.number line lines old new why h

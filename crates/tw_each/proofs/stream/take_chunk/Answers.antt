@@ -1,0 +1,10 @@
+use Rattle.std.proofs.lemmas.Result.{err_from_is_err_and}
+use Rattle.tw_each.specs.Answers.{way}
+use Rattle.tw_each.specs.declared.stream.StreamError.TheVariants.{NoMemory}
+use Rattle.tw_each.proofs.Chunks.{takes_nothing}
+use Rattle.tw_each.proofs.stream.take_chunk.Goals as goal
+
+pub returns-in_err-parts : goal.returns-in_err-parts
+returns-in_err-parts g c bytes at =
+    let p = err_from_is_err_and c.from_residual.result c.from_residual.ensures.1 in
+    rw (p.1, p.2) (takes_nothing (way c.args.work.now.run.now) c.args.answered c.args.begun.now.items c.args.begun.now.items c.args.chunk.now (g.W.Write.contents c.args.writer.now) NoMemory bytes at)

@@ -1,0 +1,14 @@
+use Rattle.std.proofs.Common.{◌≡◌, ◌≤◌, ◌-◌, ◌||◌, Bool, length, map, take}
+use Rattle.tw_each.specs.Answers.{way}
+use Rattle.tw_each.specs.Stream.{AreWritten}
+use Rattle.tw_each.proofs.stream.write_lines.Given as goal
+
+-- the answers to this many lines are written
+abbrev pub invariant-loop-done : goal.invariant-loop-done
+invariant-loop-done g l =
+    (l.done ≤ length l.lines)
+    × ((bad : Bool) × (l.refused ≡ (l.answered.refused || bad))
+    × AreWritten (way l.work.run.now) l.answered.number (map (λ line. line.now) (take l.done l.lines)) (g.W.Write.contents l.fn.writer) (g.W.Write.contents l.writer) bad)
+
+abbrev pub decreases-loop-done : goal.decreases-loop-done
+decreases-loop-done g l = length l.lines - l.done

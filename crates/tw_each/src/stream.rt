@@ -1,0 +1,237 @@
+//! Answers lines as they are read.
+
+ghost use Rattle.std.specs.Prelude.{◌≡◌, ◌+◌, ◌^◌, ◌<◌, ◌++◌, ◌∷◌, List, ℕ, IfErr, IfOk, OnOk, length, map};
+ghost use Rattle.std.specs.Io.KnownBytes.{Appends};
+ghost use Rattle.tw_each.specs.Answers.{way};
+ghost use Rattle.tw_each.specs.declared.stream.StreamError.TheVariants.{NoMemory as StopsWithout};
+ghost use Rattle.tw_each.specs.Stream.{Adds, AnswersAll, AnswersLast, AreWritten, IsAt, Stops, TakesChunk, kept, parts_of};
+
+use crate::answer::EachRun;
+use crate::line_count::LineCount;
+use crate::pace::{Begun, Pace};
+use crate::parts::{keep, lines_from, parts_of};
+use crate::threads::divided;
+use std::alloc::{AllocError, Global};
+use std::io::{ErrorKind, Read, Write};
+use std::thread::Threads;
+use std::time::Clock;
+
+/// The most bytes that are read at once.
+const CHUNK: usize = 65_536;
+
+/// The reason why no more lines are answered.
+#[derive(Clone, Copy, PartialEq, Eq)]
+pub enum StreamError {
+    /// A read failed.
+    Read,
+    /// A write failed.
+    Write,
+    /// An allocation failed.
+    NoMemory,
+}
+
+impl From<AllocError> for StreamError {
+    ghost from_gives = { λ _ e. e ≡ StopsWithout };
+
+    fn from(_error: AllocError) -> StreamError {
+        StreamError::NoMemory
+    }
+}
+
+/// A program that is run on lines, and the threads that do so.
+#[derive(Clone, Copy)]
+pub(crate) struct LineWork<'a, 'b, H> {
+    pub(crate) rt: &'a H,
+    pub(crate) alloc: Global,
+    pub(crate) run: &'a EachRun<'b>,
+    pub(crate) count: &'a LineCount,
+    pub(crate) jobs: usize,
+}
+
+/// The lines that are answered.
+#[derive(Clone, Copy)]
+pub(crate) struct AnsweredLines {
+    pub(crate) number: usize,
+    pub(crate) refused: bool,
+    pub(crate) pace: Pace,
+}
+
+/// Writes answers, and flushes them.
+fn write_text<W: Write>(writer: &mut W, text: &[u8]) -> Result<(), StreamError>
+    ensures text { OnOk result (Appends (W.contents writer.old) (W.contents writer.new) text.now) }
+    ensures failed { IfErr result (λ why. why ≡ StreamError.Write) }
+{
+    if writer.write_all(text).is_err() {
+        return Err(StreamError::Write);
+    }
+    if writer.flush().is_err() {
+        return Err(StreamError::Write);
+    }
+    Ok(())
+}
+
+/// Answers lines, in one thread if there is only one, and writes the answers.
+fn write_some<H: Threads + Clock + Sync, W: Write>(
+    work: &LineWork<'_, '_, H>,
+    before: usize,
+    lines: &[&[u8]],
+    writer: &mut W,
+) -> Result<bool, StreamError>
+    requires { before + length lines.now < 2 ^ 63 }
+    ensures written { IfOk result (AreWritten (way work.now.run.now) before (map (λ line. line.now) lines.now) (W.contents writer.old) (W.contents writer.new)) }
+    ensures stopped { IfErr result (Stops (way work.now.run.now) before (map (λ line. line.now) lines.now) (W.contents writer.old) (W.contents writer.new)) }
+{
+    let jobs = work.jobs.min(lines.len());
+    let answers = divided(
+        work.rt, work.alloc, work.run, work.count, jobs, before, lines,
+    )?;
+    write_text(writer, &answers.text)?;
+    Ok(answers.refused)
+}
+
+/// Answers lines, and writes the answers soon. `answered` are the lines before them.
+fn write_lines<H: Threads + Clock + Sync, W: Write>(
+    work: &LineWork<'_, '_, H>,
+    answered: AnsweredLines,
+    lines: &[&[u8]],
+    writer: &mut W,
+) -> Result<AnsweredLines, StreamError>
+    requires { answered.number + length lines.now < 2 ^ 63 }
+    ensures { Adds (way work.now.run.now) answered (map (λ line. line.now) lines.now) (W.contents writer.old) (W.contents writer.new) result }
+{
+    let mut pace = answered.pace;
+    let mut refused = answered.refused;
+    let mut done = 0;
+    while done < lines.len() {
+        let begun = Begun::now(work.rt);
+        let (_, others) = lines.split_at(done);
+        let (some, _) = others.split_at(pace.lines(others.len()));
+        refused |= write_some(work, answered.number + done, some, writer)?;
+        pace = pace.after(begun, work.rt);
+        done += some.len();
+    }
+    Ok(AnsweredLines {
+        number: answered.number + done,
+        refused,
+        pace,
+    })
+}
+
+/// Answers the line that has begun, and those after it.
+fn write_begun<H: Threads + Clock + Sync, W: Write>(
+    work: &LineWork<'_, '_, H>,
+    answered: AnsweredLines,
+    begun: &[u8],
+    others: &[&[u8]],
+    writer: &mut W,
+) -> Result<AnsweredLines, StreamError>
+    ensures { Adds (way work.now.run.now) answered (begun.now ∷ map (λ line. line.now) others.now) (W.contents writer.old) (W.contents writer.new) result }
+{
+    let lines = lines_from(work.alloc, begun, others)?;
+    match answered.number.checked_add(lines.len()) {
+        Some(number) if number <= isize::MAX as usize => {
+            write_lines(work, answered, &lines, writer)
+        }
+        _ => Err(StreamError::Read),
+    }
+}
+
+/// Answers the line that has begun and those between, and keeps the last part, if there is one.
+fn take_others<H: Threads + Clock + Sync, W: Write>(
+    work: &LineWork<'_, '_, H>,
+    answered: AnsweredLines,
+    begun: &mut Vec<u8>,
+    others: &[&[u8]],
+    writer: &mut W,
+) -> Result<AnsweredLines, StreamError>
+    ensures { (before chunk first : List ℕ) → parts_of chunk ≡ first ∷ map (λ part. part.now) others.now → begun.old.items ≡ kept (before ++ first)
+        → TakesChunk (way work.now.run.now) answered before begun.new.items chunk (W.contents writer.old) (W.contents writer.new) result }
+{
+    match others.split_last() {
+        None => Ok(answered),
+        Some((last, ended)) => {
+            let now = write_begun(work, answered, begun, ended, writer)?;
+            begun.clear();
+            keep(begun, last)?;
+            Ok(now)
+        }
+    }
+}
+
+/// Answers the lines that end in a chunk of these parts, and keeps the one that has begun after them.
+fn take_parts<H: Threads + Clock + Sync, W: Write>(
+    work: &LineWork<'_, '_, H>,
+    answered: AnsweredLines,
+    begun: &mut Vec<u8>,
+    parts: &[&[u8]],
+    writer: &mut W,
+) -> Result<AnsweredLines, StreamError>
+    ensures { (chunk : List ℕ) → map (λ part. part.now) parts.now ≡ parts_of chunk → TakesChunk (way work.now.run.now) answered begun.old.items begun.new.items chunk (W.contents writer.old) (W.contents writer.new) result }
+{
+    match parts.split_first() {
+        None => Ok(answered),
+        Some((first, others)) => {
+            keep(begun, first)?;
+            take_others(work, answered, begun, others, writer)
+        }
+    }
+}
+
+/// Answers the lines that end in a chunk, and keeps the one that has begun after them.
+fn take_chunk<H: Threads + Clock + Sync, W: Write>(
+    work: &LineWork<'_, '_, H>,
+    answered: AnsweredLines,
+    begun: &mut Vec<u8>,
+    chunk: &[u8],
+    writer: &mut W,
+) -> Result<AnsweredLines, StreamError>
+    ensures { TakesChunk (way work.now.run.now) answered begun.old.items begun.new.items chunk.now (W.contents writer.old) (W.contents writer.new) result }
+{
+    let parts = parts_of(work.alloc, chunk)?;
+    take_parts(work, answered, begun, &parts, writer)
+}
+
+/// Answers the line that ends without a line feed, if there is one. Returns whether any line was refused.
+fn finish<H: Threads + Clock + Sync, W: Write>(
+    work: &LineWork<'_, '_, H>,
+    answered: AnsweredLines,
+    begun: &[u8],
+    writer: &mut W,
+) -> Result<bool, StreamError>
+    ensures { (bytes : List ℕ) → IsAt bytes answered.number begun.now → AnswersLast (way work.now.run.now) answered bytes (W.contents writer.old) (W.contents writer.new) result }
+{
+    if begun.is_empty() {
+        return Ok(answered.refused);
+    }
+    let last = write_begun(work, answered, begun, &[], writer)?;
+    Ok(last.refused)
+}
+
+/// Reads lines to the end, and writes the answer to each as soon as it and those before it are there. Returns whether any line was refused.
+pub(crate) fn answer_stream<H: Threads + Clock + Sync, R: Read, W: Write>(
+    work: &LineWork<'_, '_, H>,
+    reader: &mut R,
+    writer: &mut W,
+) -> Result<bool, StreamError>
+    ensures { AnswersAll (way work.now.run.now) (R.remaining reader.old) (R.remaining reader.new) (W.contents writer.old) (W.contents writer.new) result }
+{
+    let mut chunk = Vec::new(work.alloc);
+    chunk.resize(CHUNK, 0)?;
+    let mut begun = Vec::new(work.alloc);
+    let mut answered = AnsweredLines {
+        number: 0,
+        refused: false,
+        pace: Pace::new(work.jobs),
+    };
+    for _ in 0..u64::MAX {
+        match reader.read(chunk.as_mut_slice()) {
+            Ok(0) => return finish(work, answered, &begun, writer),
+            Ok(count) => {
+                answered = take_chunk(work, answered, &mut begun, &chunk[..count], writer)?;
+            }
+            Err(error) if error.kind() == ErrorKind::Interrupted => {}
+            Err(_) => return Err(StreamError::Read),
+        }
+    }
+    Err(StreamError::Read)
+}

@@ -1,0 +1,93 @@
+use Rattle.std.proofs.Common.{◌≡◌, ◌≢◌, ◌<◌, ◌≤◌, ◌+◌, ◌⊎◌, ◌∙◌, Option, Some, None, ap, arith, inl, inr, length, subst, sym}
+use Rattle.tw_types.specs.declared.actor.Actor.{Actor}
+use Rattle.tw_types.specs.Actor.{actor_count}
+use Rattle.tw_types.specs.Layout.{ActorCounts}
+use Rattle.tw_frame.specs.Jobs.{DoneView}
+use Rattle.tw_pool.specs.PoolView.{PoolView}
+use Rattle.tw_in_turn.specs.InTurn.{IsAfter, IsIdle}
+use Rattle.tw_in_turn.specs.Rounds.{IsTurned, Keeps, MayTurn}
+use Rattle.tw_in_turn.specs.declared.rounds.End.{End}
+use Rattle.tw_in_turn.proofs.Drawing as drawing
+use Rattle.tw_in_turn.proofs.Rounding as rounding
+use Rattle.tw_in_turn.proofs.Stops.{ends_at}
+use Rattle.tw_in_turn.proofs.rounds.turn_drawn.Goals as goal
+
+pub returns-in-Some-clause-round : goal.returns-in-Some-clause-round
+returns-in-Some-clause-round c = λ start after.
+    let now = c.loop-skipped.pool in
+    let inv = c.loop-skipped.invariant in
+    let new = c.turn_one.new.pool in
+    let actor = c.actor_at.result in
+    let t = c.in-Some.ensures in
+    let same = c.layout-layout.ensures ∙ sym (ap (λ (p : PoolView). p.layout) inv.same) in
+    ends_at (Some c.args.seed) start c.in-Some.end new (record {
+      turns = c.args.steps;
+      before = now;
+      after = subst (λ (p : PoolView). IsAfter (Some c.args.seed) start c.args.steps p) (sym inv.same) after;
+      actor = actor;
+      next = drawing.drawn_at c.args.seed c.args.steps now c.layout-layout.result c.actor_count-count.result c.place_for-first.result c.loop-skipped.skipped actor same c.actor_count-count.ensures.is
+          c.place_for-first.ensures.place c.actor_at.ensures.is inv.idle (drawing.busy_at_end c.in-Some.end now new actor t.answer t.move t.comes);
+      answer = t.answer;
+      last = t.move;
+      is = t.comes;
+    })
+
+pub returns-then-events-len-clause-round : goal.returns-then-events-len-clause-round
+returns-then-events-len-clause-round c =
+    let first = c.args.pool.now in
+    let now = c.loop-skipped.pool in
+    let inv = c.loop-skipped.invariant in
+    let new = c.turn_one.new.pool in
+    let actor = c.actor_at.result in
+    let t = subst (λ (o : Option End). IsTurned now actor new c.turn_one.new.kept o) c.in_default.is c.turn_one.ensures in
+    let same = c.layout-layout.ensures ∙ sym (ap (λ (p : PoolView). p.layout) inv.same) in
+    let many = c.actor_count-count.ensures.is in
+    let at_place = c.place_for-first.ensures.place in
+    let before : c.len-events.result ≡ length first.history = c.len-events.ensures ∙ ap (λ es. length es) c.history.ensures.events in
+    let after : c.len.result ≡ length new.history = c.len.ensures ∙ ap (λ es. length es) c.history-in-loop-skipped.ensures.events in
+    let more : length first.history < length new.history = omega (arith, before, after, c.if-events-len.true) in
+    let more_now : length now.history < length new.history = subst (λ (p : PoolView). length p.history < length new.history) (sym inv.same) more in
+    let actor_now = drawing.at_index c.args.seed c.args.steps now c.layout-layout.result c.actor_count-count.result c.place_for-first.result c.loop-skipped.skipped actor same many at_place c.actor_at.ensures.is in
+    let low = drawing.index_inside c.args.seed c.args.steps now c.layout-layout.result c.actor_count-count.result c.place_for-first.result c.loop-skipped.skipped actor same many at_place c.actor_at.ensures.is c.place_for-first.ensures.inside in
+    let drawn = drawing.drawn_at c.args.seed c.args.steps now c.layout-layout.result c.actor_count-count.result c.place_for-first.result c.loop-skipped.skipped actor same many at_place c.actor_at.ensures.is inv.idle
+    (drawing.busy_if_more now new actor t.answer t.move more_now) in
+    record {
+      more = more;
+      kept_is = rounding.kept_again now new c.loop-skipped.kept _ c.turn_one.new.kept (rounding.layout_same now new t.grown) low inv.kept_is (subst (λ (a : Actor). Keeps new a c.turn_one.new.kept) actor_now t.comes.1)
+          (subst (λ (a : Actor). (other : Actor) (its : Option DoneView) → other ≢ a → Keeps now other its → Keeps new other its) actor_now t.others);
+      after = λ start at. drawing.after_drawn c.args.seed c.args.steps start now new actor t.answer (subst (λ (p : PoolView). IsAfter (Some c.args.seed) start c.args.steps p) (sym inv.same) at) drawn t.move t.comes.0;
+    }
+
+pub loop-skipped-preserved : goal.loop-skipped-preserved
+loop-skipped-preserved c =
+    let first = c.args.pool.now in
+    let now = c.loop-skipped.pool in
+    let inv = c.loop-skipped.invariant in
+    let new = c.turn_one.new.pool in
+    let actor = c.actor_at.result in
+    let t = subst (λ (o : Option End). IsTurned now actor new c.turn_one.new.kept o) c.in_default.is c.turn_one.ensures in
+    let same = c.layout-layout.ensures ∙ sym (ap (λ (p : PoolView). p.layout) inv.same) in
+    let many = c.actor_count-count.ensures.is in
+    let at_place = c.place_for-first.ensures.place in
+    let before : c.len-events.result ≡ length first.history = c.len-events.ensures ∙ ap (λ es. length es) c.history.ensures.events in
+    let after : c.len.result ≡ length new.history = c.len.ensures ∙ ap (λ es. length es) c.history-in-loop-skipped.ensures.events in
+    let earlier : length now.history ≡ length first.history = ap (λ (p : PoolView). length p.history) inv.same in
+    let still = drawing.only_idle now new actor (t.more t.comes.0) (omega (arith, before, after, earlier, c.if-events-len.false)) in
+    let actor_now = drawing.at_index c.args.seed c.args.steps now c.layout-layout.result c.actor_count-count.result c.place_for-first.result c.loop-skipped.skipped actor same many at_place c.actor_at.ensures.is in
+    let low = drawing.index_inside c.args.seed c.args.steps now c.layout-layout.result c.actor_count-count.result c.place_for-first.result c.loop-skipped.skipped actor same many at_place c.actor_at.ensures.is c.place_for-first.ensures.inside in
+    let from = drawing.from_first c.args.seed c.args.steps now c.layout-layout.result c.actor_count-count.result c.place_for-first.result c.loop-skipped.skipped actor same many at_place c.actor_at.ensures.is in
+    record {
+      same = still.0 ∙ inv.same;
+      kept_is = rounding.kept_again now new c.loop-skipped.kept _ c.turn_one.new.kept (rounding.layout_same now new t.grown) low inv.kept_is (subst (λ (a : Actor). Keeps new a c.turn_one.new.kept) actor_now t.comes.1)
+          (subst (λ (a : Actor). (other : Actor) (its : Option DoneView) → other ≢ a → Keeps now other its → Keeps new other its) actor_now t.others);
+      idle = drawing.idle_again now new c.place_for-first.result c.loop-skipped.skipped still.0 inv.idle (subst (λ (a : Actor). IsIdle now a) from still.1);
+    }
+
+pub unreachable-requires : goal.unreachable-requires
+unreachable-requires c =
+    let now = c.loop-skipped.pool in
+    let inv = c.loop-skipped.invariant in
+    let many : c.actor_count-count.result ≡ actor_count now.layout =
+    c.actor_count-count.ensures.is ∙ ap actor_count (c.layout-layout.ensures ∙ sym (ap (λ (p : PoolView). p.layout) inv.same)) in
+    drawing.some_busy now c.place_for-first.result (subst (λ (p : PoolView). MayTurn p) (sym inv.same) c.requires.may) (omega (arith, many, c.place_for-first.ensures.inside))
+    (λ k low. inv.idle k (omega (arith, low, many, c.loop-skipped-test.false)))

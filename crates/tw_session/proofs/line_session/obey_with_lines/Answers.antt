@@ -1,0 +1,25 @@
+use Rattle.std.proofs.Common.{ℕ, List, inl, inr, subst}
+use Rattle.tw_order.specs.declared.order.Order.{Order}
+use Rattle.tw_cli.specs.CommandLine.{IsAsked}
+use Rattle.tw_program_output.specs.declared.reply.Reply.{Reply as MadeReply}
+use Rattle.tw_session.specs.Each.{EndsEach}
+use Rattle.tw_session.proofs.Answering.{comes_of}
+use Rattle.tw_session.proofs.SessionNames.{IfOk-weaker, MayAnswer, MayReply, reply}
+use Rattle.tw_session.proofs.line_session.obey_with_lines.Goals as goal
+
+pub returns-in-Each : goal.returns-in-Each
+returns-in-Each g c asked is_asked =
+    inl (
+      c.in-Each.source,
+      c.in-Each.order,
+      subst (λ (o : Order). IsAsked asked o) c.in-Each.is is_asked,
+      subst (λ (input : List ℕ). EndsEach c.in-Each.source c.in-Each.order input (g.R.Read.remaining c.args.reader.now) (g.R.Read.remaining c.answer_lines.new.reader) (g.W.Write.contents c.args.writer.now) (g.W.Write.contents c.answer_lines.new.writer) c.answer_lines.result) c.deref.ensures.value c.answer_lines.ensures,
+    )
+
+pub returns-in_default : goal.returns-in_default
+returns-in_default g c asked is_asked =
+    let wrote = c.write_reply.ensures in
+    let input = c.args.program.items in
+    inr (comes_of (MayAnswer asked input) c.reply_to.result c.write_reply.result _ _
+    (IfOk-weaker c.reply_to.result (λ (r : MadeReply). MayReply c.args.order input (reply r.text.items r.close)) (λ (r : MadeReply). MayAnswer asked input (reply r.text.items r.close))
+    (λ (r : MadeReply) h. inl (c.args.order, is_asked, h)) c.reply_to.ensures) wrote.ended wrote.refused wrote.memory)

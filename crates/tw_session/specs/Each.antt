@@ -1,0 +1,32 @@
+-- The end of a session whose program is run on lines that are read apart from it.
+use Rattle.std.specs.Prelude.{◌≡◌, ◌⊎◌, ℕ, Bool, List, Option, Ok, Err, ⊤, codes}
+use Rattle.std.specs.Io.KnownBytes.{Appends, Keeps}
+use Rattle.tw_cli.specs.CommandLine.{Asked, IsAsked}
+use Rattle.tw_order.specs.declared.runs.EachOrder.{EachOrder}
+use Rattle.tw_order.specs.declared.order.Order.TheVariants.{Each}
+use Rattle.tw_order.specs.declared.order.Source.{Source}
+use Rattle.tw_each.specs.Reply.{close_of}
+use Rattle.tw_each.specs.Stream.{BreaksFirst, IsRejection, RunsOnLines}
+use Rattle.tw_each.specs.declared.stream.StreamError.TheVariants as stream
+use Rattle.tw_program_output.specs.Reply.{reply}
+use Rattle.tw_session.specs.Session.{MayAnswer}
+use Rattle.tw_session.specs.Status.{ComesOfReply}
+use Rattle.tw_session.specs.declared.status.Status.{Status}
+use Rattle.tw_session.specs.declared.status.Status.TheVariants.{Ended, NoMemory, ReadFailed, WriteFailed}
+
+-- holds for the status, and for what was in the reader and the writer before and after: all lines are answered, or the program is rejected; or an
+-- allocation or a read failed, after the answers to the first lines. After a failed write nothing is required.
+abbrev pub EndsEach : Source → EachOrder → List ℕ → Option (List ℕ) → Option (List ℕ) → Option (List ℕ) → Option (List ℕ) → Status → Type 0
+EndsEach source order input from left old new (Ended close) =
+    ((refused : Bool) × (close ≡ close_of refused) × RunsOnLines source order input from left old new (Ok refused))
+    ⊎ ((text : List ℕ) × IsRejection source order input (reply text close) × Keeps from left × Appends old new text)
+EndsEach source order input from left old new NoMemory =
+    (mid : Option (List ℕ)) × (RunsOnLines source order input from left old mid (Err stream.NoMemory) ⊎ BreaksFirst from left old mid stream.NoMemory) × Appends mid new (codes "memory\n")
+EndsEach source order input from left old new ReadFailed = RunsOnLines source order input from left old new (Err stream.Read)
+EndsEach source order input from left old new WriteFailed = ⊤
+
+-- holds for the end of such a session with accepted arguments; without an order for lines only the program is read
+abbrev pub ComesOfEach : Asked → List ℕ → Option (List ℕ) → Option (List ℕ) → Option (List ℕ) → Option (List ℕ) → Status → Type 0
+ComesOfEach asked input from left old new status =
+    ((source : Source) × (order : EachOrder) × IsAsked asked (Each source order) × EndsEach source order input from left old new status)
+    ⊎ ComesOfReply (MayAnswer asked input) status old new

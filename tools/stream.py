@@ -1,0 +1,211 @@
+#!/usr/bin/env python3
+# SPDX-License-Identifier: Apache-2.0
+"""Checks that `tw run --each` answers each line as soon as it is read: stream.py [--short] [TW]
+
+Writes a line, waits for its answer, and writes the next, with one job and with four. Sends bytes that aren't UTF-8, and ends the process by signals.
+Without --short also sends lines of 16 MiB, and has 100 MB of lines read in bounded memory. Without TW it is the release's program.
+"""
+
+from __future__ import annotations
+
+import gzip
+import json
+import os
+import select
+import signal
+import subprocess
+import sys
+import tempfile
+import time
+from pathlib import Path
+from typing import IO, Callable
+
+ECHO = "proc control closed int write int\nregs int\nGET v0 d0\nDROPR d0\nSTORE d1 v0\nRET\n"
+ROOT = Path(__file__).resolve().parent.parent
+MOST = 16_777_216
+WAIT = 60.0
+# More than the program's own memory and the longest line, and much less than all lines.
+MEMORY = 64_000_000
+
+
+class Wrong(Exception):
+    """An answer that isn't the expected one."""
+
+
+def expect(what: str, got: object, expected: object) -> None:
+    if got != expected:
+        raise Wrong(f"{what}: {got!r:.300}, expected {expected!r:.300}")
+
+
+def answer(line: int, value: int) -> dict[str, object]:
+    """Returns the object of a line with this integer."""
+    return {"line": line, "events": 5, "instructions": 4, "kinds": ["int"], "outputs": [value], "status": "quiet"}
+
+
+def error(line: int, code: str) -> dict[str, object]:
+    """Returns the object of a line with an error of this code."""
+    return {"line": line, "error": {"code": code, "lines": [f"refused {code}"]}, "status": "refused"}
+
+
+class Stream:
+    """A process that answers lines."""
+
+    def __init__(self, tw: str, program: Path, jobs: int) -> None:
+        self.process = subprocess.Popen(
+            [tw, "run", str(program), "--each", "-", "--jobs", str(jobs)], stdin=subprocess.PIPE, stdout=subprocess.PIPE, stderr=subprocess.PIPE)
+        self.rest = b""
+
+    def pipe(self, it: IO[bytes] | None) -> IO[bytes]:
+        assert it is not None
+        return it
+
+    def send(self, text: bytes) -> None:
+        stdin = self.pipe(self.process.stdin)
+        stdin.write(text)
+        stdin.flush()
+
+    def receive(self) -> dict[str, object]:
+        """Returns the next answer, which has to come without another line."""
+        stdout = self.pipe(self.process.stdout)
+        until = time.monotonic() + WAIT
+        while b"\n" not in self.rest:
+            if not select.select([stdout], [], [], max(0.0, until - time.monotonic()))[0]:
+                raise Wrong("no answer came")
+            more = os.read(stdout.fileno(), 65536)
+            if not more:
+                raise Wrong(f"the process ended after {self.rest!r}")
+            self.rest += more
+        first, self.rest = self.rest.split(b"\n", 1)
+        found: dict[str, object] = json.loads(first)
+        return found
+
+    def close(self) -> int:
+        """Ends the input, and returns the status."""
+        self.pipe(self.process.stdin).close()
+        expect("output after the last answer", self.rest + self.pipe(self.process.stdout).read(), b"")
+        return self.process.wait(WAIT)
+
+    def signal(self, number: signal.Signals) -> int:
+        self.process.send_signal(number)
+        return self.process.wait(WAIT)
+
+
+def one_by_one(tw: str, program: Path, jobs: int) -> None:
+    """Each line is answered before the next is written."""
+    stream = Stream(tw, program, jobs)
+    for number in range(1, 201):
+        stream.send(b"[%d]\n" % (number * 7))
+        expect("answer", stream.receive(), answer(number, number * 7))
+    expect("status", stream.close(), 0)
+
+
+def in_pieces(tw: str, program: Path, jobs: int) -> None:
+    """A line may come in pieces, several at once, blank, and the last one without a line feed."""
+    stream = Stream(tw, program, jobs)
+    for piece in (b"[", b"1", b"2]", b"\n[3]\n\n  \n[4]\n[5"):
+        stream.send(piece)
+        time.sleep(0.05)
+    for number, value in ((1, 12), (2, 3), (5, 4)):
+        expect("answer", stream.receive(), answer(number, value))
+    stream.send(b"6]")
+    stream.pipe(stream.process.stdin).close()
+    expect("last answer", stream.receive(), answer(6, 56))
+    expect("status", stream.process.wait(WAIT), 0)
+
+
+def wrong_lines(tw: str, program: Path, jobs: int) -> None:
+    """A line with a fault is answered with its number, and the others run."""
+    stream = Stream(tw, program, jobs)
+    stream.send(b"[1]\n[\"\xff\"]\n[\n[]\n[2]\n")
+    expect("answer", stream.receive(), answer(1, 1))
+    expect("bytes", stream.receive(), error(2, "H03"))
+    no_json = {"lines": ["inputs refused", "line 3, column 2: this is no JSON"]}
+    expect("JSON", stream.receive(), {"line": 3, "error": no_json, "status": "refused"})
+    expect("inputs", stream.receive()["line"], 4)
+    expect("answer", stream.receive(), answer(5, 2))
+    expect("status", stream.close(), 1)
+
+
+def long_lines(tw: str, program: Path, jobs: int) -> None:
+    """A line of 16 MiB is read, and one of a byte more is an error."""
+    stream = Stream(tw, program, jobs)
+    for number, size in ((1, MOST), (3, MOST + 1), (5, 3 * MOST)):
+        stream.send(b"[8]" + b" " * (size - 3) + b"\n[9]\n")
+        expect("long line", stream.receive(), answer(number, 8) if size == MOST else error(number, "H02"))
+        expect("next line", stream.receive(), answer(number + 1, 9))
+    expect("status", stream.close(), 1)
+
+
+def by_signal(number: signal.Signals) -> Callable[[str, Path, int], None]:
+    """A signal ends the process; the answers before it are there."""
+    def check(tw: str, program: Path, jobs: int) -> None:
+        stream = Stream(tw, program, jobs)
+        stream.send(b"[1]\n")
+        expect("answer", stream.receive(), answer(1, 1))
+        expect("status", stream.signal(number), -number)
+        expect("output", stream.pipe(stream.process.stdout).read(), b"")
+    return check
+
+
+def write_many_lines(path: Path) -> None:
+    """Writes 100 MB of lines."""
+    with open(path, "wb") as file:
+        for number in range(1000):
+            file.write(b"[%d]%s\n" % (number, b" " * 100_000))
+
+
+def in_memory(tw: str, program: Path, jobs: int) -> None:
+    """100 MB of lines are answered in bounded memory."""
+    script = ("import resource, subprocess, sys\nsubprocess.run(sys.argv[1:], stdout=subprocess.DEVNULL, check=True)\n"
+              "print(resource.getrusage(resource.RUSAGE_CHILDREN).ru_maxrss * 1024)\n")
+    lines = program.with_name("lines")
+    write_many_lines(lines)
+    words = [sys.executable, "-c", script, tw, "run", str(program), "--each", str(lines), "--jobs", str(jobs)]
+    most = int(subprocess.run(words, capture_output=True, check=True, text=True).stdout)
+    if most > MEMORY:
+        raise Wrong(f"{most} bytes of memory")
+
+
+Check = Callable[[str, Path, int], None]
+CHECKS: dict[str, Check] = {
+    "one by one": one_by_one, "in pieces": in_pieces, "wrong lines": wrong_lines,
+    "SIGTERM": by_signal(signal.SIGTERM), "SIGINT": by_signal(signal.SIGINT),
+}
+LARGE_CHECKS: dict[str, Check] = {"long lines": long_lines, "memory": in_memory}
+
+
+def released(folder: Path) -> str:
+    """Unpacks the release's program."""
+    program = folder / "tw"
+    program.write_bytes(gzip.decompress((ROOT / "release" / "tw.gz").read_bytes()))
+    program.chmod(0o755)
+    return str(program)
+
+
+def is_wrong(what: str, check: Check, tw: str, program: Path, jobs: int) -> bool:
+    """Returns whether a check fails, and prints why."""
+    try:
+        check(tw, program, jobs)
+    except Wrong as why:
+        print(f"stream.py: {what}, {jobs} jobs: {why}")
+        return True
+    return False
+
+
+def main(words: list[str]) -> int:
+    checks = CHECKS if "--short" in words else CHECKS | LARGE_CHECKS
+    paths = [word for word in words if word != "--short"]
+    if len(paths) > 1 or any(word.startswith("-") for word in paths):
+        print(__doc__, file=sys.stderr)
+        return 2
+    with tempfile.TemporaryDirectory() as name:
+        tw = paths[0] if paths else released(Path(name))
+        program = Path(name) / "echo.tw"
+        program.write_text(ECHO, encoding="ascii")
+        wrong = sum(is_wrong(what, check, tw, program, jobs) for what, check in checks.items() for jobs in (1, 4))
+    print(f"{2 * len(checks) - wrong} passed, {wrong} failed")
+    return int(wrong > 0)
+
+
+if __name__ == "__main__":
+    sys.exit(main(sys.argv[1:]))
