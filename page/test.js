@@ -444,7 +444,7 @@ async function own(reader) {
 async function old_results(reader) {
     await reader.forget(); await reader.key("Shift");
     say((await reader.seen("#verdict")).startsWith("Accepted: no task of it can fail. A run may still get stuck, or reach its limit."), "another promise", await reader.seen("#verdict"));
-    say((await reader.seen("#verdict")).endsWith("Its outputs are the same in every order of events."), "nothing about the order", await reader.seen("#verdict"));
+    say((await reader.seen("#verdict")).endsWith("All its runs that end have the same outputs, in every order of events."), "nothing about the order", await reader.seen("#verdict"));
     say((await reader.seen("#results")) === "answer = 12" && (await reader.seen("#ended")).startsWith("Done: nothing is left to do."), "no outputs in words", await reader.seen("#results"));
     await reader.click("#stats");
     const text = await reader.value("text"), dim = () => reader.js('["answer", "numbers", "state", "data", "timeline"].map(id => +getComputedStyle(document.getElementById(id)).opacity)');

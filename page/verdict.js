@@ -28,7 +28,7 @@ export function accepted({budgets, engines, workers, order}, source, most) {
 
 /** Returns the sentence about the order of events.
  * @param {import("./replies.js").EventOrder} order */
-const orderOf = ({same, line}) => same ? "Its outputs are the same in every order of events." : `Its outputs may depend on the order of events, by line ${line + 1}.`;
+const orderOf = ({same, line}) => same ? "All its runs that end have the same outputs, in every order of events." : `Its outputs may depend on the order of events, by line ${line + 1}.`;
 
 /** Returns the sentence about a rejection. A budget's numbers have commas, as elsewhere.
  * @param {Rejection} rejection */
