@@ -64,16 +64,19 @@ enum Scarce {
     Other(u8, Room),
 }
 
-/// Up to this size, the memory for a session is increased by 64 bytes, and doubled from then on.
+/// Up to this size, the memory for a session is increased by `STEP` bytes, and doubled from then on.
 const SMALL: usize = 131_072;
 
-/// How many sizes there are, up to 512 MiB: 2,049 to `SMALL`, and 12 doubled ones.
-const SIZES: usize = 2_061;
+/// Each size takes all addresses anew, which costs a millisecond. `rt ci` ends a program after 60 seconds.
+const STEP: usize = 256;
+
+/// How many sizes there are, up to 512 MiB: 513 to `SMALL`, and 12 doubled ones.
+const SIZES: usize = 525;
 
 /// Returns the size of memory after this one.
 fn next_size(bytes: usize) -> usize {
     if bytes < SMALL {
-        bytes.wrapping_add(64)
+        bytes.wrapping_add(STEP)
     } else {
         bytes.saturating_mul(2)
     }
