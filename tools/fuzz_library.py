@@ -113,8 +113,8 @@ class Library:
         calls, output, length = self.native.short(), self.native.Handle(), ctypes.c_size_t()
         at = ctypes.byref(output)
         status = self.native.library().yuglemit_session_text(ended, len(ended), data, len(data), at)
-        calls.yuglemit_text_length(at, ctypes.byref(length))
+        calls.yuglemit_raw_text_length(at, ctypes.byref(length))
         room = ctypes.create_string_buffer(length.value or 1)
-        calls.yuglemit_text_copy(at, room, length.value)
+        calls.yuglemit_raw_text_copy(at, room, length.value)
         calls.yuglemit_text_free(output)
         return int(status), room.raw[:length.value]

@@ -7,6 +7,7 @@ import gzip
 import io
 import os
 import random
+import re
 import shutil
 import signal
 import subprocess
@@ -318,6 +319,15 @@ class TextsTest(unittest.TestCase):
         self.assertIsNotNone(fuzz_calls.answer_fault((2, '{"error":{"code":"F01","lines":["refused F01"]},"status":"refused"}\n')))
         self.assertIsNotNone(fuzz_calls.answer_fault((9, "")))
         self.assertIsNotNone(fuzz_calls.answer_fault((1, "quiet\n")))
+
+
+class CallsTest(unittest.TestCase):
+    def test_calls_are_exported(self) -> None:
+        """Python calls only what the library exports, not the functions that yuglemit.h has beside that."""
+        exported = set(re.findall(r"(?m)^\w+ (yuglemit_\w+)\(", (ROOT / "embed" / "yuglemit.h").read_text(encoding="utf-8")))
+        for path in (*ROOT.glob("tools/fuzz*.py"), *ROOT.glob("embed/python/yuglemit/*.py")):
+            called = set(re.findall(r"\.(yuglemit_\w+)\(", path.read_text(encoding="utf-8")))
+            self.assertEqual(called - exported, set(), path.name)
 
 
 class KindsTest(unittest.TestCase):
